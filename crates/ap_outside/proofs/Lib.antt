@@ -1,0 +1,4 @@
+pub mod Moves
+pub mod Puts
+pub mod Halts
+pub mod Places
