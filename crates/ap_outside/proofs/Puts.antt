@@ -1,7 +1,7 @@
 -- What follows when pieces are put one after another.
-use Rattle.std.proofs.Common.{◌≡◌, ℕ, List, [], ◌∷◌, ◌++◌, ap, append_assoc, Option, None, Some, inl, inr, arith}
+use Rattle.std.proofs.Common.{ℕ, List, [], ◌∷◌, ◌++◌, ap, append_assoc, Option, None, Some, inl, inr, arith}
 use Rattle.std.proofs.lemmas.Grind.{common_steps}
-use Rattle.ap_outside.specs.Pieces.{Adds, Puts, PrefixOf, FrontOf, CutOf, IsBeginningOf}
+use Rattle.ap_outside.specs.Pieces.{Adds, Puts, FrontOf, CutOf, IsBeginningOf}
 
 pub adds_nothing : (a : Option (List (List ℕ))) → Adds a a []
 adds_nothing None = tt

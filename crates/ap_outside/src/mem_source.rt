@@ -68,11 +68,7 @@ pub struct MemSource {
 
 impl MemSource {
     /// A source of these pieces, of which the calls with the numbers `failing`, from 1 on, fail.
-    pub fn new(
-        alloc: Global,
-        pieces: &[&[u8]],
-        failing: &[u64],
-    ) -> Result<MemSource, AllocError>
+    pub fn new(alloc: Global, pieces: &[&[u8]], failing: &[u64]) -> Result<MemSource, AllocError>
         ensures left { IfOk result (λ made. ⟦<MemSource as Source>⟧.left made ≡ Some (flat_map (λ piece. piece.now) pieces.now)) }
         ensures faults { IfOk result (λ made. ⟦<MemSource as Source>⟧.faults made ≡ 0) }
     {

@@ -20,7 +20,11 @@ fn objects_in_memory_answer_as_they_were_told(rt: HostRuntime) -> Result<(), Fai
         ("", 0, Ok(Got::Whole), ""),
     ] {
         let mut into = b"old".to_vec(alloc)?;
-        assert_eq!(rt; files.read(name, &mut into, limit), want, "at {name}, {limit}");
+        assert_eq!(rt;
+            files.read(name, &mut into, limit),
+            want,
+            "at {name}, {limit}"
+        );
         assert_eq!(rt; into.as_slice(), content.as_bytes(), "at {name}, {limit}");
     }
 
@@ -69,7 +73,11 @@ fn files_of_the_system_are_read(rt: HostRuntime) -> Result<(), Fail> {
         (".", 5, Err(FileErr::Failed), ""),
     ] {
         let mut into = b"old".to_vec(alloc)?;
-        assert_eq!(rt; files.read(name, &mut into, limit), want, "at {name}, {limit}");
+        assert_eq!(rt;
+            files.read(name, &mut into, limit),
+            want,
+            "at {name}, {limit}"
+        );
         assert_eq!(rt; into.as_slice(), content.as_bytes(), "at {name}, {limit}");
     }
     Ok(())

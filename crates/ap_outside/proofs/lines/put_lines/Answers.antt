@@ -15,6 +15,6 @@ returns-in_err-put_line-clause-lines g c =
     let E : Unit {0} → List (List ℕ) → Type 0 = λ _ put. put ≡ c.deref.result.now ∷ [] in
     let F : Unit {0} → List (List ℕ) → Type 0 = λ _ put. put ≡ map (λ line. line.items) xs in
     let goes_on : (ps qs : List (List ℕ)) → P ps → AnyOf E qs → PrefixOf (AnyOf F) (ps ++ qs) =
-        λ ps qs p any. (map (λ line. line.items) (drop (i + 1) xs), (tt, rw (p, any.1, c.deref.ensures.value) (at_place (λ line. line.items) xs i x c.loop-line-test.true c.line-item.is))) in
+    λ ps qs p any. (map (λ line. line.items) (drop (i + 1) xs), (tt, rw (p, any.1, c.deref.ensures.value) (at_place (λ line. line.items) xs i x c.loop-line-test.true c.line-item.is))) in
     passes_on P E F goes_on (stops_at P E F goes_on (c.deref.result.now ∷ []) (tt, refl))
     _ _ _ c.put_line.result _ c.in_err-put_line.field-0.0 c.in_err-put_line.was same (_, c.loop-line.invariant.put, refl) c.put_line.ensures.lines
