@@ -1,0 +1,6 @@
+pub mod Release
+pub mod TermLists
+pub mod Spines
+pub mod Walks
+pub mod Copies
+pub mod NameTable

@@ -1,0 +1,15 @@
+pub mod Tree
+pub mod TreeCode
+pub mod TermView
+pub mod Falls
+pub mod Vars
+pub mod Substitution
+pub mod Spine
+pub mod Unification
+pub mod Unifier
+pub mod Identical
+pub mod Goals
+pub mod GoalCode
+pub mod GoalView
+pub mod WellFormed
+pub mod AtomTable
