@@ -13,3 +13,9 @@ pub mod GoalCode
 pub mod GoalView
 pub mod WellFormed
 pub mod AtomTable
+pub mod Arithmetic
+pub mod Builtins
+pub mod Search
+pub mod UpToNames
+pub mod Blocks
+pub mod Independence

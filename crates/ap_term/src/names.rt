@@ -137,6 +137,9 @@ impl Atoms {
         requires { atom < length self.now }
         ensures { slice_get self.now atom ≡ Some result.now }
     {
-        self.names.get_index(atom.number() as usize).unwrap().as_str()
+        self.names
+            .get_index(atom.number() as usize)
+            .unwrap()
+            .as_str()
     }
 }
