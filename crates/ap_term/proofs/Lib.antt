@@ -4,3 +4,5 @@ pub mod Spines
 pub mod Walks
 pub mod Copies
 pub mod NameTable
+pub mod Solutions
+pub mod Solvable
