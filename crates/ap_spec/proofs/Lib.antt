@@ -1,3 +1,5 @@
 pub mod Apart
 pub mod Occurrences
 pub mod Eliminations
+pub mod Identities
+pub mod Values

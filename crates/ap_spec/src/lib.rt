@@ -3,8 +3,12 @@
 //! Stands on `ap_term`. What the crates above use: each function equals the definition of its name.
 #![tactic(auto)]
 
+mod arithmetic;
+mod identity;
 mod substitutions;
 mod unification;
 
+pub use arithmetic::eval;
+pub use identity::identical;
 pub use substitutions::Subst;
 pub use unification::unify;

@@ -16,16 +16,18 @@ fits (negsuc n) = nat_lt n (2 ^ 63)
 abbrev pub kept : ℤ → Option ℤ
 kept z = if fits z then Some z else None
 
-abbrev pub is_negative : ℤ → Bool
-is_negative (pos n) = false
-is_negative (negsuc n) = true
+abbrev pub same_sign : ℤ → ℤ → Bool
+same_sign (pos x) (pos y) = true
+same_sign (negsuc x) (negsuc y) = true
+same_sign _ _ = false
+
+-- a remainder moved to the divisor's side of 0
+abbrev pub moved : ℤ → ℤ → ℤ
+moved y rest = if int_eq rest (pos 0) then rest else (if same_sign rest y then rest else rest +ℤ y)
 
 -- the remainder that has the divisor's sign
 abbrev pub modulo : ℤ → ℤ → ℤ
-modulo x y =
-    if int_eq (int_rem x y) (pos 0)
-    then pos 0
-    else (if is_negative (int_rem x y) then (if is_negative y then int_rem x y else int_rem x y +ℤ y) else (if is_negative y then int_rem x y +ℤ y else int_rem x y))
+modulo x y = moved y (int_rem x y)
 
 -- the value, where the divisor isn't 0
 abbrev pub divided : ℤ → ℤ → Option ℤ

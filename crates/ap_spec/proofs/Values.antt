@@ -1,0 +1,71 @@
+-- Values of 64 bits.
+use Rattle.std.proofs.Common.{◌≡◌, ℕ, suc, ◌^◌, ◌<◌, ◌/◌, ◌%◌, Bool, true, false, nat_lt, if◌then◌else◌, Option, Some, None, ℤ, pos, negsuc, neg_ℤ, w64, refl, ap, sym, ◌∙◌, arith, rules}
+use Rattle.std.specs.Option.{SomeIff}
+use Rattle.std.specs.Prelude.{FitsSigned, int_rem, int_lt, ◌+ℤ◌}
+use Rattle.std.proofs.lemmas.Bool.Decides.{nat_tests}
+use Rattle.std.proofs.lemmas.Bool.{false≢true}
+use Rattle.std.proofs.lemmas.Int.{to_z-of_z, ints}
+use Rattle.std.specs.Ordering.{int_eq}
+use mathlib.Core.Bool.{beq}
+use mir.Val.{to_z, of_z}
+use Rattle.ap_term.specs.Arithmetic.{fits, kept, divided, same_sign, moved, modulo}
+
+pub fits-signed : (z : ℤ) → FitsSigned w64 z → fits z ≡ true
+fits-signed (pos n) h = grind (arith, nat_tests)
+fits-signed (negsuc n) h = grind (arith, nat_tests)
+
+pub signed-fits : (z : ℤ) → fits z ≡ true → FitsSigned w64 z
+signed-fits (pos n) h = record { sfits = grind (arith, nat_tests) }
+signed-fits (negsuc n) h = record { sfits = grind (arith, nat_tests) }
+
+pub kept-signed : (z : ℤ) → FitsSigned w64 z → kept z ≡ Some z
+kept-signed z h = ap (λ b. if b then Some z else None) (fits-signed z h)
+
+pub kept-if : (r : Option ℤ) (z : ℤ) → SomeIff r (FitsSigned w64 z) z → r ≡ kept z
+kept-if (Some x) z h = ap Some h.1 ∙ sym (kept-signed z h.0)
+kept-if None z h = go (fits z) refl
+  where
+    go : (b : Bool) → fits z ≡ b → None ≡ (if b then Some z else None)
+    go true e = absurd (h (signed-fits z e))
+    go false e = refl
+
+-- the tests of two signs
+pub signs-differ : (r y : ℤ) → FitsSigned w64 r → FitsSigned w64 y → beq (int_lt (to_z w64 (of_z w64 r)) (pos 0)) (int_lt (to_z w64 (of_z w64 y)) (pos 0)) ≡ false → same_sign r y ≡ false
+signs-differ r y hr hy h = go r y (rw (to_z-of_z w64 r hr, to_z-of_z w64 y hy) at h)
+  where
+    go : (r y : ℤ) → beq (int_lt r (pos 0)) (int_lt y (pos 0)) ≡ false → same_sign r y ≡ false
+    go (pos a) (pos b) k = absurd (grind (arith, ints))
+    go (pos a) (negsuc b) k = refl
+    go (negsuc a) (pos b) k = refl
+    go (negsuc a) (negsuc b) k = absurd (false≢true (sym k))
+
+-- integers on the two sides of 0
+pub sum-fits : (r y : ℤ) → FitsSigned w64 r → FitsSigned w64 y → same_sign r y ≡ false → FitsSigned w64 (r +ℤ y)
+sum-fits (pos a) (pos b) hr hy h = absurd (false≢true (sym h))
+sum-fits (pos a) (negsuc b) hr hy h = let u : a < 2 ^ 63 = hr.sfits in let v : b < 2 ^ 63 = hy.sfits in search rules
+sum-fits (negsuc a) (pos b) hr hy h = let u : a < 2 ^ 63 = hr.sfits in let v : b < 2 ^ 63 = hy.sfits in search rules
+sum-fits (negsuc a) (negsuc b) hr hy h = absurd (false≢true (sym h))
+
+kept-some : (z r : ℤ) → Some r ≡ kept z → r ≡ z
+kept-some z r h = go (fits z) h
+  where
+    go : (b : Bool) → Some r ≡ (if b then Some z else None) → r ≡ z
+    go true k = cc
+    go false k = cc
+
+divided-some : (y z r : ℤ) → Some r ≡ divided y z → (int_eq y (pos 0) ≡ false) × (r ≡ z)
+divided-some y z r h = go (int_eq y (pos 0)) refl h
+  where
+    go : (b : Bool) → int_eq y (pos 0) ≡ b → Some r ≡ (if b then None else kept z) → (int_eq y (pos 0) ≡ false) × (r ≡ z)
+    go true e k = cc
+    go false e k = (e, kept-some z r k)
+
+-- a remainder on the other side of 0 than the divisor
+pub modulo-moved : (x y r : ℤ) → Some r ≡ divided y (int_rem x y) → int_eq r (pos 0) ≡ false → same_sign r y ≡ false → FitsSigned w64 (r +ℤ y)
+    → Some (r +ℤ y) ≡ divided y (modulo x y)
+modulo-moved x y r h z s f =
+    let k = divided-some y (int_rem x y) r h in
+    let m : moved y r ≡ r +ℤ y = ap (λ b. if b then r else (if same_sign r y then r else r +ℤ y)) z ∙ ap (λ b. if b then r else r +ℤ y) s in
+    sym (kept-signed (r +ℤ y) f) ∙ ap kept (sym m) ∙ ap (λ b. if b then None else kept (moved y r)) (sym k.0) ∙ ap (λ w. divided y (moved y w)) k.1
+
+pub ruleset rules_of_values = (kept-if, kept-signed)
