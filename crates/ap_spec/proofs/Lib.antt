@@ -3,3 +3,5 @@ pub mod Occurrences
 pub mod Eliminations
 pub mod Identities
 pub mod Values
+pub mod GoalLists
+pub mod Shifts

@@ -1,5 +1,5 @@
 -- Values of 64 bits.
-use Rattle.std.proofs.Common.{◌≡◌, ℕ, suc, ◌^◌, ◌<◌, ◌/◌, ◌%◌, Bool, true, false, nat_lt, if◌then◌else◌, Option, Some, None, ℤ, pos, negsuc, neg_ℤ, w64, refl, ap, sym, ◌∙◌, arith, rules}
+use Rattle.std.proofs.Common.{◌≡◌, ◌≤◌, List, [], ◌∷◌, length, ℕ, suc, ◌^◌, ◌<◌, ◌/◌, ◌%◌, Bool, true, false, nat_lt, if◌then◌else◌, Option, Some, None, ℤ, pos, negsuc, neg_ℤ, w64, refl, ap, ap₂, get_or, sym, ◌∙◌, arith, rules}
 use Rattle.std.specs.Option.{SomeIff}
 use Rattle.std.specs.Prelude.{FitsSigned, int_rem, int_lt, ◌+ℤ◌}
 use Rattle.std.proofs.lemmas.Bool.Decides.{nat_tests}
@@ -8,7 +8,11 @@ use Rattle.std.proofs.lemmas.Int.{to_z-of_z, ints}
 use Rattle.std.specs.Ordering.{int_eq}
 use mathlib.Core.Bool.{beq}
 use mir.Val.{to_z, of_z}
-use Rattle.ap_term.specs.Arithmetic.{fits, kept, divided, same_sign, moved, modulo}
+use Rattle.ap_term.specs.Arithmetic.{fits, kept, divided, same_sign, moved, modulo, eval}
+use Rattle.ap_term.specs.declared.terms.Term.{Term}
+use Rattle.ap_term.specs.Builtins.{builtin}
+use Rattle.ap_term.specs.Tree.{node, more, none}
+use Rattle.ap_term.specs.TermView.{tree_of, trees_of}
 
 pub fits-signed : (z : ℤ) → FitsSigned w64 z → fits z ≡ true
 fits-signed (pos n) h = grind (arith, nat_tests)
@@ -69,3 +73,25 @@ modulo-moved x y r h z s f =
     sym (kept-signed (r +ℤ y) f) ∙ ap kept (sym m) ∙ ap (λ b. if b then None else kept (moved y r)) (sym k.0) ∙ ap (λ w. divided y (moved y w)) k.1
 
 pub ruleset rules_of_values = (kept-if, kept-signed)
+
+-- three arguments and more have no value
+pub eval-many : (a : ℕ) (ts : List Term) → 3 ≤ length ts → eval (node a (trees_of ts)) ≡ None
+eval-many a [] h = absurd (omega arith)
+eval-many a (t ∷ []) h = absurd (omega arith)
+eval-many a (t ∷ (u ∷ [])) h = absurd (omega arith)
+eval-many a (t ∷ (u ∷ (v ∷ ts))) h = refl
+
+-- no goal of another number of arguments is a built-in
+pub builtin_other : (a : ℕ) (ts : List Term) → (length ts ≡ 2 → ⊥) → builtin (node a (trees_of ts)) ≡ None
+builtin_other a [] h = refl
+builtin_other a (t ∷ []) h = refl
+builtin_other a (t ∷ (u ∷ [])) h = absurd (h refl)
+builtin_other a (t ∷ (u ∷ (v ∷ ts))) h = refl
+
+pub trees_of-two : (ts : List Term) (t u : Term) → length ts ≡ 2 → t ≡ get_or ts 0 t → u ≡ get_or ts 1 u → trees_of ts ≡ more (tree_of t) (more (tree_of u) none)
+trees_of-two [] t u h e k = absurd (omega arith)
+trees_of-two (x ∷ []) t u h e k = absurd (omega arith)
+trees_of-two (x ∷ (y ∷ [])) t u h e k = ap₂ (λ v w. more (tree_of v) (more (tree_of w) none)) (sym e) (sym k)
+trees_of-two (x ∷ (y ∷ (z ∷ ts))) t u h e k = absurd (omega arith)
+
+pub ruleset rules_of_pairs = (builtin_other, trees_of-two)

@@ -1,3 +1,6 @@
 pub mod Pairs
 pub mod Shifts
 pub mod Elimination
+pub mod Called
+pub mod States
+pub mod StateCode

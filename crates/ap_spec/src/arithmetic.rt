@@ -62,7 +62,12 @@ pub fn eval(t: &Term) -> Option<i64>
     match t {
         Term::Int(z) => Some(*z),
         Term::Node(name, args) => match args.as_slice() {
-            [operand] if name.number() == fixed::MINUS => eval(operand)?.checked_neg(),
+            [operand] => {
+                if name.number() != fixed::MINUS {
+                    return None;
+                }
+                eval(operand)?.checked_neg()
+            }
             [left, right] => {
                 let operation = Operation::named(*name)?;
                 applied(operation, eval(left)?, eval(right)?)

@@ -4,11 +4,15 @@
 #![tactic(auto)]
 
 mod arithmetic;
+mod builtins;
 mod identity;
+mod states;
 mod substitutions;
 mod unification;
 
 pub use arithmetic::eval;
+pub use builtins::{Called, builtin};
 pub use identity::identical;
+pub use states::{State, States};
 pub use substitutions::Subst;
 pub use unification::unify;
