@@ -6,3 +6,5 @@ pub mod Copies
 pub mod NameTable
 pub mod Solutions
 pub mod Solvable
+pub mod SearchLaws
+pub mod Renamings
