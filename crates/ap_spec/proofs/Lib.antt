@@ -5,3 +5,4 @@ pub mod Identities
 pub mod Values
 pub mod GoalLists
 pub mod Shifts
+pub mod Turns

@@ -4,3 +4,4 @@ pub mod Elimination
 pub mod Called
 pub mod States
 pub mod StateCode
+pub mod Searches

@@ -6,13 +6,17 @@
 mod arithmetic;
 mod builtins;
 mod identity;
+mod searches;
 mod states;
 mod substitutions;
+mod tuples;
 mod unification;
 
 pub use arithmetic::eval;
 pub use builtins::{Called, builtin};
 pub use identity::identical;
+pub use searches::{Found, search};
 pub use states::{State, States};
 pub use substitutions::Subst;
+pub use tuples::Tuples;
 pub use unification::unify;

@@ -136,7 +136,7 @@ fn first_goal(parts: &[Part]) -> Option<(&Term, Behind)>
 /// The clauses that a search uses: a program's, and then a query's.
 #[derive(Drop)]
 pub struct Rules<'a> {
-    pub program: &'a Program,
+    pub program: &'a [Clause],
     pub query: Option<&'a Query>,
 }
 
@@ -259,7 +259,7 @@ fn add_by_rules(
     requires counts { s.now.steps < 2 ^ 63 }
     ensures { OnOk result (out.new ≡ out.old ++ map (child (state_of s.now) (behind_of rest.now)) (flat_map (clause_way s.now.next (tree_of goal.now)) (rules_of rules.now))) }
 {
-    add_by_clauses(alloc, s, goal, rest, rules.program.as_slice(), out)?;
+    add_by_clauses(alloc, s, goal, rest, rules.program, out)?;
     if let Some(query) = rules.query {
         add_by_clause(alloc, s, goal, rest, query.question(), out)?;
         add_by_clauses(alloc, s, goal, rest, query.lifted(), out)?;
@@ -293,7 +293,7 @@ pub fn children(alloc: Global, program: &Program, s: &State) -> Result<States, N
     ensures { IfOk result (λ ss. ss ≡ children program.now (state_of s.now)) }
 {
     let rules = Rules {
-        program,
+        program: program.as_slice(),
         query: None,
     };
     let found = children_by_rules(alloc, &rules, s)?;
