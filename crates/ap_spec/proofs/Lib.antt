@@ -6,3 +6,4 @@ pub mod Values
 pub mod GoalLists
 pub mod Shifts
 pub mod Turns
+pub mod Depths

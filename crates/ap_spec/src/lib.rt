@@ -15,7 +15,7 @@ mod unification;
 pub use arithmetic::eval;
 pub use builtins::{Called, builtin};
 pub use identity::identical;
-pub use searches::{Found, search};
+pub use searches::{Found, answers_to_depth, search};
 pub use states::{State, States};
 pub use substitutions::Subst;
 pub use tuples::Tuples;

@@ -8,7 +8,7 @@ ghost use Rattle.ap_term.specs.WellFormed.{IsProgram, IsQuery};
 ghost use Rattle.ap_term.specs.Blocks.{Begins, IsAll};
 ghost use Rattle.ap_term.specs.Search.{done, open_states, search, start, variables, answers_to_depth};
 ghost use Rattle.ap_spec.specs.States.{state_of, rules_of, taken_before};
-ghost use Rattle.ap_spec.specs.Searches.{found_of, IsWithin};
+ghost use Rattle.ap_spec.specs.Searches.{found_of, IsWithin, IsShallow, answers_of_all};
 
 use crate::states::{Rules, State, States, children_by_rules};
 use crate::tuples::Tuples;
@@ -128,4 +128,36 @@ pub fn search(alloc: Global, p: &Program, query: &Query, n: u64) -> Result<Found
 {
     let found = searched(alloc, p, query, n)?;
     Ok(found)
+}
+
+fn answers_from(alloc: Global, rules: &Rules, mut stack: States, d: u64) -> Result<Tuples, NoMemory>
+    requires clauses { IsProgram (rules_of rules.now) }
+    requires depth { d ≤ 2 ^ 54 }
+    requires small { All (IsShallow d) stack }
+    ensures { IfOk result (λ ts. ts ≡ answers_of_all (rules_of rules.now) stack d) }
+{
+    let mut answers = Tuples::new(alloc);
+    while let Some(s) = emit(&mut stack, &mut answers)? {
+        if s.steps >= d {
+            continue;
+        }
+        put_before(children_by_rules(alloc, rules, &s)?, &mut stack)?;
+    }
+    Ok(answers)
+}
+
+/// The answers on whose ways at most d calls are made, in order.
+pub fn answers_to_depth(alloc: Global, p: &Program, query: &Query, d: u64) -> Result<Tuples, NoMemory>
+    requires { d ≤ 2 ^ 54 }
+    ensures { IfOk result (λ ts. ts ≡ answers_to_depth (joined p.now query.now) (start query.now) d) }
+{
+    let first = start(alloc, query)?;
+    let mut stack = States::new(alloc);
+    stack.push_back(first)?;
+    let rules = Rules {
+        program: p.as_slice(),
+        query: Some(query),
+    };
+    let answers = answers_from(alloc, &rules, stack, d)?;
+    Ok(answers)
 }

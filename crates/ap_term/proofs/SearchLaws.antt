@@ -38,7 +38,7 @@ below-depth p n d k (s ∷ ss) h e =
     ap (λ j. answers_below p j s ++ flat_map (answers_below p k) ss) depth ∙ ap (λ as'. answers_to_depth p s d ++ as') (below-depth p n d k ss h.1 e)
 
 -- a state with goals has the answers of its children
-abbrev HasGoals : List Part → Type 0
+abbrev pub HasGoals : List Part → Type 0
 HasGoals [] = ⊥
 HasGoals (g ∷ gs) = Unit {0}
 
@@ -49,11 +49,21 @@ below-turn p s k j h e = ap (λ i. answers_below p i s) e ∙ go s.goals h
     go [] q = absurd q
     go (g ∷ gs) q = refl
 
-answers-turn : (p : Program) (s : State) (d : ℕ) → HasGoals s.goals → s.steps < d → answers_to_depth p s d ≡ answers_all p (children p s) d
+pub answers-turn : (p : Program) (s : State) (d : ℕ) → HasGoals s.goals → s.steps < d → answers_to_depth p s d ≡ answers_all p (children p s) d
 answers-turn p s d h lt =
     let k : ℕ = d - (s.steps + 1) in
     let e : d - s.steps ≡ suc k = omega arith in
     below-turn p s k (d - s.steps) h e ∙ below-depth p (s.steps + 1) d k (children p s) (children-steps p s) refl
+
+-- a state with goals from depth d on has no answers to d
+pub answers-cut : (p : Program) (s : State) (d : ℕ) → HasGoals s.goals → d ≤ s.steps → answers_to_depth p s d ≡ []
+answers-cut p s d h le =
+    let e : d - s.steps ≡ 0 = omega arith in
+    ap (λ k. answers_below p k s) e ∙ go s.goals h
+  where
+    go : (gs : List Part) → HasGoals gs → by_goals gs (s.tuple ∷ []) [] ≡ []
+    go [] q = absurd q
+    go (g ∷ gs) q = refl
 
 answers-none : (p : Program) (s : State) (d : ℕ) → s.goals ≡ [] → answers_to_depth p s d ≡ s.tuple ∷ []
 answers-none p s d e = go (d - s.steps)
