@@ -1,0 +1,10 @@
+pub mod Numbers
+pub mod Lexemes
+pub mod Turn
+pub mod Toks
+pub mod Valid
+pub mod Ends
+pub mod Within
+pub mod Cutting
+pub mod Order
+pub mod Places
