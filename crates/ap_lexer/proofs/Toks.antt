@@ -16,7 +16,7 @@ turned text at to out new all x h inside k is e before =
     let step = ap (tokens_from text at to) cons ∙ ap (λ b. cond b (here ++ rest) []) (lt-ltb at to inside) in
     ap (λ l. l ++ rest) e ∙ append_assoc out here rest ∙ sym (ap (λ l. out ++ l) step) ∙ before
 
-past_end : (text : Text) (at to : ℕ) (xs : List Lexeme) → to ≤ at → tokens_from text at to xs ≡ []
+pub past_end : (text : Text) (at to : ℕ) (xs : List Lexeme) → to ≤ at → tokens_from text at to xs ≡ []
 past_end text at to [] h = refl
 past_end text at to (x ∷ xs) h = ap (λ b. cond b (token_of x.0 text at x.1 ++ tokens_from text (at + x.1) to xs) []) (le-ltb at to h)
 
