@@ -24,3 +24,6 @@ pub use kind::{LexemeKind, TokenKind};
 pub use digits::number;
 pub use law::{one_cutting, tokens_without_places};
 pub use split::{Token, tokens};
+
+#[cfg(test)]
+mod tests;
