@@ -8,3 +8,5 @@ pub mod Within
 pub mod Cutting
 pub mod Order
 pub mod Places
+pub mod Rows
+pub mod Spelling

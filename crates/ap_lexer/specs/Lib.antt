@@ -4,3 +4,4 @@ pub mod Token
 pub mod LexErr
 pub mod Ahead
 pub mod Law
+pub mod Row

@@ -22,7 +22,7 @@ pub use cut::{Piece, pieces};
 pub use error::{LexErr, NoMemory};
 pub use kind::{LexemeKind, TokenKind};
 pub use digits::number;
-pub use law::{one_cutting, tokens_without_places};
+pub use law::{lexemes_are_rows, one_cutting, tokens_without_places};
 pub use split::{Token, tokens};
 
 #[cfg(test)]
