@@ -38,7 +38,7 @@ pub comment_end-shift : (star : Bool) (k a : ℕ) (text : Text) → comment_end 
 comment_end-shift star k a [] = refl
 comment_end-shift star k a (b ∷ text) =
     cond_map (star && b == 47) k (Some (a + 1)) (comment_end (b == 42) (a + 1) text) (Some (k + a + 1)) (comment_end (b == 42) (k + a + 1) text) (some_more k a)
-      (ap (λ n. comment_end (b == 42) n text) (omega arith) ∙ comment_end-shift (b == 42) k (a + 1) text)
+    (ap (λ n. comment_end (b == 42) n text) (omega arith) ∙ comment_end-shift (b == 42) k (a + 1) text)
 
 pub closing-shift : (q : Quote) (k a : ℕ) (text : Text) → closing q (k + a) text ≡ option_map (λ e. k + e) (closing q a text)
 closing-shift quote.Plain k a [] = refl
@@ -47,8 +47,8 @@ closing-shift quote.Escape k a [] = refl
 closing-shift quote.Plain k a (b ∷ text) =
     let next : (q : Quote) → closing q (k + a + 1) text ≡ option_map (λ e. k + e) (closing q (a + 1) text) = λ q. ap (λ n. closing q n text) (omega arith) ∙ closing-shift q k (a + 1) text in
     cond_map (b == 39) k (closing quote.Quote (a + 1) text) (cond (b == 92) (closing quote.Escape (a + 1) text) (cond (b == 10) None (closing quote.Plain (a + 1) text))) (closing quote.Quote (k + a + 1) text) (cond (b == 92) (closing quote.Escape (k + a + 1) text) (cond (b == 10) None (closing quote.Plain (k + a + 1) text))) (next quote.Quote)
-      (cond_map (b == 92) k (closing quote.Escape (a + 1) text) (cond (b == 10) None (closing quote.Plain (a + 1) text)) (closing quote.Escape (k + a + 1) text) (cond (b == 10) None (closing quote.Plain (k + a + 1) text)) (next quote.Escape)
-      (cond_map (b == 10) k None (closing quote.Plain (a + 1) text) None (closing quote.Plain (k + a + 1) text) refl (next quote.Plain)))
+    (cond_map (b == 92) k (closing quote.Escape (a + 1) text) (cond (b == 10) None (closing quote.Plain (a + 1) text)) (closing quote.Escape (k + a + 1) text) (cond (b == 10) None (closing quote.Plain (k + a + 1) text)) (next quote.Escape)
+    (cond_map (b == 10) k None (closing quote.Plain (a + 1) text) None (closing quote.Plain (k + a + 1) text) refl (next quote.Plain)))
 closing-shift quote.Quote k a (b ∷ text) =
     cond_map (b == 39) k (closing quote.Plain (a + 1) text) (Some a) (closing quote.Plain (k + a + 1) text) (Some (k + a)) (ap (λ n. closing quote.Plain n text) (omega arith) ∙ closing-shift quote.Plain k (a + 1) text) refl
 closing-shift quote.Escape k a (b ∷ text) =
@@ -71,7 +71,7 @@ pub comment_end_within : (star : Bool) (a : ℕ) (text : Text) → IfSome (comme
 comment_end_within star a [] = tt
 comment_end_within star a (b ∷ text) =
     within_cond a (a + suc (length text)) (star && b == 47) (Some (a + 1)) (comment_end (b == 42) (a + 1) text) (omega arith, omega arith)
-      (wider (a + 1) (a + 1 + length text) a (a + suc (length text)) (comment_end (b == 42) (a + 1) text) (omega arith) (omega arith) (comment_end_within (b == 42) (a + 1) text))
+    (wider (a + 1) (a + 1 + length text) a (a + suc (length text)) (comment_end (b == 42) (a + 1) text) (omega arith) (omega arith) (comment_end_within (b == 42) (a + 1) text))
 
 pub closing_within : (q : Quote) (a : ℕ) (text : Text) → IfSome (closing q a text) (λ e. (a ≤ e) × (e ≤ a + length text))
 closing_within quote.Plain a [] = tt
@@ -80,8 +80,8 @@ closing_within quote.Escape a [] = tt
 closing_within quote.Plain a (b ∷ text) =
     let next : (q : Quote) → IfSome (closing q (a + 1) text) (λ e. (a ≤ e) × (e ≤ a + suc (length text))) = λ q. wider (a + 1) (a + 1 + length text) a (a + suc (length text)) (closing q (a + 1) text) (omega arith) (omega arith) (closing_within q (a + 1) text) in
     within_cond a (a + suc (length text)) (b == 39) (closing quote.Quote (a + 1) text) (cond (b == 92) (closing quote.Escape (a + 1) text) (cond (b == 10) None (closing quote.Plain (a + 1) text))) (next quote.Quote)
-      (within_cond a (a + suc (length text)) (b == 92) (closing quote.Escape (a + 1) text) (cond (b == 10) None (closing quote.Plain (a + 1) text)) (next quote.Escape)
-      (within_cond a (a + suc (length text)) (b == 10) None (closing quote.Plain (a + 1) text) tt (next quote.Plain)))
+    (within_cond a (a + suc (length text)) (b == 92) (closing quote.Escape (a + 1) text) (cond (b == 10) None (closing quote.Plain (a + 1) text)) (next quote.Escape)
+    (within_cond a (a + suc (length text)) (b == 10) None (closing quote.Plain (a + 1) text) tt (next quote.Plain)))
 closing_within quote.Quote a (b ∷ text) =
     within_cond a (a + suc (length text)) (b == 39) (closing quote.Plain (a + 1) text) (Some a) (wider (a + 1) (a + 1 + length text) a (a + suc (length text)) (closing quote.Plain (a + 1) text) (omega arith) (omega arith) (closing_within quote.Plain (a + 1) text)) (omega arith, omega arith)
 closing_within quote.Escape a (b ∷ text) =
@@ -98,8 +98,8 @@ nearer a d (Some e) h far = omega (arith, far)
 not_near : {P : Type 0} (a : ℕ) (end : Option ℕ) → IsFar a end → Some (a + 1) ≡ end → P
 not_near a end far e = absurd (near a (subst (IsFar a) (sym e) far))
   where
-  near : (a : ℕ) → a + 2 ≤ a + 1 → ⊥
-  near a h = omega arith
+    near : (a : ℕ) → a + 2 ≤ a + 1 → ⊥
+    near a h = omega arith
 
 past_slash : (t : Bool) (a : ℕ) (end next : Option ℕ) → IsFar a end → cond t (Some (a + 1)) next ≡ end → next ≡ end
 past_slash true a end next far e = not_near a end far e

@@ -1,7 +1,6 @@
 -- One lexeme after another.
-use Rattle.std.proofs.Common.{◌≡◌, ℕ, zero, suc, ◌+◌, ◌-◌, ◌<◌, ◌≤◌, List, [], ◌∷◌, ◌++◌, length, take, drop, refl, sym, ap, ◌∙◌, arith}
-use Rattle.std.specs.Prelude.{count_by}
-use Rattle.ap_lexer.specs.Lexeme.{Text, Lexeme, lexeme, lexemes, lexemes_from}
+use Rattle.std.proofs.Common.{◌≡◌, ℕ, zero, suc, ◌-◌, ◌<◌, [], ◌∷◌, length, drop, refl, ap, ◌∙◌, arith}
+use Rattle.ap_lexer.specs.Lexeme.{Text, lexeme, lexemes, lexemes_from}
 
 from-drop : (n : ℕ) (text : Text) → lexemes_from n text ≡ lexemes_from 0 (drop n text)
 from-drop zero text = refl

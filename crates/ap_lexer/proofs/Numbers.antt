@@ -1,5 +1,5 @@
 -- A number doesn't fall as digits come.
-use Rattle.std.proofs.Common.{◌≡◌, ℕ, ◌+◌, ◌-◌, ◌*◌, ◌<◌, ◌≤◌, ◌^◌, List, [], ◌∷◌, false, leb, arith}
+use Rattle.std.proofs.Common.{◌≡◌, ℕ, ◌+◌, ◌-◌, ◌*◌, ◌<◌, ◌≤◌, List, [], ◌∷◌, false, leb, arith}
 use Rattle.std.proofs.lemmas.Bool.{lt-leb}
 use Rattle.ap_lexer.specs.Lexeme.{number_from}
 

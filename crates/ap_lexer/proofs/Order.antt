@@ -1,10 +1,10 @@
 -- Where the pieces of a text lie.
-use Rattle.std.proofs.Common.{◌≡◌, ℕ, zero, suc, ◌+◌, ◌-◌, ◌<◌, ◌≤◌, List, [], ◌∷◌, ◌++◌, true, false, length, take, drop, Option, Some, None, refl, sym, ap, subst, ◌∙◌, arith, length-drop}
+use Rattle.std.proofs.Common.{◌≡◌, ℕ, ◌+◌, ◌<◌, ◌≤◌, List, [], ◌∷◌, ◌++◌, true, false, length, drop, Option, Some, None, refl, sym, ap, subst, ◌∙◌, arith, length-drop}
 use Rattle.std.specs.Prelude.{MatchOption, ⊤, All, Contains}
 use Rattle.std.proofs.lemmas.List.{drop-drop}
 use Rattle.std.proofs.lemmas.List.Elements.{All-nil, All-cons, All-contains}
 use Rattle.ap_lexer.specs.declared.cut.Piece.{Piece}
-use Rattle.ap_lexer.specs.Lexeme.{Text, Lexeme, lexeme, lexemes}
+use Rattle.ap_lexer.specs.Lexeme.{Text, Lexeme, lexemes}
 use Rattle.ap_lexer.specs.Piece.{Role, Gap, Part, Last, Fault, role, start, begun_after, ended_by, unended, piece, pieces_from, pieces, line_at}
 use Rattle.ap_lexer.specs.Law.{IsCutting, LieInOrder, piece_by, piece_of, IsPieceOf}
 use Rattle.ap_lexer.proofs.Cutting.{cut, one}
@@ -68,14 +68,14 @@ place_step Last text at begun x xs e c next o =
     let f = start begun at in
     let began = from_start text at begun (x ∷ xs) c o in
     All-cons (IsPieceOf text) (piece text f (at + x.1) true None) (pieces_from text (at + x.1) None xs)
-      record { some = omega (arith, began.0, c.0); within = after_within text at x xs c; line_is = refl; ends = sym (began.1 ∙ ap (λ y. piece_by y text f at (at + x.1) (piece_of text f (at + x.1) xs)) e) }
-      (next None tt)
+    record { some = omega (arith, began.0, c.0); within = after_within text at x xs c; line_is = refl; ends = sym (began.1 ∙ ap (λ y. piece_by y text f at (at + x.1) (piece_of text f (at + x.1) xs)) e) }
+    (next None tt)
 place_step (Fault ended) text at begun x xs e c next o =
     let f = start begun at in
     let began = from_start text at begun (x ∷ xs) c o in
     All-cons (IsPieceOf text) (piece text f (at + x.1) ended (Some (line_at text at))) (pieces_from text (at + x.1) None xs)
-      record { some = omega (arith, began.0, c.0); within = after_within text at x xs c; line_is = refl; ends = sym (began.1 ∙ ap (λ y. piece_by y text f at (at + x.1) (piece_of text f (at + x.1) xs)) e) }
-      (next None tt)
+    record { some = omega (arith, began.0, c.0); within = after_within text at x xs c; line_is = refl; ends = sym (began.1 ∙ ap (λ y. piece_by y text f at (at + x.1) (piece_of text f (at + x.1) xs)) e) }
+    (next None tt)
 
 last_placed : (text : Text) (at : ℕ) (begun : Option ℕ) → at ≤ length text → IsOpen text begun at [] → All (IsPieceOf text) (unended text at begun)
 last_placed text at None h o = All-nil (IsPieceOf text)

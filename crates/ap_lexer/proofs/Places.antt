@@ -1,5 +1,5 @@
 -- The tokens of a piece without a bad token are known by the bytes from its first on.
-use Rattle.std.proofs.Common.{◌≡◌, ℕ, zero, suc, ◌+◌, ◌<◌, ◌≤◌, ◌==◌, Bool, true, false, cond, List, [], ◌∷◌, ◌++◌, length, take, drop, Option, Some, None, refl, sym, ap, subst, ◌∙◌, arith}
+use Rattle.std.proofs.Common.{◌≡◌, ℕ, ◌+◌, ◌<◌, ◌≤◌, Bool, true, false, cond, List, [], ◌∷◌, ◌++◌, take, drop, None, refl, sym, ap, ◌∙◌, arith}
 use Rattle.std.specs.Prelude.{nat_lt, Contains}
 use Rattle.std.proofs.lemmas.List.{drop-drop}
 use Rattle.std.proofs.lemmas.Bool.{lt-ltb, ne_eqb, eq-eqb}
@@ -10,9 +10,9 @@ use Rattle.ap_lexer.specs.declared.kind.LexemeKind.{LexemeKind}
 use Rattle.ap_lexer.specs.declared.kind.LexemeKind.TheVariants as kind
 use Rattle.ap_lexer.specs.declared.cut.Piece.{Piece}
 use Rattle.ap_lexer.specs.Lexeme.{Text, Lexeme, lexemes}
-use Rattle.ap_lexer.specs.Piece.{Role, Gap, Part, Last, Fault, role, piece, pieces, line_at}
-use Rattle.ap_lexer.specs.Token.{Placed, token_of, tokens_from, tokens}
-use Rattle.ap_lexer.specs.Law.{IsCutting, piece_by, piece_of, IsPieceOf, Spelled, touches_next, unplaced, is_token, begins_token, spelled_by, spelled, ReadsWithoutPlaces}
+use Rattle.ap_lexer.specs.Piece.{Role, Gap, Part, Last, Fault, role, pieces, line_at}
+use Rattle.ap_lexer.specs.Token.{Placed, token_of, tokens_from}
+use Rattle.ap_lexer.specs.Law.{IsCutting, piece_by, piece_of, Spelled, touches_next, unplaced, is_token, begins_token, spelled_by, spelled, ReadsWithoutPlaces}
 use Rattle.ap_lexer.proofs.Cutting.{cut}
 use Rattle.ap_lexer.proofs.Order.{cut_after, is_piece}
 use Rattle.ap_lexer.proofs.Toks.{past_end}
@@ -45,8 +45,8 @@ behind_from kind.Comment text at n lo rest h e = e
 behind_from (kind.Bad ended) text at n lo rest h e = e
 behind_from (kind.Token row) text at n lo rest h e = ne_eqb lo at (λ same. below lo at h same)
   where
-  below : (a b : ℕ) → a < b → a ≡ b → ⊥
-  below a b h e = omega (arith, h, e)
+    below : (a b : ℕ) → a < b → a ≡ b → ⊥
+    below a b h e = omega (arith, h, e)
 
 none_or : (b : Bool) (lo : ℕ) (ts : List Placed) → touches_next lo ts ≡ false → touches_next lo (cond b ts []) ≡ false
 none_or true lo ts e = e
@@ -57,7 +57,7 @@ apart : (text : Text) (at to lo : ℕ) (xs : List Lexeme) → IsCutting (drop at
 apart text at to lo [] c h = refl
 apart text at to lo (x ∷ xs) c h =
     none_or (nat_lt at to) lo (token_of x.0 text at x.1 ++ tokens_from text (at + x.1) to xs)
-      (behind_from x.0 text at x.1 lo (tokens_from text (at + x.1) to xs) h (apart text (at + x.1) to lo xs (cut_after text at x xs c) (omega (arith, h))))
+    (behind_from x.0 text at x.1 lo (tokens_from text (at + x.1) to xs) h (apart text (at + x.1) to lo xs (cut_after text at x xs c) (omega (arith, h))))
 
 touch_first : (k : LexemeKind) (text : Text) (at n : ℕ) (rest : List Placed) → touches_next at rest ≡ false → touches_next at (token_of k text at n ++ rest) ≡ is_token k
 touch_first kind.Layout text at n rest e = e

@@ -1,25 +1,21 @@
 -- Each lexeme is a row of the table.
-use Rattle.std.proofs.Common.{◌≡◌, ◌≢◌, ℕ, zero, suc, ◌+◌, ◌-◌, ◌*◌, ◌<◌, ◌≤◌, ◌^◌, ◌==◌, ◌&&◌, ◌||◌, Bool, true, false, cond, List, [], ◌∷◌, ◌++◌, length, take, drop, min, Option, Some, None, refl, sym, ap, subst, ◌∙◌, arith, length-drop, length-take}
-use Rattle.std.specs.Prelude.{slice_index, nat_le, All, flat_map, IfSome}
+use Rattle.std.proofs.Common.{◌≡◌, ℕ, zero, suc, ◌+◌, ◌-◌, ◌<◌, ◌≤◌, ◌^◌, ◌==◌, ◌&&◌, ◌||◌, Bool, true, false, [], ◌∷◌, length, take, drop, Option, Some, None, refl, sym, ap, subst, ◌∙◌, arith}
+use Rattle.std.specs.Prelude.{slice_index, nat_le}
 use Rattle.std.specs.List.{prefix_len}
 use Rattle.std.specs.Char.{is_ascii_digit, is_ascii_lowercase, is_ascii_uppercase}
 use Rattle.std.specs.Str.Lossy.{utf8_valid_len}
-use Rattle.std.proofs.lemmas.Bool.{eqb-true, and_parts, or_parts, cond_both, leb-true, leb-false, false≢true}
+use Rattle.std.proofs.lemmas.Bool.{eqb-true, and_parts, cond_both, leb-true, leb-false, false≢true}
 use Rattle.std.proofs.lemmas.List.{get_or-take}
-use Rattle.std.proofs.lemmas.List.Elements.{All-nil, All-cons}
 use Rattle.std.proofs.lemmas.List.Folds.{length-prefix_len}
 use Rattle.std.proofs.lemmas.List.Sums.{prefix_len_passes, prefix_len_stops}
 use Rattle.ap_lexer.specs.declared.bytes.Class.TheVariants as class
 use Rattle.ap_lexer.specs.declared.ahead.Quote.TheVariants as quote
 use Rattle.ap_lexer.specs.declared.kind.TokenKind.{TokenKind}
-use Rattle.ap_lexer.specs.declared.kind.TokenKind.TheVariants as token
-use Rattle.ap_lexer.specs.declared.kind.LexemeKind.{LexemeKind}
-use Rattle.ap_lexer.specs.declared.kind.LexemeKind.TheVariants as kind
 use Rattle.ap_lexer.specs.Lexeme as spec
 use Rattle.ap_lexer.specs.Lexeme.{Text, Lexeme, is_layout, is_symbol, is_in, past, ends, recovered, bad, number, integer, symbols, solo, solo_or_bad, closing, quoted, comment_end, line_len, plain, lexeme}
 use Rattle.std.proofs.lemmas.Option.{none-some, same_Some}
 use Rattle.ap_lexer.proofs.Spelling.{Body, body_of, closing-items, AtClose, here, later, close_of, not_closed, has_close-body}
-use Rattle.ap_lexer.specs.Row.{has_close, character, large, open_comment, unclosed, IsRun, begins_stop, Item, Plain, TwoQuotes, Escape, IsItem, item_text, IsQuoted, IsSolo, IsToken, IsFirstClose, EndsComment, line, block, IsFault, IsTakenUp, IsRow}
+use Rattle.ap_lexer.specs.Row.{has_close, character, large, open_comment, unclosed, IsRun, begins_stop, IsQuoted, IsFirstClose, EndsComment, line, block, IsFault, IsTakenUp, IsRow}
 
 pub longest : (p : ℕ → Bool) (text : Text) → IsRun p text (prefix_len p text)
 longest p text = record {
@@ -50,9 +46,9 @@ symbols_fit : (text : Text) → is_symbol (slice_index text 0) ≡ true → Fits
 symbols_fit text is =
     let end = past class.Symbol text 1 in
     cond_both (end == 1 && slice_index text 0 == 46 && (ends text 1 || slice_index text 1 == 37)) _ _ (Fits text)
-      (λ e. let parts = and_parts (end == 1 && slice_index text 0 == 46) (ends text 1 || slice_index text 1 == 37) e in
-        ((eqb-true (slice_index text 0) 46 (and_parts (end == 1) (slice_index text 0 == 46) parts.0).1, refl), parts.1))
-      (λ e. (is, behind_first is_symbol text, e))
+    (λ e. let parts = and_parts (end == 1 && slice_index text 0 == 46) (ends text 1 || slice_index text 1 == 37) e in
+    ((eqb-true (slice_index text 0) 46 (and_parts (end == 1) (slice_index text 0 == 46) parts.0).1, refl), parts.1))
+    (λ e. (is, behind_first is_symbol text, e))
 
 -- What is passed over behind a bad token's first byte.
 record Passed (at : ℕ) (text : Text) (found : Bool × ℕ) : Type 0 where
@@ -87,25 +83,25 @@ passed at [] = record {
   is = omega arith;
   first = λ k h. absurd (omega (arith, h));
   stop = λ e. absurd (false≢true e);
-  rest = λ _. (refl, no_stop)
+  rest = λ _. (refl, no_stop);
 }
 passed at (b ∷ text) =
     let next = passed (at + 1) text in
     cond_both (b == 46 && ends text 0) (true, at + 1) (recovered (at + 1) text) (Passed at (b ∷ text))
-      (λ e. record {
-        len = 1;
-        is = refl;
-        first = λ k h. absurd (omega (arith, h));
-        stop = λ _. (omega arith, e);
-        rest = λ f. absurd (false≢true (sym f))
-      })
-      (λ e. record {
-        len = 1 + next.len;
-        is = omega (arith, next.is);
-        first = first_behind b next.len text e next.first;
-        stop = λ t. let s = next.stop t in (omega arith, ap begins_stop (drop_more b next.len text s.0) ∙ s.1);
-        rest = λ f. let r = next.rest f in (omega (arith, r.0), none_behind b text e r.1)
-      })
+    (λ e. record {
+      len = 1;
+      is = refl;
+      first = λ k h. absurd (omega (arith, h));
+      stop = λ _. (omega arith, e);
+      rest = λ f. absurd (false≢true (sym f));
+    })
+    (λ e. record {
+      len = 1 + next.len;
+      is = omega (arith, next.is);
+      first = first_behind b next.len text e next.first;
+      stop = λ t. let s = next.stop t in (omega arith, ap begins_stop (drop_more b next.len text s.0) ∙ s.1);
+      rest = λ f. let r = next.rest f in (omega (arith, r.0), none_behind b text e r.1);
+    })
 
 behind_zero : (b k : ℕ) (text : Text) (P : Text → Type 0) → 0 < k → P (drop (k - 1) text) → P (drop k (b ∷ text))
 behind_zero b zero text P h p = absurd (omega (arith, h))
@@ -120,9 +116,9 @@ taken_up (b ∷ text) h =
     record {
       first = λ k some before. behind_zero b k text No some (p.first (k - 1) (omega (arith, some, before, p.is)));
       stop = λ e. let s = p.stop e in
-        let there : n - 1 ≡ 1 + p.len - 1 = omega (arith, p.is) in
-        ap (λ k. begins_stop (drop k (b ∷ text))) there ∙ ap begins_stop (drop_more b p.len text s.0) ∙ s.1;
-      rest = λ e. let r = p.rest e in (omega (arith, p.is, r.0), λ k some. behind_zero b k text No some (r.1 (k - 1)))
+          let there : n - 1 ≡ 1 + p.len - 1 = omega (arith, p.is) in
+          ap (λ k. begins_stop (drop k (b ∷ text))) there ∙ ap begins_stop (drop_more b p.len text s.0) ∙ s.1;
+      rest = λ e. let r = p.rest e in (omega (arith, p.is, r.0), λ k some. behind_zero b k text No some (r.1 (k - 1)));
     }
 
 bad_fits : (text : Text) → 0 < length text → IsFault text → Fits text (bad text)
@@ -136,9 +132,9 @@ plain_fits text h not_comment not_quote =
     cond_both (is_ascii_lowercase b) _ _ (Fits text) (λ is. (is, behind_first (is_in class.Word) text)) (λ no_name.
     cond_both (is_ascii_uppercase b || b == 95) _ _ (Fits text) (λ is. (is, behind_first (is_in class.Word) text)) (λ no_variable.
     cond_both (is_ascii_digit b) _ _ (Fits text)
-      (λ is. cond_both (nat_le (number (take digits text)) (2 ^ 63)) _ _ (Fits text)
-        (λ fits. (is, behind_first is_ascii_digit text, leb-true (number (take digits text)) (2 ^ 63) fits))
-        (λ over. bad_fits text h (large digits is (behind_first is_ascii_digit text) (leb-false (number (take digits text)) (2 ^ 63) over)))) (λ no_digit.
+    (λ is. cond_both (nat_le (number (take digits text)) (2 ^ 63)) _ _ (Fits text)
+    (λ fits. (is, behind_first is_ascii_digit text, leb-true (number (take digits text)) (2 ^ 63) fits))
+    (λ over. bad_fits text h (large digits is (behind_first is_ascii_digit text) (leb-false (number (take digits text)) (2 ^ 63) over)))) (λ no_digit.
     cond_both (is_symbol b) _ _ (Fits text) (symbols_fit text) (λ no_symbol.
     solo_fits text (λ no_solo. bad_fits text h (character no_layout no_name no_variable no_digit no_symbol no_solo not_quote not_comment)))))))
 
@@ -187,10 +183,10 @@ quoted_fits : (text : Text) (end : Option ℕ) → 0 < length text → slice_ind
 quoted_fits text None h is e = bad_fits text h (unclosed is (λ n q. none-some n (sym e ∙ quoted_closing text n q)))
 quoted_fits text (Some end) h is e =
     cond_both (nat_le end (utf8_valid_len text)) _ _ (Fits text)
-      (λ valid. is_quoted text end (one_first text is) (leb-true end (utf8_valid_len text) valid) (body_of 1 end (drop 1 text) e))
-      (λ cut. bad_fits text h (unclosed is (λ n q.
-        let same : n ≡ end = same_Some n end (sym (quoted_closing text n q) ∙ e) in
-        absurd (omega (arith, same, q.characters, leb-false end (utf8_valid_len text) cut)))))
+    (λ valid. is_quoted text end (one_first text is) (leb-true end (utf8_valid_len text) valid) (body_of 1 end (drop 1 text) e))
+    (λ cut. bad_fits text h (unclosed is (λ n q.
+    let same : n ≡ end = same_Some n end (sym (quoted_closing text n q) ∙ e) in
+    absurd (omega (arith, same, q.characters, leb-false end (utf8_valid_len text) cut)))))
 
 line_fits : (text : Text) → 0 < length text → slice_index text 0 ≡ 37 → Fits text (spec.comment text (Some (line_len text)))
 line_fits text h is = (line_len text, line is (longest (is_in class.Line) text), refl)
@@ -201,7 +197,7 @@ lexeme_fits text h =
     let b = slice_index text 0 in
     cond_both (b == 37) _ _ (Fits text) (λ is. line_fits text h (eqb-true b 37 is)) (λ not_comment.
     cond_both (b == 47 && slice_index text 1 == 42) _ _ (Fits text)
-      (λ is. let both = and_parts (b == 47) (slice_index text 1 == 42) is in block_fits text h (eqb-true b 47 both.0) (eqb-true (slice_index text 1) 42 both.1)) (λ _.
+    (λ is. let both = and_parts (b == 47) (slice_index text 1 == 42) is in block_fits text h (eqb-true b 47 both.0) (eqb-true (slice_index text 1) 42 both.1)) (λ _.
     cond_both (b == 39) _ _ (Fits text)
-      (λ is. quoted_fits text (closing quote.Plain 1 (drop 1 text)) h (eqb-true b 39 is) refl) (λ not_quote.
+    (λ is. quoted_fits text (closing quote.Plain 1 (drop 1 text)) h (eqb-true b 39 is) refl) (λ not_quote.
     plain_fits text h not_comment not_quote)))

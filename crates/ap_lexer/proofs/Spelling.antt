@@ -1,5 +1,5 @@
 -- Quoted names and comments, by what they are made of.
-use Rattle.std.proofs.Common.{◌≡◌, ℕ, zero, suc, ◌+◌, ◌-◌, ◌<◌, ◌≤◌, ◌==◌, ◌&&◌, ◌||◌, Bool, true, false, cond, List, [], ◌∷◌, ◌++◌, length, Option, Some, None, refl, sym, ap, subst, ◌∙◌, arith, append_assoc, length-append}
+use Rattle.std.proofs.Common.{◌≡◌, ℕ, ◌+◌, ◌==◌, ◌&&◌, ◌||◌, Bool, true, false, cond, List, [], ◌∷◌, ◌++◌, length, Option, Some, None, refl, sym, ap, ◌∙◌, arith}
 use Rattle.std.specs.Prelude.{flat_map}
 use Rattle.std.specs.List.{AllByRecursion}
 use Rattle.std.proofs.lemmas.Bool.{eqb-true, and_parts, or_parts, or_right, false≢true}
@@ -43,7 +43,7 @@ one_more at b end text is body = record {
   are_items = (is, body.are_items);
   spelled = ap (λ t. b ∷ t) body.spelled;
   closes = body.closes;
-  len = omega (arith, body.len)
+  len = omega (arith, body.len);
 }
 
 after_quote : (at b end : ℕ) (text : Text) → b ≡ 39 → AtQuote (at + 1) text end → Body at (b ∷ text) end
@@ -53,7 +53,7 @@ after_quote at b end text is (done here closes) = record {
   are_items = tt;
   spelled = ap (λ c. c ∷ text) is;
   closes = closes;
-  len = omega (arith, here)
+  len = omega (arith, here);
 }
 after_quote at b end text is (doubled rest spelled body) = record {
   items = TwoQuotes ∷ body.items;
@@ -61,7 +61,7 @@ after_quote at b end text is (doubled rest spelled body) = record {
   are_items = (tt, body.are_items);
   spelled = ap (λ c. c ∷ text) is ∙ ap (λ t. 39 ∷ t) (spelled ∙ ap (λ t. 39 ∷ t) body.spelled);
   closes = body.closes;
-  len = omega (arith, body.len)
+  len = omega (arith, body.len);
 }
 
 after_escape : (at b end : ℕ) (text : Text) → b ≡ 92 → AtEscape (at + 1) text end → Body at (b ∷ text) end
@@ -71,7 +71,7 @@ after_escape at b end text is next = record {
   are_items = (next.is_item, next.body.are_items);
   spelled = ap (λ c. c ∷ text) is ∙ ap (λ t. 92 ∷ t) (next.spelled ∙ ap (λ t. next.byte ∷ t) next.body.spelled);
   closes = next.body.closes;
-  len = omega (arith, next.body.len)
+  len = omega (arith, next.body.len);
 }
 
 plain_step : (at b end : ℕ) (text : Text) (t1 t2 t3 : Bool) (x y z : Option ℕ) → (b == 39) ≡ t1 → (b == 92) ≡ t2 → (b == 10) ≡ t3 → (x ≡ Some end → AtQuote (at + 1) text end) → (y ≡ Some end → AtEscape (at + 1) text end) → (z ≡ Some end → Body (at + 1) text end) → cond t1 x (cond t2 y (cond t3 None z)) ≡ Some end → Body at (b ∷ text) end
@@ -80,11 +80,11 @@ plain_step at b end text false true t3 x y z e1 e2 e3 p q r is = after_escape at
 plain_step at b end text false false true x y z e1 e2 e3 p q r is = absurd (none-some end is)
 plain_step at b end text false false false x y z e1 e2 e3 p q r is = one_more at b end text (neither3 (b == 39) (b == 92) (b == 10) e1 e2 e3) (r is)
   where
-  neither3 : (s t u : Bool) → s ≡ false → t ≡ false → u ≡ false → (s || t || u) ≡ false
-  neither3 false false false e f g = refl
-  neither3 true t u e f g = absurd (false≢true (sym e))
-  neither3 false true u e f g = absurd (false≢true (sym f))
-  neither3 false false true e f g = absurd (false≢true (sym g))
+    neither3 : (s t u : Bool) → s ≡ false → t ≡ false → u ≡ false → (s || t || u) ≡ false
+    neither3 false false false e f g = refl
+    neither3 true t u e f g = absurd (false≢true (sym e))
+    neither3 false true u e f g = absurd (false≢true (sym f))
+    neither3 false false true e f g = absurd (false≢true (sym g))
 
 quote_step : (at b end : ℕ) (text : Text) (t : Bool) (x : Option ℕ) → (b == 39) ≡ t → (x ≡ Some end → Body (at + 1) text end) → cond t x (Some at) ≡ Some end → AtQuote at (b ∷ text) end
 quote_step at b end text true x e p is = doubled text (ap (λ c. c ∷ text) (eqb-true b 39 e)) (p is)

@@ -1,5 +1,5 @@
 -- The longest front of a text that is UTF-8.
-use Rattle.std.proofs.Common.{◌≡◌, ℕ, zero, suc, ◌+◌, ◌-◌, ◌<◌, ◌≤◌, Bool, true, false, cond, List, [], ◌∷◌, ◌++◌, length, take, drop, get_or, refl, sym, ap, subst, ◌∙◌, arith, length-take-le, length-drop}
+use Rattle.std.proofs.Common.{◌≡◌, ℕ, zero, suc, ◌+◌, ◌-◌, ◌<◌, ◌≤◌, Bool, true, false, cond, List, [], ◌∷◌, length, take, drop, refl, sym, ap, subst, ◌∙◌, arith, length-take-le, length-drop}
 use Rattle.std.proofs.lemmas.List.{drop-take, get_or-take, take-take}
 use Rattle.std.proofs.lemmas.Bool.{false≢true}
 use Rattle.std.proofs.Math.Seq.{take-add}
@@ -24,8 +24,8 @@ least_of : (bs : List ℕ) (n m k : ℕ) (b : Bool) → is_utf8 (take (suc m) bs
 least_of bs n m k true e u h below = h
 least_of bs n m k false e u h below = below (shorter n m h (λ is. false≢true (sym e ∙ subst (λ j. is_utf8 (take j bs) ≡ true) is (is_utf8-from_IsUtf8 (take n bs) u))))
   where
-  shorter : (n m : ℕ) → n ≤ suc m → (n ≡ suc m → ⊥) → n ≤ m
-  shorter n m h differs = omega (arith, differs)
+    shorter : (n m : ℕ) → n ≤ suc m → (n ≡ suc m → ⊥) → n ≤ m
+    shorter n m h differs = omega (arith, differs)
 
 up_to_least : (bs : List ℕ) (n m : ℕ) → n ≤ m → IsUtf8 (take n bs) → n ≤ valid_len_up_to bs m
 up_to_least bs n zero h u = h
@@ -57,6 +57,11 @@ valid_later bs n h ascii =
     let behind : IsUtf8 (take (v - n) (drop n bs)) = subst IsUtf8 (ap (λ k. drop n (take k bs)) (sym split) ∙ drop-take n (v - n) bs) (IsUtf8-drop front n (valid_front bs) may_cut) in
     let before : IsUtf8 (take n bs) = subst IsUtf8 (take-take n v bs h) (IsUtf8-take front n (valid_front bs) may_cut) in
     let both : IsUtf8 (take (n + w) bs) = subst IsUtf8 (sym (take-add n w bs)) (IsUtf8-append (take n bs) (take w (drop n bs)) before (valid_front (drop n bs))) in
-    omega (arith, length-drop n bs, utf8_valid_len_le bs, utf8_valid_len_le (drop n bs),
+    omega (
+      arith,
+      length-drop n bs,
+      utf8_valid_len_le bs,
+      utf8_valid_len_le (drop n bs),
       valid_least (drop n bs) (v - n) (omega (arith, length-drop n bs, utf8_valid_len_le bs)) behind,
-      valid_least bs (n + w) (omega (arith, length-drop n bs, utf8_valid_len_le bs, utf8_valid_len_le (drop n bs))) both)
+      valid_least bs (n + w) (omega (arith, length-drop n bs, utf8_valid_len_le bs, utf8_valid_len_le (drop n bs))) both,
+    )

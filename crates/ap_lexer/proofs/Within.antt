@@ -1,7 +1,6 @@
 -- A lexeme has a byte at least, and ends in the text.
-use Rattle.std.proofs.Common.{◌≡◌, ℕ, zero, suc, ◌+◌, ◌-◌, ◌^◌, ◌<◌, ◌≤◌, ◌==◌, ◌&&◌, ◌||◌, Bool, true, false, cond, List, [], ◌∷◌, length, take, drop, min, Option, Some, None, refl, sym, ap, subst, ◌∙◌, arith, length-drop}
+use Rattle.std.proofs.Common.{◌≡◌, ℕ, suc, ◌+◌, ◌^◌, ◌<◌, ◌≤◌, ◌==◌, ◌&&◌, ◌||◌, Bool, true, false, cond, [], ◌∷◌, length, take, drop, Option, Some, None, ap, arith, length-drop}
 use Rattle.std.specs.Prelude.{IfSome, slice_index, nat_le}
-use Rattle.std.specs.List.{prefix_len}
 use Rattle.std.specs.Prelude.{not}
 use Rattle.std.proofs.lemmas.Bool.{eqb-true, and_parts, cond_both, ne_eqb}
 use Rattle.std.specs.Char.{is_ascii_digit, is_ascii_lowercase, is_ascii_uppercase}
@@ -13,7 +12,7 @@ use Rattle.ap_lexer.specs.declared.ahead.Quote.TheVariants as quote
 use Rattle.ap_lexer.specs.declared.kind.TokenKind.{TokenKind}
 use Rattle.ap_lexer.specs.declared.kind.TokenKind.TheVariants as token
 use Rattle.ap_lexer.specs.declared.kind.LexemeKind.TheVariants as kind
-use Rattle.ap_lexer.specs.Lexeme.{Text, Lexeme, is_layout, is_symbol, is_in, past, ends, recovered, bad, number, integer, symbols, solo, solo_or_bad, closing, quoted, comment_end, comment, line_len, plain, lexeme}
+use Rattle.ap_lexer.specs.Lexeme.{Text, Lexeme, is_layout, is_symbol, is_in, past, ends, recovered, bad, number, solo, solo_or_bad, closing, quoted, comment_end, comment, line_len, plain, lexeme}
 use Rattle.ap_lexer.proofs.Valid.{valid_some}
 use Rattle.ap_lexer.proofs.Ends.{comment_end_within, closing_within}
 
@@ -50,11 +49,11 @@ plain_within text h =
     let digits = past class.Digit text 1 in
     let run = past class.Symbol text 1 in
     either text (is_layout b) _ _ (omega arith, omega (arith, h))
-      (either text (is_ascii_lowercase b) _ _ (past_within class.Word text h)
-      (either text (is_ascii_uppercase b || b == 95) _ _ (past_within class.Word text h)
-      (either text (is_ascii_digit b) _ _ (either text (nat_le (number (take digits text)) (2 ^ 63)) _ _ (past_within class.Digit text h) (bad_within text h))
-      (either text (is_symbol b) _ _ (either text (run == 1 && slice_index text 0 == 46 && (ends text 1 || slice_index text 1 == 37)) _ _ (omega arith, omega (arith, h)) (past_within class.Symbol text h))
-      (solo_within text (solo b) h)))))
+    (either text (is_ascii_lowercase b) _ _ (past_within class.Word text h)
+    (either text (is_ascii_uppercase b || b == 95) _ _ (past_within class.Word text h)
+    (either text (is_ascii_digit b) _ _ (either text (nat_le (number (take digits text)) (2 ^ 63)) _ _ (past_within class.Digit text h) (bad_within text h))
+    (either text (is_symbol b) _ _ (either text (run == 1 && slice_index text 0 == 46 && (ends text 1 || slice_index text 1 == 37)) _ _ (omega arith, omega (arith, h)) (past_within class.Symbol text h))
+    (solo_within text (solo b) h)))))
 
 comment_within : (text : Text) (end : Option ℕ) → 0 < length text → slice_index text 0 < 128 → IfSome end (λ e. (0 < e) × (e ≤ length text)) → IsWithin text (comment text end)
 comment_within text None h ascii p = bad_within text h
@@ -79,20 +78,20 @@ comment_line (b ∷ text) h ascii is =
     let some : line_len (b ∷ text) ≡ 1 + line_len text = ap (λ t. cond (not t) (1 + line_len text) 0) (ne_eqb b 10 (apart b is)) in
     comment_within (b ∷ text) (Some (line_len (b ∷ text))) h ascii (omega (arith, some), prefix_len-le-length (is_in class.Line) (b ∷ text))
   where
-  apart : (b : ℕ) → b ≡ 37 → b ≡ 10 → ⊥
-  apart b p q = omega (arith, p, q)
+    apart : (b : ℕ) → b ≡ 37 → b ≡ 10 → ⊥
+    apart b p q = omega (arith, p, q)
 
 pub lexeme_within : (text : Text) → 0 < length text → IsWithin text (lexeme text)
 unfolding lexeme
 lexeme_within text h =
     let b = slice_index text 0 in
     cond_both (b == 37) _ _ (IsWithin text)
-      (λ is. let byte = eqb-true b 37 is in comment_line text h (omega (arith, byte)) (omega (arith, byte)))
-      (λ _. cond_both (b == 47 && slice_index text 1 == 42) _ _ (IsWithin text)
-        (λ is. let both = and_parts (b == 47) (slice_index text 1 == 42) is in
-          let byte = eqb-true b 47 both.0 in
-          comment_within text (comment_end false 2 (drop 2 text)) h (omega (arith, byte))
-            (ends_in 2 2 text (comment_end false 2 (drop 2 text)) (omega arith) (omega arith) (second_byte text (eqb-true (slice_index text 1) 42 both.1)) (comment_end_within false 2 (drop 2 text))))
-        (λ _. cond_both (b == 39) _ _ (IsWithin text)
-          (λ _. quoted_within text (closing quote.Plain 1 (drop 1 text)) h (ends_in 1 1 text (closing quote.Plain 1 (drop 1 text)) (omega arith) (omega arith) (omega (arith, h)) (closing_within quote.Plain 1 (drop 1 text))))
-          (λ _. plain_within text h)))
+    (λ is. let byte = eqb-true b 37 is in comment_line text h (omega (arith, byte)) (omega (arith, byte)))
+    (λ _. cond_both (b == 47 && slice_index text 1 == 42) _ _ (IsWithin text)
+    (λ is. let both = and_parts (b == 47) (slice_index text 1 == 42) is in
+    let byte = eqb-true b 47 both.0 in
+    comment_within text (comment_end false 2 (drop 2 text)) h (omega (arith, byte))
+    (ends_in 2 2 text (comment_end false 2 (drop 2 text)) (omega arith) (omega arith) (second_byte text (eqb-true (slice_index text 1) 42 both.1)) (comment_end_within false 2 (drop 2 text))))
+    (λ _. cond_both (b == 39) _ _ (IsWithin text)
+    (λ _. quoted_within text (closing quote.Plain 1 (drop 1 text)) h (ends_in 1 1 text (closing quote.Plain 1 (drop 1 text)) (omega arith) (omega arith) (omega (arith, h)) (closing_within quote.Plain 1 (drop 1 text))))
+    (λ _. plain_within text h)))

@@ -1,5 +1,5 @@
 -- When what scans ahead have found holds of a text.
-use Rattle.std.specs.Prelude.{◌≡◌, ℕ, ◌+◌, ◌≤◌, false, length, drop, Option, Some, None}
+use Rattle.std.specs.Prelude.{◌≡◌, ◌+◌, ◌≤◌, false, length, drop, Option, Some, None}
 use Rattle.std.specs.Str.Lossy.{utf8_valid_len}
 use Rattle.ap_lexer.specs.declared.ahead.Characters.{Characters}
 use Rattle.ap_lexer.specs.declared.ahead.Line.{Line}

@@ -62,7 +62,12 @@ impl Ahead {
     pub(crate) fn new() -> Ahead
         ensures { (text : Text) → IsSound text result }
     {
-        Ahead { characters: None, line: None, comment: None, quoted: None }
+        Ahead {
+            characters: None,
+            line: None,
+            comment: None,
+            quoted: None,
+        }
     }
 }
 
@@ -87,7 +92,12 @@ fn valid_len(text: &[u8]) -> usize
 }
 
 /// How many of the `len` bytes at a place are characters, up to the first that isn't UTF-8.
-pub(crate) fn characters_len(known: &mut Option<Characters>, text: &[u8], at: usize, len: usize) -> usize
+pub(crate) fn characters_len(
+    known: &mut Option<Characters>,
+    text: &[u8],
+    at: usize,
+    len: usize,
+) -> usize
     requires here { at < length text.now }
     requires ascii { slice_index text.now at < 128 }
     requires within { at + len ≤ length text.now }
@@ -105,7 +115,10 @@ pub(crate) fn characters_len(known: &mut Option<Characters>, text: &[u8], at: us
                 return len;
             }
             let valid = valid_len(rest);
-            *known = Some(Characters { from: at, to: at + valid });
+            *known = Some(Characters {
+                from: at,
+                to: at + valid,
+            });
             len.min(valid)
         }
     }
@@ -202,11 +215,9 @@ pub(crate) fn comment_len(known: &mut Option<Comment>, text: &[u8], at: usize) -
 /// Reads a quoted token's bytes from a place to another: how it stands there, or where it ended.
 fn run(text: &[u8], state: Quote, from: usize, to: usize) -> Result<Quote, Option<usize>>
     requires { (from ≤ to) × (to ≤ length text.now) }
-    ensures {
-        MatchResult result
-            (λ there. spec.closing state from (drop from text.now) ≡ spec.closing there to (drop to text.now))
-            (λ end. spec.closing state from (drop from text.now) ≡ end)
-    }
+    ensures { MatchResult result
+        (λ there. spec.closing state from (drop from text.now) ≡ spec.closing there to (drop to text.now))
+        (λ end. spec.closing state from (drop from text.now) ≡ end) }
 {
     let mut here = state;
     let mut at = from;
@@ -247,7 +258,11 @@ fn follow(known: Option<Quoted>, text: &[u8], from: usize) -> Option<Quoted>
 {
     match known {
         Some(seen) if seen.from <= from => match run(text, seen.state, seen.from, from) {
-            Ok(state) => Some(Quoted { state, from, end: seen.end }),
+            Ok(state) => Some(Quoted {
+                state,
+                from,
+                end: seen.end,
+            }),
             Err(_) => None,
         },
         _ => None,
@@ -264,12 +279,22 @@ fn quoted_end(known: &mut Option<Quoted>, text: &[u8], from: usize) -> Option<us
 {
     *known = follow(*known, text, from);
     match *known {
-        Some(Quoted { state: Quote::Plain, end, .. }) => end,
+        Some(
+            Quoted {
+                state: Quote::Plain,
+                end,
+                ..
+            },
+        ) => end,
         // A quote beside others: the last of them closes it, and what is known stays of use.
         Some(_) => scan_quoted(text, from),
         None => {
             let end = scan_quoted(text, from);
-            *known = Some(Quoted { state: Quote::Plain, from, end });
+            *known = Some(Quoted {
+                state: Quote::Plain,
+                from,
+                end,
+            });
             end
         }
     }

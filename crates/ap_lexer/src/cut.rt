@@ -46,8 +46,20 @@ fn ended(kind: LexemeKind, from: usize, first: u64, to: usize, line: u64) -> Opt
     ensures { (text : Text) (at : ℕ) → first ≡ spec.line_at text from → line ≡ spec.line_at text at → option_to_list result ≡ spec.ended_by (spec.role kind) text from at to }
 {
     match kind {
-        LexemeKind::Token(TokenKind::End) => Some(Piece { from, to, line: first, ended: true, bad: None }),
-        LexemeKind::Bad(ended) => Some(Piece { from, to, line: first, ended, bad: Some(line) }),
+        LexemeKind::Token(TokenKind::End) => Some(Piece {
+            from,
+            to,
+            line: first,
+            ended: true,
+            bad: None,
+        }),
+        LexemeKind::Bad(ended) => Some(Piece {
+            from,
+            to,
+            line: first,
+            ended,
+            bad: Some(line),
+        }),
         _ => None,
     }
 }
@@ -86,7 +98,13 @@ fn unended(begun: Begun, to: usize) -> Option<Piece>
     ensures { (text : Text) (b : Option ℕ) → spec.Begins text begun b → option_to_list result ≡ spec.unended text to b }
 {
     match begun {
-        Some((from, first)) => Some(Piece { from, to, line: first, ended: false, bad: None }),
+        Some((from, first)) => Some(Piece {
+            from,
+            to,
+            line: first,
+            ended: false,
+            bad: None,
+        }),
         None => None,
     }
 }

@@ -19,9 +19,9 @@ mod recognize;
 mod split;
 
 pub use cut::{Piece, pieces};
+pub use digits::number;
 pub use error::{LexErr, NoMemory};
 pub use kind::{LexemeKind, TokenKind};
-pub use digits::number;
 pub use law::{lexemes_are_rows, one_cutting, tokens_without_places};
 pub use split::{Token, tokens};
 

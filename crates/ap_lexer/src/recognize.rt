@@ -80,7 +80,10 @@ fn comment(ahead: &mut Ahead, text: &[u8], at: usize, len: Option<usize>) -> Lex
     ensures sound { IsSound text.now ahead.new }
 {
     match len {
-        Some(len) => (LexemeKind::Comment, characters_len(&mut ahead.characters, text, at, len)),
+        Some(len) => (
+            LexemeKind::Comment,
+            characters_len(&mut ahead.characters, text, at, len),
+        ),
         None => bad(text.split_at(at).1),
     }
 }
@@ -113,9 +116,15 @@ fn plain(text: &[u8]) -> Lexeme
     if is_layout(b) {
         (LexemeKind::Layout, 1)
     } else if b.is_ascii_lowercase() {
-        (LexemeKind::Token(TokenKind::Name), past(Class::Word, text, 1))
+        (
+            LexemeKind::Token(TokenKind::Name),
+            past(Class::Word, text, 1),
+        )
     } else if b.is_ascii_uppercase() || b == b'_' {
-        (LexemeKind::Token(TokenKind::Variable), past(Class::Word, text, 1))
+        (
+            LexemeKind::Token(TokenKind::Variable),
+            past(Class::Word, text, 1),
+        )
     } else if b.is_ascii_digit() {
         integer(text)
     } else if is_symbol(b) {

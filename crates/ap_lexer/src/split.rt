@@ -31,7 +31,13 @@ fn token_of<'a>(kind: LexemeKind, text: &'a [u8], at: usize, line: u64) -> Optio
     ensures { (whole : Text) → text.now ≡ take (length text.now) (drop at whole) → line ≡ line_at whole at → map spec.view (option_to_list result) ≡ spec.token_of kind whole at (length text.now) }
 {
     match kind {
-        LexemeKind::Token(kind) => Some(Token { kind, text, from: at, to: at + text.len(), line }),
+        LexemeKind::Token(kind) => Some(Token {
+            kind,
+            text,
+            from: at,
+            to: at + text.len(),
+            line,
+        }),
         _ => None,
     }
 }

@@ -1,10 +1,8 @@
-use Rattle.std.proofs.Common.{◌≡◌, ◌+◌, ◌-◌, ◌<◌, ◌≤◌, true, ◌∙◌, ap, sym, subst, length, drop, take, min, refl, arith, length-drop}
+use Rattle.std.proofs.Common.{◌≡◌, true, ◌∙◌, ap, sym, drop, take, min, arith, length-drop}
 use Rattle.std.specs.Str.{is_utf8}
 use Rattle.std.specs.Str.Lossy.{utf8_valid_len}
-use Rattle.std.specs.Prelude.{slice_index}
-use Rattle.std.proofs.lemmas.List.{get_or-drop}
 use Rattle.std.proofs.lemmas.Str.{IsUtf8-from_is_utf8}
-use Rattle.ap_lexer.proofs.Valid.{valid_least, valid_some}
+use Rattle.ap_lexer.proofs.Valid.{valid_least}
 use Rattle.ap_lexer.proofs.Ends.{characters_known, ascii_there}
 use Rattle.ap_lexer.proofs.ahead.characters_len.Goals as goal
 
@@ -18,9 +16,13 @@ pub returns-in-Some-clause-value : goal.returns-in-Some-clause-value
 returns-in-Some-clause-value c = c.min.ensures ∙ ap (min c.args.len) (characters_known c.args.text.now c.args.known.now c.in-Some.seen c.args.at c.in-Some.is c.requires.knows c.if-seen-at.true c.if-at-seen.true c.requires.ascii)
 
 pub returns-in-Some-clause-some : goal.returns-in-Some-clause-some
-returns-in-Some-clause-some c = λ some. omega (arith, some, c.min.ensures,
-    characters_known c.args.text.now c.args.known.now c.in-Some.seen c.args.at c.in-Some.is c.requires.knows c.if-seen-at.true c.if-at-seen.true c.requires.ascii,
-    ascii_there c.args.text.now c.args.at c.requires.here c.requires.ascii)
+returns-in-Some-clause-some c = λ some. omega (
+  arith,
+  some,
+  c.min.ensures,
+  characters_known c.args.text.now c.args.known.now c.in-Some.seen c.args.at c.in-Some.is c.requires.knows c.if-seen-at.true c.if-at-seen.true c.requires.ascii,
+  ascii_there c.args.text.now c.args.at c.requires.here c.requires.ascii,
+)
 
 pub returns-else-is_utf8-clause-some : goal.returns-else-is_utf8-clause-some
 returns-else-is_utf8-clause-some c = λ some. omega (arith, some, c.min-in_default.ensures, c.valid_len-valid.ensures.value, ap utf8_valid_len c.split_at.ensures.back, ascii_there c.args.text.now c.args.at c.requires.here c.requires.ascii)

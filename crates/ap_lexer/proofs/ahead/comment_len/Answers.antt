@@ -1,4 +1,4 @@
-use Rattle.std.proofs.Common.{◌+◌, ◌≤◌, ◌≡◌, ◌∙◌, ap, sym, subst, length}
+use Rattle.std.proofs.Common.{◌+◌, ◌≤◌, ◌∙◌, sym, subst, length}
 use Rattle.std.specs.Prelude.{IfSome}
 use Rattle.ap_lexer.proofs.Ends.{comment_from_here, comment_bounds, at_least, as_distance}
 use Rattle.ap_lexer.proofs.ahead.comment_len.Goals as goal

@@ -1,4 +1,4 @@
-use Rattle.std.proofs.Common.{◌+◌, ◌≤◌, ◌≡◌, ◌∙◌, ap, sym, subst, length, arith}
+use Rattle.std.proofs.Common.{◌+◌, ◌≤◌, ◌∙◌, sym, subst, length, arith}
 use Rattle.std.specs.Prelude.{IfSome}
 use Rattle.ap_lexer.proofs.Ends.{quoted_from_here, quoted_bounds, at_least, as_distance}
 use Rattle.ap_lexer.proofs.ahead.quoted_len.Goals as goal

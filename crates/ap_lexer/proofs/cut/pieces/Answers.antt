@@ -1,7 +1,7 @@
-use Rattle.std.proofs.Common.{◌≡◌, ◌+◌, ◌<◌, ◌≤◌, ◌++◌, None, refl, ap, sym, subst, ◌∙◌, length, drop, take, arith}
+use Rattle.std.proofs.Common.{◌≡◌, ◌+◌, ◌++◌, None, refl, ap, sym, subst, ◌∙◌, drop, arith}
 use Rattle.std.specs.Prelude.{count_by, ◌==◌, All}
 use Rattle.ap_lexer.specs.Lexeme.{lexeme}
-use Rattle.ap_lexer.specs.Piece.{start, pieces, unended, line_at, ended_by, role, begun_after}
+use Rattle.ap_lexer.specs.Piece.{pieces, ended_by, role, begun_after}
 use Rattle.ap_lexer.specs.Law.{LieInOrder, IsPieceOf}
 use Rattle.ap_lexer.proofs.Order.{in_order, placed}
 use Rattle.ap_lexer.proofs.Turn.{turned, ended_at, line_more, feeds_few}

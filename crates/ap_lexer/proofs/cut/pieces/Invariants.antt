@@ -10,7 +10,7 @@ invariant-loop-at l = record {
   sound : IsSound l.text l.ahead;
   line_is : l.line ≡ line_at l.text l.at;
   line_low : l.line ≤ l.at + 1;
-  rest_is : (begun : Option ℕ) × Begins l.text l.begun begun × (l.out.items ++ pieces_from l.text l.at begun (lexemes (drop l.at l.text)) ≡ pieces l.text)
+  rest_is : (begun : Option ℕ) × Begins l.text l.begun begun × (l.out.items ++ pieces_from l.text l.at begun (lexemes (drop l.at l.text)) ≡ pieces l.text);
 }
 
 abbrev pub decreases-loop-at : goal.decreases-loop-at

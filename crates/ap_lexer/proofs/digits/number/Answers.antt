@@ -1,6 +1,6 @@
-use Rattle.std.proofs.Common.{◌≡◌, ◌+◌, ◌-◌, ◌*◌, ◌<◌, ◌^◌, suc, [], ◌∷◌, drop, get_or, length, refl, sym, ap, ◌∙◌, false, leb, arith}
+use Rattle.std.proofs.Common.{◌+◌, ◌-◌, ◌*◌, ◌<◌, ◌^◌, suc, drop, get_or, sym, ap, ◌∙◌, leb, arith}
 use Rattle.std.proofs.Math.Seq.{drop-cons}
-use Rattle.ap_lexer.specs.Lexeme.{number_from, number}
+use Rattle.ap_lexer.specs.Lexeme.{number_from}
 use Rattle.ap_lexer.proofs.Numbers.{too_large}
 use Rattle.ap_lexer.proofs.digits.number.Goals as goal
 

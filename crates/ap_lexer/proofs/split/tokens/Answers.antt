@@ -1,8 +1,6 @@
-use Rattle.std.proofs.Common.{◌≡◌, ◌+◌, ◌<◌, ◌≤◌, ◌++◌, [], None, map, ap, sym, subst, ◌∙◌, length, drop, take, refl, arith, rules, length-take-le, length-drop}
-use Rattle.std.specs.Prelude.{count_by, ◌==◌, option_to_list}
-use Rattle.ap_lexer.specs.Lexeme.{lexeme, lexemes}
-use Rattle.ap_lexer.specs.Piece.{line_at}
-use Rattle.ap_lexer.specs.Token.{tokens, tokens_from, token_of, view}
+use Rattle.std.proofs.Common.{◌≡◌, ◌<◌, ◌++◌, map, ap, sym, ◌∙◌, length, drop, take, arith, rules, length-take-le, length-drop}
+use Rattle.std.specs.Prelude.{count_by, ◌==◌}
+use Rattle.ap_lexer.specs.Token.{tokens, token_of, view}
 use Rattle.ap_lexer.proofs.Turn.{line_more, feeds_few}
 use Rattle.ap_lexer.proofs.Toks.{turned, ended_past}
 use Rattle.ap_lexer.proofs.Order.{is_piece}

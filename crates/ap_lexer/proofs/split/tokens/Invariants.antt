@@ -13,7 +13,7 @@ invariant-loop-at l = record {
   sound : IsSound l.text l.ahead;
   line_is : l.line ≡ line_at l.text l.at;
   line_low : l.line ≤ l.at + 1;
-  rest_is : map view l.out.items ++ tokens_from l.text l.at l.piece.to (lexemes (drop l.at l.text)) ≡ tokens l.text l.piece
+  rest_is : map view l.out.items ++ tokens_from l.text l.at l.piece.to (lexemes (drop l.at l.text)) ≡ tokens l.text l.piece;
 }
 
 abbrev pub decreases-loop-at : goal.decreases-loop-at
