@@ -10,3 +10,4 @@ pub mod Order
 pub mod Places
 pub mod Rows
 pub mod Spelling
+pub mod Again

@@ -7,7 +7,7 @@ use Rattle.std.specs.Str.Lossy.{utf8_valid_len}
 use Rattle.std.proofs.lemmas.Bool.{eqb-true, and_parts, cond_both, leb-true, leb-false, false≢true}
 use Rattle.std.proofs.lemmas.List.{get_or-take}
 use Rattle.std.proofs.lemmas.List.Folds.{length-prefix_len}
-use Rattle.std.proofs.lemmas.List.Sums.{prefix_len_passes, prefix_len_stops}
+use Rattle.std.proofs.lemmas.List.Sums.{prefix_len_passes, prefix_len_stops, prefix_len-le-length}
 use Rattle.ap_lexer.specs.declared.bytes.Class.TheVariants as class
 use Rattle.ap_lexer.specs.declared.ahead.Quote.TheVariants as quote
 use Rattle.ap_lexer.specs.declared.kind.TokenKind.{TokenKind}
@@ -19,6 +19,7 @@ use Rattle.ap_lexer.specs.Row.{has_close, character, large, open_comment, unclos
 
 pub longest : (p : ℕ → Bool) (text : Text) → IsRun p text (prefix_len p text)
 longest p text = record {
+  within = prefix_len-le-length p text;
   passes = λ k d h. let inside : k < prefix_len p text = omega (arith, h, length-prefix_len p text) in ap p (get_or-take (prefix_len p text) text k d inside) ∙ prefix_len_passes p text k d inside;
   stops = λ h. prefix_len_stops p text 0 h;
 }
@@ -42,13 +43,13 @@ solo_fits text =
     cond_both (b == 91) _ _ P (λ is _. (eqb-true b 91 is, refl)) (λ _.
     cond_both (b == 93) _ _ P (λ is _. (eqb-true b 93 is, refl)) (λ _ other. other refl))))))))
 
-symbols_fit : (text : Text) → is_symbol (slice_index text 0) ≡ true → Fits text (symbols text)
-symbols_fit text is =
+symbols_fit : (text : Text) → (slice_index text 0 == 47 && slice_index text 1 == 42) ≡ false → is_symbol (slice_index text 0) ≡ true → Fits text (symbols text)
+symbols_fit text not_open is =
     let end = past class.Symbol text 1 in
     cond_both (end == 1 && slice_index text 0 == 46 && (ends text 1 || slice_index text 1 == 37)) _ _ (Fits text)
     (λ e. let parts = and_parts (end == 1 && slice_index text 0 == 46) (ends text 1 || slice_index text 1 == 37) e in
     ((eqb-true (slice_index text 0) 46 (and_parts (end == 1) (slice_index text 0 == 46) parts.0).1, refl), parts.1))
-    (λ e. (is, behind_first is_symbol text, e))
+    (λ e. (is, behind_first is_symbol text, e, not_open))
 
 -- What is passed over behind a bad token's first byte.
 record Passed (at : ℕ) (text : Text) (found : Bool × ℕ) : Type 0 where
@@ -124,8 +125,8 @@ taken_up (b ∷ text) h =
 bad_fits : (text : Text) → 0 < length text → IsFault text → Fits text (bad text)
 bad_fits text h fault = (fault, taken_up text h)
 
-plain_fits : (text : Text) → 0 < length text → (slice_index text 0 == 37) ≡ false → (slice_index text 0 == 39) ≡ false → Fits text (plain text)
-plain_fits text h not_comment not_quote =
+plain_fits : (text : Text) → 0 < length text → (slice_index text 0 == 37) ≡ false → (slice_index text 0 == 47 && slice_index text 1 == 42) ≡ false → (slice_index text 0 == 39) ≡ false → Fits text (plain text)
+plain_fits text h not_comment not_open not_quote =
     let b = slice_index text 0 in
     let digits = past class.Digit text 1 in
     cond_both (is_layout b) _ _ (Fits text) (λ is. (is, refl)) (λ no_layout.
@@ -135,7 +136,7 @@ plain_fits text h not_comment not_quote =
     (λ is. cond_both (nat_le (number (take digits text)) (2 ^ 63)) _ _ (Fits text)
     (λ fits. (is, behind_first is_ascii_digit text, leb-true (number (take digits text)) (2 ^ 63) fits))
     (λ over. bad_fits text h (large digits is (behind_first is_ascii_digit text) (leb-false (number (take digits text)) (2 ^ 63) over)))) (λ no_digit.
-    cond_both (is_symbol b) _ _ (Fits text) (symbols_fit text) (λ no_symbol.
+    cond_both (is_symbol b) _ _ (Fits text) (symbols_fit text not_open) (λ no_symbol.
     solo_fits text (λ no_solo. bad_fits text h (character no_layout no_name no_variable no_digit no_symbol no_solo not_quote not_comment)))))))
 
 comment_fits : (text : Text) (end : Option ℕ) → 0 < length text → (end ≡ None → IsFault text) → ((e : ℕ) → end ≡ Some e → EndsComment text e) → Fits text (spec.comment text end)
@@ -176,7 +177,7 @@ is_quoted text end is valid body = record {
 }
 
 -- where a quoted name's closing quote is
-quoted_closing : (text : Text) (n : ℕ) → IsQuoted text n → closing quote.Plain 1 (drop 1 text) ≡ Some n
+pub quoted_closing : (text : Text) (n : ℕ) → IsQuoted text n → closing quote.Plain 1 (drop 1 text) ≡ Some n
 quoted_closing text n q = ap (λ t. closing quote.Plain 1 (drop 1 t)) q.spelled ∙ closing-items q.items 1 q.rest q.are_items q.closes ∙ ap Some (omega (arith, q.len))
 
 quoted_fits : (text : Text) (end : Option ℕ) → 0 < length text → slice_index text 0 ≡ 39 → closing quote.Plain 1 (drop 1 text) ≡ end → Fits text (quoted text end)
@@ -197,7 +198,7 @@ lexeme_fits text h =
     let b = slice_index text 0 in
     cond_both (b == 37) _ _ (Fits text) (λ is. line_fits text h (eqb-true b 37 is)) (λ not_comment.
     cond_both (b == 47 && slice_index text 1 == 42) _ _ (Fits text)
-    (λ is. let both = and_parts (b == 47) (slice_index text 1 == 42) is in block_fits text h (eqb-true b 47 both.0) (eqb-true (slice_index text 1) 42 both.1)) (λ _.
+    (λ is. let both = and_parts (b == 47) (slice_index text 1 == 42) is in block_fits text h (eqb-true b 47 both.0) (eqb-true (slice_index text 1) 42 both.1)) (λ not_open.
     cond_both (b == 39) _ _ (Fits text)
     (λ is. quoted_fits text (closing quote.Plain 1 (drop 1 text)) h (eqb-true b 39 is) refl) (λ not_quote.
-    plain_fits text h not_comment not_quote)))
+    plain_fits text h not_comment not_open not_quote)))

@@ -12,6 +12,7 @@ use Rattle.ap_lexer.specs.Lexeme.{Text, is_layout, is_symbol, is_in, ends, numbe
 
 -- n bytes pass, and the next one, if there is one, doesn't
 pub record IsRun (p : ℕ → Bool) (text : Text) (n : ℕ) : Type 0 where
+  pub within : n ≤ length text
   pub passes : All (λ b. p b ≡ true) (take n text)
   pub stops : n < length text → p (slice_index text n) ≡ false
 
@@ -59,7 +60,7 @@ abbrev pub IsToken : TokenKind → Text → ℕ → Type 0
 IsToken token.Name text n = (is_ascii_lowercase (slice_index text 0) ≡ true) × IsRun (is_in class.Word) (drop 1 text) (n - 1)
 IsToken token.Variable text n = ((is_ascii_uppercase (slice_index text 0) || slice_index text 0 == 95) ≡ true) × IsRun (is_in class.Word) (drop 1 text) (n - 1)
 IsToken token.Integer text n = (is_ascii_digit (slice_index text 0) ≡ true) × IsRun is_ascii_digit (drop 1 text) (n - 1) × (number (take n text) ≤ 2 ^ 63)
-IsToken token.Symbol text n = (is_symbol (slice_index text 0) ≡ true) × IsRun is_symbol (drop 1 text) (n - 1) × ((n == 1 && slice_index text 0 == 46 && (ends text 1 || slice_index text 1 == 37)) ≡ false)
+IsToken token.Symbol text n = (is_symbol (slice_index text 0) ≡ true) × IsRun is_symbol (drop 1 text) (n - 1) × ((n == 1 && slice_index text 0 == 46 && (ends text 1 || slice_index text 1 == 37)) ≡ false) × ((slice_index text 0 == 47 && slice_index text 1 == 42) ≡ false)
 IsToken token.Quoted text n = IsQuoted text n
 IsToken token.End text n = IsSolo 46 text n × ((ends text 1 || slice_index text 1 == 37) ≡ true)
 IsToken token.Cut text n = IsSolo 33 text n

@@ -21,23 +21,25 @@ pub(crate) fn is_layout(b: u8) -> bool
 pub(crate) fn is_symbol(b: u8) -> bool
     ensures { result ≡ spec.is_symbol b }
 {
-    b == b'+'
-        || b == b'-'
-        || b == b'*'
-        || b == b'/'
-        || b == b'\\'
-        || b == b'^'
-        || b == b'<'
-        || b == b'>'
-        || b == b'='
-        || b == b'~'
-        || b == b':'
-        || b == b'.'
-        || b == b'?'
-        || b == b'@'
-        || b == b'#'
-        || b == b'&'
-        || b == b'$'
+    matches!(
+        b,
+        b'+' | b'-'
+            | b'*'
+            | b'/'
+            | b'\\'
+            | b'^'
+            | b'<'
+            | b'>'
+            | b'='
+            | b'~'
+            | b':'
+            | b'.'
+            | b'?'
+            | b'@'
+            | b'#'
+            | b'&'
+            | b'$'
+    )
 }
 
 fn is_in(class: Class, b: u8) -> bool

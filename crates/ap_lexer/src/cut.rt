@@ -6,7 +6,7 @@ ghost use Rattle.ap_lexer.specs.Law.{LieInOrder, IsPieceOf};
 use crate::ahead::Ahead;
 use crate::recognize::lexeme;
 use crate::{LexemeKind, NoMemory, TokenKind};
-use std::alloc::{AllocError, Global};
+use std::alloc::Global;
 
 /// The span of a clause in its text, from its first token.
 #[derive(Clone, Copy, Debug, PartialEq, Eq)]
@@ -84,7 +84,7 @@ fn begun_after(kind: LexemeKind, begun: Begun, from: usize, first: u64) -> Begun
     }
 }
 
-fn put(out: &mut Vec<Piece>, piece: Option<Piece>) -> Result<(), AllocError>
+fn put(out: &mut Vec<Piece>, piece: Option<Piece>) -> Result<(), NoMemory>
     ensures { OnOk result (out.new.items ≡ out.old.items ++ option_to_list piece) }
 {
     if let Some(piece) = piece {

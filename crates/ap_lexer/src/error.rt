@@ -25,13 +25,13 @@ pub enum LexErr {
     NoMemory,
 }
 
-impl<T: Drop> From<AllocFailed<T>> for LexErr {
+impl From<NoMemory> for LexErr {
     ghost use Rattle.std.specs.Prelude.{◌≡◌};
     ghost use Rattle.ap_lexer.specs.declared.error.LexErr.TheVariants.{NoMemory};
 
     ghost from_gives = { λ _ e. e ≡ NoMemory };
 
-    fn from(_refused: AllocFailed<T>) -> LexErr {
+    fn from(_none: NoMemory) -> LexErr {
         LexErr::NoMemory
     }
 }

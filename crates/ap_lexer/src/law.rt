@@ -1,6 +1,8 @@
-ghost use Rattle.std.specs.Prelude.{◌<◌, length, Contains};
+ghost use Rattle.std.specs.Prelude.{◌≡◌, ◌<◌, ℕ, All, length, Contains};
 ghost use Rattle.ap_lexer.specs.Lexeme.{Text, lexeme};
-ghost use Rattle.ap_lexer.specs.Row.{IsRow};
+ghost use Rattle.ap_lexer.specs.declared.kind.TokenKind.{TokenKind};
+ghost use Rattle.ap_lexer.specs.declared.kind.LexemeKind.TheVariants.{Token};
+ghost use Rattle.ap_lexer.specs.Row.{IsRow, IsToken};
 ghost use Rattle.ap_lexer.specs.Law.{HasOneCutting, ReadsWithoutPlaces};
 ghost use Rattle.ap_lexer.specs.Piece.{pieces};
 ghost use Rattle.ap_lexer.specs.declared.cut.Piece.{Piece};
@@ -18,7 +20,9 @@ pub fn tokens_without_places()
 
 /// What stands at the front of a text is a row of the table of tokens: a longest run, a quoted name
 /// made of characters, doubled quotes and escapes, a comment to its first end; and what is bad is
-/// none of these, and runs to the first full stop behind its first byte.
+/// none of these, and runs to the first full stop behind its first byte. The other way round, what
+/// is a row of the table at the front of a text of bytes is the token that stands there.
 pub fn lexemes_are_rows()
-    ensures { (text : Text) → 0 < length text → IsRow (lexeme text).0 text (lexeme text).1 }
+    ensures rows { (text : Text) → 0 < length text → IsRow (lexeme text).0 text (lexeme text).1 }
+    ensures tokens { (row : TokenKind) (text : Text) (n : ℕ) → All (λ b. b < 256) text → 0 < n → IsToken row text n → lexeme text ≡ (Token row, n) }
 {}

@@ -8,8 +8,8 @@ ghost use Rattle.ap_lexer.specs.LexErr.{IsCauseOf};
 use crate::ahead::Ahead;
 use crate::cut::{feeds, span};
 use crate::recognize::lexeme;
-use crate::{LexErr, LexemeKind, Piece, TokenKind};
-use std::alloc::{AllocError, Global};
+use crate::{LexErr, LexemeKind, NoMemory, Piece, TokenKind};
+use std::alloc::Global;
 
 /// A token of a piece.
 #[derive(Clone, Copy, Debug)]
@@ -42,7 +42,7 @@ fn token_of<'a>(kind: LexemeKind, text: &'a [u8], at: usize, line: u64) -> Optio
     }
 }
 
-fn put<'a>(out: &mut Vec<Token<'a>>, token: Option<Token<'a>>) -> Result<(), AllocError>
+fn put<'a>(out: &mut Vec<Token<'a>>, token: Option<Token<'a>>) -> Result<(), NoMemory>
     ensures { OnOk result (map spec.view out.new.items ≡ map spec.view out.old.items ++ map spec.view (option_to_list token.entry)) }
 {
     if let Some(token) = token {
@@ -71,10 +71,7 @@ pub fn tokens<'a>(alloc: Global, text: &'a [u8], piece: &Piece) -> Result<Vec<To
     while at < piece.to {
         let (kind, len) = lexeme(&mut ahead, text, at);
         let spelling = span(text, at, len);
-        match put(&mut out, token_of(kind, spelling, at, line)) {
-            Ok(()) => {}
-            Err(_) => return Err(LexErr::NoMemory),
-        }
+        put(&mut out, token_of(kind, spelling, at, line))?;
         line += feeds(spelling) as u64;
         at += len;
     }

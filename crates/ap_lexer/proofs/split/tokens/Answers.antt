@@ -29,7 +29,7 @@ loop-at-preserved c =
     let long : length spelling ≡ x.1 = ap length c.span-spelling.ensures ∙ length-take-le x.1 (drop at text) (omega (arith, c.lexeme-kind.ensures.within, length-drop at text)) in
     let fed = c.feeds.ensures ∙ ap (count_by (λ y. y == 10)) c.span-spelling.ensures in
     let token = c.token_of.ensures text (c.span-spelling.ensures ∙ ap (λ n. take n (drop at text)) (sym long)) inv.line_is ∙ ap (token_of x.0 text at) long in
-    let new = c.in-Ok.ensures ∙ ap (λ l. map view c.loop-at.out.items ++ l) token in
+    let new = c.in_ok-put.ensures ∙ ap (λ l. map view c.loop-at.out.items ++ l) token in
     record {
       is_piece = inv.is_piece;
       in_range = c.lexeme-kind.ensures.within.1;
