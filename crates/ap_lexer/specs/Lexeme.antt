@@ -27,8 +27,12 @@ is_layout b = b == 32 || b == 9 || b == 10 || b == 13
 abbrev pub is_symbol : ℕ → Bool
 is_symbol b = b == 43 || b == 45 || b == 42 || b == 47 || b == 92 || b == 94 || b == 60 || b == 62 || b == 61 || b == 126 || b == 58 || b == 46 || b == 63 || b == 64 || b == 35 || b == 38 || b == 36
 
+-- ASCII letters, digits and _
+abbrev pub is_word : ℕ → Bool
+is_word b = is_ascii_alphanumeric b || b == 95
+
 abbrev pub is_in : Class → ℕ → Bool
-is_in class.Word b = is_ascii_alphanumeric b || b == 95
+is_in class.Word b = is_word b
 is_in class.Digit b = is_ascii_digit b
 is_in class.Symbol b = is_symbol b
 is_in class.Line b = not (b == 10)

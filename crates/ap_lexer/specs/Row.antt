@@ -1,14 +1,13 @@
 -- The table of tokens, row by row: what a lexeme's bytes look like, and why a bad one is bad.
-use Rattle.std.specs.Prelude.{◌≡◌, ℕ, ◌+◌, ◌-◌, ◌<◌, ◌≤◌, ◌^◌, Bool, true, false, ◌==◌, ◌||◌, ◌&&◌, List, [], ◌∷◌, ◌++◌, length, take, drop, slice_index, min, flat_map, All, None}
+use Rattle.std.specs.Prelude.{◌≡◌, ℕ, ◌+◌, ◌-◌, ◌<◌, ◌≤◌, ◌^◌, Bool, true, false, not, ◌==◌, ◌||◌, ◌&&◌, List, [], ◌∷◌, ◌++◌, length, take, drop, slice_index, min, flat_map, All, None}
 use Rattle.std.specs.Char.{is_ascii_digit, is_ascii_lowercase, is_ascii_uppercase}
 use Rattle.std.specs.List.{AllByRecursion}
 use Rattle.std.specs.Str.Lossy.{utf8_valid_len}
-use Rattle.ap_lexer.specs.declared.bytes.Class.TheVariants as class
 use Rattle.ap_lexer.specs.declared.kind.TokenKind.{TokenKind}
 use Rattle.ap_lexer.specs.declared.kind.TokenKind.TheVariants as token
 use Rattle.ap_lexer.specs.declared.kind.LexemeKind.{LexemeKind}
 use Rattle.ap_lexer.specs.declared.kind.LexemeKind.TheVariants as kind
-use Rattle.ap_lexer.specs.Lexeme.{Text, is_layout, is_symbol, is_in, ends, number, solo}
+use Rattle.ap_lexer.specs.Lexeme.{Text, is_layout, is_symbol, is_word, ends, number, solo}
 
 -- n bytes pass, and the next one, if there is one, doesn't
 pub record IsRun (p : ℕ → Bool) (text : Text) (n : ℕ) : Type 0 where
@@ -57,8 +56,8 @@ IsSolo b text n = (slice_index text 0 ≡ b) × (n ≡ 1)
 
 -- the first n bytes of a text are a token of this row
 abbrev pub IsToken : TokenKind → Text → ℕ → Type 0
-IsToken token.Name text n = (is_ascii_lowercase (slice_index text 0) ≡ true) × IsRun (is_in class.Word) (drop 1 text) (n - 1)
-IsToken token.Variable text n = ((is_ascii_uppercase (slice_index text 0) || slice_index text 0 == 95) ≡ true) × IsRun (is_in class.Word) (drop 1 text) (n - 1)
+IsToken token.Name text n = (is_ascii_lowercase (slice_index text 0) ≡ true) × IsRun is_word (drop 1 text) (n - 1)
+IsToken token.Variable text n = ((is_ascii_uppercase (slice_index text 0) || slice_index text 0 == 95) ≡ true) × IsRun is_word (drop 1 text) (n - 1)
 IsToken token.Integer text n = (is_ascii_digit (slice_index text 0) ≡ true) × IsRun is_ascii_digit (drop 1 text) (n - 1) × (number (take n text) ≤ 2 ^ 63)
 IsToken token.Symbol text n = (is_symbol (slice_index text 0) ≡ true) × IsRun is_symbol (drop 1 text) (n - 1) × ((n == 1 && slice_index text 0 == 46 && (ends text 1 || slice_index text 1 == 37)) ≡ false) × ((slice_index text 0 == 47 && slice_index text 1 == 42) ≡ false)
 IsToken token.Quoted text n = IsQuoted text n
@@ -87,7 +86,7 @@ pub record IsFirstClose (text : Text) (end : ℕ) : Type 0 where
 
 -- where a comment ends: at the end of its line, or behind the first `*/`
 pub data EndsComment (text : Text) (end : ℕ) : Type 0 where
-  line : slice_index text 0 ≡ 37 → IsRun (is_in class.Line) text end → EndsComment text end
+  line : slice_index text 0 ≡ 37 → IsRun (λ b. not (b == 10)) text end → EndsComment text end
   block : IsFirstClose text end → EndsComment text end
 
 -- why no token stands at the front of a text
