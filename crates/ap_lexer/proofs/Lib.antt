@@ -1,0 +1,13 @@
+pub mod Numbers
+pub mod Lexemes
+pub mod Turn
+pub mod Toks
+pub mod Valid
+pub mod Ends
+pub mod Within
+pub mod Cutting
+pub mod Order
+pub mod Places
+pub mod Rows
+pub mod Spelling
+pub mod Again

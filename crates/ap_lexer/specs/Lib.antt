@@ -1,0 +1,7 @@
+pub mod Lexeme
+pub mod Piece
+pub mod Token
+pub mod LexErr
+pub mod Ahead
+pub mod Law
+pub mod Row

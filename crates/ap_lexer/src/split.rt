@@ -1,0 +1,79 @@
+ghost use Rattle.std.specs.Prelude.{◌≡◌, ◌++◌, ◌+◌, ◌<◌, ◌^◌, ℕ, map, take, drop, length, option_to_list, Contains, IfOk, IfErr, OnOk};
+ghost use Rattle.ap_lexer.specs.Lexeme.{Text};
+ghost use Rattle.ap_lexer.specs.Piece.{line_at};
+ghost use Rattle.ap_lexer.specs.Piece as piece_spec;
+ghost use Rattle.ap_lexer.specs.Token as spec;
+ghost use Rattle.ap_lexer.specs.LexErr.{IsCauseOf};
+
+use crate::ahead::Ahead;
+use crate::cut::{feeds, span};
+use crate::recognize::lexeme;
+use crate::{LexErr, LexemeKind, NoMemory, Piece, TokenKind};
+use std::alloc::Global;
+
+/// A token of a piece.
+#[derive(Clone, Copy, Debug)]
+pub struct Token<'a> {
+    pub kind: TokenKind,
+    /// Its bytes, as they stand in the text.
+    pub text: &'a [u8],
+    /// The place of its first byte in the text.
+    pub from: usize,
+    /// The place behind its last byte.
+    pub to: usize,
+    /// The line of its first byte, counted from 1.
+    pub line: u64,
+}
+
+/// The token that a lexeme is, if it is one.
+fn token_of<'a>(kind: LexemeKind, text: &'a [u8], at: usize, line: u64) -> Option<Token<'a>>
+    requires { at + length text.now < 2 ^ 64 }
+    ensures { (whole : Text) → text.now ≡ take (length text.now) (drop at whole) → line ≡ line_at whole at → map spec.view (option_to_list result) ≡ spec.token_of kind whole at (length text.now) }
+{
+    match kind {
+        LexemeKind::Token(kind) => Some(Token {
+            kind,
+            text,
+            from: at,
+            to: at + text.len(),
+            line,
+        }),
+        _ => None,
+    }
+}
+
+fn put<'a>(out: &mut Vec<Token<'a>>, token: Option<Token<'a>>) -> Result<(), NoMemory>
+    ensures { OnOk result (map spec.view out.new.items ≡ map spec.view out.old.items ++ map spec.view (option_to_list token.entry)) }
+{
+    if let Some(token) = token {
+        out.push(token)?;
+    }
+    Ok(())
+}
+
+/// The tokens of a piece that `pieces` gave for this text.
+///
+/// # Errors
+/// `BadToken` with the line of the bad token, exactly where the piece has one; else `NoMemory`
+/// alone, where there is no memory for the tokens.
+pub fn tokens<'a>(alloc: Global, text: &'a [u8], piece: &Piece) -> Result<Vec<Token<'a>>, LexErr>
+    requires { Contains (piece_spec.pieces text.now) piece.now }
+    ensures ok { IfOk result (λ v. (piece.now.bad ≡ None) × (map spec.view v.items ≡ spec.tokens text.now piece.now)) }
+    ensures err { IfErr result (λ e. IsCauseOf piece.now.bad e) }
+{
+    if let Some(line) = piece.bad {
+        return Err(LexErr::BadToken { line });
+    }
+    let mut out = Vec::new(alloc);
+    let mut ahead = Ahead::new();
+    let mut at = piece.from;
+    let mut line = piece.line;
+    while at < piece.to {
+        let (kind, len) = lexeme(&mut ahead, text, at);
+        let spelling = span(text, at, len);
+        put(&mut out, token_of(kind, spelling, at, line))?;
+        line += feeds(spelling) as u64;
+        at += len;
+    }
+    Ok(out)
+}
