@@ -7,7 +7,7 @@ use Rattle.ap_term.specs.Tree.{Trees}
 use Rattle.ap_term.specs.Goals.{Part, Program}
 use Rattle.ap_term.specs.WellFormed.{IsProgram}
 use Rattle.ap_term.specs.Search.{State, done, open_states, children, by_goals, answers_below, answers_to_depth}
-use Rattle.ap_term.proofs.SearchLaws.{AllSteps, children-steps, answers-done, answers-turn, answers-cut, open-first, HasGoals}
+use Rattle.ap_term.proofs.SearchLaws.{AllSteps, children-steps, answers-done, answers-turn, answers-cut, open-first}
 use Rattle.ap_spec.specs.Searches.{IsWithin, IsShallow, answers_of_all}
 use Rattle.ap_spec.proofs.Turns.{children-within}
 

@@ -8,3 +8,5 @@ pub mod Solutions
 pub mod Solvable
 pub mod SearchLaws
 pub mod Renamings
+pub mod Sameness
+pub mod Conditions

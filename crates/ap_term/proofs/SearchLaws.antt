@@ -1,9 +1,11 @@
 -- What a search with a budget finds begins the answers, and is all of them where it ends.
-use Rattle.std.proofs.Common.{◌≡◌, ℕ, zero, suc, ◌+◌, ◌-◌, ◌<◌, ◌≤◌, max, Bool, true, false, List, [], ◌∷◌, ◌++◌, map, append_assoc, append-nil, refl, ap, sym, ◌∙◌, subst, arith}
+use Rattle.std.proofs.Common.{◌≡◌, ℕ, zero, suc, ◌+◌, ◌-◌, ◌<◌, ◌≤◌, max, ◌⊎◌, inl, inr, length, take, drop, length-take-le, Bool, true, false, List, [], ◌∷◌, ◌++◌, map, append_assoc, append-nil, refl, ap, sym, ◌∙◌, subst, arith}
 use Rattle.std.specs.List.{flat_map}
 use Rattle.std.proofs.lemmas.Grind.{flat_map-append}
-use Rattle.std.proofs.lemmas.Bool.{false≢true}
-use Rattle.ap_term.specs.Blocks.{Begins, IsAll}
+use Rattle.std.proofs.lemmas.Bool.{false≢true, cases_lt}
+use Rattle.std.proofs.lemmas.List.{take-append-drop}
+use Rattle.ap_term.specs.Blocks.{Begins, IsAll, IsPrefix, End, no_more, budget_spent, stopped, IsEnd, IsBlock}
+use Rattle.ap_term.specs.Laws.{HasGoals, DepthLaw, BudgetLaw, BlockLaw}
 use Rattle.ap_term.specs.Tree.{Trees}
 use Rattle.ap_term.specs.Goals.{Part, call, group, Program, opened}
 use Rattle.ap_term.specs.Search.{State, Found, Way, search, done, open_states, with_answers, child, children, children_by, ways, by_goals, turn, answers_below, answers_to_depth}
@@ -38,10 +40,6 @@ below-depth p n d k (s ∷ ss) h e =
     ap (λ j. answers_below p j s ++ flat_map (answers_below p k) ss) depth ∙ ap (λ as'. answers_to_depth p s d ++ as') (below-depth p n d k ss h.1 e)
 
 -- a state with goals has the answers of its children
-abbrev pub HasGoals : List Part → Type 0
-HasGoals [] = ⊥
-HasGoals (g ∷ gs) = Unit {0}
-
 below-turn : (p : Program) (s : State) (k j : ℕ) → HasGoals s.goals → j ≡ suc k → answers_below p j s ≡ flat_map (answers_below p k) (children p s)
 below-turn p s k j h e = ap (λ i. answers_below p i s) e ∙ go s.goals h
   where
@@ -160,3 +158,72 @@ search-IsAll line p n q e =
           let none : c.0 ≡ [] = behind-none (search p n (q ∷ [])).ended c.0 e c.2 in
           ap (map line) (sym (append-nil (search p n (q ∷ [])).answers) ∙ ap (λ rest. (search p n (q ∷ [])).answers ++ rest) (sym none) ∙ c.1 ∙ append-nil (answers_to_depth p q d)),
     )
+
+-- ---- the laws
+
+pub depths : DepthLaw
+depths = record { finished = answers-none; too_deep = answers-cut; one_call = answers-turn }
+
+-- ---- a larger budget
+
+abbrev Grows : Found → Found → Type 0
+Grows f g = IsPrefix f.answers g.answers × (f.ended ≡ true → g ≡ f)
+
+grows-after : (ts : List Trees) (f g : Found) → Grows f g → Grows (with_answers ts f) (with_answers ts g)
+grows-after ts f g h = ((h.0.0, append_assoc ts f.answers h.0.0 ∙ ap (λ as'. ts ++ as') h.0.1), λ e. ap (with_answers ts) (h.1 e))
+
+grows-same : (f : Found) → Grows f f
+grows-same f = (([], append-nil f.answers), λ e. refl)
+
+search-grows : (p : Program) (ss : List State) (n m : ℕ) → n ≤ m → Grows (search p n ss) (search p m ss)
+search-grows p ss zero zero le = grows-same (search p 0 ss)
+search-grows p ss zero (suc m) le = go (open_states ss)
+  where
+    go : (os : List State) → Grows (with_answers (done ss) (turn (λ t ts. record { answers = []; ended = false }) os)) (with_answers (done ss) (turn (λ t ts. search p m (children p t ++ ts)) os))
+    go [] = grows-same _
+    go (t ∷ ts) = grows-after (done ss) (record { answers = []; ended = false }) (search p m (children p t ++ ts)) (((search p m (children p t ++ ts)).answers, refl), λ e. absurd (false≢true e))
+search-grows p ss (suc n) zero le = absurd (omega arith)
+search-grows p ss (suc n) (suc m) le = go (open_states ss) (λ ts. search-grows p ts n m (omega arith))
+  where
+    go : (os : List State) → ((ts : List State) → Grows (search p n ts) (search p m ts))
+        → Grows (with_answers (done ss) (turn (λ t ts. search p n (children p t ++ ts)) os)) (with_answers (done ss) (turn (λ t ts. search p m (children p t ++ ts)) os))
+    go [] ih = grows-same _
+    go (t ∷ ts) ih = grows-after (done ss) (search p n (children p t ++ ts)) (search p m (children p t ++ ts)) (ih (children p t ++ ts))
+
+pub budgets : BudgetLaw
+budgets = record { begins = λ p ss n m le. (search-grows p ss n m le).0; ended = λ p ss n m le e. (search-grows p ss n m le).1 e }
+
+-- ---- every query has a block
+
+take-prefix : {A : Type 0} (n : ℕ) (xs : List A) → IsPrefix (take n xs) xs
+take-prefix n xs = (drop n xs, take-append-drop n xs)
+
+prefix-prefix : {A : Type 0} (xs ys zs : List A) → IsPrefix xs ys → IsPrefix ys zs → IsPrefix xs zs
+prefix-prefix xs ys zs h k = (h.0 ++ k.0, sym (append_assoc xs h.0 k.0) ∙ ap (λ us. us ++ k.0) h.1 ∙ k.1)
+
+pub blocks : BlockLaw
+blocks line p q budget limit = go (cases_lt (length all) limit)
+  where
+    found : Found
+    found = search p budget (q ∷ [])
+
+    all : List (List ℕ)
+    all = map line (search p budget (q ∷ [])).answers
+
+    ends : (b : Bool) → (search p budget (q ∷ [])).ended ≡ b → length all < limit → (end : End) × IsBlock line p q budget limit all end
+    ends true e lt = (no_more, record { begins = search-Begins line p budget q; few = omega arith; found = inl ([], append-nil all); ends = (lt, search-IsAll line p budget q e) })
+    ends false e lt = (budget_spent, record { begins = search-Begins line p budget q; few = omega arith; found = inl ([], append-nil all); ends = (lt, e) })
+
+    go : (length all < limit) ⊎ (limit ≤ length all) → (lines : List (List ℕ)) × ((end : End) × IsBlock line p q budget limit lines end)
+    go (inl lt) = (all, ends (search p budget (q ∷ [])).ended refl lt)
+    go (inr le) =
+        let e : length (take limit all) ≡ limit = length-take-le limit all le in
+        let b = search-Begins line p budget q in (
+          take limit all,
+          (stopped, record {
+            begins = (b.0, λ d h. prefix-prefix (take limit all) all _ (take-prefix limit all) (b.1 d h));
+            few = omega arith;
+            found = inr e;
+            ends = e;
+          }),
+        )
