@@ -20,3 +20,6 @@ pub use states::{State, States};
 pub use substitutions::Subst;
 pub use tuples::Tuples;
 pub use unification::unify;
+
+#[cfg(test)]
+mod tests;
