@@ -1,3 +1,4 @@
 pub mod Quoted
 pub mod Text
 pub mod Line
+pub mod Work

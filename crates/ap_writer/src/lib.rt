@@ -5,6 +5,8 @@
 #![tactic(auto)]
 
 mod line;
+mod numbers;
+mod quoted;
 mod text;
 
 pub use line::answer_line;
