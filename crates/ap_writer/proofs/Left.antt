@@ -43,3 +43,8 @@ pub vars_left-prefix : (xs : List Work) (found : List ℕ) → IsPrefix found (v
 vars_left-prefix [] found = prefix-refl found
 vars_left-prefix (x ∷ xs) found =
     prefix-trans found (vars_left xs found) (vars_of x (vars_left xs found)) (vars_left-prefix xs found) (vars_of-prefix x (vars_left xs found))
+
+-- what was found stays in front of all that comes after, where `all` is what is found in the end
+pub vars_left-later : (xs : List Work) (found all later : List ℕ) → vars_left xs found ≡ all → IsPrefix all later → IsPrefix found later
+vars_left-later xs found all later e p =
+    prefix-trans found (vars_left xs found) later (vars_left-prefix xs found) (p.0, ap (λ l. l ++ p.0) e ∙ p.1)

@@ -1,5 +1,5 @@
 -- The numbers of variables as more of them are found.
-use Rattle.std.proofs.Common.{◌≡◌, ℕ, suc, ◌+◌, Bool, true, false, not, cond, ◌||◌, if◌then◌else◌, List, [], ◌∷◌, ◌++◌, nat_eq, refl, ap, sym, ◌∙◌, append_assoc, arith}
+use Rattle.std.proofs.Common.{◌≡◌, ℕ, ◌+◌, Bool, true, false, not, cond, ◌||◌, if◌then◌else◌, List, [], ◌∷◌, ◌++◌, nat_eq, refl, ap, sym, ◌∙◌, append_assoc, arith}
 use Rattle.std.specs.List.{list_any, position_or_len}
 use Rattle.std.proofs.lemmas.Bool.{false≢true}
 use Rattle.std.proofs.lemmas.List.{append-nil}
@@ -79,14 +79,12 @@ inserted-added found new x h = h ∙ ap (λ b. if b then found else found ++ x �
 
 place-push : (found : List ℕ) (x : ℕ) → place (found ++ x ∷ []) x ≡ position_or_len (nat_eq x) found + 1
 place-push [] x = ap (λ b. if b then 1 else 2) (nat_eq-self x)
-place-push (y ∷ ys) x = ap (λ b. if b then 1 else place (ys ++ x ∷ []) x + 1) (nat_eq-sym y x) ∙ go (nat_eq x y)
+place-push (y ∷ ys) x = ap (λ b. if b then 1 else place (ys ++ x ∷ []) x + 1) (nat_eq-sym y x) ∙ go (nat_eq x y) (place-push ys x)
   where
-    rest : place (ys ++ x ∷ []) x ≡ position_or_len (nat_eq x) ys + 1
-    rest = place-push ys x
-
-    go : (b : Bool) → (if b then 1 else place (ys ++ x ∷ []) x + 1) ≡ cond (not b) (suc (position_or_len (nat_eq x) ys)) 0 + 1
-    go true = refl
-    go false = omega (arith, rest)
+    go : (b : Bool) → place (ys ++ x ∷ []) x ≡ position_or_len (nat_eq x) ys + 1
+        → (if b then 1 else place (ys ++ x ∷ []) x + 1) ≡ cond (not b) (1 + position_or_len (nat_eq x) ys) 0 + 1
+    go true ih = refl
+    go false ih = omega arith
 
 place-added : (found : List ℕ) (x : ℕ) → place (add_vars (var x) found) x ≡ position_or_len (nat_eq x) found + 1
 place-added found x = go (has found x) refl ∙ place-push found x
@@ -99,5 +97,9 @@ place-added found x = go (has found x) refl ∙ place-push found x
 pub inserted-place : (found new : List ℕ) (x i : ℕ) → new ≡ (if list_any (nat_eq x) found then found else found ++ x ∷ []) → i ≡ position_or_len (nat_eq x) found
     → i + 1 ≡ place new x
 inserted-place found new x i h e = ap (λ n. n + 1) e ∙ sym (place-added found x) ∙ ap (λ l. place l x) (sym (inserted-added found new x h))
+
+-- a number that was given stays the variable's number as more are found
+pub number-stays : (old new later : List ℕ) (x n : ℕ) → new ≡ add_vars (var x) old → n ≡ place new x → IsPrefix new later → n ≡ place later x
+number-stays old new later x n h e p = e ∙ sym (place-prefix new later x (ap (λ l. has l x) h ∙ has-added old x) p)
 
 pub ruleset numbers = (inserted-added, inserted-place)

@@ -2,3 +2,4 @@ pub mod Quoted
 pub mod Text
 pub mod Line
 pub mod Work
+pub mod SoFar

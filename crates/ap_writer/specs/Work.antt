@@ -67,3 +67,8 @@ IsCellOf names t None = is_cell names t ≡ false
 -- A term that is no such element is written behind a bar at a list's end, unless it is `[]`.
 abbrev pub IsBehindBar : List (List ℕ) → Tree → Type 0
 IsBehindBar names t = (found : List ℕ) → (shown_by names found t).tail ≡ codes "|" ++ ((shown_by names found t).own ++ codes "]")
+
+-- a term that ends a list by itself
+pub record IsNil (names : List (List ℕ)) (t : Tree) : Type 0 where
+  pub text : (found : List ℕ) → (shown_by names found t).tail ≡ codes "]"
+  pub variables : (found : List ℕ) → add_vars t found ≡ found

@@ -31,6 +31,8 @@ impl Numbers {
         ensures number { IfOk result (λ n. n ≡ place self.new.found.keys x) }
     {
         let (i, _) = self.found.insert_full(x)?;
+        // The length is far below the greatest `usize`, so the number fits.
+        let _length = self.found.len();
         Ok(i + 1)
     }
 }

@@ -9,7 +9,7 @@ ghost use Rattle.ap_term.specs.UpToNames.{place};
 ghost use Rattle.ap_term.specs.Blocks.{IsPrefix};
 ghost use Rattle.ap_writer.specs.Quoted.{name_text};
 ghost use Rattle.ap_writer.specs.Text.{name_at, term_text};
-ghost use Rattle.ap_writer.specs.Work.{text_by, shown_by, left, left_of, vars_of, vars_left, weight, weight_of, is_cell, IsCellOf, IsBehindBar};
+ghost use Rattle.ap_writer.specs.Work.{text_by, shown_by, left, left_of, vars_of, vars_left, weight, weight_of, is_cell, IsCellOf, IsNil, IsBehindBar};
 
 use crate::numbers::Numbers;
 use crate::quoted::push_name;
@@ -59,17 +59,19 @@ fn cell<'a>(atoms: &Atoms, t: &'a Term) -> Option<(&'a Term, &'a Term)>
     ensures { IsCellOf atoms.now (tree_of t.now) result }
 {
     match t {
-        Term::Node(name, args) => match args.as_slice() {
-            [first, rest] if name_of(atoms, *name) == b".".as_slice() => Some((first, rest)),
-            _ => None,
-        },
+        Term::Node(name, args) if name_of(atoms, *name) == b".".as_slice() => {
+            match args.as_slice() {
+                [first, rest] => Some((first, rest)),
+                _ => None,
+            }
+        }
         _ => None,
     }
 }
 
 fn is_nil(atoms: &Atoms, t: &Term) -> bool
     requires { is_cell atoms.now (tree_of t.now) ≡ false }
-    ensures { MatchBool result ((found : List ℕ) → (shown_by atoms.now found (tree_of t.now)).tail ≡ codes "]") (IsBehindBar atoms.now (tree_of t.now)) }
+    ensures { MatchBool result (IsNil atoms.now (tree_of t.now)) (IsBehindBar atoms.now (tree_of t.now)) }
 {
     match t {
         Term::Atom(a) => name_of(atoms, *a) == b"[]".as_slice(),
