@@ -1,11 +1,13 @@
 -- What is left to write, and to number, after a push.
-use Rattle.std.proofs.Common.{◌≡◌, ℕ, ◌+◌, List, [], ◌∷◌, ◌++◌, refl, sym, ap, ◌∙◌, append_assoc, arith}
+use Rattle.std.proofs.Common.{◌≡◌, ◌≢◌, ℕ, ◌+◌, false, length, List, [], ◌∷◌, ◌++◌, refl, sym, ap, ◌∙◌, append_assoc, arith}
 use Rattle.std.proofs.lemmas.List.{append-nil}
+use Rattle.ap_term.specs.declared.terms.Term.{Term}
+use Rattle.ap_term.specs.Tree.{node}
 use Rattle.ap_term.specs.TermView.{tree_of, trees_of}
 use Rattle.ap_term.specs.Blocks.{IsPrefix}
 use Rattle.ap_writer.specs.declared.text.Work.{Work}
 use Rattle.ap_writer.specs.declared.text.Work.TheVariants.{Own, Tail, Rest, CloseList}
-use Rattle.ap_writer.specs.Work.{left, left_of, vars_left, vars_of, weight, weight_of}
+use Rattle.ap_writer.specs.Work.{is_cell, left, left_of, vars_left, vars_of, weight, weight_of}
 use Rattle.ap_writer.proofs.Numbering.{prefix-refl, prefix-trans, add_vars-prefix, add_all_vars-prefix}
 
 pub left-push : (names : List (List ℕ)) (found : List ℕ) (xs : List Work) (x : Work) → left names found (xs ++ x ∷ []) ≡ left_of names found x ++ left names found xs
@@ -48,3 +50,11 @@ vars_left-prefix (x ∷ xs) found =
 pub vars_left-later : (xs : List Work) (found all later : List ℕ) → vars_left xs found ≡ all → IsPrefix all later → IsPrefix found later
 vars_left-later xs found all later e p =
     prefix-trans found (vars_left xs found) later (vars_left-prefix xs found) (p.0, ap (λ l. l ++ p.0) e ∙ p.1)
+
+-- ---- a compound that doesn't have two arguments
+
+pub not_two : (names : List (List ℕ)) (a : ℕ) (ts : List Term) → length ts ≢ 2 → is_cell names (node a (trees_of ts)) ≡ false
+not_two names a [] h = refl
+not_two names a (t ∷ []) h = refl
+not_two names a (t ∷ u ∷ []) h = absurd (h refl)
+not_two names a (t ∷ u ∷ v ∷ ts) h = refl

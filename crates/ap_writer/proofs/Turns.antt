@@ -1,6 +1,6 @@
 -- One turn of the loop over a query's variables.
 use Rattle.std.proofs.Common.{◌≡◌, ℕ, zero, suc, ◌+◌, ◌<◌, Bool, true, false, if◌then◌else◌, List, [], ◌∷◌, ◌++◌, length, get_or, drop, codes, refl, ap, sym, ◌∙◌, append_assoc, arith}
-use Rattle.std.proofs.lemmas.List.{drop_more, append-nil}
+use Rattle.std.proofs.lemmas.List.{drop_more, drop-drop}
 use Rattle.ap_term.specs.declared.terms.Term.{Term}
 use Rattle.ap_term.specs.Tree.{Tree, Trees, none, more}
 use Rattle.ap_term.specs.TermView.{tree_of, trees_of}
@@ -19,12 +19,13 @@ behind : Trees → Trees
 behind none = none
 behind (more t ts) = ts
 
-behind-drop : (ts : List Term) (i : ℕ) → behind (trees_of (drop i ts)) ≡ trees_of (drop (i + 1) ts)
+behind-all : (ts : List Term) → behind (trees_of ts) ≡ trees_of (drop 1 ts)
 unfolding behind
-behind-drop [] zero = refl
-behind-drop [] (suc i) = refl
-behind-drop (t ∷ ts) zero = refl
-behind-drop (t ∷ ts) (suc i) = behind-drop ts i
+behind-all [] = refl
+behind-all (t ∷ ts) = refl
+
+behind-drop : (ts : List Term) (i : ℕ) → behind (trees_of (drop i ts)) ≡ trees_of (drop (i + 1) ts)
+behind-drop ts i = behind-all (drop i ts) ∙ ap trees_of (drop-drop 1 i ts)
 
 printed-none : (names : List (List ℕ)) → printed names none ≡ none
 printed-none [] = refl

@@ -62,7 +62,9 @@ fn cell<'a>(atoms: &Atoms, t: &'a Term) -> Option<(&'a Term, &'a Term)>
         Term::Node(name, args) if name_of(atoms, *name) == b".".as_slice() => {
             match args.as_slice() {
                 [first, rest] => Some((first, rest)),
-                _ => None,
+                [] => None,
+                [_] => None,
+                [_, _, _, ..] => None,
             }
         }
         _ => None,
