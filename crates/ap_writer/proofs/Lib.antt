@@ -1,3 +1,4 @@
 pub mod Numbering
 pub mod Left
 pub mod Turns
+pub mod Renamed

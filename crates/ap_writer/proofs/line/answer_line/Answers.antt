@@ -12,10 +12,10 @@ pub loop-i-preserved : goal.loop-i-preserved
 loop-i-preserved c =
     let out = c.loop-i.out.items in
     let parted : c.if-not-is_first.out.items ≡ out ++ lead c.loop-i.is_first =
-        elim c.if-not-is_first.branch [
-          then-not-is_first+in_ok-extend_from_slice w ↦ ap (λ o. o.items) w.out-is ∙ w.in_ok-extend_from_slice.ensures.items ∙ ap (λ b. out ++ lead b) (sym w.if-not-is_first.true)
-        | else-not-is_first w ↦ ap (λ o. o.items) w.out-is ∙ sym (append-nil out) ∙ ap (λ b. out ++ lead b) (sym w.if-not-is_first.false)
-        ] in
+    elim c.if-not-is_first.branch [
+      | then-not-is_first+in_ok-extend_from_slice w ↦ ap (λ o. o.items) w.out-is ∙ w.in_ok-extend_from_slice.ensures.items ∙ ap (λ b. out ++ lead b) (sym w.if-not-is_first.true)
+      | else-not-is_first w ↦ ap (λ o. o.items) w.out-is ∙ sym (append-nil out) ∙ ap (λ b. out ++ lead b) (sym w.if-not-is_first.false)
+    ] in
     turn-shown c.args.atoms.now c.names-name-items.result.now c.args.tuple.now c.loop-i.i c.loop-i.is_first _ _ out _ _ c.name-item.result c.index-tuple-i.result c.loop-i.invariant
-      c.loop-i-test.true c.name-item.is (sym c.if-is_hidden.ensures) (omega (arith, ap length c.names-name-items.ensures.names)) c.index-tuple-i.is
-      parted c.in_ok-write_equation.ensures.variables c.in_ok-write_equation.ensures.text
+    c.loop-i-test.true c.name-item.is (sym c.if-is_hidden.ensures) (omega (arith, ap length c.names-name-items.ensures.names)) c.index-tuple-i.is
+    parted c.in_ok-write_equation.ensures.variables c.in_ok-write_equation.ensures.text
