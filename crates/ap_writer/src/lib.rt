@@ -13,3 +13,6 @@ mod text;
 pub use laws::same_up_to_names_print_alike;
 pub use line::answer_line;
 pub use text::term_text;
+
+#[cfg(test)]
+mod tests;
