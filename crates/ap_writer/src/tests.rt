@@ -5,39 +5,51 @@ use std::alloc::Global;
 use std::process::Abort;
 use std::test::Fail;
 
-#[derive(Drop)]
-struct Builder {
-    alloc: Global,
-    atoms: Atoms,
+/// A term in postfix: a constant, or a compound over the terms before it.
+#[derive(Clone, Copy)]
+enum Step<'a> {
+    Var(u64),
+    Int(i64),
+    Unheld,
+    Atom(&'a str),
+    Node(&'a str, usize),
 }
 
-impl Builder {
-    fn new(alloc: Global) -> Result<Builder, Fail> {
-        let atoms = Atoms::new(alloc)?;
-        Ok(Builder { alloc, atoms })
-    }
+fn push_step(
+    alloc: Global,
+    atoms: &mut Atoms,
+    terms: &mut Vec<Term>,
+    step: Step,
+) -> Result<(), Fail> {
+    let t = match step {
+        Step::Var(x) => Term::Var(x),
+        Step::Int(n) => Term::Int(n),
+        Step::Unheld => Term::Atom(Atom::at(u32::MAX)),
+        Step::Atom(name) => Term::Atom(atoms.intern(alloc, name)?),
+        Step::Node(name, arity) => {
+            let front = terms.len().saturating_sub(arity);
+            let args = terms.split_off(front)?;
+            Term::Node(atoms.intern(alloc, name)?, Args::from_vec(args))
+        }
+    };
+    terms.push(t)?;
+    Ok(())
+}
 
-    fn atom(&mut self, name: &str) -> Result<Term, Fail> {
-        Ok(Term::Atom(self.atoms.intern(self.alloc, name)?))
+fn terms_of(alloc: Global, atoms: &mut Atoms, steps: &[Step]) -> Result<Vec<Term>, Fail> {
+    let mut terms = Vec::new(alloc);
+    for step in steps {
+        push_step(alloc, atoms, &mut terms, *step)?;
     }
+    Ok(terms)
+}
 
-    fn node(&mut self, name: &str, args: Vec<Term>) -> Result<Term, Fail> {
-        let atom = self.atoms.intern(self.alloc, name)?;
-        Ok(Term::Node(atom, Args::from_vec(args)))
-    }
-
-    fn one(&mut self, name: &str, arg: Term) -> Result<Term, Fail> {
-        let args = vec![in self.alloc; arg]?;
-        self.node(name, args)
-    }
-
-    fn two(&mut self, name: &str, left: Term, right: Term) -> Result<Term, Fail> {
-        let args = vec![in self.alloc; left, right]?;
-        self.node(name, args)
-    }
-
-    fn text(&self, t: &Term) -> Result<String, Fail> {
-        Ok(String::from_utf8(term_text(self.alloc, t, &self.atoms)?)?)
+fn text_of(alloc: Global, steps: &[Step]) -> Result<String, Fail> {
+    let mut atoms = Atoms::new(alloc)?;
+    let terms = terms_of(alloc, &mut atoms, steps)?;
+    match terms.first() {
+        Some(t) => Ok(String::from_utf8(term_text(alloc, t, &atoms)?)?),
+        None => Err(Fail::new("no term")),
     }
 }
 
@@ -54,9 +66,16 @@ fn query(rt: &impl Abort, alloc: Global, names: &[&str]) -> Result<Query, Fail> 
     Ok(Query::new(question, Program::new(alloc), list))
 }
 
+fn line_of(rt: &impl Abort, alloc: Global, names: &[&str], steps: &[Step]) -> Result<String, Fail> {
+    let mut atoms = Atoms::new(alloc)?;
+    let tuple = terms_of(alloc, &mut atoms, steps)?;
+    let query = query(rt, alloc, names)?;
+    assert!(rt; query.names().len() == tuple.len());
+    Ok(String::from_utf8(answer_line(alloc, &query, &tuple, &atoms)?)?)
+}
+
 #[test]
 fn a_name_is_bare_only_where_it_is_a_token(rt: HostRuntime) -> Result<(), Fail> {
-    let mut builder = Builder::new(rt.alloc())?;
     for (name, want) in [
         ("fooBar_9", "fooBar_9"),
         ("", "''"),
@@ -86,108 +105,107 @@ fn a_name_is_bare_only_where_it_is_a_token(rt: HostRuntime) -> Result<(), Fail> 
         ("a\\b", "'a\\\\b'"),
         ("\n\t\r", "'\\n\\t\r'"),
     ] {
-        let t = builder.atom(name)?;
-        assert_eq!(rt; builder.text(&t)?.as_str(), want);
+        assert_eq!(rt; text_of(rt.alloc(), &[Step::Atom(name)])?.as_str(), want);
     }
     Ok(())
 }
 
 #[test]
 fn terms_are_printed_without_operators(rt: HostRuntime) -> Result<(), Fail> {
-    let mut b = Builder::new(rt.alloc())?;
-    let nil = b.atom("[]")?;
-    let sum = b.two("+", Term::Int(1), Term::Int(2))?;
-    let minus = b.one("-", Term::Int(1))?;
-    let dot = b.one(".", Term::Int(1))?;
-    let open = b.two(".", Term::Int(2), Term::Var(9))?;
-    let list = b.two(".", Term::Int(1), open)?;
-    let last = b.two(".", Term::Var(8), nil)?;
-    let closed = b.two(".", sum, last)?;
-    let nested = b.two("f", list, closed)?;
-    let three = vec![in rt.alloc(); Term::Var(7), nested, Term::Var(9)]?;
-    let whole = b.node("g h", three)?;
-    for (t, want) in [
-        (Term::Int(i64::MIN), "-9223372036854775808"),
-        (Term::Int(0), "0"),
-        (Term::Var(u64::MAX), "_1"),
-        (Term::Atom(Atom::at(u32::MAX)), "''"),
-        (minus, "-(1)"),
-        (dot, "'.'(1)"),
-        (whole, "'g h'(_1,f([1,2|_2],[+(1,2),_3]),_2)"),
+    use Step::{Atom, Int, Node, Unheld, Var};
+
+    for (steps, want) in [
+        (&[Int(i64::MIN)][..], "-9223372036854775808"),
+        (&[Int(0)][..], "0"),
+        (&[Var(u64::MAX)][..], "_1"),
+        (&[Unheld][..], "''"),
+        (&[Int(1), Int(2), Node("+", 2)][..], "+(1,2)"),
+        (&[Int(-1), Node("-", 1)][..], "-(-1)"),
+        (&[Int(1), Node(".", 1)][..], "'.'(1)"),
+        (
+            &[Int(1), Int(2), Var(9), Node(".", 2), Node(".", 2)][..],
+            "[1,2|_1]",
+        ),
+        (
+            &[Var(8), Var(9), Atom("[]"), Node(".", 2), Node(".", 2)][..],
+            "[_1,_2]",
+        ),
+        (
+            &[
+                Var(8),
+                Atom("a"),
+                Node(".", 2),
+                Var(7),
+                Var(8),
+                Node("g h", 3),
+            ][..],
+            "'g h'([_1|a],_2,_1)",
+        ),
     ] {
-        assert_eq!(rt; b.text(&t)?.as_str(), want);
+        assert_eq!(rt; text_of(rt.alloc(), steps)?.as_str(), want);
     }
     Ok(())
 }
 
 #[test]
 fn a_line_has_the_variables_that_are_asked_for(rt: HostRuntime) -> Result<(), Fail> {
-    let alloc = rt.alloc();
-    let mut b = Builder::new(alloc)?;
-    let shared = b.one("f", Term::Var(5))?;
-    let (left, right) = (b.atom("b")?, b.atom("c")?);
-    let group = b.two("&", left, right)?;
-    let last = b.atom("d")?;
-    let inner = b.two(",", group, last)?;
-    let first = b.atom("a")?;
-    let goals = b.two(",", first, inner)?;
-    let minus = b.one("-", Term::Int(1))?;
-    let difference = b.two("-", Term::Int(7), Term::Int(-2))?;
-    for (names, tuple, want) in [
-        (&[][..], vec![in alloc]?, "true"),
-        (
-            &["_", "_A"][..],
-            vec![in alloc; Term::Int(1), Term::Var(1)]?,
-            "true",
-        ),
+    use Step::{Atom, Int, Node, Var};
+
+    for (names, steps, want) in [
+        (&[][..], &[][..], "true"),
+        (&["_", "_A"][..], &[Int(1), Var(1)][..], "true"),
         (
             &["A", "B"][..],
-            vec![in alloc; shared, Term::Var(5)]?,
+            &[Var(5), Node("f", 1), Var(5)][..],
             "A = f(_1), B = _1",
         ),
-        (
-            &["_A", "B"][..],
-            vec![in alloc; Term::Var(4), Term::Var(5)]?,
-            "B = _1",
-        ),
+        (&["_A", "B"][..], &[Var(4), Var(5)][..], "B = _1"),
+        (&["X"][..], &[Int(i64::MAX)][..], "X = 9223372036854775807"),
         (
             &["X"][..],
-            vec![in alloc; Term::Int(i64::MAX)]?,
-            "X = 9223372036854775807",
-        ),
-        (
-            &["X"][..],
-            vec![in alloc; goals]?,
+            &[
+                Atom("a"),
+                Atom("b"),
+                Atom("c"),
+                Node("&", 2),
+                Atom("d"),
+                Node(",", 2),
+                Node(",", 2),
+            ][..],
             "X = ','(a,','(&(b,c),d))",
         ),
         (
-            &["X", "Y", "_", "Z"][..],
-            vec![in alloc; Term::Int(-1), minus, Term::Int(0), difference]?,
+            &["X", "Y", "Z"][..],
+            &[Int(-1), Int(1), Node("-", 1), Int(7), Int(-2), Node("-", 2)][..],
             "X = -1, Y = -(1), Z = -(7,-2)",
         ),
         (
             &["X", "Y", "Z"][..],
-            vec![in alloc; Term::Int(-3), Term::Int(1), Term::Int(-1)]?,
+            &[Int(-3), Int(1), Int(-1)][..],
             "X = -3, Y = 1, Z = -1",
         ),
     ] {
-        let query = query(&rt, alloc, names)?;
-        assert_eq!(rt; query.names().len(), tuple.len());
-        let line = answer_line(alloc, &query, &tuple, &b.atoms)?;
-        assert_eq!(rt; line.as_slice(), want.as_bytes(), "{want}");
+        assert_eq!(rt; line_of(&rt, rt.alloc(), names, steps)?.as_str(), want);
     }
     Ok(())
 }
 
-#[test]
-fn long_lists_are_printed_in_one_pass(rt: HostRuntime) -> Result<(), Fail> {
-    let mut b = Builder::new(rt.alloc())?;
-    let mut list = b.atom("[]")?;
-    for x in 0..100_000 {
-        list = b.two(".", Term::Var(x), list)?;
+fn list_of(alloc: Global, atoms: &mut Atoms, len: u64) -> Result<Term, Fail> {
+    let nil = Term::Atom(atoms.intern(alloc, "[]")?);
+    let dot = atoms.intern(alloc, ".")?;
+    let mut list = nil;
+    for x in 0..len {
+        list = Term::Node(dot, Args::from_vec(vec![in alloc; Term::Var(x), list]?));
     }
-    let text = b.text(&list)?;
+    Ok(list)
+}
+
+#[test]
+fn a_long_list_is_printed_in_one_pass(rt: HostRuntime) -> Result<(), Fail> {
+    let mut atoms = Atoms::new(rt.alloc())?;
+    let list = list_of(rt.alloc(), &mut atoms, 100_000)?;
+    let text = term_text(rt.alloc(), &list, &atoms)?;
     assert_eq!(rt; text.len(), 688_896);
-    assert_eq!(rt; &text.as_bytes()[..10], b"[_1,_2,_3,".as_slice());
+    assert_eq!(rt; &text[..10], b"[_1,_2,_3,".as_slice());
     Ok(())
 }
