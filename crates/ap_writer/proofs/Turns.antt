@@ -1,5 +1,5 @@
 -- One turn of the loop over a query's variables.
-use Rattle.std.proofs.Common.{◌≡◌, ℕ, zero, suc, ◌+◌, ◌<◌, Bool, true, false, if◌then◌else◌, List, [], ◌∷◌, ◌++◌, length, get_or, drop, codes, refl, ap, sym, ◌∙◌, append_assoc, arith}
+use Rattle.std.proofs.Common.{◌≡◌, ℕ, ◌+◌, ◌<◌, Bool, true, false, if◌then◌else◌, List, [], ◌∷◌, ◌++◌, length, get_or, drop, codes, refl, ap, sym, ◌∙◌, append_assoc}
 use Rattle.std.proofs.lemmas.List.{drop_more, drop-drop}
 use Rattle.ap_term.specs.declared.terms.Term.{Term}
 use Rattle.ap_term.specs.Tree.{Tree, Trees, none, more}
@@ -9,7 +9,7 @@ use Rattle.ap_term.specs.Substitution.{instance, instance_all}
 use Rattle.ap_term.specs.Blocks.{IsPrefix}
 use Rattle.ap_term.proofs.TermLists.{trees_of-drop_more}
 use Rattle.ap_writer.specs.Text.{numbered_by}
-use Rattle.ap_writer.specs.Line.{is_hidden, printed, printed_names, equation, equations, behind_first, answer_line}
+use Rattle.ap_writer.specs.Line.{is_hidden, printed, printed_names, equation, answer_line}
 use Rattle.ap_writer.specs.SoFar.{rest_of_line, printed_from, all_found, IsSoFar}
 use Rattle.ap_writer.proofs.Numbering.{add_all_vars-prefix}
 

@@ -1,8 +1,8 @@
 -- What is still to be written of a term, as the code keeps it on a stack, whose top is last.
-use Rattle.std.specs.Prelude.{◌≡◌, ℕ, ◌+◌, ◌*◌, Bool, true, false, ◌&&◌, List, [], ◌∷◌, ◌++◌, codes, Option, Some, None, bytes_eq}
+use Rattle.std.specs.Prelude.{◌≡◌, ℕ, ◌+◌, ◌*◌, Bool, false, List, [], ◌∷◌, ◌++◌, codes, Option, Some, None, bytes_eq}
 use Rattle.std.specs.Borrow.{Bor}
 use Rattle.ap_term.specs.declared.terms.Term.{Term}
-use Rattle.ap_term.specs.Tree.{Tree, Trees, node, none, more, size, size_all}
+use Rattle.ap_term.specs.Tree.{Tree, node, none, more, size, size_all}
 use Rattle.ap_term.specs.TermView.{tree_of, trees_of}
 use Rattle.ap_term.specs.Vars.{add_vars, add_all_vars}
 use Rattle.ap_term.specs.Substitution.{instance, instance_all}

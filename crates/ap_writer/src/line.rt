@@ -13,6 +13,7 @@ use crate::text::write_term;
 use ap_term::{Atoms, Name, NoMemory, Query, Term};
 use std::alloc::Global;
 
+/// Whether a variable's name begins with `_`.
 fn is_hidden(name: &Name) -> bool
     ensures { result ≡ is_hidden name.now }
 {

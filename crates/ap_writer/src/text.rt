@@ -26,6 +26,7 @@ enum Work<'a> {
     CloseList,
 }
 
+/// An atom's name; the empty one where the table doesn't hold the atom.
 fn name_of(atoms: &Atoms, atom: Atom) -> &[u8]
     ensures { result.now ≡ name_at atoms.now atom }
 {
@@ -179,7 +180,8 @@ fn write_one<'a>(
     Ok(())
 }
 
-/// Writes a term behind what was written of a line.
+/// Writes a term behind what was written of a line. Its clauses speak of the numbers that variables have in the end:
+/// `found` is whatever comes of those found so far.
 pub fn write_term(
     alloc: Global,
     out: &mut Vec<u8>,
@@ -199,7 +201,8 @@ pub fn write_term(
 }
 
 /// A term in functional notation and with lists, without operators (as `write_canonical/1` of ISO 13211-1, section
-/// 8.14.2, but that lists are written as such). Variables are `_1`, `_2`, .. by first occurrence.
+/// 8.14.2, but that lists are written as such). Variables are `_1`, `_2`, .. by first occurrence; an atom that the table
+/// doesn't hold is written with the empty name.
 pub fn term_text(alloc: Global, t: &Term, atoms: &Atoms) -> Result<Vec<u8>, NoMemory>
     ensures { IfOk result (λ text. text.items ≡ term_text atoms.now (tree_of t.now)) }
 {
