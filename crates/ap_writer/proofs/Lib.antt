@@ -1,0 +1,4 @@
+pub mod Numbering
+pub mod Left
+pub mod Turns
+pub mod Renamed

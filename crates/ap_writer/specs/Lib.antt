@@ -1,0 +1,5 @@
+pub mod Quoted
+pub mod Text
+pub mod Line
+pub mod Work
+pub mod SoFar
