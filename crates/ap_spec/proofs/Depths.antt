@@ -1,12 +1,12 @@
 -- Search to a depth: what a turn keeps, and that the turns end.
-use Rattle.std.proofs.Common.{◌≡◌, ℕ, zero, suc, ◌+◌, ◌-◌, ◌*◌, ◌<◌, ◌≤◌, List, [], ◌∷◌, ◌++◌, map, append_assoc, append-nil, get_or, length, refl, ap, sym, ◌∙◌, subst, arith}
-use Rattle.std.specs.List.{All, flat_map}
+use Rattle.std.proofs.Common.{◌≡◌, ℕ, zero, suc, ◌+◌, ◌-◌, ◌*◌, ◌<◌, ◌≤◌, List, [], ◌∷◌, ◌++◌, append_assoc, append-nil, refl, ap, sym, ◌∙◌, subst, arith}
+use Rattle.std.specs.List.{All}
 use Rattle.std.proofs.lemmas.Grind.{flat_map-append}
 use Rattle.std.proofs.lemmas.List.Elements.{All-nil, All-cons, All-append, All-head, All-tail}
 use Rattle.ap_term.specs.Tree.{Trees}
 use Rattle.ap_term.specs.Goals.{Part, Program}
 use Rattle.ap_term.specs.WellFormed.{IsProgram}
-use Rattle.ap_term.specs.Search.{State, done, open_states, children, by_goals, answers_below, answers_to_depth}
+use Rattle.ap_term.specs.Search.{State, done, open_states, children, by_goals, answers_to_depth}
 use Rattle.ap_term.proofs.SearchLaws.{AllSteps, children-steps, answers-done, answers-turn, answers-cut, open-first}
 use Rattle.ap_spec.specs.Searches.{IsWithin, IsShallow, answers_of_all}
 use Rattle.ap_spec.proofs.Turns.{children-within}
@@ -27,7 +27,7 @@ pub all-turn : (p : Program) (d : ℕ) (ss : List State) (t : State) (ts : List 
 all-turn p d ss t ts xs ys whole e lt k h =
     ap (λ zs. zs ++ answers_of_all p (children p t ++ ts) d) k ∙ append_assoc xs (done ss) (answers_of_all p (children p t ++ ts) d)
     ∙ ap (λ zs. xs ++ (done ss ++ zs))
-      (flat_map-append (λ s. answers_to_depth p s d) (children p t) ts ∙ ap (λ zs. zs ++ answers_of_all p ts d) (sym (answers-turn p t d (open-first ss t ts (sym e)) lt)))
+    (flat_map-append (λ s. answers_to_depth p s d) (children p t) ts ∙ ap (λ zs. zs ++ answers_of_all p ts d) (sym (answers-turn p t d (open-first ss t ts (sym e)) lt)))
     ∙ ap (λ us. xs ++ (done ss ++ answers_of_all p us d)) e ∙ ap (λ zs. xs ++ zs) (sym (answers-done p ss d)) ∙ h
 
 pub all-ended : (p : Program) (d : ℕ) (ss : List State) (xs ys whole : List Trees) → [] ≡ open_states ss → ys ≡ xs ++ done ss → xs ++ answers_of_all p ss d ≡ whole → ys ≡ whole
@@ -53,7 +53,7 @@ steps-all p d s n (u ∷ ss) le lt a h =
     let v : u.next ≤ n + 256 = (All-head (IsWithin (n + 256) (s.steps + 1)) u ss h).vars in
     let k : u.steps ≡ s.steps + 1 = a.0 in
     All-cons (IsShallow d) u ss (record { vars = omega arith; calls = omega arith })
-      (steps-all p d s n ss le lt a.1 (All-tail (IsWithin (n + 256) (s.steps + 1)) u ss h))
+    (steps-all p d s n ss le lt a.1 (All-tail (IsWithin (n + 256) (s.steps + 1)) u ss h))
 
 pub shallow-turn : (p : Program) (d : ℕ) (t : State) (ts : List State) → IsProgram p → t.steps < d → All (IsShallow d) (t ∷ ts) → All (IsShallow d) (children p t ++ ts)
 shallow-turn p d t ts ok lt h =

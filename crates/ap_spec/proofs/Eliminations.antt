@@ -1,5 +1,5 @@
 -- Equations, one after another.
-use Rattle.std.proofs.Common.{◌≡◌, ℕ, zero, suc, ◌-◌, ◌<◌, Bool, true, false, List, [], ◌∷◌, ◌++◌, append_assoc, append-nil, if◌then◌else◌, Option, Some, None, option_and_then, option_map, refl, ap, sym, ◌∙◌, arith}
+use Rattle.std.proofs.Common.{◌≡◌, ℕ, zero, suc, ◌-◌, ◌<◌, Bool, true, false, [], ◌∷◌, ◌++◌, append_assoc, append-nil, if◌then◌else◌, Option, Some, None, option_and_then, option_map, refl, ap, sym, ◌∙◌, arith}
 use Rattle.ap_term.specs.Tree.{Tree}
 use Rattle.ap_term.specs.Vars.{occurs}
 use Rattle.ap_term.specs.Substitution.{instance, Subst, value, one}
@@ -27,9 +27,9 @@ solve-halves (suc n) [] = refl
 solve-halves (suc n) (e ∷ es) = go (occurs e.0 e.1) (solve-halves_turn n e (replaced_by (value (one e.0 e.1)) es) (solve-halves n))
   where
     go : (b : Bool) → option_and_then (λ ds. option_map (grown e) (solve n ds)) (replaced_by (value (one e.0 e.1)) es)
-            ≡ option_map solution_of (option_and_then (λ ds. option_map (λ bs. e ∷ bs) (eliminated n ds)) (replaced_by (value (one e.0 e.1)) es))
+        ≡ option_map solution_of (option_and_then (λ ds. option_map (λ bs. e ∷ bs) (eliminated n ds)) (replaced_by (value (one e.0 e.1)) es))
         → (if b then None else option_and_then (λ ds. option_map (grown e) (solve n ds)) (replaced_by (value (one e.0 e.1)) es))
-            ≡ option_map solution_of (if b then None else option_and_then (λ ds. option_map (λ bs. e ∷ bs) (eliminated n ds)) (replaced_by (value (one e.0 e.1)) es))
+        ≡ option_map solution_of (if b then None else option_and_then (λ ds. option_map (λ bs. e ∷ bs) (eliminated n ds)) (replaced_by (value (one e.0 e.1)) es))
     go true h = refl
     go false h = h
 

@@ -1,6 +1,6 @@
 -- Solving equations in two halves: the equations by which variables are bound, one after another, and then the
 -- solution from the last one back.
-use Rattle.std.specs.Prelude.{ℕ, zero, suc, List, [], ◌∷◌, if◌then◌else◌, Option, Some, None, option_and_then, option_map}
+use Rattle.std.specs.Prelude.{ℕ, zero, suc, [], ◌∷◌, if◌then◌else◌, Option, Some, None, option_and_then, option_map}
 use Rattle.ap_term.specs.Vars.{occurs}
 use Rattle.ap_term.specs.Substitution.{Subst, value, one}
 use Rattle.ap_term.specs.Unification.{Equations, replaced_by, grown}

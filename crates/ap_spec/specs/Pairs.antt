@@ -1,5 +1,5 @@
 -- The pair that a binding stands for.
-use Rattle.std.specs.Prelude.{ℕ, Bool, true, false, Option, Some, None, List, [], ◌∷◌, ◌++◌}
+use Rattle.std.specs.Prelude.{ℕ, Bool, true, false, Option, Some, None, [], ◌∷◌, ◌++◌}
 use Rattle.ap_term.specs.Unification.{Equations}
 use Rattle.ap_spec.specs.declared.substitutions.Binding.{Binding}
 use Rattle.ap_spec.specs.declared.substitutions.One.{One}

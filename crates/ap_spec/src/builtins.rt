@@ -40,7 +40,12 @@ fn unify_value(alloc: Global, t: &Term, value: Option<i64>) -> Result<Option<Sub
     }
 }
 
-fn relation_answer(alloc: Global, relation: Relation, t: &Term, u: &Term) -> Result<Option<Subst>, NoMemory>
+fn relation_answer(
+    alloc: Global,
+    relation: Relation,
+    t: &Term,
+    u: &Term,
+) -> Result<Option<Subst>, NoMemory>
     ensures { IfOk result (λ s. s ≡ relation_answer relation (tree_of t.now) (tree_of u.now)) }
 {
     match relation {

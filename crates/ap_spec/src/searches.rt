@@ -147,7 +147,12 @@ fn answers_from(alloc: Global, rules: &Rules, mut stack: States, d: u64) -> Resu
 }
 
 /// The answers on whose ways at most d calls are made, in order.
-pub fn answers_to_depth(alloc: Global, p: &Program, query: &Query, d: u64) -> Result<Tuples, NoMemory>
+pub fn answers_to_depth(
+    alloc: Global,
+    p: &Program,
+    query: &Query,
+    d: u64,
+) -> Result<Tuples, NoMemory>
     requires { d ≤ 2 ^ 54 }
     ensures { IfOk result (λ ts. ts ≡ answers_to_depth (joined p.now query.now) (start query.now) d) }
 {

@@ -15,7 +15,8 @@ use crate::builtins::{Called, builtin};
 use crate::substitutions::{Shift, Subst};
 use crate::unification::unify;
 use ap_term::{
-    Args, Bindings, Body, Clause, NoMemory, Part, Program, Query, Term, add_instances, instance, instances,
+    Args, Bindings, Body, Clause, NoMemory, Part, Program, Query, Term, add_instances, instance,
+    instances,
 };
 use std::alloc::Global;
 use std::collections::VecDeque;
@@ -140,7 +141,12 @@ pub struct Rules<'a> {
     pub query: Option<&'a Query>,
 }
 
-fn add_calls<B: Bindings>(alloc: Global, bindings: &B, terms: &[Term], out: &mut Body) -> Result<(), NoMemory>
+fn add_calls<B: Bindings>(
+    alloc: Global,
+    bindings: &B,
+    terms: &[Term],
+    out: &mut Body,
+) -> Result<(), NoMemory>
     ensures { OnOk result (out.new ≡ out.old ++ map (instance_part (B.term_at bindings.now)) (calls (trees_of terms.now))) }
 {
     for t in terms {

@@ -57,7 +57,13 @@ fn clause(rt: &impl Abort, head: Term, body: Body, vars: u64) -> Clause {
     Clause::new(head, body, vars, 1)
 }
 
-fn add_clause(rt: &impl Abort, alloc: Global, built: &mut Built, vars: u64, is_group: bool) -> Result<(), Fail> {
+fn add_clause(
+    rt: &impl Abort,
+    alloc: Global,
+    built: &mut Built,
+    vars: u64,
+    is_group: bool,
+) -> Result<(), Fail> {
     let head = pop(&mut built.terms)?;
     let goals = built.goals.split_off(0)?;
     let body = body(alloc, goals, is_group)?;
@@ -65,13 +71,21 @@ fn add_clause(rt: &impl Abort, alloc: Global, built: &mut Built, vars: u64, is_g
     Ok(())
 }
 
-fn add_step(rt: &impl Abort, alloc: Global, atoms: &mut Atoms, built: &mut Built, step: Step) -> Result<(), Fail> {
+fn add_step(
+    rt: &impl Abort,
+    alloc: Global,
+    atoms: &mut Atoms,
+    built: &mut Built,
+    step: Step,
+) -> Result<(), Fail> {
     match step {
         V(x) => built.terms.push(Term::Var(x))?,
         I(n) => built.terms.push(Term::Int(n))?,
         A(name) => built.terms.push(Term::Atom(atoms.intern(alloc, name)?))?,
         N(name, arity) => {
-            let args = built.terms.split_off(built.terms.len().saturating_sub(arity))?;
+            let args = built
+                .terms
+                .split_off(built.terms.len().saturating_sub(arity))?;
             let name = atoms.intern(alloc, name)?;
             built.terms.push(Term::Node(name, Args::from_vec(args)))?;
         }
@@ -121,7 +135,13 @@ fn is_variant(alloc: Global, t: &Term, u: &Term) -> Result<bool, Fail> {
 }
 
 /// Compares each answer, as the arguments of `t`, with the term that is wanted.
-fn compare(rt: &impl Abort, alloc: Global, atoms: &mut Atoms, answers: &Tuples, wanted: &[Term]) -> Result<(), Fail> {
+fn compare(
+    rt: &impl Abort,
+    alloc: Global,
+    atoms: &mut Atoms,
+    answers: &Tuples,
+    wanted: &[Term],
+) -> Result<(), Fail> {
     let name = atoms.intern(alloc, "t")?;
     assert_eq!(rt; answers.len(), wanted.len());
     for (tuple, want) in answers.as_slice().iter().zip(wanted) {
@@ -132,7 +152,14 @@ fn compare(rt: &impl Abort, alloc: Global, atoms: &mut Atoms, answers: &Tuples, 
 }
 
 /// Searches by a program, whose last clause has the query's goals, and compares the answers.
-fn check(rt: &impl Abort, alloc: Global, steps: &[Step], budget: u64, ended: bool, answers: &[Step]) -> Result<(), Fail> {
+fn check(
+    rt: &impl Abort,
+    alloc: Global,
+    steps: &[Step],
+    budget: u64,
+    ended: bool,
+    answers: &[Step],
+) -> Result<(), Fail> {
     let mut atoms = Atoms::new(alloc)?;
     let mut built = build(rt, alloc, &mut atoms, steps)?;
     let wanted = build(rt, alloc, &mut atoms, answers)?;
@@ -147,7 +174,13 @@ fn check(rt: &impl Abort, alloc: Global, steps: &[Step], budget: u64, ended: boo
     assert!(rt; budget <= 1000);
     let found = search(alloc, &p, &q, budget)?;
     assert_eq!(rt; found.ended, ended);
-    compare(rt, alloc, &mut atoms, &found.answers, wanted.terms.as_slice())?;
+    compare(
+        rt,
+        alloc,
+        &mut atoms,
+        &found.answers,
+        wanted.terms.as_slice(),
+    )?;
     if ended {
         let deep = answers_to_depth(alloc, &p, &q, budget)?;
         compare(rt, alloc, &mut atoms, &deep, wanted.terms.as_slice())?;
@@ -160,34 +193,99 @@ fn worked_programs_have_their_answers(rt: HostRuntime) -> Result<(), Fail> {
     for (steps, budget, ended, answers) in [
         // p(1). p(2). ?- p(X).
         (
-            &[I(1), N("p", 1), Rule(0), I(2), N("p", 1), Rule(0), V(1), N("p", 1), Goal, A("q"), Rule(1)][..],
+            &[
+                I(1),
+                N("p", 1),
+                Rule(0),
+                I(2),
+                N("p", 1),
+                Rule(0),
+                V(1),
+                N("p", 1),
+                Goal,
+                A("q"),
+                Rule(1),
+            ][..],
             100,
             true,
             &[I(1), N("t", 1), I(2), N("t", 1)][..],
         ),
         // p(1). p(1). ?- p(X).
         (
-            &[I(1), N("p", 1), Rule(0), I(1), N("p", 1), Rule(0), V(1), N("p", 1), Goal, A("q"), Rule(1)][..],
+            &[
+                I(1),
+                N("p", 1),
+                Rule(0),
+                I(1),
+                N("p", 1),
+                Rule(0),
+                V(1),
+                N("p", 1),
+                Goal,
+                A("q"),
+                Rule(1),
+            ][..],
             100,
             true,
             &[I(1), N("t", 1), I(1), N("t", 1)][..],
         ),
         // ?- X = f(X).
-        (&[V(1), V(1), N("f", 1), N("=", 2), Goal, A("q"), Rule(1)][..], 100, true, &[][..]),
+        (
+            &[V(1), V(1), N("f", 1), N("=", 2), Goal, A("q"), Rule(1)][..],
+            100,
+            true,
+            &[][..],
+        ),
         // n(z). n(s(X)) :- n(X). ?- n(X).
         (
             &[
-                A("z"), N("n", 1), Rule(0), V(1), N("n", 1), Goal, V(1), N("s", 1), N("n", 1), Rule(1), V(1), N("n", 1), Goal,
-                A("q"), Rule(1),
+                A("z"),
+                N("n", 1),
+                Rule(0),
+                V(1),
+                N("n", 1),
+                Goal,
+                V(1),
+                N("s", 1),
+                N("n", 1),
+                Rule(1),
+                V(1),
+                N("n", 1),
+                Goal,
+                A("q"),
+                Rule(1),
             ][..],
             3,
             false,
-            &[A("z"), N("t", 1), A("z"), N("s", 1), N("t", 1), A("z"), N("s", 1), N("s", 1), N("t", 1)][..],
+            &[
+                A("z"),
+                N("t", 1),
+                A("z"),
+                N("s", 1),
+                N("t", 1),
+                A("z"),
+                N("s", 1),
+                N("s", 1),
+                N("t", 1),
+            ][..],
         ),
         // e(X, Y) :- X = f(Y). ?- e(A, B).
         (
             &[
-                V(1), V(2), N("f", 1), N("=", 2), Goal, V(1), V(2), N("e", 2), Rule(2), V(1), V(2), N("e", 2), Goal, A("q"),
+                V(1),
+                V(2),
+                N("f", 1),
+                N("=", 2),
+                Goal,
+                V(1),
+                V(2),
+                N("e", 2),
+                Rule(2),
+                V(1),
+                V(2),
+                N("e", 2),
+                Goal,
+                A("q"),
                 Rule(2),
             ][..],
             100,
@@ -197,8 +295,24 @@ fn worked_programs_have_their_answers(rt: HostRuntime) -> Result<(), Fail> {
         // t :- f & l. l :- l. f :- fail. ?- t.
         (
             &[
-                A("f"), Goal, A("l"), Goal, A("t"), Group(0), A("l"), Goal, A("l"), Rule(0), A("fail"), Goal, A("f"), Rule(0),
-                A("t"), Goal, A("q"), Rule(0),
+                A("f"),
+                Goal,
+                A("l"),
+                Goal,
+                A("t"),
+                Group(0),
+                A("l"),
+                Goal,
+                A("l"),
+                Rule(0),
+                A("fail"),
+                Goal,
+                A("f"),
+                Rule(0),
+                A("t"),
+                Goal,
+                A("q"),
+                Rule(0),
             ][..],
             3,
             true,
@@ -206,8 +320,24 @@ fn worked_programs_have_their_answers(rt: HostRuntime) -> Result<(), Fail> {
         ),
         (
             &[
-                A("f"), Goal, A("l"), Goal, A("t"), Group(0), A("l"), Goal, A("l"), Rule(0), A("fail"), Goal, A("f"), Rule(0),
-                A("t"), Goal, A("q"), Rule(0),
+                A("f"),
+                Goal,
+                A("l"),
+                Goal,
+                A("t"),
+                Group(0),
+                A("l"),
+                Goal,
+                A("l"),
+                Rule(0),
+                A("fail"),
+                Goal,
+                A("f"),
+                Rule(0),
+                A("t"),
+                Goal,
+                A("q"),
+                Rule(0),
             ][..],
             2,
             false,
@@ -215,26 +345,93 @@ fn worked_programs_have_their_answers(rt: HostRuntime) -> Result<(), Fail> {
         ),
         // p(X, f(X)). ?- p(A, A).
         (
-            &[V(1), V(1), N("f", 1), N("p", 2), Rule(1), V(1), V(1), N("p", 2), Goal, A("q"), Rule(1)][..],
+            &[
+                V(1),
+                V(1),
+                N("f", 1),
+                N("p", 2),
+                Rule(1),
+                V(1),
+                V(1),
+                N("p", 2),
+                Goal,
+                A("q"),
+                Rule(1),
+            ][..],
             100,
             true,
             &[][..],
         ),
         // ?- X is 1 // 0.
-        (&[V(1), I(1), I(0), N("//", 2), N("is", 2), Goal, A("q"), Rule(1)][..], 100, true, &[][..]),
+        (
+            &[
+                V(1),
+                I(1),
+                I(0),
+                N("//", 2),
+                N("is", 2),
+                Goal,
+                A("q"),
+                Rule(1),
+            ][..],
+            100,
+            true,
+            &[][..],
+        ),
         // ?- X is 9223372036854775807 + 0. and + 1.
         (
-            &[V(1), I(i64::MAX), I(0), N("+", 2), N("is", 2), Goal, A("q"), Rule(1)][..],
+            &[
+                V(1),
+                I(i64::MAX),
+                I(0),
+                N("+", 2),
+                N("is", 2),
+                Goal,
+                A("q"),
+                Rule(1),
+            ][..],
             100,
             true,
             &[I(i64::MAX), N("t", 1)][..],
         ),
-        (&[V(1), I(i64::MAX), I(1), N("+", 2), N("is", 2), Goal, A("q"), Rule(1)][..], 100, true, &[][..]),
+        (
+            &[
+                V(1),
+                I(i64::MAX),
+                I(1),
+                N("+", 2),
+                N("is", 2),
+                Goal,
+                A("q"),
+                Rule(1),
+            ][..],
+            100,
+            true,
+            &[][..],
+        ),
         // ?- X is -7 // 2, Y is -7 mod 2, Z is -7 rem 2.
         (
             &[
-                V(1), I(-7), I(2), N("//", 2), N("is", 2), Goal, V(2), I(-7), I(2), N("mod", 2), N("is", 2), Goal, V(3), I(-7),
-                I(2), N("rem", 2), N("is", 2), Goal, A("q"), Rule(3),
+                V(1),
+                I(-7),
+                I(2),
+                N("//", 2),
+                N("is", 2),
+                Goal,
+                V(2),
+                I(-7),
+                I(2),
+                N("mod", 2),
+                N("is", 2),
+                Goal,
+                V(3),
+                I(-7),
+                I(2),
+                N("rem", 2),
+                N("is", 2),
+                Goal,
+                A("q"),
+                Rule(3),
             ][..],
             100,
             true,

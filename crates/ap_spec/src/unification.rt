@@ -180,7 +180,11 @@ fn replace_one(
 
 /// The instances of equations, taken apart; None at a clash.
 #[tactic(auto, using(crate::proofs::Apart::both_assoc))]
-fn replaced(alloc: Global, one: &One, equations: &mut Equations) -> Result<Option<Equations>, NoMemory>
+fn replaced(
+    alloc: Global,
+    one: &One,
+    equations: &mut Equations,
+) -> Result<Option<Equations>, NoMemory>
     ensures { IfOk result (λ es. es ≡ replaced_by (bound_by one.now) equations.old) }
 {
     let mut next = Equations::new(alloc);

@@ -23,13 +23,19 @@ fn names_are_numbered_in_order(rt: HostRuntime) -> Result<(), Fail> {
     let alloc = rt.alloc();
     let mut atoms = Atoms::new(alloc)?;
     assert_eq!(rt; atoms.intern(alloc, "true")?.number(), fixed::TRUE);
-    assert_eq!(rt; atoms.intern(alloc, "=..")?.number() >= fixed::FIRST_REFUSED, true);
+    assert_eq!(rt;
+        atoms.intern(alloc, "=..")?.number() >= fixed::FIRST_REFUSED,
+        true
+    );
     assert_eq!(rt; atoms.intern(alloc, "a")?.number(), fixed::ANY_MARK);
     let mark = atoms.mark();
     let first = atoms.intern(alloc, "été")?;
     assert_eq!(rt; first.number() as usize, fixed::COUNT);
     assert_eq!(rt; atoms.intern(alloc, "été")?, first);
-    assert_eq!(rt; atoms.intern(alloc, "[]")?.number() as usize, fixed::COUNT + 1);
+    assert_eq!(rt;
+        atoms.intern(alloc, "[]")?.number() as usize,
+        fixed::COUNT + 1
+    );
     atoms.cut_to(mark);
     assert_eq!(rt; atoms.intern(alloc, "b")?, first);
     Ok(())

@@ -1,4 +1,4 @@
-use Rattle.std.proofs.Common.{w64, ◌≡◌, false, rules, arith}
+use Rattle.std.proofs.Common.{w64, ◌≡◌, false, rules}
 use Rattle.std.specs.Prelude.{FitsSigned, pos, Some, ◌+ℤ◌, int_rem}
 use Rattle.std.specs.Ordering.{int_eq}
 use Rattle.std.proofs.lemmas.Int.{to_z-of_z}

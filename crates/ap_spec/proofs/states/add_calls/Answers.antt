@@ -1,5 +1,3 @@
-use Rattle.std.proofs.Common.{map}
-use Rattle.ap_term.specs.Goals.{instance_part}
 use Rattle.ap_spec.proofs.GoalLists.{calls-turn}
 use Rattle.ap_spec.proofs.states.add_calls.Goals as goal
 

@@ -1,7 +1,4 @@
-use Rattle.std.proofs.Common.{sym, subst, ◌≡◌, ◌≤◌}
-use Rattle.ap_term.specs.Tree.{size}
-use Rattle.ap_term.specs.TermView.{tree_of}
-use Rattle.ap_term.specs.Unification.{both, apart}
+use Rattle.std.proofs.Common.{sym}
 use Rattle.ap_spec.proofs.Apart.{apart-last, last-smaller}
 use Rattle.ap_spec.proofs.unification.+apart.Goals as goal
 

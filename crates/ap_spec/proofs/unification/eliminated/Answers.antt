@@ -1,7 +1,7 @@
-use Rattle.std.proofs.Common.{◌≡◌, ◌<◌, ◌-◌, ◌∙◌, ◌∷◌, ap, sym, arith, Some}
+use Rattle.std.proofs.Common.{◌<◌, ◌-◌, ◌∙◌, ap, sym, arith}
 use Rattle.ap_spec.specs.Elimination.{eliminated}
 use Rattle.ap_spec.specs.Pairs.{pair_of}
-use Rattle.ap_spec.proofs.Eliminations.{behind, behind-turn, behind-done, behind-none, behind-clash, eliminated-occurs}
+use Rattle.ap_spec.proofs.Eliminations.{behind, behind-turn, behind-done}
 use Rattle.ap_spec.proofs.unification.eliminated.Goals as goal
 
 pub loop-first-preserved : goal.loop-first-preserved

@@ -1,5 +1,3 @@
-use Rattle.std.proofs.Common.{◌∙◌, ap, sym, []}
-use Rattle.ap_spec.specs.Elimination.{resolved}
 use Rattle.ap_spec.specs.Pairs.{pair_of}
 use Rattle.ap_spec.proofs.Eliminations.{resolved-turn, resolved-done}
 use Rattle.ap_spec.proofs.unification.resolved.Goals as goal

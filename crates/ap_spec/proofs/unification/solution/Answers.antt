@@ -1,7 +1,6 @@
-use Rattle.std.proofs.Common.{◌≡◌, ◌∙◌, ap, sym, length, Some, []}
+use Rattle.std.proofs.Common.{◌∙◌, ap, sym, length}
 use Rattle.ap_term.specs.TermView.{tree_of}
 use Rattle.ap_term.specs.Vars.{add_vars}
-use Rattle.ap_term.specs.Unification.{apart, both}
 use Rattle.ap_spec.proofs.Apart.{begun}
 use Rattle.ap_spec.proofs.Eliminations.{solution-found, solution-none}
 use Rattle.ap_spec.proofs.unification.solution.Goals as goal
