@@ -1,0 +1,4 @@
+pub mod Sources
+pub mod Tokens
+pub mod Spellings
+pub mod Reading
