@@ -2,3 +2,4 @@ pub mod Sources
 pub mod Tokens
 pub mod Spellings
 pub mod Reading
+pub mod Names

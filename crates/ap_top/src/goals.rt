@@ -1,6 +1,6 @@
 //! Programs and queries of goals, beside a table of names.
 
-ghost use Rattle.std.specs.Prelude.{◌≡◌, ℕ, ◌+◌, ◌≤◌, ◌<◌, List, [], ◌∷◌, true, map, flat_map, length, IfOk, OnOk};
+ghost use Rattle.std.specs.Prelude.{◌≡◌, ℕ, ◌+◌, ◌≤◌, ◌<◌, List, [], ◌∷◌, true, map, flat_map, length, IfOk, OnOk, if◌then◌else◌};
 ghost use Rattle.std.specs.List.{filter, list_all};
 ghost use Rattle.ap_term.specs.AtomTable.{capacity, fixed_names, is_held, insert_name, insert_names};
 ghost use Rattle.ap_term.specs.TermView.{tree_of, trees_of};
@@ -32,28 +32,48 @@ fn intern(alloc: Global, token: &[u8], atoms: &mut Atoms) -> Result<Atom, NoMemo
     ensures names { OnOk result (atoms.new ≡ insert_name atoms.old token.now) }
     ensures atom { IfOk result (λ a. a ≡ place atoms.new token.now) }
 {
-    let _distinct = atoms.mark();
     match atoms.intern(alloc, text_of(token)) {
-        Ok(atom) => Ok(atom),
+        Ok(atom) => {
+            let _distinct = atoms.mark();
+            Ok(atom)
+        }
         Err(InternErr::NoMemory) => Err(NoMemory),
         Err(InternErr::Full) => unreachable!(),
     }
 }
 
+// Puts a token in, where it is a name.
+fn add_name(alloc: Global, token: &[u8], atoms: &mut Atoms) -> Result<(), NoMemory>
+    requires { length atoms.old < capacity }
+    ensures { OnOk result (atoms.new ≡ (if is_name token.now then insert_name atoms.old token.now else atoms.old)) }
+{
+    if is_name(token) {
+        intern(alloc, token, atoms)?;
+    }
+    Ok(())
+}
+
+// Puts the names among tokens in.
+fn add_names(alloc: Global, tokens: &[&[u8]], atoms: &mut Atoms) -> Result<(), NoMemory>
+    requires { length atoms.old + length tokens.now ≤ capacity }
+    ensures names { OnOk result (atoms.new ≡ insert_names atoms.old (filter is_name (map (λ a. a.now) tokens.now))) }
+    ensures few { OnOk result (length atoms.new ≤ length atoms.old + length tokens.now) }
+{
+    for token in tokens {
+        add_name(alloc, token, atoms)?;
+    }
+    Ok(())
+}
+
 // Puts the names of a goal in.
-fn add_names(alloc: Global, goal: &Goal, atoms: &mut Atoms) -> Result<(), NoMemory>
+fn add_names_of(alloc: Global, goal: &Goal, atoms: &mut Atoms) -> Result<(), NoMemory>
     requires goal { is_goal (goal_of goal.now) ≡ true }
     requires room { length atoms.old + 9 ≤ capacity }
     ensures names { OnOk result (atoms.new ≡ insert_names atoms.old (names_of (goal_of goal.now))) }
     ensures few { OnOk result (length atoms.new ≤ length atoms.old + 9) }
 {
     intern(alloc, goal.name, atoms)?;
-    for token in &goal.arguments {
-        if is_name(token) {
-            intern(alloc, token, atoms)?;
-        }
-    }
-    Ok(())
+    add_names(alloc, &goal.arguments, atoms)
 }
 
 // The names of a goal's variables, by first occurrence.
@@ -71,7 +91,8 @@ fn variables<'a>(alloc: Global, tokens: &[&'a [u8]]) -> Result<Vec<&'a str>, All
 
 // The place of the first such name; how many there are, where none is.
 fn place(names: &[&str], name: &[u8]) -> usize
-    ensures { result ≡ place (map (λ n. n.now) names.now) name.now }
+    ensures place { result ≡ place (map (λ n. n.now) names.now) name.now }
+    ensures least { result ≤ length names.now }
 {
     for i in 0..names.len() {
         if name == names[i].as_bytes() {
@@ -91,6 +112,7 @@ fn term(
     requires argument { is_argument token.now ≡ true }
     requires held { is_name token.now ≡ true → is_held atoms.old token.now ≡ true }
     requires room { length atoms.old < capacity }
+    requires few { length variables.now ≤ 255 }
     ensures table { OnOk result (atoms.new ≡ atoms.old) }
     ensures term { IfOk result (λ t. tree_of t ≡ term_of atoms.old (map (λ n. n.now) variables.now) token.now) }
 {
@@ -112,6 +134,7 @@ fn terms(
     requires arguments { list_all is_argument (map (λ a. a.now) tokens.now) ≡ true }
     requires held { list_all (is_held atoms.old) (filter is_name (map (λ a. a.now) tokens.now)) ≡ true }
     requires room { length atoms.old < capacity }
+    requires few { length variables.now ≤ 255 }
     ensures table { OnOk result (atoms.new ≡ atoms.old) }
     ensures terms { IfOk result (λ ts. ts ≡ terms_of atoms.old (map (λ n. n.now) variables.now) (map (λ a. a.now) tokens.now)) }
 {
@@ -172,7 +195,7 @@ pub fn query(alloc: Global, goal: &Goal, atoms: &mut Atoms) -> Result<Query, NoM
     ensures table { OnOk result (atoms.new ≡ with_names atoms.old (goal_of goal.now ∷ [])) }
     ensures query { IfOk result (λ q. q ≡ query_of (with_names atoms.old (goal_of goal.now ∷ [])) (goal_of goal.now)) }
 {
-    add_names(alloc, goal, atoms)?;
+    add_names_of(alloc, goal, atoms)?;
     let variables = variables(alloc, &goal.arguments)?;
     let call = compound(alloc, goal, &variables, atoms)?;
     let mut body = Body::new(alloc);
@@ -190,7 +213,7 @@ fn add_all_names(alloc: Global, goals: &[Goal], atoms: &mut Atoms) -> Result<(),
     ensures room { OnOk result (length atoms.new + 10 ≤ capacity) }
 {
     for goal in goals {
-        add_names(alloc, goal, atoms)?;
+        add_names_of(alloc, goal, atoms)?;
     }
     Ok(())
 }
