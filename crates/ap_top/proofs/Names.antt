@@ -1,5 +1,5 @@
 -- Names in a table, and the terms that are made of it.
-use Rattle.std.proofs.Common.{◌≡◌, ℕ, zero, suc, ◌+◌, ◌<◌, ◌≤◌, ◌&&◌, ◌||◌, ◌==◌, not, nat_le, Bool, true, false, if◌then◌else◌, cond, List, [], ◌∷◌, ◌++◌, map, take, drop, flat_map, length, length-append, slice_get, get_or, Option, Some, None, IsTrue, Bor, pos, refl, sym, ◌∙◌, ap, subst, arith, bytes_eq, drop-cons, add-one}
+use Rattle.std.proofs.Common.{◌≡◌, ℕ, zero, suc, ◌+◌, ◌<◌, ◌≤◌, ◌&&◌, ◌||◌, ◌==◌, not, nat_le, Bool, true, false, if◌then◌else◌, cond, List, [], ◌∷◌, ◌++◌, map, take, drop, flat_map, length, length-append, slice_get, get_or, Option, Some, None, IsTrue, Bor, pos, refl, sym, ◌∙◌, ap, subst, arith, append-nil, append_assoc, bytes_eq, drop-cons, add-one}
 use Rattle.std.specs.Char.{is_ascii_digit}
 use Rattle.std.specs.List.{list_all, list_any, filter, position_or_len, prefix_len}
 use Rattle.std.specs.Str.{IsUtf8}
@@ -271,3 +271,32 @@ put_if_few table false n = omega arith
 pub count_is : (vs tokens arguments : List (Bor (List ℕ))) (n : ℕ) → n ≡ length vs → map (λ v. v.now) vs ≡ insert_names [] (filter is_variable (map (λ a. a.now) tokens)) → tokens ≡ arguments
     → n ≡ length (insert_names [] (filter is_variable (map (λ a. a.now) arguments)))
 count_is vs tokens arguments n e f g = e ∙ sym (length_now vs) ∙ ap length (f ∙ ap (λ ts. insert_names [] (filter is_variable (map (λ a. a.now) ts))) g)
+
+put_least : (names : List (List ℕ)) (n : List ℕ) → (others : List (List ℕ)) × (insert_name names n ≡ names ++ others)
+put_least names n = go (is_held names n)
+  where
+    go : (b : Bool) → (others : List (List ℕ)) × ((if b then names else names ++ n ∷ []) ≡ names ++ others)
+    go true = ([], sym (append-nil names))
+    go false = (n ∷ [], refl)
+
+-- names are put in behind those that are held
+pub put_behind : (names ns : List (List ℕ)) → (others : List (List ℕ)) × (insert_names names ns ≡ names ++ others)
+put_behind names [] = ([], sym (append-nil names))
+put_behind names (n ∷ ns) =
+    let one = put_least names n in
+    let all = put_behind (insert_name names n) ns in
+    (one.0 ++ all.0, all.1 ∙ ap (λ t. t ++ all.0) one.1 ∙ append_assoc names one.0 all.0)
+
+pub put_longer : (names ns all : List (List ℕ)) (n : ℕ) → all ≡ insert_names names ns → n ≡ length names → n ≤ length all
+put_longer names ns all n e m =
+    let b = put_behind names ns in
+    let size : length all ≡ length (names ++ b.0) = ap length (e ∙ b.1) in
+    omega (arith, size, length-append names b.0, m)
+
+take_front : (names others : List (List ℕ)) → take (length names) (names ++ others) ≡ names
+take_front names others = grind (arith, common_steps)
+
+pub cut_back : (names ns all : List (List ℕ)) (n : ℕ) → all ≡ insert_names names ns → n ≡ length names → take n all ≡ names
+cut_back names ns all n e m =
+    let b = put_behind names ns in
+    ap (λ k. take k all) m ∙ ap (take (length names)) (e ∙ b.1) ∙ take_front names b.0

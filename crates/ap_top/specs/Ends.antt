@@ -5,6 +5,8 @@ use Rattle.ap_outside.specs.Files.{HasContent}
 use Rattle.ap_outside.specs.Halting.{AnyOf}
 use Rattle.ap_outside.specs.Pieces.{FrontOf, CutOf}
 use Rattle.ap_top.specs.SmallForm.{GoalText, ReadsAsFacts, ReadsAsQueries}
+use Rattle.ap_term.specs.Goals.{Program}
+use Rattle.ap_top.specs.Meaning.{table_of, program_of}
 use Rattle.ap_top.specs.Output.{IsOutput}
 use Rattle.ap_top.specs.declared.status.Status.{Status}
 use Rattle.ap_top.specs.declared.status.Status.TheVariants.{Done, BudgetSpent, Usage, FileFault, ProgramRefused, QueryRefused, SinkFault, SourceFault, NoMemory, QueriesTooLong}
@@ -13,31 +15,31 @@ use Rattle.ap_top.specs.declared.status.Status.TheVariants.{Done, BudgetSpent, U
 abbrev pub answered : Bool → Status
 answered spent = if spent then BudgetSpent else Done
 
--- all bytes of a source, over an accepted program
-pub data QueriesEnd (facts : List GoalText) (input : List ℕ) : Status → List (List ℕ) → Type 0 where
-  answers : (queries : List GoalText) (spent : Bool) (status : Status) (lines : List (List ℕ)) → ReadsAsQueries queries input → IsOutput facts queries spent lines
-      → status ≡ answered spent → QueriesEnd facts input status lines
+-- all bytes of a source, over an accepted program and its table of names
+pub data QueriesEnd (program : Program) (table : List (List ℕ)) (input : List ℕ) : Status → List (List ℕ) → Type 0 where
+  answers : (queries : List GoalText) (spent : Bool) (status : Status) (lines : List (List ℕ)) → ReadsAsQueries queries input → IsOutput program table queries spent lines
+      → status ≡ answered spent → QueriesEnd program table input status lines
   refused : (lines : List (List ℕ)) → ((queries : List GoalText) → ReadsAsQueries queries input → ⊥) → lines ≡ codes "refused: form\n" ∷ []
-      → QueriesEnd facts input QueryRefused lines
+      → QueriesEnd program table input QueryRefused lines
 
 -- these are the bytes, where bytes are told
 abbrev pub IsTold : Option (List ℕ) → List ℕ → Type 0
 IsTold None bytes = ⊤
 IsTold (Some told) bytes = told ≡ bytes
 
--- a source, over an accepted program
-pub data ProgramEnds (facts : List GoalText) (source : Option (List ℕ)) (SourceRose : Type 0) : Status → List (List ℕ) → Type 0 where
-  fault : (lines : List (List ℕ)) → SourceRose → lines ≡ codes "fault: source\n" ∷ [] → ProgramEnds facts source SourceRose SourceFault lines
+-- a source, over an accepted program and its table of names
+pub data SourceEnds (program : Program) (table : List (List ℕ)) (source : Option (List ℕ)) (SourceRose : Type 0) : Status → List (List ℕ) → Type 0 where
+  fault : (lines : List (List ℕ)) → SourceRose → lines ≡ codes "fault: source\n" ∷ [] → SourceEnds program table source SourceRose SourceFault lines
   too_long : (input : List ℕ) (lines : List (List ℕ)) → IsTold source input → 16777216 < length input → lines ≡ codes "refused: queries too long\n" ∷ []
-      → ProgramEnds facts source SourceRose QueriesTooLong lines
-  read : (input : List ℕ) (status : Status) (lines : List (List ℕ)) → IsTold source input → length input ≤ 16777216 → QueriesEnd facts input status lines
-      → ProgramEnds facts source SourceRose status lines
+      → SourceEnds program table source SourceRose QueriesTooLong lines
+  read : (input : List ℕ) (status : Status) (lines : List (List ℕ)) → IsTold source input → length input ≤ 16777216 → QueriesEnd program table input status lines
+      → SourceEnds program table source SourceRose status lines
 
 -- the bytes of a file
 pub data TextEnds (bytes : List ℕ) (source : Option (List ℕ)) (SourceRose : Type 0) : Status → List (List ℕ) → Type 0 where
   refused : (lines : List (List ℕ)) → ((facts : List GoalText) → ReadsAsFacts facts bytes → ⊥) → lines ≡ codes "refused: form\n" ∷ []
       → TextEnds bytes source SourceRose ProgramRefused lines
-  accepted : (facts : List GoalText) (status : Status) (lines : List (List ℕ)) → ReadsAsFacts facts bytes → ProgramEnds facts source SourceRose status lines
+  accepted : (facts : List GoalText) (status : Status) (lines : List (List ℕ)) → ReadsAsFacts facts bytes → SourceEnds (program_of facts) (table_of facts) source SourceRose status lines
       → TextEnds bytes source SourceRose status lines
 
 -- a file's name

@@ -1,12 +1,12 @@
 -- What is printed for queries.
-use Rattle.std.specs.Prelude.{◌≡◌, ℕ, Bool, true, false, ◌||◌, List, [], ◌∷◌, ◌++◌, codes, if◌then◌else◌}
+use Rattle.std.specs.Prelude.{◌≡◌, ℕ, Bool, true, false, ◌||◌, ◌==◌, List, [], ◌∷◌, ◌++◌, codes, if◌then◌else◌}
 use Rattle.ap_term.specs.Tree.{Trees}
 use Rattle.ap_term.specs.Goals.{Program, Query, joined}
 use Rattle.ap_term.specs.Search.{start}
 use Rattle.ap_term.specs.Blocks.{End, no_more, budget_spent, stopped, IsBlock}
 use Rattle.ap_writer.specs.Line.{answer_line}
 use Rattle.ap_top.specs.SmallForm.{GoalText}
-use Rattle.ap_top.specs.Meaning.{with_names, query_of, table_of, program_of}
+use Rattle.ap_top.specs.Meaning.{with_names, query_of}
 
 -- the line of an answer, with its line feed
 abbrev pub line_of : List (List ℕ) → Query → Trees → List ℕ
@@ -22,25 +22,26 @@ is_spent no_more = false
 is_spent budget_spent = true
 is_spent stopped = false
 
--- A block of a query, by a budget of 10,000,000 calls and a limit of 1,000,000 answers: answer lines that are a block
--- of its search, then the line that ends it. `spent` tells whether that says so of the budget.
-abbrev pub IsQueryBlock : Program → List (List ℕ) → Query → Bool → List (List ℕ) → Type 0
-IsQueryBlock program table query spent lines =
-    (answers : List (List ℕ)) × (end : End) × (lines ≡ answers ++ end_line end ∷ []) × (spent ≡ is_spent end)
-    × IsBlock (line_of table query) (joined program query) (start query) 10000000 1000000 answers end
+module _ (budget limit : ℕ) where
+  -- A block of a query, by a budget of calls and a limit of answers: answer lines that are a block of its search, then
+  -- the line that ends it. `spent` tells whether that says so of the budget.
+  abbrev pub IsQueryBlock : Program → List (List ℕ) → Query → Bool → List (List ℕ) → Type 0
+  IsQueryBlock program table query spent lines =
+      (answers : List (List ℕ)) × (end : End) × (lines ≡ answers ++ end_line end ∷ []) × (spent ≡ is_spent end)
+      × IsBlock (line_of table query) (joined program query) (start query) budget limit answers end
 
--- the same of a goal's text beside a program and its table
-abbrev pub IsGoalBlock : Program → List (List ℕ) → GoalText → Bool → List (List ℕ) → Type 0
-IsGoalBlock program table goal spent lines =
-    let all = with_names table (goal ∷ []) in IsQueryBlock program all (query_of all goal) spent lines
+  -- the same of a goal's text beside a program and its table
+  abbrev pub IsGoalBlock : Program → List (List ℕ) → GoalText → Bool → List (List ℕ) → Type 0
+  IsGoalBlock program table goal spent lines =
+      IsQueryBlock program (with_names table (goal ∷ [])) (query_of (with_names table (goal ∷ [])) goal) spent lines
 
--- a block for each query, in order; `spent` tells whether a budget was spent
-abbrev pub AreBlocks : Program → List (List ℕ) → List GoalText → Bool → List (List ℕ) → Type 0
-AreBlocks program table [] spent lines = (lines ≡ []) × (spent ≡ false)
-AreBlocks program table (goal ∷ goals) spent lines =
-    (block rest : List (List ℕ)) × (here behind : Bool) × (lines ≡ block ++ rest) × (spent ≡ (here || behind))
-    × IsGoalBlock program table goal here block × AreBlocks program table goals behind rest
+  -- a block for each query, in order; `spent` tells whether a budget was spent
+  abbrev pub AreBlocks : Program → List (List ℕ) → List GoalText → Bool → List (List ℕ) → Type 0
+  AreBlocks program table [] spent lines = (lines ≡ []) × (spent ≡ false)
+  AreBlocks program table (goal ∷ goals) spent lines =
+      (block rest : List (List ℕ)) × (here behind : Bool) × (lines ≡ block ++ rest) × (spent ≡ (here || behind))
+      × IsGoalBlock program table goal here block × AreBlocks program table goals behind rest
 
--- what is printed for queries beside facts
-abbrev pub IsOutput : List GoalText → List GoalText → Bool → List (List ℕ) → Type 0
-IsOutput facts queries spent lines = AreBlocks (program_of facts) (table_of facts) queries spent lines
+-- what is printed for queries beside a program and its table: at most 10,000,000 calls and 1,000,000 answers a query
+abbrev pub IsOutput : Program → List (List ℕ) → List GoalText → Bool → List (List ℕ) → Type 0
+IsOutput program table queries spent lines = AreBlocks 10000000 1000000 program table queries spent lines

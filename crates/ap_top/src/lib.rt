@@ -1,12 +1,17 @@
-//! Top.
+//! The top call: from the words of a command line and the outside to a status.
+//!
+//! It stands on the outside, on terms, on the search and on the writer of answers. What is used above it is the
+//! contract of `run`: which lines are put, and which status they go with.
 #![tactic(auto)]
 
+mod answers;
+mod command;
 mod goals;
 mod small_form;
 mod source;
 mod status;
 
-pub use goals::{query, program};
-pub use small_form::{Goal, is_name, is_variable, integer};
-pub use source::{LIMIT, DrainErr, drain};
+pub use answers::{BOUNDS, Bounds};
+pub use command::run;
+pub use source::LIMIT;
 pub use status::Status;
