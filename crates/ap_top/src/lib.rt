@@ -15,3 +15,6 @@ pub use answers::{BOUNDS, Bounds};
 pub use command::run;
 pub use source::LIMIT;
 pub use status::Status;
+
+#[cfg(test)]
+mod tests;
