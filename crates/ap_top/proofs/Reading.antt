@@ -1,12 +1,12 @@
 -- A text begins with one goal at most, so it reads as one list of goals at most.
-use Rattle.std.proofs.Common.{◌≡◌, ℕ, ◌+◌, ◌<◌, ◌≤◌, ◌&&◌, ◌||◌, ◌==◌, Bool, true, false, List, [], ◌∷◌, ◌++◌, map, length, refl, sym, ◌∙◌, ap, subst, arith, append_assoc, Option, Some, None, option_map}
+use Rattle.std.proofs.Common.{◌≡◌, ℕ, ◌+◌, ◌<◌, ◌≤◌, ◌&&◌, ◌||◌, ◌==◌, Bool, true, false, List, [], ◌∷◌, ◌++◌, map, length, refl, sym, ◌∙◌, ap, subst, arith, append_assoc, codes, Option, Some, None, option_map}
 use Rattle.std.specs.Char.{is_ascii_lowercase}
 use Rattle.std.specs.List.{list_all, list_any, count_by}
 use Rattle.std.specs.Prelude.{IfSome}
 use Rattle.std.proofs.lemmas.Grind.{common_steps}
 use Rattle.std.proofs.lemmas.List.Folds.{list_any-append}
-use Rattle.ap_top.specs.SmallForm.{GoalText, is_layout, is_name, is_goal, spelling, begins, is_line_feed, BeginsWith, ReadsFrom}
-use Rattle.ap_top.proofs.Spellings.{both, no_two, cut_same, parts, no_full_stop}
+use Rattle.ap_top.specs.SmallForm.{GoalText, is_layout, is_name, is_goal, spelling, begins, is_line_feed, BeginsWith, ReadsFrom, ReadingLaw}
+use Rattle.ap_top.proofs.Spellings.{both, no_two, cut_same, parts, no_full_stop, spelling_same}
 
 or_true : (a : Bool) → (a || true) ≡ true
 or_true true = refl
@@ -137,3 +137,31 @@ not_empty xs r h k e = grind (arith, common_steps)
 
 pub is_none : (xs : List ℕ) (r : Bool) → r ≡ (length xs == 0) → r ≡ true → xs ≡ []
 is_none xs r h k = grind (arith, common_steps)
+
+-- ---- one text, one reading
+
+begins_same : (line : ℕ) (opening text : List ℕ) (goal other : GoalText) (gap rest front back : List ℕ) → begins is_layout rest ≡ false → begins is_layout back ≡ false
+    → BeginsWith line opening text goal gap rest → BeginsWith line opening text other front back → (goal ≡ other) × (gap ≡ front) × (rest ≡ back)
+begins_same line opening text goal other gap rest front back r b h k =
+    let cut = cut_sentence line opening text goal gap rest h (spelling other ++ (46 ∷ (front ++ back))) (spelling other) (front ++ back) k.text_is refl (no_full_stop other k.goal_is) in
+    let span = cut_gap line opening text goal gap rest h front back cut.1 k.gap_is r b in
+    (sym (spelling_same goal other h.goal_is k.goal_is (h.line_is ∙ sym k.line_is) cut.0), span.0, span.1)
+
+none_begins : (line : ℕ) (opening text : List ℕ) (goal : GoalText) (gap rest : List ℕ) → BeginsWith line opening text goal gap rest → text ≡ [] → ⊥
+none_begins line opening text goal gap rest h e =
+    let lt = shorter line opening text goal gap rest h in
+    let none : length text ≡ 0 = ap length e in
+    absurd (omega (arith, lt, none))
+
+one_from : (line : ℕ) (opening : List ℕ) (goals others : List GoalText) (text : List ℕ) → begins is_layout opening ≡ false → ReadsFrom line opening goals text → ReadsFrom line opening others text → goals ≡ others
+one_from line opening [] [] text black h k = refl
+one_from line opening [] (o ∷ others) text black h k = absurd (none_begins line opening text o k.0 k.1 k.2 h)
+one_from line opening (g ∷ goals) [] text black h k = absurd (none_begins line opening text g h.0 h.1 h.2 k)
+one_from line opening (g ∷ goals) (o ∷ others) text black h k =
+    let same = begins_same line opening text g o h.0 h.1 k.0 k.1 (reads_black (line + count_by is_line_feed h.0) opening goals h.1 black h.3) (reads_black (line + count_by is_line_feed k.0) opening others k.1 black k.3) h.2 k.2 in
+    let behind : ReadsFrom (line + count_by is_line_feed h.0) opening others h.1 =
+        subst (λ t. ReadsFrom (line + count_by is_line_feed h.0) opening others t) (sym same.2) (subst (λ x. ReadsFrom (line + count_by is_line_feed x) opening others k.1) (sym same.1) k.3) in
+    ap (λ g'. g' ∷ goals) same.0 ∙ ap (λ gs. o ∷ gs) (one_from (line + count_by is_line_feed h.0) opening goals others h.1 black h.3 behind)
+
+pub one_reading : ReadingLaw
+one_reading = record { facts = λ goals others text h k. one_from 1 [] goals others text refl h.reads k.reads; queries = λ goals others text h k. one_from 1 (codes "?- ") goals others text refl h k }

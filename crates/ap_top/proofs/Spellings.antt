@@ -165,3 +165,10 @@ pub spelled : (text name closed inner : List ℕ) (arguments : List (List ℕ)) 
 spelled text name closed inner arguments f s a =
     ap (λ x. name ++ (40 ∷ (x ++ 41 ∷ []))) (ap (join_with_byte 44) a ∙ join_with_byte-slice_split 44 inner)
     ∙ ap (λ x. name ++ 40 ∷ x) (sym s) ∙ sym f
+
+-- no two goals of a line are spelled alike
+pub spelling_same : (goal other : GoalText) → is_goal goal ≡ true → is_goal other ≡ true → goal.line ≡ other.line → spelling goal ≡ spelling other → other ≡ goal
+spelling_same goal other h k l e =
+    let p = parts other k in
+    cut_is_goal goal (spelling other) other.name (join_with_byte 44 other.arguments ++ 41 ∷ []) (join_with_byte 44 other.arguments) other.arguments other.line h l e refl
+    (no_byte 40 other.name refl (name_words other.name p.name)) refl (sym (arguments_split other.arguments p.some p.arguments))

@@ -84,3 +84,8 @@ pub record ReadsAsFacts (goals : List GoalText) (text : List ℕ) : Type 0 where
   pub reads : ReadsFrom 1 [] goals text
   pub short : length text ≤ 16777216
   pub few : length goals ≤ 65535
+
+-- one text has at most one reading
+pub record ReadingLaw : Type 0 where
+  pub facts : (goals others : List GoalText) (text : List ℕ) → ReadsAsFacts goals text → ReadsAsFacts others text → goals ≡ others
+  pub queries : (goals others : List GoalText) (text : List ℕ) → ReadsAsQueries goals text → ReadsAsQueries others text → goals ≡ others

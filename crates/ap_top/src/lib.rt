@@ -13,6 +13,7 @@ mod status;
 
 pub use answers::{BOUNDS, Bounds};
 pub use command::run;
+pub use small_form::one_reading_law;
 pub use source::LIMIT;
 pub use status::Status;
 

@@ -5,7 +5,7 @@ ghost use Rattle.std.specs.Char.{is_ascii_digit};
 ghost use Rattle.std.specs.List.{list_all, list_any, slice_split, count_by};
 ghost use Rattle.std.specs.Str.Parse.{digits_value};
 ghost use Rattle.ap_term.specs.AtomTable.{is_held};
-ghost use Rattle.ap_top.specs.SmallForm.{GoalText, goal_of, is_layout, is_word, is_listed, is_name, is_variable, is_integer, is_argument, is_goal, spelling, is_line_feed, begins, BeginsWith, next_of, ReadsFrom};
+ghost use Rattle.ap_top.specs.SmallForm.{GoalText, goal_of, is_layout, is_word, is_listed, is_name, is_variable, is_integer, is_argument, is_goal, spelling, is_line_feed, begins, BeginsWith, next_of, ReadsFrom, ReadingLaw};
 
 use ap_term::{NoMemory, fixed};
 use std::alloc::{AllocError, Global};
@@ -250,4 +250,10 @@ pub fn read_goals<'a>(
         rest = next.rest;
     }
     Ok(Some(goals))
+}
+
+/// One text has at most one reading.
+pub fn one_reading_law()
+    ensures { ReadingLaw }
+{
 }
