@@ -7,13 +7,13 @@ use Rattle.ap_outside.specs.Pieces.{PrefixOf, FrontOf}
 use Rattle.ap_outside.specs.Halting.{AnyOf}
 use Rattle.ap_outside.proofs.Places.{at_place}
 use Rattle.ap_term.specs.Tree.{Trees}
-use Rattle.ap_term.specs.Goals.{Program, Query, joined}
+use Rattle.ap_term.specs.Goals.{Program, joined}
 use Rattle.ap_term.specs.Search.{State, search, start}
 use Rattle.ap_term.specs.Blocks.{End, no_more, budget_spent, stopped, IsBlock, Begins, IsPrefix}
 use Rattle.ap_term.proofs.SearchLaws.{search-Begins, search-IsAll, blocks}
 use Rattle.ap_top.specs.SmallForm.{GoalText}
 use Rattle.ap_top.specs.Meaning.{with_names, query_of}
-use Rattle.ap_top.specs.Output.{line_of, end_line, is_spent, IsQueryBlock, IsGoalBlock, AreBlocks}
+use Rattle.ap_top.specs.Output.{line_of, end_line, is_spent, IsGoalBlock, AreBlocks}
 use Rattle.ap_top.proofs.Spellings.{no_two}
 
 abbrev pub end_for : Bool → Bool → End
@@ -97,17 +97,16 @@ module _ (budget limit : ℕ) (program : Program) where
       → AreBlocks budget limit program table (cs ++ bs) (s || t) (ps ++ qs)
   blocks_append table [] bs s t ps qs f g =
       subst (λ ls. AreBlocks budget limit program table bs (s || t) (ls ++ qs)) (sym f.0) (subst (λ x. AreBlocks budget limit program table bs (x || t) qs) (sym f.1) g)
-  blocks_append table (c ∷ cs) bs s t ps qs f g =
-      (
-        f.0,
-        f.1 ++ qs,
-        f.2,
-        f.3 || t,
-        ap (λ ls. ls ++ qs) f.4 ∙ append_assoc f.0 f.1 qs,
-        ap (λ x. x || t) f.5 ∙ or_assoc f.2 f.3 t,
-        f.6,
-        blocks_append table cs bs f.3 t f.1 qs f.7 g,
-      )
+  blocks_append table (c ∷ cs) bs s t ps qs f g = (
+    f.0,
+    f.1 ++ qs,
+    f.2,
+    f.3 || t,
+    ap (λ ls. ls ++ qs) f.4 ∙ append_assoc f.0 f.1 qs,
+    ap (λ x. x || t) f.5 ∙ or_assoc f.2 f.3 t,
+    f.6,
+    blocks_append table cs bs f.3 t f.1 qs f.7 g,
+  )
 
   one_block : (table : List (List ℕ)) (goal : GoalText) (spent : Bool) (ls : List (List ℕ)) → IsGoalBlock budget limit program table goal spent ls → AreBlocks budget limit program table (goal ∷ []) spent ls
   one_block table goal spent ls block = (ls, [], spent, false, sym (append-nil ls), sym (or_false spent), block, (refl, refl))
@@ -126,9 +125,14 @@ module _ (budget limit : ℕ) (program : Program) where
         → PrefixOf (AnyOf (AreBlocks budget limit program table (map f xs))) (ps ++ qs)
     goes_on s ps qs before any =
         let rest = some_blocks table (map f (drop (i + 1) xs)) in
-        let here = blocks_append table (map f (take i xs)) (f x ∷ []) s any.0 ps qs before (one_block table (f x) any.0 qs any.1) in
-        (rest.0, ((s || any.0) || rest.1, subst (λ cs. AreBlocks budget limit program table cs ((s || any.0) || rest.1) ((ps ++ qs) ++ rest.0)) (at_place f xs i x within is)
-        (blocks_append table (map f (take i xs) ++ f x ∷ []) (map f (drop (i + 1) xs)) (s || any.0) rest.1 (ps ++ qs) rest.0 here rest.2)))
+        let here = blocks_append table (map f (take i xs)) (f x ∷ []) s any.0 ps qs before (one_block table (f x) any.0 qs any.1) in (
+          rest.0,
+          (
+            (s || any.0) || rest.1,
+            subst (λ cs. AreBlocks budget limit program table cs ((s || any.0) || rest.1) ((ps ++ qs) ++ rest.0)) (at_place f xs i x within is)
+                (blocks_append table (map f (take i xs) ++ f x ∷ []) (map f (drop (i + 1) xs)) (s || any.0) rest.1 (ps ++ qs) rest.0 here rest.2),
+          ),
+        )
 
     pub stops : (s : Bool) (ps : List (List ℕ)) → AreBlocks budget limit program table (map f (take i xs)) s ps → FrontOf (AnyOf (AreBlocks budget limit program table (map f xs))) ps
     stops s ps before =

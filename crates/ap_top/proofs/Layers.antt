@@ -1,5 +1,5 @@
 -- From what a layer of the run has put to what the layer above it has put.
-use Rattle.std.proofs.Common.{◌≡◌, ◌≢◌, ◌&&◌, map, ◌⊎◌, inl, inr, ℕ, ◌+◌, ◌<◌, ◌≤◌, Bool, true, false, List, [], ◌∷◌, ◌++◌, length, length-append, Option, None, Some, option_map, Result, Ok, Err, sym, ◌∙◌, ap, subst, refl, arith, codes, append_assoc, append-nil}
+use Rattle.std.proofs.Common.{◌≡◌, ◌≢◌, ◌&&◌, map, ◌⊎◌, inl, inr, ℕ, ◌+◌, ◌<◌, ◌≤◌, true, false, List, [], ◌∷◌, ◌++◌, length, length-append, Option, None, Some, option_map, Result, Ok, Err, sym, ◌∙◌, ap, subst, refl, arith, codes, append_assoc, append-nil}
 use Rattle.std.proofs.lemmas.Grind.{common_steps}
 use Rattle.std.specs.Io.KnownBytes.{Consumes, IsAtEnd}
 use Rattle.std.specs.List.{list_all, count_by}

@@ -1,7 +1,6 @@
 -- Names in a table, and the terms that are made of it.
-use Rattle.std.proofs.Common.{◌≡◌, ℕ, zero, suc, ◌+◌, ◌<◌, ◌≤◌, ◌&&◌, ◌||◌, ◌==◌, not, nat_le, Bool, true, false, if◌then◌else◌, cond, List, [], ◌∷◌, ◌++◌, map, take, drop, flat_map, length, length-append, slice_get, get_or, Option, Some, None, IsTrue, Bor, pos, refl, sym, ◌∙◌, ap, subst, arith, append-nil, append_assoc, bytes_eq, drop-cons, add-one}
-use Rattle.std.specs.Char.{is_ascii_digit}
-use Rattle.std.specs.List.{list_all, list_any, filter, position_or_len, prefix_len}
+use Rattle.std.proofs.Common.{◌≡◌, ℕ, zero, suc, ◌+◌, ◌<◌, ◌≤◌, ◌&&◌, ◌||◌, not, nat_le, Bool, true, false, if◌then◌else◌, cond, List, [], ◌∷◌, ◌++◌, map, take, drop, flat_map, length, length-append, slice_get, get_or, Some, IsTrue, Bor, pos, refl, sym, ◌∙◌, ap, subst, arith, append-nil, append_assoc, bytes_eq, drop-cons, add-one}
+use Rattle.std.specs.List.{list_all, filter}
 use Rattle.std.specs.Str.{IsUtf8}
 use Rattle.std.specs.Str.Parse.{digits_value}
 use Rattle.std.proofs.lemmas.Str.{IsUtf8-from_ascii}
@@ -11,13 +10,13 @@ use Rattle.std.proofs.lemmas.Grind.{common_steps}
 use Rattle.std.proofs.lemmas.List.{map-append}
 use Rattle.std.proofs.lemmas.List.Folds.{list_any-append, list_all-append}
 use Rattle.ap_term.specs.AtomTable.{is_held, insert_name, insert_names, IsWithoutRepeats}
-use Rattle.ap_term.specs.Tree.{Tree, Trees, var, int, atom, none, more, push_tree, count_trees}
-use Rattle.ap_term.specs.Goals.{Part, call, Clause}
+use Rattle.ap_term.specs.Tree.{Tree, var, int, atom, more, push_tree, count_trees}
+use Rattle.ap_term.specs.Goals.{Part, call}
 use Rattle.ap_term.specs.declared.fixed.TheConstants.{QUERY}
 use Rattle.ap_term.specs.WellFormed.{in_range, numbered, numbered_all, callable, IsClause}
 use Rattle.ap_top.specs.SmallForm.{GoalText, is_word, is_name, is_variable, is_integer, is_argument, is_goal}
 use Rattle.ap_top.specs.Meaning.{place, names_of, variables_of, term_of, terms_of, compound_of, fact_of, question_of, with_names}
-use Rattle.ap_top.proofs.Spellings.{both, neither, no_two, parts}
+use Rattle.ap_top.proofs.Spellings.{both, no_two, parts}
 
 -- ---- words are ASCII
 

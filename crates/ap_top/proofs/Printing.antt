@@ -1,7 +1,7 @@
 -- A query's block as its answers are printed, and then its end line.
-use Rattle.std.proofs.Common.{◌≡◌, ℕ, Bool, List, [], ◌∷◌, ◌++◌, Option, Result, Ok, Err, refl, sym, ◌∙◌, ap, append-nil, subst, inl, inr}
-use Rattle.ap_outside.specs.Pieces.{Puts, PrefixOf, FrontOf}
-use Rattle.ap_outside.specs.Halting.{AnyOf, Finishes, Prints}
+use Rattle.std.proofs.Common.{◌≡◌, ℕ, Bool, List, [], ◌∷◌, ◌++◌, Option, Result, Err, refl, ◌∙◌, ap, append-nil, subst, inl, inr}
+use Rattle.ap_outside.specs.Pieces.{Puts}
+use Rattle.ap_outside.specs.Halting.{Finishes, Prints}
 use Rattle.ap_outside.specs.declared.halting.Halt.{Halt}
 use Rattle.ap_outside.proofs.Puts.{adds_nothing, puts_then}
 use Rattle.ap_outside.proofs.Halts.{passes_on}

@@ -1,11 +1,11 @@
 -- A text begins with one goal at most, so it reads as one list of goals at most.
-use Rattle.std.proofs.Common.{◌≡◌, ℕ, ◌+◌, ◌<◌, ◌≤◌, ◌&&◌, ◌||◌, ◌==◌, Bool, true, false, List, [], ◌∷◌, ◌++◌, map, length, refl, sym, ◌∙◌, ap, subst, arith, append_assoc, codes, Option, Some, None, option_map}
+use Rattle.std.proofs.Common.{◌≡◌, ℕ, ◌+◌, ◌<◌, ◌≤◌, ◌||◌, ◌==◌, Bool, true, false, List, [], ◌∷◌, ◌++◌, length, refl, sym, ◌∙◌, ap, subst, arith, append_assoc, codes, Option, Some}
 use Rattle.std.specs.Char.{is_ascii_lowercase}
 use Rattle.std.specs.List.{list_all, list_any, count_by}
 use Rattle.std.specs.Prelude.{IfSome}
 use Rattle.std.proofs.lemmas.Grind.{common_steps}
 use Rattle.std.proofs.lemmas.List.Folds.{list_any-append}
-use Rattle.ap_top.specs.SmallForm.{GoalText, is_layout, is_name, is_goal, spelling, begins, is_line_feed, BeginsWith, ReadsFrom, ReadingLaw}
+use Rattle.ap_top.specs.SmallForm.{GoalText, is_layout, spelling, begins, is_line_feed, BeginsWith, ReadsFrom, ReadingLaw}
 use Rattle.ap_top.proofs.Spellings.{both, no_two, cut_same, parts, no_full_stop, spelling_same}
 
 or_true : (a : Bool) → (a || true) ≡ true
@@ -80,7 +80,6 @@ lines_within line n opening text goal gap rest h le = omega (arith, feeds_few ga
 module _ (line : ℕ) (opening text rest : List ℕ) (done : List GoalText) (black : begins is_layout opening ≡ false)
     (reads : (goals : List GoalText) → ReadsFrom line opening goals rest → ReadsFrom 1 opening (done ++ goals) text)
     (only : (goals : List GoalText) → ReadsFrom 1 opening goals text → (others : List GoalText) × (goals ≡ done ++ others) × ReadsFrom line opening others rest) where
-
   -- a rest that begins with no goal ends the reading
   pub reads_no_more : ((goal : GoalText) (gap behind : List ℕ) → BeginsWith line opening rest goal gap behind → begins is_layout behind ≡ false → ⊥) → (rest ≡ [] → ⊥) → (goals : List GoalText) → ReadsFrom 1 opening goals text → ⊥
   reads_no_more none some goals h = let o = only goals h in go o.0 o.2
@@ -113,7 +112,7 @@ module _ (line : ℕ) (opening text rest : List ℕ) (done : List GoalText) (bla
         go (g ∷ more) s r =
             let same = one g r.0 r.1 r.2 (reads_black _ opening more r.1 black r.3) in
             let on : ReadsFrom (line + count_by is_line_feed gap) opening more behind =
-                subst (λ b. ReadsFrom (line + count_by is_line_feed gap) opening more b) (sym same.2) (subst (λ x. ReadsFrom (line + count_by is_line_feed x) opening more r.1) (sym same.1) r.3) in
+            subst (λ b. ReadsFrom (line + count_by is_line_feed gap) opening more b) (sym same.2) (subst (λ x. ReadsFrom (line + count_by is_line_feed x) opening more r.1) (sym same.1) r.3) in
             (more, s ∙ ap (λ x. done ++ x ∷ more) (sym same.0) ∙ sym (append_assoc done (goal ∷ []) more), on)
 
 pub has_full_stop : (line : ℕ) (opening text : List ℕ) (goal : GoalText) (gap rest : List ℕ) (stated : List ℕ) → BeginsWith line opening text goal gap rest → text ≡ opening ++ stated → list_any (λ b. b == 46) stated ≡ true
@@ -160,7 +159,7 @@ one_from line opening (g ∷ goals) [] text black h k = absurd (none_begins line
 one_from line opening (g ∷ goals) (o ∷ others) text black h k =
     let same = begins_same line opening text g o h.0 h.1 k.0 k.1 (reads_black (line + count_by is_line_feed h.0) opening goals h.1 black h.3) (reads_black (line + count_by is_line_feed k.0) opening others k.1 black k.3) h.2 k.2 in
     let behind : ReadsFrom (line + count_by is_line_feed h.0) opening others h.1 =
-        subst (λ t. ReadsFrom (line + count_by is_line_feed h.0) opening others t) (sym same.2) (subst (λ x. ReadsFrom (line + count_by is_line_feed x) opening others k.1) (sym same.1) k.3) in
+    subst (λ t. ReadsFrom (line + count_by is_line_feed h.0) opening others t) (sym same.2) (subst (λ x. ReadsFrom (line + count_by is_line_feed x) opening others k.1) (sym same.1) k.3) in
     ap (λ g'. g' ∷ goals) same.0 ∙ ap (λ gs. o ∷ gs) (one_from (line + count_by is_line_feed h.0) opening goals others h.1 black h.3 behind)
 
 pub one_reading : ReadingLaw

@@ -1,11 +1,11 @@
 -- Each answer of a search has as many terms as the query has variables.
-use Rattle.std.proofs.Common.{◌≡◌, ℕ, zero, suc, ◌+◌, ◌&&◌, ◌==◌, Bool, true, false, List, [], ◌∷◌, ◌++◌, map, take, drop, length, refl, sym, ◌∙◌, ap, subst, arith}
+use Rattle.std.proofs.Common.{◌≡◌, ℕ, zero, suc, ◌+◌, ◌&&◌, ◌==◌, Bool, true, false, List, [], ◌∷◌, ◌++◌, map, take, drop, length, refl, sym, ◌∙◌, ap, arith}
 use Rattle.std.specs.List.{list_all}
 use Rattle.std.proofs.lemmas.Bool.Decides.{Decides-eqb}
 use Rattle.std.proofs.lemmas.List.{take-append-drop}
 use Rattle.std.proofs.lemmas.List.Folds.{list_all-append}
 use Rattle.ap_term.specs.Tree.{Tree, Trees, none, more, push_tree, count_trees}
-use Rattle.ap_term.specs.TermView.{tree_of, trees_of}
+use Rattle.ap_term.specs.TermView.{trees_of}
 use Rattle.ap_term.specs.declared.terms.Term.{Term}
 use Rattle.ap_term.specs.Substitution.{instance_all, value}
 use Rattle.ap_term.specs.Goals.{Part, call, group, Program, Query, opened}

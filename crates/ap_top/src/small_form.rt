@@ -255,5 +255,4 @@ pub fn read_goals<'a>(
 /// One text has at most one reading.
 pub fn one_reading_law()
     ensures { ReadingLaw }
-{
-}
+{}

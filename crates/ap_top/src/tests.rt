@@ -47,19 +47,64 @@ const REFUSED: &[&str] = &["refused: form\n"];
 #[test]
 fn programs_answer_queries(rt: HostRuntime) -> Result<(), Fail> {
     let cases: &[(&str, &[&[u8]], &[&str], Status)] = &[
-        ("p(1). p(2).", &[b"?- p(", b"X).\n"], &["X = 1\n", "X = 2\n", "no more.\n"], Status::Done),
-        ("p(1). p(1).", &[b"?- p(X)."], &["X = 1\n", "X = 1\n", "no more.\n"], Status::Done),
+        (
+            "p(1). p(2).",
+            &[b"?- p(", b"X).\n"],
+            &["X = 1\n", "X = 2\n", "no more.\n"],
+            Status::Done,
+        ),
+        (
+            "p(1). p(1).",
+            &[b"?- p(X)."],
+            &["X = 1\n", "X = 1\n", "no more.\n"],
+            Status::Done,
+        ),
         ("p(1). p(2).", &[], &[], Status::Done),
         ("", &[b"?- p(X)."], &["no more.\n"], Status::Done),
-        ("e(a,b).\t\r\n e(f,f).", &[b"?- e(X,X).?"], REFUSED, Status::QueryRefused),
-        ("e(a,b).\t\r\n e(f,f).", &[b"?- e(X,X). \n?- e(a,b).\n"], &["X = f\n", "no more.\n", "true\n", "no more.\n"], Status::Done),
-        ("p(9223372036854775807,007).", &[b"?- p(X,Y)."], &["X = 9223372036854775807, Y = 7\n", "no more.\n"], Status::Done),
-        ("p(9223372036854775808).", &[b"?- p(X)."], REFUSED, Status::ProgramRefused),
-        ("p(1).p(2).", &[b"?- p(X)."], REFUSED, Status::ProgramRefused),
+        (
+            "e(a,b).\t\r\n e(f,f).",
+            &[b"?- e(X,X).?"],
+            REFUSED,
+            Status::QueryRefused,
+        ),
+        (
+            "e(a,b).\t\r\n e(f,f).",
+            &[b"?- e(X,X). \n?- e(a,b).\n"],
+            &["X = f\n", "no more.\n", "true\n", "no more.\n"],
+            Status::Done,
+        ),
+        (
+            "p(9223372036854775807,007).",
+            &[b"?- p(X,Y)."],
+            &["X = 9223372036854775807, Y = 7\n", "no more.\n"],
+            Status::Done,
+        ),
+        (
+            "p(9223372036854775808).",
+            &[b"?- p(X)."],
+            REFUSED,
+            Status::ProgramRefused,
+        ),
+        (
+            "p(1).p(2).",
+            &[b"?- p(X)."],
+            REFUSED,
+            Status::ProgramRefused,
+        ),
         (" ", &[b"?- p(X)."], REFUSED, Status::ProgramRefused),
         ("p(is).", &[b"?- p(X)."], REFUSED, Status::ProgramRefused),
-        ("p(1,2,3,4,5,6,7,8,9).", &[b"?- p(X)."], REFUSED, Status::ProgramRefused),
-        ("p(1).", &[b"?- p(1).\n?- p(.\n?- p(2)."], REFUSED, Status::QueryRefused),
+        (
+            "p(1,2,3,4,5,6,7,8,9).",
+            &[b"?- p(X)."],
+            REFUSED,
+            Status::ProgramRefused,
+        ),
+        (
+            "p(1).",
+            &[b"?- p(1).\n?- p(.\n?- p(2)."],
+            REFUSED,
+            Status::QueryRefused,
+        ),
         ("p(1).", &[b"?-p(1)."], REFUSED, Status::QueryRefused),
     ];
     for (file, source, put, status) in cases {
@@ -80,14 +125,44 @@ fn programs_answer_queries(rt: HostRuntime) -> Result<(), Fail> {
 #[test]
 fn other_words_and_faults_have_their_status(rt: HostRuntime) -> Result<(), Fail> {
     let cases: &[(&[&str], &[u64], &[Refusal], &[&str], Status)] = &[
-        (&["andprolog", "run", "f.pl", "--workers", "33"], &[], &[], USAGE, Status::Usage),
-        (&["andprolog", "walk", "f.pl"], &[], &[], USAGE, Status::Usage),
-        (&["andprolog", "run", "-f.pl"], &[], &[], USAGE, Status::Usage),
+        (
+            &["andprolog", "run", "f.pl", "--workers", "33"],
+            &[],
+            &[],
+            USAGE,
+            Status::Usage,
+        ),
+        (
+            &["andprolog", "walk", "f.pl"],
+            &[],
+            &[],
+            USAGE,
+            Status::Usage,
+        ),
+        (
+            &["andprolog", "run", "-f.pl"],
+            &[],
+            &[],
+            USAGE,
+            Status::Usage,
+        ),
         (&["andprolog", "run", ""], &[], &[], USAGE, Status::Usage),
         (&[], &[], &[], USAGE, Status::Usage),
-        (&["andprolog", "run", "none.pl"], &[], &[], &["fault: file\n"], Status::FileFault),
+        (
+            &["andprolog", "run", "none.pl"],
+            &[],
+            &[],
+            &["fault: file\n"],
+            Status::FileFault,
+        ),
         (RUN, &[2], &[], &["fault: source\n"], Status::SourceFault),
-        (RUN, &[], &[Refusal { call: 2, takes: 2 }], &["X = 1\n", "X "], Status::SinkFault),
+        (
+            RUN,
+            &[],
+            &[Refusal { call: 2, takes: 2 }],
+            &["X = 1\n", "X "],
+            Status::SinkFault,
+        ),
     ];
     for (words, failing, refusals, put, status) in cases {
         let case = Case {
@@ -117,7 +192,12 @@ fn texts_are_too_long_just_past_the_limit(rt: HostRuntime) -> Result<(), Fail> {
     let cases: &[(u64, u64, &[&str], Status)] = &[
         (LIMIT, LIMIT, &["true\n", "no more.\n"], Status::Done),
         (LIMIT + 1, 9, REFUSED, Status::ProgramRefused),
-        (9, LIMIT + 1, &["refused: queries too long\n"], Status::QueriesTooLong),
+        (
+            9,
+            LIMIT + 1,
+            &["refused: queries too long\n"],
+            Status::QueriesTooLong,
+        ),
     ];
     for (file_len, source_len, put, status) in cases {
         let file = padded(alloc, b"p(1).", *file_len)?;

@@ -1,4 +1,4 @@
-use Rattle.std.proofs.Common.{◌≡◌, Bool, map, take, Err, subst, sym, rules}
+use Rattle.std.proofs.Common.{◌≡◌, Bool, map, take, Err, subst, rules}
 use Rattle.ap_outside.specs.Pieces.{Puts}
 use Rattle.ap_outside.specs.Halting.{Finishes}
 use Rattle.ap_outside.proofs.Puts.{puts_then}
@@ -39,6 +39,11 @@ loop-goal-preserved g c =
     let table = c.args.atoms.now in
     let x = c.goal-item.result in
     let next = all_next goal_of xs i c.goal-item.result (cut_item xs i c.goal-item.result c.loop-goal-test.true c.goal-item.is) is_goal c.loop-goal.invariant.goals in
-    record { put = puts_then _ _ _ (AreBlocks b n program table (map goal_of (take i xs)) c.loop-goal.spent) (IsGoalBlock b n program table (goal_of x) c.in_ok-spent.field-0) _
+    record {
+      put = puts_then _ _ _ (AreBlocks b n program table (map goal_of (take i xs)) c.loop-goal.spent) (IsGoalBlock b n program table (goal_of x) c.in_ok-spent.field-0) _
           (one_more b n program goal_of xs i x c.loop-goal-test.true c.goal-item.is table c.loop-goal.spent c.in_ok-spent.field-0) c.loop-goal.invariant.put
-          (subst (λ t. Puts (g.K.Sink.pieces c.loop-goal.out) (g.K.Sink.pieces c.print_goal.new.out) (IsGoalBlock b n program t (goal_of x) c.in_ok-spent.field-0)) c.loop-goal.invariant.table c.in_ok-spent.ensures.lines); count = search rules; goals = next.1; table = search rules }
+          (subst (λ t. Puts (g.K.Sink.pieces c.loop-goal.out) (g.K.Sink.pieces c.print_goal.new.out) (IsGoalBlock b n program t (goal_of x) c.in_ok-spent.field-0)) c.loop-goal.invariant.table c.in_ok-spent.ensures.lines);
+      count = search rules;
+      goals = next.1;
+      table = search rules;
+    }

@@ -1,4 +1,4 @@
-use Rattle.std.proofs.Common.{◌≡◌, true, ℕ, List, map, take, length, min, ◌==◌, Err, ap, sym, ◌∙◌, rules}
+use Rattle.std.proofs.Common.{◌≡◌, true, map, take, length, min, Err, ap, sym, ◌∙◌, rules}
 use Rattle.ap_term.specs.Goals.{joined}
 use Rattle.ap_term.specs.Search.{start}
 use Rattle.ap_top.specs.Output.{line_of, end_line, is_spent}
@@ -18,7 +18,7 @@ returns-in_err-print_answers-clause-lines g c =
     let query = c.args.query.now in
     let line = line_of c.args.atoms.now query in
     let block = block_of line (joined c.args.program.now query) (start query) c.args.bounds.budget c.args.bounds.answers tuples c.in-Ok.found.ended count
-        (c.as_slice-tuples.ensures ∙ ap (λ f. f.answers) c.in-Ok.ensures.found) (ap (λ f. f.ended) c.in-Ok.ensures.found) size in
+    (c.as_slice-tuples.ensures ∙ ap (λ f. f.answers) c.in-Ok.ensures.found) (ap (λ f. f.ended) c.in-Ok.ensures.found) size in
     answers_halt c.args.bounds.budget c.args.bounds.answers c.args.program.now c.args.atoms.now query (map line (take count tuples)) (end_by c.args.bounds.answers count c.in-Ok.found.ended) block
     _ _ c.print_answers.result _ c.in_err-print_answers.field-0.0 c.in_err-print_answers.was same c.print_answers.ensures.lines
 
@@ -31,7 +31,7 @@ returns-in_err-put_line-clause-lines g c =
     let query = c.args.query.now in
     let line = line_of c.args.atoms.now query in
     let block = block_of line (joined c.args.program.now query) (start query) c.args.bounds.budget c.args.bounds.answers tuples c.in-Ok.found.ended count
-        (c.as_slice-tuples.ensures ∙ ap (λ f. f.answers) c.in-Ok.ensures.found) (ap (λ f. f.ended) c.in-Ok.ensures.found) size in
+    (c.as_slice-tuples.ensures ∙ ap (λ f. f.answers) c.in-Ok.ensures.found) (ap (λ f. f.ended) c.in-Ok.ensures.found) size in
     end_halts c.args.bounds.budget c.args.bounds.answers c.args.program.now c.args.atoms.now query (map line (take count tuples)) (end_by c.args.bounds.answers count c.in-Ok.found.ended) block
     _ _ _ c.line.result.now c.put_line.result _ c.in_err-put_line.field-0.0 (c.line.ensures ∙ ap end_line c.behind-end.ensures) c.in_err-put_line.was same c.in_ok-print_answers.ensures.lines c.put_line.ensures.lines
 
@@ -43,7 +43,7 @@ returns-clause-lines g c =
     let query = c.args.query.now in
     let line = line_of c.args.atoms.now query in
     let block = block_of line (joined c.args.program.now query) (start query) c.args.bounds.budget c.args.bounds.answers tuples c.in-Ok.found.ended count
-        (c.as_slice-tuples.ensures ∙ ap (λ f. f.answers) c.in-Ok.ensures.found) (ap (λ f. f.ended) c.in-Ok.ensures.found) size in
+    (c.as_slice-tuples.ensures ∙ ap (λ f. f.answers) c.in-Ok.ensures.found) (ap (λ f. f.ended) c.in-Ok.ensures.found) size in
     query_puts c.args.bounds.budget c.args.bounds.answers c.args.program.now c.args.atoms.now query (map line (take count tuples)) (end_by c.args.bounds.answers count c.in-Ok.found.ended) block
     _ _ _ c.line.result.now c.is_spent.result (c.line.ensures ∙ ap end_line c.behind-end.ensures) (c.is_spent.ensures ∙ ap is_spent c.behind-end.ensures) c.in_ok-print_answers.ensures.lines c.in_ok-put_line.ensures.lines
 

@@ -1,10 +1,7 @@
-use Rattle.std.proofs.Common.{◌≡◌, map, subst, rules}
+use Rattle.std.proofs.Common.{map}
 use Rattle.ap_outside.specs.Faults.{Rises}
-use Rattle.ap_outside.specs.Halting.{Finishes}
-use Rattle.ap_outside.proofs.Halts.{halts_at_once}
 use Rattle.ap_top.specs.SmallForm.{goal_of}
 use Rattle.ap_top.specs.Meaning.{program_of, table_of}
-use Rattle.ap_top.specs.Ends.{SourceEnds}
 use Rattle.ap_top.proofs.Layers.{source_same}
 use Rattle.ap_top.proofs.command.run_facts.Goals as goal
 

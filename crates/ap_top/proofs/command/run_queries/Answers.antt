@@ -24,7 +24,7 @@ returns-in_err-spent-clause-lines g c =
     let same : c.from_residual.result ≡ Err c.in_err-spent.field-0.0 = search rules in
     let queries = map goal_of c.deref.result.now in
     let read : ReadsAsQueries queries c.args.text.now =
-        subst (λ xs. ReadsAsQueries (map goal_of xs) c.args.text.now) (sym c.deref.ensures.value) (at_some (λ goals. ReadsAsQueries (map goal_of goals.items) c.args.text.now) c.in-Ok.read c.in-Some.queries c.in-Some.is c.in-Ok.ensures.reads) in
+    subst (λ xs. ReadsAsQueries (map goal_of xs) c.args.text.now) (sym c.deref.ensures.value) (at_some (λ goals. ReadsAsQueries (map goal_of goals.items) c.args.text.now) c.in-Ok.read c.in-Some.queries c.in-Some.is c.in-Ok.ensures.reads) in
     passes_halt _ _ (IsOutput c.args.program.now c.args.atoms.now queries) (QueriesEnd c.args.program.now c.args.atoms.now c.args.text.now)
     (λ ls any. (answered any.0, QueriesEnd.answers queries any.0 (answered any.0) ls read any.1 refl))
     c.print_goals.result _ c.in_err-spent.field-0.0 c.in_err-spent.was same c.print_goals.ensures.lines
@@ -33,6 +33,6 @@ pub returns-clause-lines : goal.returns-clause-lines
 returns-clause-lines g c =
     let queries = map goal_of c.deref.result.now in
     let read : ReadsAsQueries queries c.args.text.now =
-        subst (λ xs. ReadsAsQueries (map goal_of xs) c.args.text.now) (sym c.deref.ensures.value) (at_some (λ goals. ReadsAsQueries (map goal_of goals.items) c.args.text.now) c.in-Ok.read c.in-Some.queries c.in-Some.is c.in-Ok.ensures.reads) in
+    subst (λ xs. ReadsAsQueries (map goal_of xs) c.args.text.now) (sym c.deref.ensures.value) (at_some (λ goals. ReadsAsQueries (map goal_of goals.items) c.args.text.now) c.in-Ok.read c.in-Some.queries c.in-Some.is c.in-Ok.ensures.reads) in
     puts_map _ _ (IsOutput c.args.program.now c.args.atoms.now queries c.in_ok-spent.spent) (QueriesEnd c.args.program.now c.args.atoms.now c.args.text.now c.answered.result)
     (λ ls out. QueriesEnd.answers queries c.in_ok-spent.spent c.answered.result ls read out c.answered.ensures) c.in_ok-spent.ensures.lines

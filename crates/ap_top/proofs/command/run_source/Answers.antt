@@ -1,4 +1,4 @@
-use Rattle.std.proofs.Common.{◌≡◌, ◌≤◌, length, ap, rules}
+use Rattle.std.proofs.Common.{◌≤◌, length}
 use Rattle.ap_outside.specs.Faults.{Rises}
 use Rattle.ap_outside.proofs.Halts.{finishes_map, halts_at_once}
 use Rattle.ap_top.specs.Ends.{SourceEnds, QueriesEnd, IsTold}

@@ -1,4 +1,4 @@
-use Rattle.std.proofs.Common.{◌≡◌, ◌≤◌, map, length, ap, sym, ◌∙◌, subst, rules, arith}
+use Rattle.std.proofs.Common.{map, ap, sym, ◌∙◌, subst}
 use Rattle.std.specs.List.{list_all}
 use Rattle.ap_outside.specs.Faults.{Rises}
 use Rattle.ap_outside.proofs.Halts.{finishes_map}
@@ -29,7 +29,7 @@ pub returns-in-Some-clause-lines : goal.returns-in-Some-clause-lines
 returns-in-Some-clause-lines g c =
     let facts = map goal_of c.deref.result.now in
     let read : ReadsAsFacts facts c.args.text.now =
-        subst (λ xs. ReadsAsFacts (map goal_of xs) c.args.text.now) (sym c.deref.ensures.value) (at_some (λ v. ReadsAsFacts (map goal_of v.items) c.args.text.now) c.in-Ok.read c.in-Some.facts c.in-Some.is c.in-Ok.ensures.reads) in
+    subst (λ xs. ReadsAsFacts (map goal_of xs) c.args.text.now) (sym c.deref.ensures.value) (at_some (λ v. ReadsAsFacts (map goal_of v.items) c.args.text.now) c.in-Ok.read c.in-Some.facts c.in-Some.is c.in-Ok.ensures.reads) in
     let left = g.S.Source.left c.args.queries.now in
     let Rose = Rises (g.S.Source.faults c.args.queries.now) (g.S.Source.faults c.run_facts.new.queries) in
     finishes_map _ _ (SourceEnds (program_of facts) (table_of facts) left Rose) (TextEnds c.args.text.now left Rose) _ (λ s ls p. TextEnds.accepted facts s ls read p) c.run_facts.ensures.lines

@@ -1,5 +1,4 @@
-use Rattle.std.proofs.Common.{◌≡◌, List, ℕ, Bor, [], rules, arith, ◌∙◌, ap}
-use Rattle.ap_top.specs.SmallForm.{is_name}
+use Rattle.std.proofs.Common.{List, ℕ, Bor, [], rules}
 use Rattle.ap_top.proofs.Names.{cut_at, names_next, put_if_few}
 use Rattle.ap_top.proofs.goals.add_names.Goals as goal
 

@@ -1,4 +1,4 @@
-use Rattle.std.proofs.Common.{rules, arith}
+use Rattle.std.proofs.Common.{rules}
 use Rattle.ap_top.specs.SmallForm.{goal_of}
 use Rattle.ap_top.proofs.Names.{put_few, arguments_few, length_now}
 use Rattle.ap_top.proofs.goals.add_names_of.Goals as goal

@@ -1,5 +1,4 @@
-use Rattle.std.proofs.Common.{◌≡◌, List, ℕ, Bor, [], map, take, ap, sym, ◌∙◌, rules}
-use Rattle.ap_term.specs.Tree.{push_tree}
+use Rattle.std.proofs.Common.{List, ℕ, Bor, [], map, rules}
 use Rattle.ap_top.specs.SmallForm.{is_argument, is_name}
 use Rattle.ap_top.proofs.Names.{cut_at, all_next, held_next, terms_turn}
 use Rattle.ap_top.proofs.goals.terms.Goals as goal

@@ -1,4 +1,4 @@
-use Rattle.std.proofs.Common.{◌≡◌, ◌≤◌, ◌+◌, ◌++◌, List, ℕ, map, length}
+use Rattle.std.proofs.Common.{◌≡◌, ◌≤◌, ◌+◌, ◌++◌, List, map, length}
 use Rattle.ap_top.specs.SmallForm.{GoalText, goal_of, ReadsFrom}
 use Rattle.ap_top.proofs.small_form.read_goals.Given as goal
 
