@@ -1,0 +1,9 @@
+pub mod Sources
+pub mod Tokens
+pub mod Spellings
+pub mod Reading
+pub mod Names
+pub mod Widths
+pub mod Blocks
+pub mod Printing
+pub mod Layers

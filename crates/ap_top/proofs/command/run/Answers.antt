@@ -1,0 +1,37 @@
+use Rattle.std.proofs.Common.{map}
+use Rattle.ap_outside.specs.Faults.{Rises}
+use Rattle.ap_outside.specs.Pieces.{CutOf}
+use Rattle.ap_outside.specs.Halting.{AnyOf}
+use Rattle.ap_outside.proofs.Puts.{puts_map}
+use Rattle.ap_top.specs.Ends.{RunEnds, Whole}
+use Rattle.ap_top.specs.declared.status.Status.TheVariants as status
+use Rattle.ap_top.proofs.Layers.{sink_kept, sink_lines, memory_lines, end_given_up}
+use Rattle.ap_top.proofs.command.run.Goals as goal
+
+pub returns-in-Ok-clause-lines : goal.returns-in-Ok-clause-lines
+returns-in-Ok-clause-lines g c =
+    let Fault = Rises (g.F.Files.faults c.args.files.now) (g.F.Files.faults c.run_words.new.files) in
+    let Rose = Rises (g.S.Source.faults c.args.queries.now) (g.S.Source.faults c.run_words.new.queries) in
+    let E = RunEnds (map (λ w. w.now) c.args.words.now) (g.F.Files.entries c.args.files.now) (g.S.Source.left c.args.queries.now) Fault Rose in
+    puts_map _ _ (E c.in-Ok.status) (Whole E c.in-Ok.status) (λ ls ends. Whole.ends c.in-Ok.status ls ends) c.in-Ok.ensures.lines
+
+pub returns-in-Ok-clause-sink : goal.returns-in-Ok-clause-sink
+returns-in-Ok-clause-sink g c =
+    let Fault = Rises (g.F.Files.faults c.args.files.now) (g.F.Files.faults c.run_words.new.files) in
+    let Rose = Rises (g.S.Source.faults c.args.queries.now) (g.S.Source.faults c.run_words.new.queries) in
+    sink_kept _ _ (map (λ w. w.now) c.args.words.now) (g.F.Files.entries c.args.files.now) (g.S.Source.left c.args.queries.now) Fault Rose _ _ c.in-Ok.status c.in-Ok.ensures.sink c.in-Ok.ensures.lines
+
+pub returns-in-Err-Sink-clause-lines : goal.returns-in-Err-Sink-clause-lines
+returns-in-Err-Sink-clause-lines g c =
+    let Fault = Rises (g.F.Files.faults c.args.files.now) (g.F.Files.faults c.run_words.new.files) in
+    let Rose = Rises (g.S.Source.faults c.args.queries.now) (g.S.Source.faults c.run_words.new.queries) in
+    let E = RunEnds (map (λ w. w.now) c.args.words.now) (g.F.Files.entries c.args.files.now) (g.S.Source.left c.args.queries.now) Fault Rose in
+    puts_map _ _ (CutOf (AnyOf E)) (Whole E status.SinkFault) (λ ls cut. Whole.sink ls cut) (sink_lines _ _ E c.in-Err-Sink.field-0 c.in-Err-Sink.field-0-is c.in-Err-Sink.ensures.lines)
+
+pub returns-in-Err-NoMemory-clause-lines : goal.returns-in-Err-NoMemory-clause-lines
+returns-in-Err-NoMemory-clause-lines g c =
+    let Fault = Rises (g.F.Files.faults c.args.files.now) (g.F.Files.faults c.run_words.new.files) in
+    let Rose = Rises (g.S.Source.faults c.args.queries.now) (g.S.Source.faults c.run_words.new.queries) in
+    let E = RunEnds (map (λ w. w.now) c.args.words.now) (g.F.Files.entries c.args.files.now) (g.S.Source.left c.args.queries.now) Fault Rose in
+    end_given_up _ _ _ E c.give_up.result (memory_lines _ _ E c.in-Err-NoMemory.field-0 c.in-Err-NoMemory.field-0-is c.in-Err-NoMemory.ensures.lines)
+    c.give_up.ensures.memory c.give_up.ensures.sink c.give_up.ensures.only

@@ -1,0 +1,2 @@
+equal(X,X).
+pair(1,First,Second).
