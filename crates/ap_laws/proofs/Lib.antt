@@ -1,3 +1,4 @@
 pub mod Zips
 pub mod Renamed
 pub mod Local
+pub mod Builtins
