@@ -2,3 +2,4 @@ pub mod Zips
 pub mod Renamed
 pub mod Local
 pub mod Builtins
+pub mod Ways
