@@ -3,3 +3,5 @@ pub mod Renamed
 pub mod Local
 pub mod Builtins
 pub mod Ways
+pub mod Unifiers
+pub mod Names

@@ -161,7 +161,7 @@ mutual
   AllByRecursion-add_vars P (atom a) xs h k = k
   AllByRecursion-add_vars P (node a ts) xs h k = AllByRecursion-add_all_vars P ts xs h k
 
-  AllByRecursion-add_all_vars : (P : ℕ → Type 0) (ts : Trees) (xs : List ℕ) → LocalAll P ts → AllByRecursion P xs → AllByRecursion P (add_all_vars ts xs)
+  pub AllByRecursion-add_all_vars : (P : ℕ → Type 0) (ts : Trees) (xs : List ℕ) → LocalAll P ts → AllByRecursion P xs → AllByRecursion P (add_all_vars ts xs)
   AllByRecursion-add_all_vars P none xs h k = k
   AllByRecursion-add_all_vars P (more t ts) xs h k = AllByRecursion-add_all_vars P ts (add_vars t xs) h.1 (AllByRecursion-add_vars P t xs h.0 k)
 
