@@ -5,3 +5,5 @@ pub mod Builtins
 pub mod Ways
 pub mod Unifiers
 pub mod Names
+pub mod Plain
+pub mod Graft

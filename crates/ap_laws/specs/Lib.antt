@@ -1,2 +1,6 @@
 pub mod Renaming
 pub mod Laws
+pub mod Plain
+pub mod Trace
+pub mod Graft
+pub mod Gives
