@@ -7,3 +7,6 @@ pub mod Unifiers
 pub mod Names
 pub mod Plain
 pub mod Graft
+pub mod Answers
+pub mod Dead
+pub mod Gives
