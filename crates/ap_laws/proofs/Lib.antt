@@ -10,3 +10,4 @@ pub mod Graft
 pub mod Answers
 pub mod Dead
 pub mod Gives
+pub mod Views

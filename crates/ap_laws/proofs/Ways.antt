@@ -22,7 +22,7 @@ use Rattle.ap_term.proofs.Solutions.{same_var, same_test}
 
 -- ---- the variables of a clause
 
-and_both : (a b : Bool) → (a && b) ≡ true → (a ≡ true) × (b ≡ true)
+pub and_both : (a b : Bool) → (a && b) ≡ true → (a ≡ true) × (b ≡ true)
 and_both true b h = (refl, h)
 and_both false b h = absurd (false≢true h)
 
