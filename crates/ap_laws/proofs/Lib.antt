@@ -11,3 +11,7 @@ pub mod Answers
 pub mod Dead
 pub mod Gives
 pub mod Views
+pub mod Invariant
+pub mod Flat
+pub mod Events
+pub mod Runs

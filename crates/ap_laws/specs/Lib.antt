@@ -4,3 +4,5 @@ pub mod Plain
 pub mod Trace
 pub mod Graft
 pub mod Gives
+pub mod Tasks
+pub mod Events
