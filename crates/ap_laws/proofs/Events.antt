@@ -21,7 +21,7 @@ use Rattle.ap_laws.proofs.Names.{Renamed-is, RenamedAll-is, Local-Renamed, Local
 use Rattle.ap_laws.proofs.Plain.{instance-Local, instance_all-LocalAll, instance_all-same, Local-and, LocalAll-and, Local-self, LocalAll-append_trees, instance_all-append_trees, append_trees-assoc, Local-arguments_self, LocalAll-arguments}
 use Rattle.ap_laws.specs.Gives.{GivesAt, Gives, Rejoins, IsCallDue}
 use Rattle.ap_laws.specs.Tasks.{Round, first, later, closed, Task, task, Alternatives, exhausted, plain, frame, Slots, no_slot, fresh, busy, held, redone, again, joined_if, flat_task, flat_alternatives, flat_slots, left, edge_round, edge_alternatives, edge_slots, slot_goals}
-use Rattle.ap_laws.specs.Events.{plains, freshes, joined, IsFull, HasFailed, HasFailedLater, HasNoAlternative, IsUsedUp, resets, NextRedo, next_busy, next_redone, next_held, next_again, over_fresh, over_busy, over_redone, over_held, over_again, Step, infer, fork, in_first, in_later, join_first, join_later, break_first, break_later, dropped, redo, Turn, start, given_back, inside, answers, past_fresh, past_busy, Spin, inside_redone, answers_redone, right_of, left_of, Runs, none_yet, and_then, emits, RejoinsTask, RejoinsAlternatives, RejoinsSlots}
+use Rattle.ap_laws.specs.Events.{IsExhausted, plains, freshes, joined, IsFull, HasFailed, HasFailedLater, HasNoAlternative, IsUsedUp, resets, NextRedo, next_busy, next_redone, next_held, next_again, over_fresh, over_busy, over_redone, over_held, over_again, Step, infer, fork, in_first, in_later, join_first, join_later, break_first, break_later, dropped, redo, Turn, start, given_back, inside, answers, past_fresh, past_busy, Spin, inside_redone, answers_redone, right_of, left_of, Runs, none_yet, and_then, emits, RejoinsTask, RejoinsAlternatives, RejoinsSlots}
 use Rattle.ap_laws.proofs.Invariant.{base, base_alternatives, base_slots, cost, cost_alternatives, cost_slots, IsForkOf, IsQuiet, IsQuietTask, HasGiven, AreLive, IsUntouched, IsShut, HasBegun, Strong, Pivot, Weak, TaskInvariant, AlternativesInvariant, Effect, IsStuck, Redo, redo_held, redo_again, past_held, past_again}
 use Rattle.ap_laws.proofs.Graft.{state-eq, Local-at, LocalAll-at, lifted-old, lifted-new, lowered-old, lowered-new, below_or_not, Linked-lifted, fitted-value, LocalAll-IsOwn_below, LocalAll-IsOwn_own, followed-append, flat_map-grafts, plain_children-graft, trace-graft, IsOf-alone, graft-alone}
 use Rattle.ap_laws.proofs.Answers.{AllAnswers-append, AllAnswers-left, AllAnswers-right, AllAnswers-flat_map, AllAnswers-and, AllByRecursion-plain_children_by, AllByRecursion-any, AllAnswers-left_over, AllAnswers-done, NoAnswers-less, NoAnswers-below, AreOf-plain_children, AllAnswers-flat_map_AreOf, AllAnswers-IsOf, answers_in-append, answers_in-flat_map, calls_in-append, flat_map-plain_children, trace-more}
@@ -88,13 +88,18 @@ slot_goals-Redo (redo_again {g = g} {w = w} q) = ap (more g) (slot_goals-resets 
 slot_goals-Redo (past_held {g = g} r) = ap (more g) (slot_goals-Redo r)
 slot_goals-Redo (past_again {g = g} r) = ap (more g) (slot_goals-Redo r)
 
+pub flat_task-IsExhausted : (t : Task) → IsExhausted t → flat_task t ≡ []
+flat_task-IsExhausted (task c exhausted) h = refl
+flat_task-IsExhausted (task c (plain s l)) h = absurd h
+flat_task-IsExhausted (task c (frame s r w l)) h = absurd h
+
 pub flat_slots-IsUsedUp : (w : Slots) (b : ℕ) (s : Plain) → IsUsedUp w → flat_slots w closed b s ≡ []
 flat_slots-IsUsedUp no_slot b s q = refl
 flat_slots-IsUsedUp (fresh g w) b s q = absurd q
-flat_slots-IsUsedUp (busy g t w) b s q = ap (grafts b s) q
-flat_slots-IsUsedUp (held g m a t c w) b s q = ap₂ (λ x y. x ++ grafts b s y) (flat_slots-IsUsedUp w b (graft b s a) q.1) q.0
-flat_slots-IsUsedUp (redone g m t i w) b s q = ap (grafts b s) q
-flat_slots-IsUsedUp (again g m a t c w) b s q = ap₂ (λ x y. x ++ grafts b s y) (flat_slots-IsUsedUp w b (graft b s a) q.1) q.0
+flat_slots-IsUsedUp (busy g t w) b s q = ap (grafts b s) (flat_task-IsExhausted t q)
+flat_slots-IsUsedUp (held g m a t c w) b s q = ap₂ (λ x y. x ++ grafts b s y) (flat_slots-IsUsedUp w b (graft b s a) q.1) (flat_task-IsExhausted t q.0)
+flat_slots-IsUsedUp (redone g m t i w) b s q = ap (grafts b s) (flat_task-IsExhausted t q)
+flat_slots-IsUsedUp (again g m a t c w) b s q = ap₂ (λ x y. x ++ grafts b s y) (flat_slots-IsUsedUp w b (graft b s a) q.1) (flat_task-IsExhausted t q.0)
 
 pub flat_slots-IsFull : (r : Round) → ((s : Plain) → joined_if r s ≡ s ∷ []) → (w : Slots) (b : ℕ) (s : Plain) → IsFull w → flat_slots w r b s ≡ joined w b s ∷ flat_slots w closed b s
 flat_slots-IsFull r e no_slot b s q = e s
@@ -268,7 +273,7 @@ module _ (A : Ways) (renames : Renames A) (locals : Locals A) where
   AreLive-HasFailed (busy g t w) b (inl f) h v =
       let q = Gives-flat_task A renames locals t g b h.1 in
       v.0 (IsDead-Gives g b (cost t + q.0)
-          (subst (λ z. Gives A (alone g b ∷ []) [] z (cost t + q.0)) f (Gives-then A (alone g b ∷ []) [] (base t) [] (flat_task t) (cost t) q.0 h.2 q.1)))
+          (subst (λ z. Gives A (alone g b ∷ []) [] z (cost t + q.0)) (flat_task-IsExhausted t f) (Gives-then A (alone g b ∷ []) [] (base t) [] (flat_task t) (cost t) q.0 h.2 q.1)))
   AreLive-HasFailed (held g m a t c w) b f h v = AreLive-HasFailed w b f h.5 v.1
   AreLive-HasFailed (redone g m t i w) b f h v = f
   AreLive-HasFailed (again g m a t c w) b f h v = f
@@ -303,7 +308,7 @@ module _ (A : Ways) (renames : Renames A) (locals : Locals A) where
       let q = Gives-flat_task A renames locals t g b s.1 in
       NoAnswers-IsDead A renames locals g b
         (IsDead-Gives g b (cost t + q.0)
-          (subst (λ z. Gives A (alone g b ∷ []) [] z (cost t + q.0)) f (Gives-then A (alone g b ∷ []) [] (base t) [] (flat_task t) (cost t) q.0 s.2 q.1)))
+          (subst (λ z. Gives A (alone g b ∷ []) [] z (cost t + q.0)) (flat_task-IsExhausted t f) (Gives-then A (alone g b ∷ []) [] (base t) [] (flat_task t) (cost t) q.0 s.2 q.1)))
         s.0 (count_trees pre) pre (append_trees (slot_goals w) K) T n k refl bn h aw.0 r
   NoAnswers-HasFailed (held g m a t e w) b pre K T n k bn f s ind aw h r =
       subst (λ z. NoAnswers (trace A r (state z T n k))) (append_trees-one pre g (append_trees (slot_goals w) K))
@@ -410,7 +415,7 @@ module _ (A : Ways) (renames : Renames A) (locals : Locals A) where
     Effect-Step (join_later {c = c} {s = s} {w = w} {l = l} full) h z i =
         let q = Gives-flat_alternatives A renames locals (frame s later w l) h z i in
         Effect-joined h z later c s w l q.0 (λ x. refl) full i.0 i.1 (Weak-Pivot A renames locals w (next_of s) i.2) i.3 i.4 i.5 (base_slots w (next_of s) s ++ flat_alternatives l) (cost_slots w) q.1 q.2
-    Effect-Step (break_first {c = c} {s = s} {w = w} {l = l} f) h z i =
+    Effect-Step (break_first {c = c} {s = s} {w = w} {l = l} e le f) h z i =
         let q = Gives-flat_alternatives A renames locals (frame s first w exhausted) h z (i.0, i.1, i.2, tt, tt) in
         let dead : (r : ℕ) → NoAnswers (trace A r s) = λ r. subst (λ x. NoAnswers (trace A r x)) (sym i.1.4)
             (NoAnswers-HasFailed w (next_of s) none i.1.0 i.1.1 i.1.2 i.1.3 (next_of-le s i.1.2 (ap next_of i.1.4)) f i.2 i.1.5 (AreAway-none (slot_goals w)) (subst IsPlainBelow i.1.4 (IsPlainBelow-IsOf h z s i.0)) r) in
@@ -418,7 +423,7 @@ module _ (A : Ways) (renames : Renames A) (locals : Locals A) where
           (q.0, subst (λ x. Gives A (s ∷ flat_alternatives l) [] x q.0) (sym (base_alternatives-IsQuiet l i.3))
               (Gives-beside A (s ∷ []) [] [] (flat_alternatives l) q.0 (Gives-drop A renames locals s (flat_slots w first (next_of s) s ++ []) q.0 dead q.1)),
             omega (arith, q.2, cost_alternatives-IsQuiet l i.3)))
-    Effect-Step (break_later {c = c} {s = s} {w = w} {l = l} f) h z i =
+    Effect-Step (break_later {c = c} {s = s} {w = w} {l = l} e le f) h z i =
         let q = Gives-flat_alternatives A renames locals (frame s later w l) h z i in
         let sh : IsShut w = IsShut-HasFailedLater w (next_of s) f i.2 i.6 i.5 in
         ((i.0, i.1, Weak-Pivot A renames locals w (next_of s) i.2, i.3, i.4, i.5, sh),

@@ -8,7 +8,7 @@ use Rattle.ap_laws.specs.Plain.{Plain, state, Ways, append_trees, goals_left, ne
 use Rattle.ap_laws.specs.Graft.{alone, graft, grafts, IsOf, IsDead}
 use Rattle.ap_laws.specs.Gives.{Gives, Rejoins}
 use Rattle.ap_laws.specs.Tasks.{Round, first, later, closed, Task, task, Alternatives, exhausted, plain, frame, Slots, no_slot, fresh, busy, held, redone, again, joined_if, flat_task, flat_alternatives, flat_slots, left, edge_round, edge_alternatives, edge_slots, slot_goals}
-use Rattle.ap_laws.specs.Events.{plains, freshes, joined, IsFull, HasFailed, HasFailedLater, HasNoAlternative, IsUsedUp, resets, NextRedo, next_busy, next_redone, next_held, next_again, over_fresh, over_busy, over_redone, over_held, over_again, Step, infer, fork, in_first, in_later, join_first, join_later, break_first, break_later, dropped, redo, Turn, start, given_back, inside, answers, past_fresh, past_busy, Spin, inside_redone, answers_redone, right_of, left_of, Runs, none_yet, and_then, emits, RejoinsTask, RejoinsAlternatives, RejoinsSlots}
+use Rattle.ap_laws.specs.Events.{IsExhausted, plains, freshes, joined, IsFull, HasFailed, HasFailedLater, HasNoAlternative, IsUsedUp, resets, NextRedo, next_busy, next_redone, next_held, next_again, over_fresh, over_busy, over_redone, over_held, over_again, Step, infer, fork, in_first, in_later, join_first, join_later, break_first, break_later, dropped, redo, Turn, start, given_back, inside, answers, past_fresh, past_busy, Spin, inside_redone, answers_redone, right_of, left_of, Runs, none_yet, and_then, emits, RejoinsTask, RejoinsAlternatives, RejoinsSlots}
 
 -- ---- the reading that the invariant is about
 
@@ -87,7 +87,7 @@ IsShut no_slot = Unit {0}
 IsShut (fresh g w) = ⊥
 IsShut (busy g t w) = ⊥
 IsShut (held g m a t c w) = IsShut w
-IsShut (redone g m t i w) = (flat_task t ≡ []) × IsUntouched w
+IsShut (redone g m t i w) = IsExhausted t × IsUntouched w
 IsShut (again g m a t c w) = IsShut w
 
 -- in a later round only what is right of an answered redone slot has begun

@@ -26,6 +26,12 @@ joined (held g m a t c w) b s = joined w b (graft b s a)
 joined (redone g m t i w) b s = s
 joined (again g m a t c w) b s = joined w b (graft b s a)
 
+-- no alternative is left
+abbrev pub IsExhausted : Task → Type 0
+IsExhausted (task c exhausted) = Unit {0}
+IsExhausted (task c (plain s l)) = ⊥
+IsExhausted (task c (frame s r w l)) = ⊥
+
 -- each slot has an answer
 abbrev pub IsFull : Slots → Type 0
 IsFull no_slot = Unit {0}
@@ -39,7 +45,7 @@ IsFull (again g m a t c w) = IsFull w
 abbrev pub HasFailed : Slots → Type 0
 HasFailed no_slot = ⊥
 HasFailed (fresh g w) = HasFailed w
-HasFailed (busy g t w) = (flat_task t ≡ []) ⊎ HasFailed w
+HasFailed (busy g t w) = IsExhausted t ⊎ HasFailed w
 HasFailed (held g m a t c w) = HasFailed w
 HasFailed (redone g m t i w) = ⊥
 HasFailed (again g m a t c w) = ⊥
@@ -50,26 +56,26 @@ HasFailedLater no_slot = ⊥
 HasFailedLater (fresh g w) = ⊥
 HasFailedLater (busy g t w) = ⊥
 HasFailedLater (held g m a t c w) = HasFailedLater w
-HasFailedLater (redone g m t i w) = (flat_task t ≡ []) ⊎ HasFailed w
+HasFailedLater (redone g m t i w) = IsExhausted t ⊎ HasFailed w
 HasFailedLater (again g m a t c w) = HasFailed w
 
 -- no slot has an alternative
 abbrev pub HasNoAlternative : Slots → Type 0
 HasNoAlternative no_slot = Unit {0}
 HasNoAlternative (fresh g w) = HasNoAlternative w
-HasNoAlternative (busy g t w) = (flat_task t ≡ []) × HasNoAlternative w
-HasNoAlternative (held g m a t c w) = (flat_task t ≡ []) × HasNoAlternative w
-HasNoAlternative (redone g m t i w) = (flat_task t ≡ []) × HasNoAlternative w
-HasNoAlternative (again g m a t c w) = (flat_task t ≡ []) × HasNoAlternative w
+HasNoAlternative (busy g t w) = IsExhausted t × HasNoAlternative w
+HasNoAlternative (held g m a t c w) = IsExhausted t × HasNoAlternative w
+HasNoAlternative (redone g m t i w) = IsExhausted t × HasNoAlternative w
+HasNoAlternative (again g m a t c w) = IsExhausted t × HasNoAlternative w
 
--- nothing is left in these slots
+-- nothing is left in the slots that are read
 abbrev pub IsUsedUp : Slots → Type 0
 IsUsedUp no_slot = Unit {0}
 IsUsedUp (fresh g w) = ⊥
-IsUsedUp (busy g t w) = flat_task t ≡ []
-IsUsedUp (held g m a t c w) = (flat_task t ≡ []) × IsUsedUp w
-IsUsedUp (redone g m t i w) = flat_task t ≡ []
-IsUsedUp (again g m a t c w) = (flat_task t ≡ []) × IsUsedUp w
+IsUsedUp (busy g t w) = IsExhausted t
+IsUsedUp (held g m a t c w) = IsExhausted t × IsUsedUp w
+IsUsedUp (redone g m t i w) = IsExhausted t
+IsUsedUp (again g m a t c w) = IsExhausted t × IsUsedUp w
 
 abbrev pub resets : Slots → Slots
 resets no_slot = no_slot
@@ -81,10 +87,10 @@ resets (again g m a t c w) = fresh g (resets w)
 
 -- the rightmost slot with an alternative, whichever it is, is redone
 pub data NextRedo : Slots → Slots → Type 0 where
-  next_busy : {g : Tree} {t : Task} {w : Slots} → HasNoAlternative w → (flat_task t ≡ [] → ⊥) → NextRedo (busy g t w) (redone g [] t (left t) (resets w))
-  next_redone : {g : Tree} {m : List Plain} {t : Task} {i : ℕ} {w : Slots} → HasNoAlternative w → (flat_task t ≡ [] → ⊥) → NextRedo (redone g m t i w) (redone g m t (left t) (resets w))
-  next_held : {g : Tree} {m : List Plain} {a : Plain} {t : Task} {c : ℕ} {w : Slots} → HasNoAlternative w → (flat_task t ≡ [] → ⊥) → NextRedo (held g m a t c w) (redone g m t (left t) (resets w))
-  next_again : {g : Tree} {m : List Plain} {a : Plain} {t : Task} {c : ℕ} {w : Slots} → HasNoAlternative w → (flat_task t ≡ [] → ⊥) → NextRedo (again g m a t c w) (redone g m t (left t) (resets w))
+  next_busy : {g : Tree} {t : Task} {w : Slots} → HasNoAlternative w → (IsExhausted t → ⊥) → NextRedo (busy g t w) (redone g [] t (left t) (resets w))
+  next_redone : {g : Tree} {m : List Plain} {t : Task} {i : ℕ} {w : Slots} → HasNoAlternative w → (IsExhausted t → ⊥) → NextRedo (redone g m t i w) (redone g m t (left t) (resets w))
+  next_held : {g : Tree} {m : List Plain} {a : Plain} {t : Task} {c : ℕ} {w : Slots} → HasNoAlternative w → (IsExhausted t → ⊥) → NextRedo (held g m a t c w) (redone g m t (left t) (resets w))
+  next_again : {g : Tree} {m : List Plain} {a : Plain} {t : Task} {c : ℕ} {w : Slots} → HasNoAlternative w → (IsExhausted t → ⊥) → NextRedo (again g m a t c w) (redone g m t (left t) (resets w))
   over_fresh : {g : Tree} {w v : Slots} → NextRedo w v → NextRedo (fresh g w) (fresh g v)
   over_busy : {g : Tree} {t : Task} {w v : Slots} → NextRedo w v → NextRedo (busy g t w) (busy g t v)
   over_redone : {g : Tree} {m : List Plain} {t : Task} {i : ℕ} {w v : Slots} → NextRedo w v → NextRedo (redone g m t i w) (redone g m t i v)
@@ -101,8 +107,8 @@ mutual
     in_later : {c : ℕ} {s : Plain} {w v : Slots} {l : Alternatives} → Spin A (next_of s) w v → Step A (task c (frame s later w l)) (task c (frame s later v l))
     join_first : {c : ℕ} {s : Plain} {w : Slots} {l : Alternatives} → IsFull w → Step A (task c (frame s first w l)) (task (c + edge_slots w) (plain (joined w (next_of s) s) (frame s closed w l)))
     join_later : {c : ℕ} {s : Plain} {w : Slots} {l : Alternatives} → IsFull w → Step A (task c (frame s later w l)) (task (c + edge_slots w) (plain (joined w (next_of s) s) (frame s closed w l)))
-    break_first : {c : ℕ} {s : Plain} {w : Slots} {l : Alternatives} → HasFailed w → Step A (task c (frame s first w l)) (task (c + edge_slots w) l)
-    break_later : {c : ℕ} {s : Plain} {w : Slots} {l : Alternatives} → HasFailedLater w → Step A (task c (frame s later w l)) (task (c + edge_slots w) (frame s closed w l))
+    break_first : {c : ℕ} {s : Plain} {w : Slots} {l : Alternatives} → (e : ℕ) → e ≤ edge_slots w → HasFailed w → Step A (task c (frame s first w l)) (task (c + e) l)
+    break_later : {c : ℕ} {s : Plain} {w : Slots} {l : Alternatives} → (e : ℕ) → e ≤ edge_slots w → HasFailedLater w → Step A (task c (frame s later w l)) (task (c + e) (frame s closed w l))
     dropped : {c : ℕ} {s : Plain} {w : Slots} {l : Alternatives} → HasNoAlternative w → Step A (task c (frame s closed w l)) (task c l)
     redo : {c : ℕ} {s : Plain} {w v : Slots} {l : Alternatives} → NextRedo w v → Step A (task c (frame s closed w l)) (task c (frame s later v l))
 
