@@ -15,3 +15,4 @@ pub mod Invariant
 pub mod Flat
 pub mod Events
 pub mod Runs
+pub mod Rejoining

@@ -12,7 +12,7 @@ use Rattle.ap_term.specs.Builtins.{builtin}
 use Rattle.ap_term.specs.WellFormed.{well_formed_part, all_callable, numbered_all, numbered_check, IsClause, IsProgram}
 use Rattle.ap_term.specs.Search.{State, Way, way_if, clause_way, ways_by, ways, child, children_by, children, Found, by_goals, answers_below, answers_to_depth, done, open_states, with_answers, turn, search}
 use Rattle.ap_term.proofs.SearchLaws.{HasGoals, AllSteps, children-steps, open-first}
-use Rattle.ap_laws.specs.Plain.{Plain, state, PlainWay, way, append_trees, tuple_of, plain_goals, plain_of, as_state, AreGroups, plain_way, plain_ways, plain_child, plain_children_by, plain_children}
+use Rattle.ap_laws.specs.Plain.{Plain, state, PlainWay, way, append_trees, tuple_of, plain_goals, plain_of, as_state, AreGroups, HasFullGroups, plain_way, plain_ways, plain_child, plain_children_by, plain_children}
 use Rattle.ap_laws.specs.Trace.{Action, called, cut, answered, trace, trace_to, traces, answers_in, found_before, found_upto}
 use Rattle.ap_laws.proofs.Zips.{AllByRecursion-append}
 use Rattle.ap_laws.proofs.Ways.{and_both}
@@ -120,10 +120,6 @@ AreGroups-well_formed n (group cs (more t ts) ∷ ps) h = AreGroups-well_formed 
 
 abbrev HasGroups : Way → Type 0
 HasGroups w = AreGroups w.body
-
--- a state whose groups have goals
-abbrev pub HasFullGroups : State → Type 0
-HasFullGroups s = AreGroups s.goals
 
 HasGroups-way_if : (o : Option Subst) (b : List Part) (k : ℕ) → AreGroups b → AllByRecursion HasGroups (way_if o b k)
 HasGroups-way_if None b k h = tt

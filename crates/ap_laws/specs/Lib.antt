@@ -6,3 +6,4 @@ pub mod Graft
 pub mod Gives
 pub mod Tasks
 pub mod Events
+pub mod Rejoining

@@ -52,6 +52,10 @@ AreGroups (call t ∷ ps) = AreGroups ps
 AreGroups (group cs none ∷ ps) = ⊥
 AreGroups (group cs (more t ts) ∷ ps) = AreGroups ps
 
+-- a state whose groups have goals
+abbrev pub HasFullGroups : State → Type 0
+HasFullGroups s = AreGroups s.goals
+
 -- ---- children
 
 -- the ways on from a goal, where a number is the first unused variable
