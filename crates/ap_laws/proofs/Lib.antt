@@ -16,3 +16,4 @@ pub mod Flat
 pub mod Events
 pub mod Runs
 pub mod Rejoining
+pub mod Conjunctions

@@ -27,9 +27,6 @@ use Rattle.ap_laws.proofs.Views.{plain_of-as_state, AreGroups-calls, answers_to_
 
 -- ---- budgets
 
-tuples : List Plain → List Trees
-tuples l = map tuple_of l
-
 -- what is found before the charge is used up
 found_upto-short : (n : ℕ) (p x : List Action) → n < calls_in p → IsOnTheWay (found_upto n (p ++ x)) (map tuple_of (answers_in p))
 found_upto-short n [] x k = absurd (omega arith)
@@ -60,7 +57,7 @@ traces-due A d (state (more g G) T n k ∷ l) c = go (d - k)
 
 module _ (p : Program) (good : IsProgram p) where
 
-  answers_to_depth-as_state : (d : ℕ) (u : Plain) → answers_to_depth p (as_state u) d ≡ map tuple_of (answers_in (trace_to (plain_ways p) d u))
+  pub answers_to_depth-as_state : (d : ℕ) (u : Plain) → answers_to_depth p (as_state u) d ≡ map tuple_of (answers_in (trace_to (plain_ways p) d u))
   answers_to_depth-as_state d (state G T n k) =
       answers_to_depth-trace p good d (as_state (state G T n k)) (AreGroups-calls G)
       ∙ ap (λ v. map tuple_of (answers_in (trace_to (plain_ways p) d v))) (plain_of-as_state (state G T n k))

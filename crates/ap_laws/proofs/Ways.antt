@@ -14,9 +14,9 @@ use Rattle.ap_term.specs.WellFormed.{in_range, numbered, numbered_all, callable,
 use Rattle.ap_term.specs.Builtins.{builtin}
 use Rattle.ap_term.specs.Search.{State, Way, way_if, clause_way, ways_by, ways, child, children_by, children}
 use Rattle.ap_laws.specs.Renaming.{OptionZip, OptionAll, Renamed, RenamedAll, RenamedPair, RenamedSubst, RenamedCheck, RenamedPart, RenamedParts, Linked, RenamedWay, RenamedBy, SameState, Local, LocalAll, LocalSubst, LocalCheck, LocalPart, LocalParts, LocalWay, IsBelow}
-use Rattle.ap_laws.proofs.Zips.{AllZip-append, AllZip-map, AllZip-flat_map, AllZip-weaken, AllZip-both, AllZip-flat_map_both, AllByRecursion-append}
+use Rattle.ap_laws.proofs.Zips.{AllZip-append, AllZip-map, AllZip-flat_map, AllZip-weaken, AllZip-both, AllZip-flat_map_both, AllByRecursion-append, AllByRecursion-weaken}
 use Rattle.ap_laws.proofs.Renamed.{IsOneToOne, Renamed-weaken, RenamedAll-weaken, RenamedParts-weaken, Renamed-opened, Renamed-value, RenamedAll-instance_all, Renamed-mgu, Renamed-add_vars, RenamedParts-instance_part}
-use Rattle.ap_laws.proofs.Local.{Local-mgu, Local-instance, LocalAll-instance_all, LocalParts-instance_part}
+use Rattle.ap_laws.proofs.Local.{Local-mgu, Local-weaken, LocalAll-weaken, Local-instance, LocalAll-instance_all, LocalParts-instance_part}
 use Rattle.ap_laws.proofs.Builtins.{Renamed-builtin, Local-builtin}
 use Rattle.ap_term.proofs.Solutions.{same_var, same_test}
 
@@ -59,6 +59,17 @@ LocalPart-well_formed n (group cs ts) h =
 LocalParts-well_formed : (n : ℕ) (ps : List Part) → list_all (well_formed_part n) ps ≡ true → LocalParts (λ x. x ≤ n) ps
 LocalParts-well_formed n [] h = tt
 LocalParts-well_formed n (p ∷ ps) h = let r = and_both (well_formed_part n p) (list_all (well_formed_part n) ps) h in (LocalPart-well_formed n p r.0, LocalParts-well_formed n ps r.1)
+
+LocalCheck-weaken : (P Q : ℕ → Type 0) → ((x : ℕ) → P x → Q x) → (c : Check) → LocalCheck P c → LocalCheck Q c
+LocalCheck-weaken P Q e (Ground x) h = e x h
+LocalCheck-weaken P Q e (Indep x y) h = (e x h.0, e y h.1)
+
+LocalPart-weaken : (P Q : ℕ → Type 0) → ((x : ℕ) → P x → Q x) → (p : Part) → LocalPart P p → LocalPart Q p
+LocalPart-weaken P Q e (call t) h = Local-weaken P Q e t h
+LocalPart-weaken P Q e (group cs ts) h = (AllByRecursion-weaken (LocalCheck P) (LocalCheck Q) (LocalCheck-weaken P Q e) cs h.0, LocalAll-weaken P Q e ts h.1)
+
+pub LocalParts-weaken : (P Q : ℕ → Type 0) → ((x : ℕ) → P x → Q x) → (ps : List Part) → LocalParts P ps → LocalParts Q ps
+LocalParts-weaken P Q e ps h = AllByRecursion-weaken (LocalPart P) (LocalPart Q) (LocalPart-weaken P Q e) ps h
 
 pub Local-head : (c : Clause) → IsClause c → Local (λ x. x ≤ c.vars) c.head
 Local-head c h = Local-numbered c.vars c.head (and_both (callable c.head) (numbered c.vars c.head) h.head).1

@@ -7,3 +7,4 @@ pub mod Gives
 pub mod Tasks
 pub mod Events
 pub mod Rejoining
+pub mod SearchLaws

@@ -4,6 +4,8 @@
 #![tactic(auto)]
 
 ghost use Rattle.ap_laws.specs.Laws.{UnifierLaw, UniqueUnifierLaw, WaysLaw, ChildrenLaw, RenamingLaw};
+ghost use Rattle.ap_laws.specs.SearchLaws.{QueryLaw, TraceLaw, GraftLaw, SplitLaw, IndependenceLaw, DeadConjunctLaw, GivesLaw};
+ghost use Rattle.ap_laws.specs.Rejoining.{MeaningLaw, RejoinLaw};
 
 /// Unification commutes with renamings, and binds and mentions only variables of its input.
 pub fn unifier_law()
@@ -32,5 +34,59 @@ pub fn children_law()
 /// A search does not depend on the names of variables.
 pub fn renaming_law()
     ensures { RenamingLaw }
+{
+}
+
+/// A query begins in a state that meets the conditions of the other laws.
+pub fn query_law()
+    ensures { QueryLaw }
+{
+}
+
+/// The answers to a depth and what a budget finds are two views of one trace.
+pub fn trace_law()
+    ensures { TraceLaw }
+{
+}
+
+/// A goal's search in the goal's place is the goal's own search, put there.
+pub fn graft_law()
+    ensures { GraftLaw }
+{
+}
+
+/// Searching a conjunction is searching its first goal and going on from each answer.
+pub fn split_law()
+    ensures { SplitLaw }
+{
+}
+
+/// Behind an independent goal a goal has the answers and costs that it has alone.
+pub fn independence_law()
+    ensures { IndependenceLaw }
+{
+}
+
+/// A goal without answers leaves a conjunction none.
+pub fn dead_conjunct_law()
+    ensures { DeadConjunctLaw }
+{
+}
+
+/// What searches give can be put together.
+pub fn gives_law()
+    ensures { GivesLaw }
+{
+}
+
+/// What it means that what is left of a search rejoins it.
+pub fn meaning_law()
+    ensures { MeaningLaw }
+{
+}
+
+/// A parallel search rejoins the sequential one at each moment.
+pub fn rejoin_law()
+    ensures { RejoinLaw }
 {
 }
