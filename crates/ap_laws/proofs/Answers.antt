@@ -1,25 +1,11 @@
 -- The answers of a trace.
-use Rattle.std.proofs.Common.{◌≡◌, ℕ, zero, suc, ◌+◌, ◌-◌, ◌<◌, ◌≤◌, ◌⊎◌, inl, inr, Bool, true, false, cond, eqb, ltb, nat_lt, ◌==◌, ◌&&◌, ◌||◌, List, [], ◌∷◌, ◌++◌, map, Option, Some, None, refl, ap, ap₂, sym, ◌∙◌, subst, arith, append-nil, append_assoc, le_refl, le_trans, add-zero, add-suc}
-use Rattle.std.specs.List.{flat_map, AllZip, AllByRecursion}
-use Rattle.std.proofs.lemmas.Bool.{false≢true, lt-ltb, le-ltb, ltb-true, ltb-false, eqb-true, eq-eqb}
-use Rattle.std.proofs.lemmas.Grind.{flat_map-append}
-use Rattle.ap_term.specs.Tree.{Tree, Trees, var, int, atom, node, none, more, count_trees}
-use Rattle.ap_term.specs.Vars.{occurs, occurs_all}
-use Rattle.ap_term.specs.Substitution.{instance, instance_all, Subst, value}
-use Rattle.ap_term.specs.Independence.{SharesNoVariable, IsApart, AreApart}
-use Rattle.ap_term.proofs.Copies.{instance_var, instance_all_var, instance_twice, instance_all_twice}
-use Rattle.ap_term.proofs.Solutions.{same_var, same_test, or_left, or_right}
-use Rattle.ap_laws.specs.Renaming.{Renamed, RenamedAll, RenamedSubst, Linked, Local, LocalAll, LocalSubst}
-use Rattle.ap_laws.specs.Plain.{Plain, state, PlainWay, way, Ways, append_trees, goals_left, tuple_of, next_of, steps_of, plain_child, plain_children_by, plain_children, RenamedPlainWay, RenamedPlainWays, Renames, LocalPlainWay, LocalPlainWays, Locals, IsPlainBelow}
-use Rattle.ap_laws.specs.Trace.{Action, called, cut, answered, trace, trace_to, traces, answers_in, calls_in, found_before, found_upto, followed, AllAnswers, NoAnswers}
-use Rattle.ap_laws.specs.Graft.{arguments, alone, fit, fit_all, lifted, lifted_var, lowered, fitted, graft, grafts, IsOwn, IsOf, AreOf, IsDead}
-use Rattle.ap_laws.proofs.Zips.{AllByRecursion-append}
-use Rattle.ap_laws.proofs.Renamed.{Renamed-value}
-use Rattle.ap_laws.proofs.Local.{Local-occurs, LocalAll-occurs_all, Local-each, LocalAll-each, Local-weaken, LocalAll-weaken, Local-instance, LocalAll-instance_all, Local-value, value-other}
-use Rattle.ap_laws.proofs.Ways.{IsOneToOne-Linked, Renamed-both, RenamedAll-both}
-use Rattle.ap_laws.proofs.Names.{Renamed-is, RenamedAll-is, Local-Renamed, LocalAll-RenamedAll}
-use Rattle.ap_laws.proofs.Plain.{instance-Local, instance_all-LocalAll, instance_all-same, Local-and, LocalAll-and, Local-self, LocalAll-append_trees, instance_all-append_trees, append_trees-assoc, Local-arguments_self, LocalAll-arguments}
-use Rattle.ap_laws.proofs.Graft.{state-eq, Local-at, LocalAll-at, lifted-old, lifted-new, lowered-old, lowered-new, below_or_not, Linked-lifted, fitted-value, LocalAll-IsOwn_below, LocalAll-IsOwn_own, followed-append, flat_map-grafts, plain_children-graft, trace-graft, IsOf-alone, graft-alone}
+use Rattle.std.proofs.Common.{◌≡◌, ℕ, zero, suc, ◌+◌, ◌-◌, List, [], ◌∷◌, ◌++◌, refl, ap, ap₂, sym, ◌∙◌, subst, arith, le_refl, add-zero, add-suc}
+use Rattle.std.specs.List.{flat_map, AllByRecursion}
+use Rattle.ap_term.specs.Tree.{Tree, Trees, none, more}
+use Rattle.ap_laws.specs.Plain.{Plain, state, PlainWay, way, Ways, goals_left, steps_of, plain_children_by, plain_children, Renames, Locals}
+use Rattle.ap_laws.specs.Trace.{Action, called, cut, answered, trace, trace_to, answers_in, calls_in, AllAnswers, NoAnswers}
+use Rattle.ap_laws.specs.Graft.{IsOf, AreOf}
+use Rattle.ap_laws.proofs.Graft.{plain_children-graft}
 
 pub AllAnswers-append : (P : Plain → ℕ → Type 0) (a b : List Action) → AllAnswers P a → AllAnswers P b → AllAnswers P (a ++ b)
 AllAnswers-append P [] b h k = k
@@ -65,8 +51,8 @@ AllAnswers-left_over A (suc r) (state none T n k) j e = (ap (λ z. suc r + z) e,
 AllAnswers-left_over A zero (state (more g G) T n k) j e = tt
 AllAnswers-left_over A (suc r) (state (more g G) T n k) j e =
     AllAnswers-flat_map (λ a l. l + steps_of a ≡ suc r + j) (λ s. steps_of s ≡ k + 1) (λ s. trace A r s)
-      (λ s q. subst (λ z. AllAnswers (λ a l. l + steps_of a ≡ z) (trace A r s)) (omega (arith, e)) (AllAnswers-left_over A r s (k + 1) q))
-      (plain_children_by G T n k (A g n)) (AllByRecursion-plain_children_by G T n k (A g n))
+    (λ s q. subst (λ z. AllAnswers (λ a l. l + steps_of a ≡ z) (trace A r s)) (omega (arith, e)) (AllAnswers-left_over A r s (k + 1) q))
+    (plain_children_by G T n k (A g n)) (AllByRecursion-plain_children_by G T n k (A g n))
 
 pub AllAnswers-done : (A : Ways) (r : ℕ) (s : Plain) → AllAnswers (λ a l. goals_left a ≡ none) (trace A r s)
 unfolding trace
@@ -95,7 +81,6 @@ NoAnswers-below A r zero s h = subst (λ z. NoAnswers (trace A z s)) (add-zero r
 NoAnswers-below A r (suc e) s h = NoAnswers-below A r e s (NoAnswers-less A (r + e) s (subst (λ z. NoAnswers (trace A z s)) (add-suc r e) h))
 
 module _ (A : Ways) (renames : Renames A) (locals : Locals A) where
-
   pub AreOf-plain_children : (g : Tree) (b : ℕ) (t : Tree) (G U : Trees) (m j : ℕ) → IsOf g b (state (more t G) U m j) → AreOf g b (plain_children_by G U m j (A t m))
   AreOf-plain_children g b t G U m j h = (plain_children-graft A renames locals g none none b b 0 (le_refl b) tt tt t G U m j h).1
 
@@ -120,7 +105,6 @@ pub answers_in-flat_map : (f : Plain → List Action) (g : Plain → List Plain)
 answers_in-flat_map f g e [] = refl
 answers_in-flat_map f g e (s ∷ l) = ap₂ (λ a b. a ++ b) (e s) (answers_in-flat_map f g e l) ∙ sym (answers_in-append (f s) (flat_map f l))
 
-
 pub flat_map-plain_children : (A : Ways) (d k r : ℕ) → d - (k + 1) ≡ r → (l : List Plain) → AllByRecursion (λ s. steps_of s ≡ k + 1) l
     → flat_map (λ s. trace_to A d s) l ≡ flat_map (λ s. trace A r s) l
 flat_map-plain_children A d k r e [] q = refl
@@ -131,7 +115,6 @@ pub trace-more : (A : Ways) (d k r : ℕ) → d - k ≡ suc r → (g : Tree) (G 
 unfolding trace
 trace-more A d k r e g G T m = ap (λ z. trace A z (state (more g G) T m k)) e
     ∙ ap (λ z. called ∷ z) (sym (flat_map-plain_children A d k r (omega arith) (plain_children_by G T m k (A g m)) (AllByRecursion-plain_children_by G T m k (A g m))))
-
 
 pub calls_in-append : (a b : List Action) → calls_in (a ++ b) ≡ calls_in a + calls_in b
 calls_in-append [] b = omega arith

@@ -1,9 +1,6 @@
 -- Built-in goals on related trees, and the variables of their answers.
-use Rattle.std.proofs.Common.{◌≡◌, ℕ, ◌+◌, ◌<◌, Bool, true, false, not, ◌&&◌, ◌==◌, nat_eq, if◌then◌else◌, is_none, List, [], ◌∷◌, Option, Some, None, ℤ, refl, ap, ap₂, sym, ◌∙◌, subst, arith}
-use Rattle.std.specs.List.{AllZip}
+use Rattle.std.proofs.Common.{◌≡◌, ℕ, Bool, true, false, not, ◌&&◌, ◌==◌, if◌then◌else◌, is_none, [], Option, Some, None, ℤ, refl, ap, ap₂, ◌∙◌, subst}
 use Rattle.std.specs.Ordering.{int_eq}
-use Rattle.ap_term.specs.declared.builtins.Op.{Op}
-use Rattle.ap_term.specs.declared.builtins.Operation.{Operation}
 use Rattle.ap_term.specs.declared.builtins.Relation.{Relation}
 use Rattle.ap_term.specs.declared.builtins.Relation.TheVariants.{Unify, NotUnify, Same, NotSame, Is, Compare}
 use Rattle.ap_term.specs.declared.fixed.TheConstants.{TRUE, FAIL, MINUS}
@@ -13,7 +10,7 @@ use Rattle.ap_term.specs.Unification.{mgu}
 use Rattle.ap_term.specs.Identical.{identical, identical_all}
 use Rattle.ap_term.specs.Arithmetic.{eval, negated, value_of, operation_named, compare_values}
 use Rattle.ap_term.specs.Builtins.{builtin, relation_named, relation_answer, named_answer, succeeds_if, unified_value}
-use Rattle.ap_laws.specs.Renaming.{OptionZip, OptionAll, Renamed, RenamedAll, RenamedSubst, Local, LocalAll, LocalSubst}
+use Rattle.ap_laws.specs.Renaming.{OptionZip, OptionAll, Renamed, RenamedAll, RenamedSubst, Local, LocalSubst}
 use Rattle.ap_laws.proofs.Zips.{related-if}
 use Rattle.ap_laws.proofs.Renamed.{IsOneToOne, Renamed-mgu}
 use Rattle.ap_laws.proofs.Local.{Local-mgu}
@@ -43,7 +40,6 @@ Renamed-eval R (node a (more _ (more _ (more _ _)))) (node b (more _ (more _ non
 Renamed-eval R _ _ h = absurd h
 
 module _ (R : ℕ → ℕ → Type 0) (one_one : IsOneToOne R) where
-
   mutual
     -- whether two trees are the same
     pub Renamed-identical : (t t' u u' : Tree) → Renamed R t t' → Renamed R u u' → identical t u ≡ identical t' u'
@@ -150,7 +146,6 @@ module _ (R : ℕ → ℕ → Type 0) (one_one : IsOneToOne R) where
 -- ---- the variables of an answer
 
 module _ (P : ℕ → Type 0) where
-
   Local-succeeds_if : (b : Bool) → OptionAll (LocalSubst P) (succeeds_if b)
   Local-succeeds_if true = tt
   Local-succeeds_if false = tt

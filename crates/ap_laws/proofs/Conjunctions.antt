@@ -1,19 +1,17 @@
 -- The laws of searching a conjunction, of a program's ways on.
-use Rattle.std.proofs.Common.{◌≡◌, ℕ, zero, suc, ◌+◌, ◌-◌, ◌<◌, ◌≤◌, Bool, true, false, ◌&&◌, List, [], ◌∷◌, ◌++◌, map, refl, ap, ap₂, sym, ◌∙◌, subst, arith}
-use Rattle.std.specs.List.{list_all}
+use Rattle.std.proofs.Common.{◌≡◌, ℕ, zero, suc, ◌+◌, ◌-◌, ◌<◌, ◌≤◌, false, List, [], ◌∷◌, ◌++◌, map, refl, ap, ap₂, sym, ◌∙◌, subst, arith}
 use Rattle.ap_term.specs.Tree.{Tree, Trees, var, none, more, push_tree, count_trees}
 use Rattle.ap_term.specs.Vars.{occurs}
-use Rattle.ap_term.specs.Goals.{Program, Query}
+use Rattle.ap_term.specs.Goals.{Program}
 use Rattle.ap_term.specs.Independence.{SharesNoVariable}
-use Rattle.ap_term.specs.WellFormed.{IsProgram, IsQuery}
-use Rattle.ap_term.specs.Search.{State, start, variables, answers_to_depth}
-use Rattle.ap_laws.specs.Renaming.{Local, LocalAll, LocalPart, IsBelow}
-use Rattle.ap_laws.specs.Plain.{Plain, state, Ways, append_trees, tuple_of, goals_left, steps_of, plain_of, as_state, HasFullGroups, plain_ways, plain_children, IsPlainBelow, Renames, Locals}
+use Rattle.ap_term.specs.WellFormed.{IsProgram}
+use Rattle.ap_term.specs.Search.{State, variables, answers_to_depth}
+use Rattle.ap_laws.specs.Renaming.{Local, LocalAll}
+use Rattle.ap_laws.specs.Plain.{Plain, state, Ways, append_trees, tuple_of, goals_left, plain_of, as_state, HasFullGroups, plain_ways, IsPlainBelow, Renames, Locals}
 use Rattle.ap_laws.specs.Trace.{Action, called, cut, answered, trace, trace_to, answers_in, followed, AllAnswers, NoAnswers}
-use Rattle.ap_laws.specs.Graft.{alone, graft, grafts, IsOf, AreOf, IsDead}
+use Rattle.ap_laws.specs.Graft.{alone, graft, IsOf, IsDead}
 use Rattle.ap_laws.specs.Gives.{Gives}
-use Rattle.ap_laws.specs.SearchLaws.{QueryLaw, TraceLaw, GraftLaw, SplitLaw, IndependenceLaw, DeadConjunctLaw, GivesLaw}
-use Rattle.ap_laws.proofs.Zips.{AllByRecursion-weaken}
+use Rattle.ap_laws.specs.SearchLaws.{QueryLaw, TraceLaw, GraftLaw, SplitLaw, GivesLaw}
 use Rattle.ap_laws.proofs.Local.{LocalAll-weaken}
 use Rattle.ap_laws.proofs.Ways.{LocalParts-body, LocalParts-weaken}
 use Rattle.ap_laws.proofs.Plain.{Renames-plain_ways, Locals-plain_ways}
@@ -21,7 +19,7 @@ use Rattle.ap_laws.proofs.Graft.{plain_children-graft, trace-graft, IsOf-alone, 
 use Rattle.ap_laws.proofs.Answers.{AllAnswers-and, AllAnswers-done, AllAnswers-IsOf}
 use Rattle.ap_laws.proofs.Dead.{AllAnswers-weaken, trace-split, NoAnswers-IsDead}
 use Rattle.ap_laws.proofs.Gives.{NoAnswers-none, answers_in-none, Gives-then, Gives-beside, Gives-none, Gives-less, Gives-answer, Gives-infer, Gives-graft, Gives-drop, graft-answer}
-use Rattle.ap_laws.proofs.Views.{plain_children-plain_of, plain_of-as_state, AreGroups-calls, AreGroups-well_formed, HasFullGroups-children, answers_to_depth-trace, search-trace}
+use Rattle.ap_laws.proofs.Views.{plain_children-plain_of, AreGroups-well_formed, HasFullGroups-children, answers_to_depth-trace, search-trace}
 use Rattle.ap_laws.proofs.Rejoining.{answers_to_depth-as_state}
 
 -- ---- where a query begins
@@ -55,7 +53,6 @@ map-none [] e = refl
 map-none (u ∷ l) e = cc
 
 module _ (p : Program) (good : IsProgram p) where
-
   abbrev A : Ways
   A = plain_ways p
 
@@ -76,6 +73,7 @@ module _ (p : Program) (good : IsProgram p) where
     where
       s : Plain
       s = state (more g (more h K)) T n k
+
       each : (a : Plain) (l : ℕ) → IsOf g b a × (goals_left a ≡ none) → trace A l (graft b s a) ≡ followed (trace A l (alone h b)) (λ c i. trace A i (graft b (graft b s a) c))
       each a l o =
           let q = graft-answer g (more h none) K T b n k a bn below (apart, tt) o.0 o.1 in
@@ -129,8 +127,13 @@ split p good g K T b n k r bn below h = trace-split (plain_ways p) (Renames-plai
 pub given : GivesLaw
 given p good =
     let A : Ways = plain_ways p in
-    let renames : Renames A = Renames-plain_ways p good in
-    (
-      Gives-none A, Gives-then A, Gives-beside A, Gives-less A, Gives-answer A, Gives-infer A,
-      Gives-graft A renames (Locals-plain_ways p good), Gives-no_answers p good,
+    let renames : Renames A = Renames-plain_ways p good in (
+      Gives-none A,
+      Gives-then A,
+      Gives-beside A,
+      Gives-less A,
+      Gives-answer A,
+      Gives-infer A,
+      Gives-graft A renames (Locals-plain_ways p good),
+      Gives-no_answers p good,
     )

@@ -1,26 +1,17 @@
 -- A goal without answers leaves a conjunction none.
-use Rattle.std.proofs.Common.{◌≡◌, ℕ, zero, suc, ◌+◌, ◌-◌, ◌<◌, ◌≤◌, ◌⊎◌, inl, inr, Bool, true, false, cond, eqb, ltb, nat_lt, ◌==◌, ◌&&◌, ◌||◌, List, [], ◌∷◌, ◌++◌, map, Option, Some, None, refl, ap, ap₂, sym, ◌∙◌, subst, arith, append-nil, append_assoc, le_refl, le_trans, add-zero, add-suc}
-use Rattle.std.specs.List.{flat_map, AllZip, AllByRecursion}
-use Rattle.std.proofs.lemmas.Bool.{false≢true, lt-ltb, le-ltb, ltb-true, ltb-false, eqb-true, eq-eqb}
-use Rattle.std.proofs.lemmas.Grind.{flat_map-append}
-use Rattle.ap_term.specs.Tree.{Tree, Trees, var, int, atom, node, none, more, count_trees}
+use Rattle.std.proofs.Common.{◌≡◌, ℕ, zero, suc, ◌+◌, ◌-◌, ◌<◌, ◌≤◌, ◌⊎◌, inl, inr, Bool, true, false, cond, List, [], ◌∷◌, refl, ap, sym, ◌∙◌, subst, arith, le_refl}
+use Rattle.ap_term.specs.Tree.{Tree, Trees, var, none, more, count_trees}
 use Rattle.ap_term.specs.Vars.{occurs, occurs_all}
-use Rattle.ap_term.specs.Substitution.{instance, instance_all, Subst, value}
-use Rattle.ap_term.specs.Independence.{SharesNoVariable, IsApart, AreApart}
-use Rattle.ap_term.proofs.Copies.{instance_var, instance_all_var, instance_twice, instance_all_twice}
-use Rattle.ap_term.proofs.Solutions.{same_var, same_test, or_left, or_right}
-use Rattle.ap_laws.specs.Renaming.{Renamed, RenamedAll, RenamedSubst, Linked, Local, LocalAll, LocalSubst}
-use Rattle.ap_laws.specs.Plain.{Plain, state, PlainWay, way, Ways, append_trees, goals_left, tuple_of, next_of, steps_of, plain_child, plain_children_by, plain_children, RenamedPlainWay, RenamedPlainWays, Renames, LocalPlainWay, LocalPlainWays, Locals, IsPlainBelow}
-use Rattle.ap_laws.specs.Trace.{Action, called, cut, answered, trace, trace_to, traces, answers_in, calls_in, found_before, found_upto, followed, AllAnswers, NoAnswers}
-use Rattle.ap_laws.specs.Graft.{arguments, alone, fit, fit_all, lifted, lifted_var, lowered, fitted, graft, grafts, IsOwn, IsOf, AreOf, IsDead}
-use Rattle.ap_laws.proofs.Zips.{AllByRecursion-append}
-use Rattle.ap_laws.proofs.Renamed.{Renamed-value}
-use Rattle.ap_laws.proofs.Local.{Local-occurs, LocalAll-occurs_all, Local-each, LocalAll-each, Local-weaken, LocalAll-weaken, Local-instance, LocalAll-instance_all, Local-value, value-other}
-use Rattle.ap_laws.proofs.Ways.{IsOneToOne-Linked, Renamed-both, RenamedAll-both}
-use Rattle.ap_laws.proofs.Names.{Renamed-is, RenamedAll-is, Local-Renamed, LocalAll-RenamedAll}
-use Rattle.ap_laws.proofs.Plain.{instance-Local, instance_all-LocalAll, instance_all-same, Local-and, LocalAll-and, Local-self, LocalAll-append_trees, instance_all-append_trees, append_trees-assoc, Local-arguments_self, LocalAll-arguments}
-use Rattle.ap_laws.proofs.Graft.{state-eq, Local-at, LocalAll-at, lifted-old, lifted-new, lowered-old, lowered-new, below_or_not, Linked-lifted, fitted-value, LocalAll-IsOwn_below, LocalAll-IsOwn_own, followed-append, flat_map-grafts, plain_children-graft, trace-graft, IsOf-alone, graft-alone}
-use Rattle.ap_laws.proofs.Answers.{AllAnswers-append, AllAnswers-left, AllAnswers-right, AllAnswers-flat_map, AllAnswers-and, AllByRecursion-plain_children_by, AllByRecursion-any, AllAnswers-left_over, AllAnswers-done, NoAnswers-less, NoAnswers-below, AreOf-plain_children, AllAnswers-flat_map_AreOf, AllAnswers-IsOf, answers_in-append, answers_in-flat_map, calls_in-append, flat_map-plain_children, trace-more}
+use Rattle.ap_term.specs.Substitution.{instance, instance_all}
+use Rattle.ap_term.proofs.Copies.{instance_var}
+use Rattle.ap_laws.specs.Renaming.{Local, LocalAll}
+use Rattle.ap_laws.specs.Plain.{Plain, state, Ways, append_trees, goals_left, Renames, Locals, IsPlainBelow}
+use Rattle.ap_laws.specs.Trace.{Action, called, cut, answered, trace, followed, AllAnswers, NoAnswers}
+use Rattle.ap_laws.specs.Graft.{arguments, alone, lifted, lifted_var, fitted, graft, IsOwn, IsOf, IsDead}
+use Rattle.ap_laws.proofs.Local.{Local-occurs, LocalAll-occurs_all, Local-weaken, Local-instance, LocalAll-instance_all}
+use Rattle.ap_laws.proofs.Plain.{instance-Local, Local-self, LocalAll-append_trees, instance_all-append_trees, LocalAll-arguments}
+use Rattle.ap_laws.proofs.Graft.{LocalAll-at, lifted-old, lifted-new, below_or_not, Linked-lifted, fitted-value, trace-graft, IsOf-alone, graft-alone}
+use Rattle.ap_laws.proofs.Answers.{AllAnswers-append, AllAnswers-and, AllAnswers-done, AllAnswers-IsOf}
 
 -- what the variables of the rest become
 pub Local-fitted : (P Q : ℕ → Type 0) (g : Tree) (b n m : ℕ) (f : ℕ → Tree) (U : Trees) → U ≡ instance_all f (arguments g) → LocalAll (IsOwn g b m) U
@@ -37,16 +28,18 @@ pub instance-fitted_apart : (g : Tree) (b n : ℕ) (f : ℕ → Tree) (U : Trees
     → instance (fitted g b n U) t ≡ t
 instance-fitted_apart g b n f U e t h =
     instance-Local (λ x. occurs_all x (arguments g) ≡ false) (fitted g b n U) var
-        (λ x p. fitted-value g b n f U e x ∙ ap (λ c. cond c (instance (lifted_var b n) (f x)) (var x)) p) t h
-      ∙ instance_var t
+    (λ x p. fitted-value g b n f U e x ∙ ap (λ c. cond c (instance (lifted_var b n) (f x)) (var x)) p) t h
+    ∙ instance_var t
 
 pub IsPlainBelow-graft : (g : Tree) (K T : Trees) (b n k : ℕ) → b ≤ n → IsPlainBelow (state (more g K) T n k) → (a : Plain) → IsOf g b a → IsPlainBelow (graft b (state (more g K) T n k) a)
-IsPlainBelow-graft g K T b n k bn h (state G U m j) o =
-    (LocalAll-append_trees (λ x. x < n + (m - b)) (instance_all (lifted_var b n) G) (instance_all (fitted g b n U) K) (LocalAll-instance_all (IsOwn g b m) (λ x. x < n + (m - b)) (lifted_var b n) moved G o.2) (rest K h.0.1),
-      rest T h.1)
+IsPlainBelow-graft g K T b n k bn h (state G U m j) o = (
+  LocalAll-append_trees (λ x. x < n + (m - b)) (instance_all (lifted_var b n) G) (instance_all (fitted g b n U) K) (LocalAll-instance_all (IsOwn g b m) (λ x. x < n + (m - b)) (lifted_var b n) moved G o.2) (rest K h.0.1),
+  rest T h.1,
+)
   where
     moved : (x : ℕ) → IsOwn g b m x → lifted b n x < n + (m - b)
     moved x p = (Linked-lifted b n m (n + (m - b)) bn o.4 refl x p.0).3
+
     rest : (ts : Trees) → LocalAll (λ x. x < n) ts → LocalAll (λ x. x < n + (m - b)) (instance_all (fitted g b n U) ts)
     rest ts hs = LocalAll-instance_all (λ x. x < n) (λ x. x < n + (m - b)) (fitted g b n U)
         (Local-fitted (λ x. x < n + (m - b)) (λ x. x < n) g b n m o.0 U o.1 o.3 moved (λ x l p. omega arith)) ts hs
@@ -86,7 +79,6 @@ apart_other p g h = Local-weaken (λ x. occurs x g ≡ true) (λ x. occurs_all x
     clash b e d = cc
 
 module _ (A : Ways) (renames : Renames A) (locals : Locals A) where
-
   -- the search of a state is that of its first goal alone, with the rest grafted on each answer
   pub trace-split : (g : Tree) (K T : Trees) (b n k r : ℕ) → b ≤ n → IsPlainBelow (state (more g K) T n k) → Local (λ x. x < b) g
       → trace A r (state (more g K) T n k) ≡ followed (trace A r (alone g b)) (λ a l. trace A l (graft b (state (more g K) T n k) a))
@@ -97,35 +89,37 @@ module _ (A : Ways) (renames : Renames A) (locals : Locals A) where
       → IsPlainBelow (state (append_trees pre (more g K)) T n k) → LocalAll (λ x. occurs x g ≡ false) pre → (r : ℕ) → NoAnswers (trace A r (state (append_trees pre (more g K)) T n k))
   NoAnswers-IsDead g b dead hb c none K T n k e bn h free r =
       subst NoAnswers (sym (trace-split g K T b n k r bn h hb))
-        (NoAnswers-followed (trace A r (alone g b)) (λ a l. trace A l (graft b (state (more g K) T n k) a)) (AllAnswers-weaken (λ a l. ⊥) _ (λ a l z. absurd z) (trace A r (alone g b)) (dead r)))
+      (NoAnswers-followed (trace A r (alone g b)) (λ a l. trace A l (graft b (state (more g K) T n k) a)) (AllAnswers-weaken (λ a l. ⊥) _ (λ a l z. absurd z) (trace A r (alone g b)) (dead r)))
   NoAnswers-IsDead g b dead hb zero (more p pre) K T n k e bn h free r = absurd (omega arith)
   NoAnswers-IsDead g b dead hb (suc c) (more p pre) K T n k e bn h free r =
       subst NoAnswers (sym (trace-split p (append_trees pre (more g K)) T n n k r (le_refl n) h h.0.0))
-        (NoAnswers-followed (trace A r (alone p n)) (λ a l. trace A l (graft n (state (more p (append_trees pre (more g K))) T n k) a))
-          (AllAnswers-weaken (λ a l. IsOf p n a × (goals_left a ≡ none)) (λ a l. NoAnswers (trace A l (graft n (state (more p (append_trees pre (more g K))) T n k) a)))
-            (λ a l q. at a l q.0 q.1 (NoAnswers-IsDead g b dead hb c)) (trace A r (alone p n))
-            (AllAnswers-and (λ a l. IsOf p n a) (λ a l. goals_left a ≡ none) (trace A r (alone p n)) (AllAnswers-IsOf A renames locals p n r (alone p n) (IsOf-alone p n h.0.0)) (AllAnswers-done A r (alone p n)))))
+      (NoAnswers-followed (trace A r (alone p n)) (λ a l. trace A l (graft n (state (more p (append_trees pre (more g K))) T n k) a))
+      (AllAnswers-weaken (λ a l. IsOf p n a × (goals_left a ≡ none)) (λ a l. NoAnswers (trace A l (graft n (state (more p (append_trees pre (more g K))) T n k) a)))
+      (λ a l q. at a l q.0 q.1 (NoAnswers-IsDead g b dead hb c)) (trace A r (alone p n))
+      (AllAnswers-and (λ a l. IsOf p n a) (λ a l. goals_left a ≡ none) (trace A r (alone p n)) (AllAnswers-IsOf A renames locals p n r (alone p n) (IsOf-alone p n h.0.0)) (AllAnswers-done A r (alone p n)))))
     where
       at : (a : Plain) (l : ℕ) → IsOf p n a → goals_left a ≡ none
           → ((pre' K' T' : Trees) (n' k' : ℕ) → count_trees pre' ≡ c → b ≤ n' → IsPlainBelow (state (append_trees pre' (more g K')) T' n' k') → LocalAll (λ x. occurs x g ≡ false) pre'
-              → (r' : ℕ) → NoAnswers (trace A r' (state (append_trees pre' (more g K')) T' n' k')))
+          → (r' : ℕ) → NoAnswers (trace A r' (state (append_trees pre' (more g K')) T' n' k')))
           → NoAnswers (trace A l (graft n (state (more p (append_trees pre (more g K))) T n k) a))
       at (state (more _ _) U m j) l o q ih = cc
       at (state none U m j) l o q ih =
           subst (λ z. NoAnswers (trace A l (state z (instance_all t T) (n + (m - n)) (k + j)))) (sym ge)
-            (ih (instance_all t pre) (instance_all t K) (instance_all t T) (n + (m - n)) (k + j) (count_trees-instance_all t pre ∙ omega (arith, e)) (omega arith)
-              (subst (λ z. IsPlainBelow (state z (instance_all t T) (n + (m - n)) (k + j))) ge (IsPlainBelow-graft p (append_trees pre (more g K)) T n n k (le_refl n) h (state none U m j) o))
-              (LocalAll-instance_all (λ x. occurs x g ≡ false) (λ x. occurs x g ≡ false) t
-                (Local-fitted (λ x. occurs x g ≡ false) (λ x. occurs x g ≡ false) p n n m o.0 U o.1 o.3 moved (λ x q d. q)) pre free.1)
-              l)
+          (ih (instance_all t pre) (instance_all t K) (instance_all t T) (n + (m - n)) (k + j) (count_trees-instance_all t pre ∙ omega (arith, e)) (omega arith)
+          (subst (λ z. IsPlainBelow (state z (instance_all t T) (n + (m - n)) (k + j))) ge (IsPlainBelow-graft p (append_trees pre (more g K)) T n n k (le_refl n) h (state none U m j) o))
+          (LocalAll-instance_all (λ x. occurs x g ≡ false) (λ x. occurs x g ≡ false) t
+          (Local-fitted (λ x. occurs x g ≡ false) (λ x. occurs x g ≡ false) p n n m o.0 U o.1 o.3 moved (λ x q d. q)) pre free.1)
+          l)
         where
           t : ℕ → Tree
           t = fitted p n n U
+
           moved : (y : ℕ) → IsOwn p n m y → occurs (lifted n n y) g ≡ false
           moved y w = go (below_or_not y n)
             where
               go : (y < n) ⊎ (n ≤ y) → occurs (lifted n n y) g ≡ false
               go (inl z) = subst (λ v. occurs v g ≡ false) (sym (lifted-old n n y z)) (LocalAll-occurs_all (λ x. occurs x g ≡ false) (arguments p) (LocalAll-arguments (λ x. occurs x g ≡ false) p free.0) y (w.1 z))
               go (inr z) = subst (λ v. occurs v g ≡ false) (sym (lifted-new n n y z)) (occurs-above g n (Local-weaken (λ x. x < b) (λ x. x < n) (λ x l. omega arith) g hb) (n + (y - n)) (omega arith))
+
           ge : instance_all t (append_trees pre (more g K)) ≡ append_trees (instance_all t pre) (more g (instance_all t K))
           ge = instance_all-append_trees t pre (more g K) ∙ ap (λ z. append_trees (instance_all t pre) (more z (instance_all t K))) (instance-fitted_apart p n n o.0 U o.1 g (apart_other p g free.0))

@@ -1,33 +1,23 @@
 -- Each event keeps the invariant.
-use Rattle.std.proofs.Common.{◌≡◌, ℕ, zero, suc, ◌+◌, ◌-◌, ◌<◌, ◌≤◌, ◌⊎◌, inl, inr, Bool, true, false, cond, eqb, ltb, nat_lt, ◌==◌, ◌&&◌, ◌||◌, List, [], ◌∷◌, ◌++◌, map, Option, Some, None, refl, ap, ap₂, sym, ◌∙◌, subst, arith, append-nil, append_assoc, le_refl, le_trans, add-zero, add-suc}
-use Rattle.std.specs.List.{flat_map, AllZip, AllByRecursion}
-use Rattle.std.proofs.lemmas.Bool.{false≢true, lt-ltb, le-ltb, ltb-true, ltb-false, eqb-true, eq-eqb}
-use Rattle.std.proofs.lemmas.Grind.{flat_map-append}
-use Rattle.ap_term.specs.Tree.{Tree, Trees, var, int, atom, node, none, more, count_trees}
-use Rattle.ap_term.specs.Vars.{occurs, occurs_all}
-use Rattle.ap_term.specs.Substitution.{instance, instance_all, Subst, value}
-use Rattle.ap_term.specs.Independence.{SharesNoVariable, IsApart, AreApart}
-use Rattle.ap_term.proofs.Copies.{instance_var, instance_all_var, instance_twice, instance_all_twice}
-use Rattle.ap_term.proofs.Solutions.{same_var, same_test, or_left, or_right}
-use Rattle.ap_laws.specs.Renaming.{Renamed, RenamedAll, RenamedSubst, Linked, Local, LocalAll, LocalSubst}
-use Rattle.ap_laws.specs.Plain.{Plain, state, PlainWay, way, Ways, append_trees, goals_left, tuple_of, next_of, steps_of, plain_child, plain_children_by, plain_children, RenamedPlainWay, RenamedPlainWays, Renames, LocalPlainWay, LocalPlainWays, Locals, IsPlainBelow}
-use Rattle.ap_laws.specs.Trace.{Action, called, cut, answered, trace, trace_to, traces, answers_in, calls_in, found_before, found_upto, followed, AllAnswers, NoAnswers}
-use Rattle.ap_laws.specs.Graft.{arguments, alone, fit, fit_all, lifted, lifted_var, lowered, fitted, graft, grafts, IsOwn, IsOf, AreOf, IsDead}
-use Rattle.ap_laws.proofs.Zips.{AllByRecursion-append}
-use Rattle.ap_laws.proofs.Renamed.{Renamed-value}
-use Rattle.ap_laws.proofs.Local.{Local-occurs, LocalAll-occurs_all, Local-each, LocalAll-each, Local-weaken, LocalAll-weaken, Local-instance, LocalAll-instance_all, Local-value, value-other}
-use Rattle.ap_laws.proofs.Ways.{IsOneToOne-Linked, Renamed-both, RenamedAll-both}
-use Rattle.ap_laws.proofs.Names.{Renamed-is, RenamedAll-is, Local-Renamed, LocalAll-RenamedAll}
-use Rattle.ap_laws.proofs.Plain.{instance-Local, instance_all-LocalAll, instance_all-same, Local-and, LocalAll-and, Local-self, LocalAll-append_trees, instance_all-append_trees, append_trees-assoc, Local-arguments_self, LocalAll-arguments}
-use Rattle.ap_laws.specs.Gives.{GivesAt, Gives, Rejoins, IsCallDue}
-use Rattle.ap_laws.specs.Tasks.{Round, first, later, closed, Task, task, Alternatives, exhausted, plain, frame, Slots, no_slot, fresh, busy, held, redone, again, joined_if, flat_task, flat_alternatives, flat_slots, left, edge_round, edge_alternatives, edge_slots, slot_goals}
-use Rattle.ap_laws.specs.Events.{IsExhausted, plains, freshes, joined, IsFull, HasFailed, HasFailedLater, HasNoAlternative, IsUsedUp, resets, NextRedo, next_busy, next_redone, next_held, next_again, over_fresh, over_busy, over_redone, over_held, over_again, Step, infer, fork, in_first, in_later, join_first, join_later, break_first, break_later, dropped, redo, Turn, start, given_back, inside, answers, past_fresh, past_busy, Spin, inside_redone, answers_redone, right_of, left_of, Runs, none_yet, and_then, emits, RejoinsTask, RejoinsAlternatives, RejoinsSlots}
+use Rattle.std.proofs.Common.{◌≡◌, ℕ, ◌+◌, ◌-◌, ◌<◌, ◌≤◌, inl, inr, Bool, true, false, List, [], ◌∷◌, ◌++◌, refl, ap, ap₂, sym, ◌∙◌, subst, arith, append-nil, le_refl}
+use Rattle.ap_term.specs.Tree.{Tree, Trees, none, more, count_trees}
+use Rattle.ap_term.specs.Vars.{occurs}
+use Rattle.ap_term.specs.Independence.{AreApart}
+use Rattle.ap_laws.specs.Renaming.{Local, LocalAll}
+use Rattle.ap_laws.specs.Plain.{Plain, state, Ways, append_trees, goals_left, next_of, plain_children_by, Renames, Locals, IsPlainBelow}
+use Rattle.ap_laws.specs.Trace.{trace, trace_to, traces, NoAnswers}
+use Rattle.ap_laws.specs.Graft.{alone, graft, grafts, IsOf, AreOf, IsDead}
+use Rattle.ap_laws.proofs.Local.{Local-occurs, Local-weaken}
+use Rattle.ap_laws.proofs.Plain.{Local-self, LocalAll-append_trees}
+use Rattle.ap_laws.specs.Gives.{GivesAt, Gives}
+use Rattle.ap_laws.specs.Tasks.{Round, first, later, closed, Task, task, Alternatives, exhausted, plain, frame, Slots, no_slot, fresh, busy, held, redone, again, joined_if, flat_task, flat_alternatives, flat_slots, left, edge_alternatives, edge_slots, slot_goals}
+use Rattle.ap_laws.specs.Events.{IsExhausted, plains, freshes, joined, IsFull, HasFailed, HasFailedLater, HasNoAlternative, IsUsedUp, resets, NextRedo, next_busy, next_redone, next_held, next_again, over_fresh, over_busy, over_redone, over_held, over_again, Step, infer, fork, in_first, in_later, join_first, join_later, break_first, break_later, dropped, redo, Turn, start, given_back, inside, answers, past_fresh, past_busy, Spin, inside_redone, answers_redone, right_of, left_of}
 use Rattle.ap_laws.proofs.Invariant.{base, base_alternatives, base_slots, cost, cost_alternatives, cost_slots, IsForkOf, IsQuiet, IsQuietTask, HasGiven, AreLive, IsUntouched, IsShut, HasBegun, Strong, Pivot, Weak, TaskInvariant, AlternativesInvariant, Effect, IsStuck, Redo, redo_held, redo_again, past_held, past_again}
-use Rattle.ap_laws.proofs.Graft.{state-eq, Local-at, LocalAll-at, lifted-old, lifted-new, lowered-old, lowered-new, below_or_not, Linked-lifted, fitted-value, LocalAll-IsOwn_below, LocalAll-IsOwn_own, followed-append, flat_map-grafts, plain_children-graft, trace-graft, IsOf-alone, graft-alone}
-use Rattle.ap_laws.proofs.Answers.{AllAnswers-append, AllAnswers-left, AllAnswers-right, AllAnswers-flat_map, AllAnswers-and, AllByRecursion-plain_children_by, AllByRecursion-any, AllAnswers-left_over, AllAnswers-done, NoAnswers-less, NoAnswers-below, AreOf-plain_children, AllAnswers-flat_map_AreOf, AllAnswers-IsOf, answers_in-append, answers_in-flat_map, calls_in-append, flat_map-plain_children, trace-more}
-use Rattle.ap_laws.proofs.Dead.{Local-fitted, instance-fitted_apart, IsPlainBelow-graft, NoAnswers-followed, false_of, occurs-above, apart_other, trace-split, NoAnswers-IsDead}
-use Rattle.ap_laws.proofs.Gives.{followed-none, NoAnswers-none, answers_in-none, GivesAt-then, Gives-then, Gives-beside, Gives-none, Gives-less, Gives-answer, Gives-infer, traces-grafts, Gives-graft, Gives-drop, occurs_all-arguments, instance_all-fitted_apart, LocalAll-IsApart, graft-answer}
-use Rattle.ap_laws.proofs.Flat.{IsPlainBelow-IsOf, next_of-IsOf, AreOf-append, IsOf-graft, AreOf-grafts, minus-le, next_of-le, Weak-Strong, Weak-Pivot, AreOf-flat_task, AreOf-flat_alternatives, AreOf-flat_slots, AreOf-base, Gives-flat_task, Gives-flat_alternatives, Gives-Strong, Gives-Pivot, Rejoins-HasGiven, RejoinsTask-TaskInvariant}
+use Rattle.ap_laws.proofs.Graft.{IsOf-alone}
+use Rattle.ap_laws.proofs.Answers.{AllAnswers-append, AllAnswers-left, AllAnswers-right, NoAnswers-below, AreOf-plain_children}
+use Rattle.ap_laws.proofs.Dead.{false_of, NoAnswers-IsDead}
+use Rattle.ap_laws.proofs.Gives.{NoAnswers-none, Gives-then, Gives-beside, Gives-none, Gives-less, Gives-answer, Gives-infer, Gives-graft, Gives-drop, LocalAll-IsApart, graft-answer}
+use Rattle.ap_laws.proofs.Flat.{IsPlainBelow-IsOf, minus-le, next_of-le, Weak-Strong, Weak-Pivot, AreOf-flat_slots, AreOf-base, Gives-flat_task, Gives-flat_alternatives}
 
 pub base_alternatives-IsQuiet : (l : Alternatives) → IsQuiet l → base_alternatives l ≡ flat_alternatives l
 base_alternatives-IsQuiet exhausted q = refl
@@ -232,7 +222,6 @@ IsStuck-IsShut (again g m a t c w) f h = behind w f h
     behind (again g m a t c w) f h = absurd f
 
 module _ (A : Ways) (renames : Renames A) (locals : Locals A) where
-
   -- a goal whose search is known to give nothing
   pub IsDead-Gives : (g : Tree) (b c : ℕ) → Gives A (alone g b ∷ []) [] [] c → IsDead A g b
   IsDead-Gives g b c h r = NoAnswers-below A r h.0 (alone g b) (at (h.1 (r + h.0) (omega arith)))
@@ -240,7 +229,7 @@ module _ (A : Ways) (renames : Renames A) (locals : Locals A) where
       at : GivesAt A (r + h.0) (alone g b ∷ []) [] [] c → NoAnswers (trace A (r + h.0) (alone g b))
       at x = AllAnswers-left (λ a l. ⊥) (trace A (r + h.0) (alone g b)) []
           (subst (λ z. NoAnswers (trace A z (alone g b) ++ [])) (lem (r + h.0))
-            (subst NoAnswers (sym x.1) (AllAnswers-append (λ a l. ⊥) x.0 [] (NoAnswers-none x.0 x.2) tt)))
+          (subst NoAnswers (sym x.1) (AllAnswers-append (λ a l. ⊥) x.0 [] (NoAnswers-none x.0 x.2) tt)))
         where
           lem : (d : ℕ) → d - 0 ≡ d
           lem d = omega arith
@@ -273,7 +262,7 @@ module _ (A : Ways) (renames : Renames A) (locals : Locals A) where
   AreLive-HasFailed (busy g t w) b (inl f) h v =
       let q = Gives-flat_task A renames locals t g b h.1 in
       v.0 (IsDead-Gives g b (cost t + q.0)
-          (subst (λ z. Gives A (alone g b ∷ []) [] z (cost t + q.0)) (flat_task-IsExhausted t f) (Gives-then A (alone g b ∷ []) [] (base t) [] (flat_task t) (cost t) q.0 h.2 q.1)))
+      (subst (λ z. Gives A (alone g b ∷ []) [] z (cost t + q.0)) (flat_task-IsExhausted t f) (Gives-then A (alone g b ∷ []) [] (base t) [] (flat_task t) (cost t) q.0 h.2 q.1)))
   AreLive-HasFailed (held g m a t c w) b f h v = AreLive-HasFailed w b f h.5 v.1
   AreLive-HasFailed (redone g m t i w) b f h v = f
   AreLive-HasFailed (again g m a t c w) b f h v = f
@@ -298,22 +287,22 @@ module _ (A : Ways) (renames : Renames A) (locals : Locals A) where
   NoAnswers-HasFailed no_slot b pre K T n k bn f s ind aw h r = absurd f
   NoAnswers-HasFailed (fresh g w) b pre K T n k bn f s ind aw h r =
       subst (λ z. NoAnswers (trace A r (state z T n k))) (append_trees-one pre g (append_trees (slot_goals w) K))
-        (NoAnswers-HasFailed w b (append_trees pre (more g none)) K T n k bn f s.1 ind.1 (AreAway-more pre g (slot_goals w) aw.1 (LocalAll-IsApart g (slot_goals w) ind.0))
-          (subst (λ z. IsPlainBelow (state z T n k)) (sym (append_trees-one pre g (append_trees (slot_goals w) K))) h) r)
+      (NoAnswers-HasFailed w b (append_trees pre (more g none)) K T n k bn f s.1 ind.1 (AreAway-more pre g (slot_goals w) aw.1 (LocalAll-IsApart g (slot_goals w) ind.0))
+      (subst (λ z. IsPlainBelow (state z T n k)) (sym (append_trees-one pre g (append_trees (slot_goals w) K))) h) r)
   NoAnswers-HasFailed (busy g t w) b pre K T n k bn (inr f) s ind aw h r =
       subst (λ z. NoAnswers (trace A r (state z T n k))) (append_trees-one pre g (append_trees (slot_goals w) K))
-        (NoAnswers-HasFailed w b (append_trees pre (more g none)) K T n k bn f s.3 ind.1 (AreAway-more pre g (slot_goals w) aw.1 (LocalAll-IsApart g (slot_goals w) ind.0))
-          (subst (λ z. IsPlainBelow (state z T n k)) (sym (append_trees-one pre g (append_trees (slot_goals w) K))) h) r)
+      (NoAnswers-HasFailed w b (append_trees pre (more g none)) K T n k bn f s.3 ind.1 (AreAway-more pre g (slot_goals w) aw.1 (LocalAll-IsApart g (slot_goals w) ind.0))
+      (subst (λ z. IsPlainBelow (state z T n k)) (sym (append_trees-one pre g (append_trees (slot_goals w) K))) h) r)
   NoAnswers-HasFailed (busy g t w) b pre K T n k bn (inl f) s ind aw h r =
       let q = Gives-flat_task A renames locals t g b s.1 in
       NoAnswers-IsDead A renames locals g b
-        (IsDead-Gives g b (cost t + q.0)
-          (subst (λ z. Gives A (alone g b ∷ []) [] z (cost t + q.0)) (flat_task-IsExhausted t f) (Gives-then A (alone g b ∷ []) [] (base t) [] (flat_task t) (cost t) q.0 s.2 q.1)))
-        s.0 (count_trees pre) pre (append_trees (slot_goals w) K) T n k refl bn h aw.0 r
+      (IsDead-Gives g b (cost t + q.0)
+      (subst (λ z. Gives A (alone g b ∷ []) [] z (cost t + q.0)) (flat_task-IsExhausted t f) (Gives-then A (alone g b ∷ []) [] (base t) [] (flat_task t) (cost t) q.0 s.2 q.1)))
+      s.0 (count_trees pre) pre (append_trees (slot_goals w) K) T n k refl bn h aw.0 r
   NoAnswers-HasFailed (held g m a t e w) b pre K T n k bn f s ind aw h r =
       subst (λ z. NoAnswers (trace A r (state z T n k))) (append_trees-one pre g (append_trees (slot_goals w) K))
-        (NoAnswers-HasFailed w b (append_trees pre (more g none)) K T n k bn f s.5 ind.1 (AreAway-more pre g (slot_goals w) aw.1 (LocalAll-IsApart g (slot_goals w) ind.0))
-          (subst (λ z. IsPlainBelow (state z T n k)) (sym (append_trees-one pre g (append_trees (slot_goals w) K))) h) r)
+      (NoAnswers-HasFailed w b (append_trees pre (more g none)) K T n k bn f s.5 ind.1 (AreAway-more pre g (slot_goals w) aw.1 (LocalAll-IsApart g (slot_goals w) ind.0))
+      (subst (λ z. IsPlainBelow (state z T n k)) (sym (append_trees-one pre g (append_trees (slot_goals w) K))) h) r)
   NoAnswers-HasFailed (redone g m t i w) b pre K T n k bn f s ind aw h r = absurd f
   NoAnswers-HasFailed (again g m a t e w) b pre K T n k bn f s ind aw h r = absurd f
 
@@ -334,14 +323,16 @@ module _ (A : Ways) (renames : Renames A) (locals : Locals A) where
   Strong-resets (again g m a t c w) b h = (h.0, Strong-resets w b h.4)
 
   pub Pivot-Redo : {w v : Slots} → Redo w v → (b : ℕ) → Weak A b w → Pivot A b v × ((s : Plain) → base_slots v b s ≡ flat_slots w closed b s) × (cost_slots v ≡ 0)
-  Pivot-Redo (redo_held {a = a} {t = t} {w = w} q) b h =
-      ((h.0, h.1, Strong-resets w b h.4, h.5),
-        (λ s. ap (grafts b s) (base-IsQuietTask t h.3.1) ∙ sym (ap (λ z. z ++ grafts b s (flat_task t)) (flat_slots-IsUsedUp w b (graft b s a) q))),
-        minus-same (cost t) (left t) (cost-IsQuietTask t h.3.1))
-  Pivot-Redo (redo_again {a = a} {t = t} {w = w} q) b h =
-      ((h.0, h.1, Strong-resets w b h.4, h.5),
-        (λ s. ap (grafts b s) (base-IsQuietTask t h.3.1) ∙ sym (ap (λ z. z ++ grafts b s (flat_task t)) (flat_slots-IsUsedUp w b (graft b s a) q))),
-        minus-same (cost t) (left t) (cost-IsQuietTask t h.3.1))
+  Pivot-Redo (redo_held {a = a} {t = t} {w = w} q) b h = (
+    (h.0, h.1, Strong-resets w b h.4, h.5),
+    (λ s. ap (grafts b s) (base-IsQuietTask t h.3.1) ∙ sym (ap (λ z. z ++ grafts b s (flat_task t)) (flat_slots-IsUsedUp w b (graft b s a) q))),
+    minus-same (cost t) (left t) (cost-IsQuietTask t h.3.1),
+  )
+  Pivot-Redo (redo_again {a = a} {t = t} {w = w} q) b h = (
+    (h.0, h.1, Strong-resets w b h.4, h.5),
+    (λ s. ap (grafts b s) (base-IsQuietTask t h.3.1) ∙ sym (ap (λ z. z ++ grafts b s (flat_task t)) (flat_slots-IsUsedUp w b (graft b s a) q))),
+    minus-same (cost t) (left t) (cost-IsQuietTask t h.3.1),
+  )
   Pivot-Redo (past_held {a = a} {t = t} r) b h =
       let q = Pivot-Redo r b h.4 in
       ((h.0, h.1, h.2, h.3, q.0, h.5), (λ s. ap (λ z. z ++ grafts b s (flat_task t)) (q.1 (graft b s a))), omega (arith, q.2))
@@ -372,13 +363,15 @@ module _ (A : Ways) (renames : Renames A) (locals : Locals A) where
       → IsOf h z s → IsForkOf s w → Weak A (next_of s) w → IsQuiet l → AlternativesInvariant A h z l → AreLive A (next_of s) (slot_goals w)
       → (from : List Plain) (k : ℕ) → Gives A from [] (flat_slots w r (next_of s) s ++ flat_alternatives l) e → (edge_slots w ≤ k + e)
       → TaskInvariant A h z (task (c + edge_slots w) (plain (joined w (next_of s) s) (frame s closed w l)))
-        × ((e : ℕ) × Gives A from [] (base (task (c + edge_slots w) (plain (joined w (next_of s) s) (frame s closed w l)))) e × (cost (task (c + edge_slots w) (plain (joined w (next_of s) s) (frame s closed w l))) ≤ (c + k) + e))
-  Effect-joined h z r c s w l e open_round full o sh wk q i lv from k gv le =
-      ((here, (refl, q), (o, sh, wk, q, i, lv, IsShut-IsFull w full)),
-        (e, subst (λ x. Gives A from [] (x ++ flat_alternatives l) e) (flat_slots-IsFull r open_round w (next_of s) s full) gv, omega arith))
+      × ((e : ℕ) × Gives A from [] (base (task (c + edge_slots w) (plain (joined w (next_of s) s) (frame s closed w l)))) e × (cost (task (c + edge_slots w) (plain (joined w (next_of s) s) (frame s closed w l))) ≤ (c + k) + e))
+  Effect-joined h z r c s w l e open_round full o sh wk q i lv from k gv le = (
+    (here, (refl, q), (o, sh, wk, q, i, lv, IsShut-IsFull w full)),
+    (e, subst (λ x. Gives A from [] (x ++ flat_alternatives l) e) (flat_slots-IsFull r open_round w (next_of s) s full) gv, omega arith),
+  )
     where
       all : AreOf h z (flat_slots w r (next_of s) s)
       all = subst (λ x. AreOf h z (flat_slots w r (next_of s) x)) (sym sh.4) (AreOf-flat_slots A renames locals w h z r (next_of s) sh.0 sh.1 sh.2 sh.3 (next_of-le s sh.2 (ap next_of sh.4)) sh.5 (subst (IsOf h z) sh.4 o) wk)
+
       here : IsOf h z (joined w (next_of s) s)
       here = (subst (AreOf h z) (flat_slots-IsFull r open_round w (next_of s) s full) all).0
 
@@ -387,28 +380,42 @@ module _ (A : Ways) (renames : Renames A) (locals : Locals A) where
       → HasGiven A g b (m ++ (state none T n k ∷ [])) (task c l)
   HasGiven-answer g b m T n k c l q h =
       subst (λ z. Gives A (alone g b ∷ []) (m ++ (state none T n k ∷ [])) z (c + cost_alternatives l)) (sym (base_alternatives-IsQuiet l q))
-        (Gives-less A (alone g b ∷ []) (m ++ (state none T n k ∷ [])) (flat_alternatives l) ((c + 0) + 0) (c + cost_alternatives l) (omega (arith, cost_alternatives-IsQuiet l q))
-          (Gives-then A (alone g b ∷ []) m (state none T n k ∷ flat_alternatives l) (state none T n k ∷ []) (flat_alternatives l) (c + 0) 0 h (Gives-answer A T n k (flat_alternatives l))))
+      (Gives-less A (alone g b ∷ []) (m ++ (state none T n k ∷ [])) (flat_alternatives l) ((c + 0) + 0) (c + cost_alternatives l) (omega (arith, cost_alternatives-IsQuiet l q))
+      (Gives-then A (alone g b ∷ []) m (state none T n k ∷ flat_alternatives l) (state none T n k ∷ []) (flat_alternatives l) (c + 0) 0 h (Gives-answer A T n k (flat_alternatives l))))
 
   mutual
     pub Effect-Step : {t u : Task} → Step A t u → (h : Tree) (z : ℕ) → TaskInvariant A h z t → Effect A h z t u
-    Effect-Step (infer {c = c} {g = g} {G = G} {T = T} {n = n} {k = k} {l = l}) h z i =
-        (AlternativesInvariant-plains h z (plain_children_by G T n k (A g n)) l (AreOf-plain_children A renames locals h z g G T n k i.0) i.1 i.2,
-          (1, subst (λ x. Gives A (state (more g G) T n k ∷ flat_alternatives l) [] x 1) (sym (base_alternatives-plains (plain_children_by G T n k (A g n)) l i.1))
-                (Gives-beside A (state (more g G) T n k ∷ []) [] (plain_children_by G T n k (A g n)) (flat_alternatives l) 1 (Gives-infer A g G T n k)),
-            omega (arith, cost_alternatives-plains (plain_children_by G T n k (A g n)) l i.1)))
-    Effect-Step (fork {c = c} {s = s} {l = l} gs K T n k e ind) h z i =
-        ((i.0, (K, T, n, k, e ∙ ap (λ x. state (append_trees x K) T n k) (sym (slot_goals-freshes gs)), subst AreApart (sym (slot_goals-freshes gs)) ind),
-            subst (λ x. Strong A x (freshes gs)) (sym (ap next_of e)) (Strong-freshes gs n (LocalAll-append_left (λ x. x < n) gs K (subst IsPlainBelow e (IsPlainBelow-IsOf h z s i.0)).0)), i.1, i.2),
-          (0, Gives-none A (s ∷ flat_alternatives l), omega arith))
+    Effect-Step (infer {c = c} {g = g} {G = G} {T = T} {n = n} {k = k} {l = l}) h z i = (
+      AlternativesInvariant-plains h z (plain_children_by G T n k (A g n)) l (AreOf-plain_children A renames locals h z g G T n k i.0) i.1 i.2,
+      (
+        1,
+        subst (λ x. Gives A (state (more g G) T n k ∷ flat_alternatives l) [] x 1) (sym (base_alternatives-plains (plain_children_by G T n k (A g n)) l i.1))
+            (Gives-beside A (state (more g G) T n k ∷ []) [] (plain_children_by G T n k (A g n)) (flat_alternatives l) 1 (Gives-infer A g G T n k)),
+        omega (arith, cost_alternatives-plains (plain_children_by G T n k (A g n)) l i.1),
+      ),
+    )
+    Effect-Step (fork {c = c} {s = s} {l = l} gs K T n k e ind) h z i = (
+      (
+        i.0,
+        (K, T, n, k, e ∙ ap (λ x. state (append_trees x K) T n k) (sym (slot_goals-freshes gs)), subst AreApart (sym (slot_goals-freshes gs)) ind),
+        subst (λ x. Strong A x (freshes gs)) (sym (ap next_of e)) (Strong-freshes gs n (LocalAll-append_left (λ x. x < n) gs K (subst IsPlainBelow e (IsPlainBelow-IsOf h z s i.0)).0)),
+        i.1,
+        i.2,
+      ),
+      (0, Gives-none A (s ∷ flat_alternatives l), omega arith),
+    )
     Effect-Step (in_first {c = c} {s = s} {w = w} {v = v} {l = l} u) h z i =
         ((i.0, IsForkOf-same s w v (slot_goals-Turn u) i.1, Strong-Turn u i.2, i.3, i.4), (0, Gives-none A (s ∷ flat_alternatives l), omega arith))
     Effect-Step (in_later {c = c} {s = s} {w = w} {v = v} {l = l} u) h z i =
-        let q = Pivot-Spin u i.1.0 i.1.1 i.1.2 i.1.3 (next_of-le s i.1.2 (ap next_of i.1.4)) i.1.5 (subst IsPlainBelow i.1.4 (IsPlainBelow-IsOf h z s i.0)) i.2 in
-        ((i.0, IsForkOf-same s w v (slot_goals-Spin u) i.1, q.0, i.3, i.4, subst (AreLive A (next_of s)) (sym (slot_goals-Spin u)) i.5, HasBegun-Spin u i.6),
-          (q.1.0, Gives-beside A (base_slots w (next_of s) s) [] (base_slots v (next_of s) s) (flat_alternatives l) q.1.0
-              (subst (λ x. Gives A (base_slots w (next_of s) x) [] (base_slots v (next_of s) x) q.1.0) (sym i.1.4) q.1.1),
-            omega (arith, q.1.2)))
+        let q = Pivot-Spin u i.1.0 i.1.1 i.1.2 i.1.3 (next_of-le s i.1.2 (ap next_of i.1.4)) i.1.5 (subst IsPlainBelow i.1.4 (IsPlainBelow-IsOf h z s i.0)) i.2 in (
+          (i.0, IsForkOf-same s w v (slot_goals-Spin u) i.1, q.0, i.3, i.4, subst (AreLive A (next_of s)) (sym (slot_goals-Spin u)) i.5, HasBegun-Spin u i.6),
+          (
+            q.1.0,
+            Gives-beside A (base_slots w (next_of s) s) [] (base_slots v (next_of s) s) (flat_alternatives l) q.1.0
+                (subst (λ x. Gives A (base_slots w (next_of s) x) [] (base_slots v (next_of s) x) q.1.0) (sym i.1.4) q.1.1),
+            omega (arith, q.1.2),
+          ),
+        )
     Effect-Step (join_first {c = c} {s = s} {w = w} {l = l} full) h z i =
         let q = Gives-flat_alternatives A renames locals (frame s first w l) h z i in
         Effect-joined h z first c s w l q.0 (λ x. refl) full i.0 i.1 (Weak-Strong A renames locals w (next_of s) i.2) i.3 i.4 (AreLive-IsFull w (next_of s) full i.2) (s ∷ flat_alternatives l) 0 q.1 q.2
@@ -418,35 +425,52 @@ module _ (A : Ways) (renames : Renames A) (locals : Locals A) where
     Effect-Step (break_first {c = c} {s = s} {w = w} {l = l} e le f) h z i =
         let q = Gives-flat_alternatives A renames locals (frame s first w exhausted) h z (i.0, i.1, i.2, tt, tt) in
         let dead : (r : ℕ) → NoAnswers (trace A r s) = λ r. subst (λ x. NoAnswers (trace A r x)) (sym i.1.4)
-            (NoAnswers-HasFailed w (next_of s) none i.1.0 i.1.1 i.1.2 i.1.3 (next_of-le s i.1.2 (ap next_of i.1.4)) f i.2 i.1.5 (AreAway-none (slot_goals w)) (subst IsPlainBelow i.1.4 (IsPlainBelow-IsOf h z s i.0)) r) in
-        (i.4,
-          (q.0, subst (λ x. Gives A (s ∷ flat_alternatives l) [] x q.0) (sym (base_alternatives-IsQuiet l i.3))
-              (Gives-beside A (s ∷ []) [] [] (flat_alternatives l) q.0 (Gives-drop A renames locals s (flat_slots w first (next_of s) s ++ []) q.0 dead q.1)),
-            omega (arith, q.2, cost_alternatives-IsQuiet l i.3)))
+        (NoAnswers-HasFailed w (next_of s) none i.1.0 i.1.1 i.1.2 i.1.3 (next_of-le s i.1.2 (ap next_of i.1.4)) f i.2 i.1.5 (AreAway-none (slot_goals w)) (subst IsPlainBelow i.1.4 (IsPlainBelow-IsOf h z s i.0)) r) in (
+          i.4,
+          (
+            q.0,
+            subst (λ x. Gives A (s ∷ flat_alternatives l) [] x q.0) (sym (base_alternatives-IsQuiet l i.3))
+                (Gives-beside A (s ∷ []) [] [] (flat_alternatives l) q.0 (Gives-drop A renames locals s (flat_slots w first (next_of s) s ++ []) q.0 dead q.1)),
+            omega (arith, q.2, cost_alternatives-IsQuiet l i.3),
+          ),
+        )
     Effect-Step (break_later {c = c} {s = s} {w = w} {l = l} e le f) h z i =
         let q = Gives-flat_alternatives A renames locals (frame s later w l) h z i in
-        let sh : IsShut w = IsShut-HasFailedLater w (next_of s) f i.2 i.6 i.5 in
-        ((i.0, i.1, Weak-Pivot A renames locals w (next_of s) i.2, i.3, i.4, i.5, sh),
-          (q.0, subst (λ x. Gives A (base_slots w (next_of s) s ++ flat_alternatives l) [] (x ++ flat_alternatives l) q.0) (flat_slots-IsStuck w (next_of s) s (IsStuck-IsShut w f sh)) q.1, omega (arith, q.2)))
-    Effect-Step (dropped {c = c} {s = s} {w = w} {l = l} f) h z i =
-        (i.4,
-          (0, subst (λ x. Gives A (x ++ flat_alternatives l) [] (base_alternatives l) 0) (sym (flat_slots-IsUsedUp w (next_of s) s (IsUsedUp-IsShut w i.6 f)))
-                (subst (λ x. Gives A (flat_alternatives l) [] x 0) (sym (base_alternatives-IsQuiet l i.3)) (Gives-none A (flat_alternatives l))),
-            omega (arith, cost_alternatives-IsQuiet l i.3)))
+        let sh : IsShut w = IsShut-HasFailedLater w (next_of s) f i.2 i.6 i.5 in (
+          (i.0, i.1, Weak-Pivot A renames locals w (next_of s) i.2, i.3, i.4, i.5, sh),
+          (q.0, subst (λ x. Gives A (base_slots w (next_of s) s ++ flat_alternatives l) [] (x ++ flat_alternatives l) q.0) (flat_slots-IsStuck w (next_of s) s (IsStuck-IsShut w f sh)) q.1, omega (arith, q.2)),
+        )
+    Effect-Step (dropped {c = c} {s = s} {w = w} {l = l} f) h z i = (
+      i.4,
+      (
+        0,
+        subst (λ x. Gives A (x ++ flat_alternatives l) [] (base_alternatives l) 0) (sym (flat_slots-IsUsedUp w (next_of s) s (IsUsedUp-IsShut w i.6 f)))
+            (subst (λ x. Gives A (flat_alternatives l) [] x 0) (sym (base_alternatives-IsQuiet l i.3)) (Gives-none A (flat_alternatives l))),
+        omega (arith, cost_alternatives-IsQuiet l i.3),
+      ),
+    )
     Effect-Step (redo {c = c} {s = s} {w = w} {v = v} {l = l} r) h z i =
         let rr : Redo w v = Redo-IsShut r i.6 in
-        let q = Pivot-Redo rr (next_of s) i.2 in
-        ((i.0, IsForkOf-same s w v (slot_goals-Redo rr) i.1, q.0, i.3, i.4, subst (AreLive A (next_of s)) (sym (slot_goals-Redo rr)) i.5, HasBegun-Redo rr),
-          (0, subst (λ x. Gives A (flat_slots w closed (next_of s) s ++ flat_alternatives l) [] (x ++ flat_alternatives l) 0) (sym (q.1 s)) (Gives-none A (flat_slots w closed (next_of s) s ++ flat_alternatives l)),
-            omega (arith, q.2)))
+        let q = Pivot-Redo rr (next_of s) i.2 in (
+          (i.0, IsForkOf-same s w v (slot_goals-Redo rr) i.1, q.0, i.3, i.4, subst (AreLive A (next_of s)) (sym (slot_goals-Redo rr)) i.5, HasBegun-Redo rr),
+          (
+            0,
+            subst (λ x. Gives A (flat_slots w closed (next_of s) s ++ flat_alternatives l) [] (x ++ flat_alternatives l) 0) (sym (q.1 s)) (Gives-none A (flat_slots w closed (next_of s) s ++ flat_alternatives l)),
+            omega (arith, q.2),
+          ),
+        )
 
     pub Strong-Turn : {b : ℕ} {w v : Slots} → Turn A b w v → Strong A b w → Strong A b v
     Strong-Turn (start {b = b} {g = g}) h = (h.0, (IsOf-alone g b h.0, tt, tt), Gives-none A (alone g b ∷ []), h.1)
     Strong-Turn given_back h = (h.0, h.3)
     Strong-Turn (inside {b = b} {g = g} {t = t} {u = u} st) h =
-        let q = Effect-Step st g b h.1 in
-        (h.0, q.0, Gives-less A (alone g b ∷ []) [] (base u) (cost t + q.1.0) (cost u) q.1.2
-            (Gives-then A (alone g b ∷ []) [] (base t) [] (base u) (cost t) q.1.0 h.2 q.1.1), h.3)
+        let q = Effect-Step st g b h.1 in (
+          h.0,
+          q.0,
+          Gives-less A (alone g b ∷ []) [] (base u) (cost t + q.1.0) (cost u) q.1.2
+              (Gives-then A (alone g b ∷ []) [] (base t) [] (base u) (cost t) q.1.0 h.2 q.1.1),
+          h.3,
+        )
     Strong-Turn (answers {b = b} {g = g} {c = c} {T = T} {n = n} {k = k} {l = l}) h =
         (h.0, h.1.2, h.1.0, (refl, h.1.1), Gives-less A (alone g b ∷ []) [] (state none T n k ∷ flat_alternatives l) (c + 0) c (omega arith) h.2, h.3, HasGiven-answer g b [] T n k c l h.1.1 h.2)
     Strong-Turn (past_fresh u) h = (h.0, Strong-Turn u h.1)
@@ -456,24 +480,42 @@ module _ (A : Ways) (renames : Renames A) (locals : Locals A) where
     pub Pivot-Spin : {b : ℕ} {w v : Slots} → Spin A b w v → (K T : Trees) (n k : ℕ) → b ≤ n → AreApart (slot_goals w) → IsPlainBelow (state (append_trees (slot_goals w) K) T n k) → Pivot A b w
         → Pivot A b v × ((e : ℕ) × Gives A (base_slots w b (state (append_trees (slot_goals w) K) T n k)) [] (base_slots v b (state (append_trees (slot_goals w) K) T n k)) e × (cost_slots v ≤ cost_slots w + e))
     Pivot-Spin (inside_redone {b = b} {g = g} {m = m} {t = t} {u = u} {i = j} {w = w} st) K T n k bn ind o i =
-        let q = Effect-Step st g b i.1 in
-        ((i.0, q.0, i.2, Gives-less A (alone g b ∷ []) m (base u) (cost t + q.1.0) (cost u) q.1.2
-            (subst (λ z. Gives A (alone g b ∷ []) z (base u) (cost t + q.1.0)) (append-nil m) (Gives-then A (alone g b ∷ []) m (base t) [] (base u) (cost t) q.1.0 i.3 q.1.1))),
-          (q.1.0, Gives-graft A renames locals g (append_trees (slot_goals w) K) T b n k bn o (base t) (base u) q.1.0 (AreOf-base A renames locals t g b i.1) (AreOf-base A renames locals u g b q.0) q.1.1,
-            minus-le (cost u) (cost t) j q.1.0 q.1.2))
-    Pivot-Spin (answers_redone {b = b} {g = g} {m = m} {c = c} {T = T'} {n = n'} {k = k'} {l = l} {i = j} {w = w}) K T n k bn ind o i =
-        ((i.0, i.1.2, i.1.0, (refl, i.1.1), i.2, HasGiven-answer g b m T' n' k' c l i.1.1 i.3),
-          (0, Gives-none A (grafts b (state (more g (append_trees (slot_goals w) K)) T n k) (state none T' n' k' ∷ flat_alternatives l)), omega arith))
-    Pivot-Spin (right_of {b = b} {g = g} {a = a} {t = t} {c = c} {w = w} {v = v} u) K T n k bn ind o i =
-        ((i.0, i.1, i.2, i.3, Strong-Turn u i.4, i.5),
-          (0, subst (λ x. Gives A (grafts b (state (more g (append_trees (slot_goals w) K)) T n k) (a ∷ flat_task t)) [] (grafts b (state (more g (append_trees (slot_goals w) K)) T n k) (a ∷ flat_task t)) x) refl
-                (Gives-none A (grafts b (state (more g (append_trees (slot_goals w) K)) T n k) (a ∷ flat_task t))),
-            omega arith))
+        let q = Effect-Step st g b i.1 in (
+          (
+            i.0,
+            q.0,
+            i.2,
+            Gives-less A (alone g b ∷ []) m (base u) (cost t + q.1.0) (cost u) q.1.2
+                (subst (λ z. Gives A (alone g b ∷ []) z (base u) (cost t + q.1.0)) (append-nil m) (Gives-then A (alone g b ∷ []) m (base t) [] (base u) (cost t) q.1.0 i.3 q.1.1)),
+          ),
+          (
+            q.1.0,
+            Gives-graft A renames locals g (append_trees (slot_goals w) K) T b n k bn o (base t) (base u) q.1.0 (AreOf-base A renames locals t g b i.1) (AreOf-base A renames locals u g b q.0) q.1.1,
+            minus-le (cost u) (cost t) j q.1.0 q.1.2,
+          ),
+        )
+    Pivot-Spin (answers_redone {b = b} {g = g} {m = m} {c = c} {T = T'} {n = n'} {k = k'} {l = l} {i = j} {w = w}) K T n k bn ind o i = (
+      (i.0, i.1.2, i.1.0, (refl, i.1.1), i.2, HasGiven-answer g b m T' n' k' c l i.1.1 i.3),
+      (0, Gives-none A (grafts b (state (more g (append_trees (slot_goals w) K)) T n k) (state none T' n' k' ∷ flat_alternatives l)), omega arith),
+    )
+    Pivot-Spin (right_of {b = b} {g = g} {a = a} {t = t} {c = c} {w = w} {v = v} u) K T n k bn ind o i = (
+      (i.0, i.1, i.2, i.3, Strong-Turn u i.4, i.5),
+      (
+        0,
+        subst (λ x. Gives A (grafts b (state (more g (append_trees (slot_goals w) K)) T n k) (a ∷ flat_task t)) [] (grafts b (state (more g (append_trees (slot_goals w) K)) T n k) (a ∷ flat_task t)) x) refl
+            (Gives-none A (grafts b (state (more g (append_trees (slot_goals w) K)) T n k) (a ∷ flat_task t))),
+        omega arith,
+      ),
+    )
     Pivot-Spin (left_of {b = b} {g = g} {a = a} {t = t} {c = c} {w = w} {v = v} u) K T n k bn ind o i =
         let s : Plain = state (more g (append_trees (slot_goals w) K)) T n k in
         let q = graft-answer g (slot_goals w) K T b n k a bn o ind.0 i.2 i.3.0 in
-        let x = Pivot-Spin u q.0 q.1 q.2 q.3 q.6 ind.1 q.5 i.4 in
-        ((i.0, i.1, i.2, i.3, x.0, i.5),
-          (x.1.0, Gives-beside A (base_slots w b (graft b s a)) [] (base_slots v b (graft b s a)) (grafts b s (flat_task t)) x.1.0
-              (subst (λ y. Gives A (base_slots w b y) [] (base_slots v b y) x.1.0) (sym q.4) x.1.1),
-            omega (arith, x.1.2)))
+        let x = Pivot-Spin u q.0 q.1 q.2 q.3 q.6 ind.1 q.5 i.4 in (
+          (i.0, i.1, i.2, i.3, x.0, i.5),
+          (
+            x.1.0,
+            Gives-beside A (base_slots w b (graft b s a)) [] (base_slots v b (graft b s a)) (grafts b s (flat_task t)) x.1.0
+                (subst (λ y. Gives A (base_slots w b y) [] (base_slots v b y) x.1.0) (sym q.4) x.1.1),
+            omega (arith, x.1.2),
+          ),
+        )

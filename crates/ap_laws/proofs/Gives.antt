@@ -1,28 +1,21 @@
 -- The algebra of what searches give.
-use Rattle.std.proofs.Common.{◌≡◌, ℕ, zero, suc, ◌+◌, ◌-◌, ◌<◌, ◌≤◌, ◌⊎◌, inl, inr, Bool, true, false, cond, eqb, ltb, nat_lt, ◌==◌, ◌&&◌, ◌||◌, List, [], ◌∷◌, ◌++◌, map, Option, Some, None, refl, ap, ap₂, sym, ◌∙◌, subst, arith, append-nil, append_assoc, le_refl, le_trans, add-zero, add-suc}
-use Rattle.std.specs.List.{flat_map, AllZip, AllByRecursion}
-use Rattle.std.proofs.lemmas.Bool.{false≢true, lt-ltb, le-ltb, ltb-true, ltb-false, eqb-true, eq-eqb}
+use Rattle.std.proofs.Common.{◌≡◌, ℕ, suc, ◌+◌, ◌-◌, ◌≤◌, Bool, true, false, List, [], ◌∷◌, ◌++◌, refl, ap, ap₂, sym, ◌∙◌, subst, arith, append-nil, append_assoc, le_trans}
+use Rattle.std.proofs.lemmas.Bool.{false≢true}
 use Rattle.std.proofs.lemmas.Grind.{flat_map-append}
-use Rattle.ap_term.specs.Tree.{Tree, Trees, var, int, atom, node, none, more, count_trees}
+use Rattle.ap_term.specs.Tree.{Tree, Trees, var, int, atom, node, none, more}
 use Rattle.ap_term.specs.Vars.{occurs, occurs_all}
-use Rattle.ap_term.specs.Substitution.{instance, instance_all, Subst, value}
-use Rattle.ap_term.specs.Independence.{SharesNoVariable, IsApart, AreApart}
-use Rattle.ap_term.proofs.Copies.{instance_var, instance_all_var, instance_twice, instance_all_twice}
-use Rattle.ap_term.proofs.Solutions.{same_var, same_test, or_left, or_right}
-use Rattle.ap_laws.specs.Renaming.{Renamed, RenamedAll, RenamedSubst, Linked, Local, LocalAll, LocalSubst}
-use Rattle.ap_laws.specs.Plain.{Plain, state, PlainWay, way, Ways, append_trees, goals_left, tuple_of, next_of, steps_of, plain_child, plain_children_by, plain_children, RenamedPlainWay, RenamedPlainWays, Renames, LocalPlainWay, LocalPlainWays, Locals, IsPlainBelow}
-use Rattle.ap_laws.specs.Trace.{Action, called, cut, answered, trace, trace_to, traces, answers_in, calls_in, found_before, found_upto, followed, AllAnswers, NoAnswers}
-use Rattle.ap_laws.specs.Graft.{arguments, alone, fit, fit_all, lifted, lifted_var, lowered, fitted, graft, grafts, IsOwn, IsOf, AreOf, IsDead}
-use Rattle.ap_laws.proofs.Zips.{AllByRecursion-append}
-use Rattle.ap_laws.proofs.Renamed.{Renamed-value}
-use Rattle.ap_laws.proofs.Local.{Local-occurs, LocalAll-occurs_all, Local-each, LocalAll-each, Local-weaken, LocalAll-weaken, Local-instance, LocalAll-instance_all, Local-value, value-other}
-use Rattle.ap_laws.proofs.Ways.{IsOneToOne-Linked, Renamed-both, RenamedAll-both}
-use Rattle.ap_laws.proofs.Names.{Renamed-is, RenamedAll-is, Local-Renamed, LocalAll-RenamedAll}
-use Rattle.ap_laws.proofs.Plain.{instance-Local, instance_all-LocalAll, instance_all-same, Local-and, LocalAll-and, Local-self, LocalAll-append_trees, instance_all-append_trees, append_trees-assoc, Local-arguments_self, LocalAll-arguments}
-use Rattle.ap_laws.specs.Gives.{GivesAt, Gives, Rejoins, IsCallDue}
-use Rattle.ap_laws.proofs.Graft.{state-eq, Local-at, LocalAll-at, lifted-old, lifted-new, lowered-old, lowered-new, below_or_not, Linked-lifted, fitted-value, LocalAll-IsOwn_below, LocalAll-IsOwn_own, followed-append, flat_map-grafts, plain_children-graft, trace-graft, IsOf-alone, graft-alone}
-use Rattle.ap_laws.proofs.Answers.{AllAnswers-append, AllAnswers-left, AllAnswers-right, AllAnswers-flat_map, AllAnswers-and, AllByRecursion-plain_children_by, AllByRecursion-any, AllAnswers-left_over, AllAnswers-done, NoAnswers-less, NoAnswers-below, AreOf-plain_children, AllAnswers-flat_map_AreOf, AllAnswers-IsOf, answers_in-append, answers_in-flat_map, calls_in-append, flat_map-plain_children, trace-more}
-use Rattle.ap_laws.proofs.Dead.{Local-fitted, instance-fitted_apart, IsPlainBelow-graft, NoAnswers-followed, false_of, occurs-above, apart_other, trace-split, NoAnswers-IsDead}
+use Rattle.ap_term.specs.Substitution.{instance_all}
+use Rattle.ap_term.specs.Independence.{IsApart}
+use Rattle.ap_laws.specs.Renaming.{LocalAll}
+use Rattle.ap_laws.specs.Plain.{Plain, state, Ways, append_trees, goals_left, steps_of, plain_children, Renames, Locals, IsPlainBelow}
+use Rattle.ap_laws.specs.Trace.{Action, called, cut, answered, trace, trace_to, traces, answers_in, followed, NoAnswers}
+use Rattle.ap_laws.specs.Graft.{arguments, fitted, graft, grafts, IsOf, AreOf}
+use Rattle.ap_laws.proofs.Local.{Local-each, Local-weaken}
+use Rattle.ap_laws.proofs.Plain.{instance_all-append_trees}
+use Rattle.ap_laws.specs.Gives.{GivesAt, Gives}
+use Rattle.ap_laws.proofs.Graft.{followed-append, flat_map-grafts, trace-graft}
+use Rattle.ap_laws.proofs.Answers.{AllAnswers-append, answers_in-append, calls_in-append, trace-more}
+use Rattle.ap_laws.proofs.Dead.{instance-fitted_apart, IsPlainBelow-graft}
 
 pub followed-none : (p : List Action) (k : Plain → ℕ → List Action) → NoAnswers p → followed p k ≡ p
 followed-none [] k h = refl
@@ -43,11 +36,13 @@ answers_in-none (cut ∷ p) h = answers_in-none p h
 answers_in-none (answered s l ∷ p) h = absurd h.0
 
 module _ (A : Ways) where
-
   pub GivesAt-then : (d : ℕ) (l a m b r : List Plain) (c e : ℕ) → GivesAt A d l a m c → GivesAt A d m b r e → GivesAt A d l (a ++ b) r (c + e)
-  GivesAt-then d l a m b r c e x y =
-      (x.0 ++ y.0, x.1 ∙ ap (λ z. x.0 ++ z) y.1 ∙ sym (append_assoc x.0 y.0 (traces A d r)), answers_in-append x.0 y.0 ∙ ap₂ (λ u v. u ++ v) x.2 y.2,
-        subst (λ z. c + e ≤ z) (sym (calls_in-append x.0 y.0)) (omega (arith, x.3, y.3)))
+  GivesAt-then d l a m b r c e x y = (
+    x.0 ++ y.0,
+    x.1 ∙ ap (λ z. x.0 ++ z) y.1 ∙ sym (append_assoc x.0 y.0 (traces A d r)),
+    answers_in-append x.0 y.0 ∙ ap₂ (λ u v. u ++ v) x.2 y.2,
+    subst (λ z. c + e ≤ z) (sym (calls_in-append x.0 y.0)) (omega (arith, x.3, y.3)),
+  )
 
   -- one after the other
   pub Gives-then : (l a m b r : List Plain) (c e : ℕ) → Gives A l a m c → Gives A m b r e → Gives A l (a ++ b) r (c + e)
@@ -80,7 +75,6 @@ module _ (A : Ways) where
   Gives-infer g G T n k = (k + 1, λ d q. (called ∷ [], append-nil (trace A (d - k) (state (more g G) T n k)) ∙ trace-more A d k (d - suc k) (omega arith) g G T n, refl, omega arith))
 
 module _ (A : Ways) (renames : Renames A) (locals : Locals A) where
-
   pub traces-grafts : (g : Tree) (K T : Trees) (b n k d : ℕ) → b ≤ n → IsPlainBelow (state (more g K) T n k) → (l : List Plain) → AreOf g b l
       → traces A d (grafts b (state (more g K) T n k) l) ≡ followed (traces A (d - k) l) (λ a i. trace A i (graft b (state (more g K) T n k) a))
   traces-grafts g K T b n k d bn h l o =
@@ -98,22 +92,27 @@ module _ (A : Ways) (renames : Renames A) (locals : Locals A) where
     where
       kap : Plain → ℕ → List Action
       kap a i = trace A i (graft b (state (more g K) T n k) a)
+
       at : (d : ℕ) → GivesAt A (d - k) l [] m c → GivesAt A d (grafts b (state (more g K) T n k) l) [] (grafts b (state (more g K) T n k) m) c
-      at d x =
-          (x.0,
-            traces-grafts g K T b n k d bn h l ol ∙ ap (λ z. followed z kap) x.1 ∙ followed-append x.0 (traces A (d - k) m) kap
-              ∙ ap₂ (λ u v. u ++ v) (followed-none x.0 kap (NoAnswers-none x.0 x.2)) (sym (traces-grafts g K T b n k d bn h m om)),
-            x.2, x.3)
+      at d x = (
+        x.0,
+        traces-grafts g K T b n k d bn h l ol ∙ ap (λ z. followed z kap) x.1 ∙ followed-append x.0 (traces A (d - k) m) kap
+            ∙ ap₂ (λ u v. u ++ v) (followed-none x.0 kap (NoAnswers-none x.0 x.2)) (sym (traces-grafts g K T b n k d bn h m om)),
+        x.2,
+        x.3,
+      )
 
   -- what is left of a state without answers may be dropped, at the cost so far
   pub Gives-drop : (s : Plain) (m : List Plain) (c : ℕ) → ((r : ℕ) → NoAnswers (trace A r s)) → Gives A (s ∷ []) [] m c → Gives A (s ∷ []) [] [] c
   Gives-drop s m c dead h = (h.0, λ d q. at d (h.1 d q))
     where
       at : (d : ℕ) → GivesAt A d (s ∷ []) [] m c → GivesAt A d (s ∷ []) [] [] c
-      at d x =
-          (x.0 ++ traces A d m, x.1 ∙ sym (append-nil (x.0 ++ traces A d m)),
-            answers_in-none (x.0 ++ traces A d m) (subst NoAnswers x.1 (AllAnswers-append (λ a l. ⊥) (trace_to A d s) [] (dead (d - steps_of s)) tt)),
-            subst (λ z. c ≤ z) (sym (calls_in-append x.0 (traces A d m))) (omega (arith, x.3)))
+      at d x = (
+        x.0 ++ traces A d m,
+        x.1 ∙ sym (append-nil (x.0 ++ traces A d m)),
+        answers_in-none (x.0 ++ traces A d m) (subst NoAnswers x.1 (AllAnswers-append (λ a l. ⊥) (trace_to A d s) [] (dead (d - steps_of s)) tt)),
+        subst (λ z. c ≤ z) (sym (calls_in-append x.0 (traces A d m))) (omega (arith, x.3)),
+      )
 
 pub occurs_all-arguments : (x : ℕ) (g : Tree) → occurs x g ≡ false → occurs_all x (arguments g) ≡ false
 occurs_all-arguments x (var y) e = simp e

@@ -1,24 +1,21 @@
 -- A search under a graft is the graft of the search.
-use Rattle.std.proofs.Common.{◌≡◌, ℕ, zero, suc, ◌+◌, ◌-◌, ◌<◌, ◌≤◌, ◌⊎◌, inl, inr, Bool, true, false, cond, eqb, ltb, nat_lt, ◌==◌, ◌&&◌, ◌||◌, List, [], ◌∷◌, ◌++◌, map, Option, Some, None, refl, ap, ap₂, sym, ◌∙◌, subst, arith, append-nil, append_assoc, le_refl, le_trans, add-zero, add-suc}
-use Rattle.std.specs.List.{flat_map, AllZip, AllByRecursion}
-use Rattle.std.proofs.lemmas.Bool.{false≢true, lt-ltb, le-ltb, ltb-true, ltb-false, eqb-true, eq-eqb}
-use Rattle.std.proofs.lemmas.Grind.{flat_map-append}
-use Rattle.ap_term.specs.Tree.{Tree, Trees, var, int, atom, node, none, more, count_trees}
+use Rattle.std.proofs.Common.{◌≡◌, ℕ, zero, suc, ◌+◌, ◌-◌, ◌<◌, ◌≤◌, ◌⊎◌, inl, inr, Bool, true, false, cond, ltb, ◌==◌, ◌||◌, List, [], ◌∷◌, ◌++◌, refl, ap, ap₂, sym, ◌∙◌, subst, arith, append-nil, append_assoc}
+use Rattle.std.specs.List.{flat_map}
+use Rattle.std.proofs.lemmas.Bool.{false≢true, lt-ltb, le-ltb, ltb-true, ltb-false}
+use Rattle.ap_term.specs.Tree.{Tree, Trees, var, int, atom, node, none, more}
 use Rattle.ap_term.specs.Vars.{occurs, occurs_all}
 use Rattle.ap_term.specs.Substitution.{instance, instance_all, Subst, value}
-use Rattle.ap_term.specs.Independence.{SharesNoVariable, IsApart, AreApart}
 use Rattle.ap_term.proofs.Copies.{instance_var, instance_all_var, instance_twice, instance_all_twice}
-use Rattle.ap_term.proofs.Solutions.{same_var, same_test, or_left, or_right}
+use Rattle.ap_term.proofs.Solutions.{same_var, same_test}
 use Rattle.ap_laws.specs.Renaming.{Renamed, RenamedAll, RenamedSubst, Linked, Local, LocalAll, LocalSubst}
-use Rattle.ap_laws.specs.Plain.{Plain, state, PlainWay, way, Ways, append_trees, goals_left, tuple_of, next_of, steps_of, plain_child, plain_children_by, plain_children, RenamedPlainWay, RenamedPlainWays, Renames, LocalPlainWay, LocalPlainWays, Locals, IsPlainBelow}
-use Rattle.ap_laws.specs.Trace.{Action, called, cut, answered, trace, trace_to, traces, answers_in, calls_in, found_before, found_upto, followed, AllAnswers, NoAnswers}
-use Rattle.ap_laws.specs.Graft.{arguments, alone, fit, fit_all, lifted, lifted_var, lowered, fitted, graft, grafts, IsOwn, IsOf, AreOf, IsDead}
-use Rattle.ap_laws.proofs.Zips.{AllByRecursion-append}
+use Rattle.ap_laws.specs.Plain.{Plain, state, PlainWay, way, Ways, append_trees, plain_child, plain_children_by, plain_children, RenamedPlainWay, RenamedPlainWays, Renames, LocalPlainWays, Locals}
+use Rattle.ap_laws.specs.Trace.{Action, called, cut, answered, trace, followed}
+use Rattle.ap_laws.specs.Graft.{arguments, alone, fit, fit_all, lifted, lifted_var, lowered, fitted, graft, grafts, IsOwn, IsOf, AreOf}
 use Rattle.ap_laws.proofs.Renamed.{Renamed-value}
-use Rattle.ap_laws.proofs.Local.{Local-occurs, LocalAll-occurs_all, Local-each, LocalAll-each, Local-weaken, LocalAll-weaken, Local-instance, LocalAll-instance_all, Local-value, value-other}
-use Rattle.ap_laws.proofs.Ways.{IsOneToOne-Linked, Renamed-both, RenamedAll-both}
+use Rattle.ap_laws.proofs.Local.{Local-weaken, LocalAll-weaken, Local-instance, LocalAll-instance_all, Local-value, value-other}
+use Rattle.ap_laws.proofs.Ways.{IsOneToOne-Linked, Renamed-both}
 use Rattle.ap_laws.proofs.Names.{Renamed-is, RenamedAll-is, Local-Renamed, LocalAll-RenamedAll}
-use Rattle.ap_laws.proofs.Plain.{instance-Local, instance_all-LocalAll, instance_all-same, Local-and, LocalAll-and, Local-self, LocalAll-append_trees, instance_all-append_trees, append_trees-assoc, Local-arguments_self, LocalAll-arguments}
+use Rattle.ap_laws.proofs.Plain.{instance-Local, instance_all-LocalAll, instance_all-same, Local-and, LocalAll-and, LocalAll-append_trees, instance_all-append_trees, append_trees-assoc, Local-arguments_self, LocalAll-arguments}
 
 pub state-eq : {G G' T T' : Trees} {n n' k k' : ℕ} → G ≡ G' → T ≡ T' → n ≡ n' → k ≡ k' → state G T n k ≡ state G' T' n' k'
 state-eq a b c d = cc
@@ -103,17 +100,17 @@ Linked-lifted b n m N bn bm e x l = go (below_or_not x b)
 pub Renamed-lifted : (b n m N : ℕ) → b ≤ n → b ≤ m → N ≡ n + (m - b) → (t : Tree) → Local (λ x. x < m) t → Renamed (Linked (lifted b n) (lowered b n) m N) t (instance (lifted_var b n) t)
 Renamed-lifted b n m N bn bm e t h =
     subst (λ v. Renamed (Linked (lifted b n) (lowered b n) m N) v (instance (lifted_var b n) t)) (instance_var t)
-      (Renamed-both (λ x. x < m) (Linked (lifted b n) (lowered b n) m N) var (lifted_var b n) (λ x l. Linked-lifted b n m N bn bm e x l) t h)
+    (Renamed-both (λ x. x < m) (Linked (lifted b n) (lowered b n) m N) var (lifted_var b n) (λ x l. Linked-lifted b n m N bn bm e x l) t h)
 
 -- what a moved answer does to a moved tree
 pub instance-lifted : (b n m N : ℕ) → b ≤ n → b ≤ m → N ≡ n + (m - b) → (s r : Subst) → RenamedSubst (Linked (lifted b n) (lowered b n) m N) s r
     → (t : Tree) → Local (λ x. x < m) t → instance (value r) (instance (lifted_var b n) t) ≡ instance (lifted_var b n) (instance (value s) t)
 instance-lifted b n m N bn bm q s r h t k =
     instance_twice (lifted_var b n) (value r) t
-      ∙ instance-Local (λ x. x < m) (λ x. value r (lifted b n x)) (λ x. instance (lifted_var b n) (value s x))
-          (λ x l. Renamed-is (lifted b n) (lowered b n) m N (value s x) (value r (lifted b n x))
-            (Renamed-value (Linked (lifted b n) (lowered b n) m N) (IsOneToOne-Linked (lifted b n) (lowered b n) m N) s r h x (lifted b n x) (Linked-lifted b n m N bn bm q x l))) t k
-      ∙ sym (instance_twice (value s) (lifted_var b n) t)
+    ∙ instance-Local (λ x. x < m) (λ x. value r (lifted b n x)) (λ x. instance (lifted_var b n) (value s x))
+    (λ x l. Renamed-is (lifted b n) (lowered b n) m N (value s x) (value r (lifted b n x))
+    (Renamed-value (Linked (lifted b n) (lowered b n) m N) (IsOneToOne-Linked (lifted b n) (lowered b n) m N) s r h x (lifted b n x) (Linked-lifted b n m N bn bm q x l))) t k
+    ∙ sym (instance_twice (value s) (lifted_var b n) t)
 
 pub instance_all-lifted : (b n m N : ℕ) → b ≤ n → b ≤ m → N ≡ n + (m - b) → (s r : Subst) → RenamedSubst (Linked (lifted b n) (lowered b n) m N) s r
     → (ts : Trees) → LocalAll (λ x. x < m) ts → instance_all (value r) (instance_all (lifted_var b n) ts) ≡ instance_all (lifted_var b n) (instance_all (value s) ts)
@@ -131,8 +128,8 @@ pub instance-fitted : (g : Tree) (b n m N : ℕ) → b ≤ n → b ≤ m → N �
     → instance (value r) (value (fit_all (arguments g) (instance_all (lifted_var b n) U) []) x) ≡ value (fit_all (arguments g) (instance_all (lifted_var b n) (instance_all (value s) U)) []) x
 instance-fitted g b n m N bn bm q s r h l f U e k x le =
     ap (instance (value r)) (fitted-value g b n f U e x)
-      ∙ go (occurs_all x (arguments g)) refl
-      ∙ sym (fitted-value g b n (λ y. instance (value s) (f y)) (instance_all (value s) U) (ap (instance_all (value s)) e ∙ instance_all_twice f (value s) (arguments g)) x)
+    ∙ go (occurs_all x (arguments g)) refl
+    ∙ sym (fitted-value g b n (λ y. instance (value s) (f y)) (instance_all (value s) U) (ap (instance_all (value s)) e ∙ instance_all_twice f (value s) (arguments g)) x)
   where
     go : (c : Bool) → occurs_all x (arguments g) ≡ c
         → instance (value r) (cond c (instance (lifted_var b n) (f x)) (var x)) ≡ cond c (instance (lifted_var b n) (instance (value s) (f x))) (var x)
@@ -144,32 +141,38 @@ pub plain_child-graft : (g : Tree) (K T : Trees) (b n k : ℕ) → b ≤ n → L
     → (G U : Trees) (m j : ℕ) (f : ℕ → Tree) → b ≤ m → U ≡ instance_all f (arguments g) → LocalAll (λ x. x < m) G → LocalAll (λ x. x < m) U
     → (s r : Subst) (d c : Trees) (w v : ℕ) → RenamedPlainWay (lifted b n) (lowered b n) m (n + (m - b)) (way s d w) (way r c v) → LocalSubst (λ x. x < n → occurs_all x (arguments g) ≡ true) r
     → plain_child (append_trees (instance_all (lifted_var b n) G) (instance_all (fitted g b n U) K)) (instance_all (fitted g b n U) T) (n + (m - b)) (k + j) (way r c v)
-      ≡ graft b (state (more g K) T n k) (plain_child G U m j (way s d w))
+    ≡ graft b (state (more g K) T n k) (plain_child G U m j (way s d w))
 plain_child-graft g K T b n k bn hK hT G U m j f bm e hG hU s r d c w v h l =
     state-eq (goals_eq) (rest T hT) q (omega arith)
   where
     q : (n + (m - b)) + v ≡ n + ((m + w) - b)
     q = omega (arith, h.0)
+
     bw : b ≤ m + w
     bw = omega arith
+
     wk : (ts : Trees) → LocalAll (λ x. x < m) ts → LocalAll (λ x. x < m + w) ts
     wk = LocalAll-weaken (λ x. x < m) (λ x. x < m + w) (λ x l. omega arith)
+
     rest : (ts : Trees) → LocalAll (λ x. x < n) ts → instance_all (value r) (instance_all (fitted g b n U) ts) ≡ instance_all (fitted g b n (instance_all (value s) U)) ts
     rest ts hts = instance_all_twice (fitted g b n U) (value r) ts
         ∙ instance_all-LocalAll (λ x. x < n) (λ x. instance (value r) (fitted g b n U x)) (fitted g b n (instance_all (value s) U))
-            (instance-fitted g b n (m + w) ((n + (m - b)) + v) bn bw q s r h.1 l f U e (wk U hU)) ts hts
+        (instance-fitted g b n (m + w) ((n + (m - b)) + v) bn bw q s r h.1 l f U e (wk U hU)) ts hts
+
     bb : instance_all (value r) c ≡ instance_all (lifted_var b n) (instance_all (value s) d)
     bb = ap (instance_all (value r)) (RenamedAll-is (lifted b n) (lowered b n) (m + w) ((n + (m - b)) + v) d c h.2)
         ∙ instance_all-lifted b n (m + w) ((n + (m - b)) + v) bn bw q s r h.1 d (LocalAll-below (lifted b n) (lowered b n) (m + w) ((n + (m - b)) + v) d c h.2)
+
     gg : instance_all (value r) (instance_all (lifted_var b n) G) ≡ instance_all (lifted_var b n) (instance_all (value s) G)
     gg = instance_all-lifted b n (m + w) ((n + (m - b)) + v) bn bw q s r h.1 G (wk G hG)
+
     goals_eq : instance_all (value r) (append_trees c (append_trees (instance_all (lifted_var b n) G) (instance_all (fitted g b n U) K)))
         ≡ append_trees (instance_all (lifted_var b n) (instance_all (value s) (append_trees d G))) (instance_all (fitted g b n (instance_all (value s) U)) K)
     goals_eq = instance_all-append_trees (value r) c (append_trees (instance_all (lifted_var b n) G) (instance_all (fitted g b n U) K))
         ∙ ap₂ append_trees bb (instance_all-append_trees (value r) (instance_all (lifted_var b n) G) (instance_all (fitted g b n U) K) ∙ ap₂ append_trees gg (rest K hK))
         ∙ sym (append_trees-assoc (instance_all (lifted_var b n) (instance_all (value s) d)) (instance_all (lifted_var b n) (instance_all (value s) G)) (instance_all (fitted g b n (instance_all (value s) U)) K))
         ∙ ap (λ z. append_trees z (instance_all (fitted g b n (instance_all (value s) U)) K))
-            (sym (instance_all-append_trees (lifted_var b n) (instance_all (value s) d) (instance_all (value s) G)) ∙ ap (instance_all (lifted_var b n)) (sym (instance_all-append_trees (value s) d G)))
+        (sym (instance_all-append_trees (lifted_var b n) (instance_all (value s) d) (instance_all (value s) G)) ∙ ap (instance_all (lifted_var b n)) (sym (instance_all-append_trees (value s) d G)))
 
 pub LocalAll-IsOwn_below : (g : Tree) (b m : ℕ) (ts : Trees) → LocalAll (IsOwn g b m) ts → LocalAll (λ x. x < m) ts
 LocalAll-IsOwn_below g b m ts h = LocalAll-weaken (IsOwn g b m) (λ x. x < m) (λ x p. p.0) ts h
@@ -181,15 +184,18 @@ pub IsOf-plain_child : (g : Tree) (b n : ℕ) (G U : Trees) (m j : ℕ) → IsOf
     → (s r : Subst) (d c : Trees) (w v : ℕ) → RenamedPlainWay (lifted b n) (lowered b n) m (n + (m - b)) (way s d w) (way r c v)
     → LocalSubst (λ x. x < b → occurs_all x (arguments g) ≡ true) s → LocalAll (λ x. x < b → occurs_all x (arguments g) ≡ true) d
     → IsOf g b (plain_child G U m j (way s d w))
-IsOf-plain_child g b n G U m j o s r d c w v h ls ld =
-    ((λ x. instance (value s) (o.0 x)),
-      ap (instance_all (value s)) o.1 ∙ instance_all_twice o.0 (value s) (arguments g),
-      both (append_trees d G) (LocalAll-append_trees (λ x. x < m + w) d G (LocalAll-below (lifted b n) (lowered b n) (m + w) ((n + (m - b)) + v) d c h.2) (wk G (LocalAll-IsOwn_below g b m G o.2)))
-        (LocalAll-append_trees (λ x. x < b → occurs_all x (arguments g) ≡ true) d G ld (LocalAll-IsOwn_own g b m G o.2)),
-      both U (wk U (LocalAll-IsOwn_below g b m U o.3)) (LocalAll-IsOwn_own g b m U o.3), omega (arith, o.4))
+IsOf-plain_child g b n G U m j o s r d c w v h ls ld = (
+  (λ x. instance (value s) (o.0 x)),
+  ap (instance_all (value s)) o.1 ∙ instance_all_twice o.0 (value s) (arguments g),
+  both (append_trees d G) (LocalAll-append_trees (λ x. x < m + w) d G (LocalAll-below (lifted b n) (lowered b n) (m + w) ((n + (m - b)) + v) d c h.2) (wk G (LocalAll-IsOwn_below g b m G o.2)))
+      (LocalAll-append_trees (λ x. x < b → occurs_all x (arguments g) ≡ true) d G ld (LocalAll-IsOwn_own g b m G o.2)),
+  both U (wk U (LocalAll-IsOwn_below g b m U o.3)) (LocalAll-IsOwn_own g b m U o.3),
+  omega (arith, o.4),
+)
   where
     wk : (ts : Trees) → LocalAll (λ x. x < m) ts → LocalAll (λ x. x < m + w) ts
     wk = LocalAll-weaken (λ x. x < m) (λ x. x < m + w) (λ x l. omega arith)
+
     both : (ts : Trees) → LocalAll (λ x. x < m + w) ts → LocalAll (λ x. x < b → occurs_all x (arguments g) ≡ true) ts → LocalAll (IsOwn g b (m + w)) (instance_all (value s) ts)
     both ts p q = LocalAll-and (λ x. x < m + w) (λ x. x < b → occurs_all x (arguments g) ≡ true) (instance_all (value s) ts)
         (LocalAll-instance_all (λ x. x < m + w) (λ x. x < m + w) (value s) (Local-value (λ y. y < m + w) s (LocalSubst-below (lifted b n) (lowered b n) (m + w) ((n + (m - b)) + v) s r h.1)) ts p)
@@ -199,12 +205,13 @@ pub plain_children_by-graft : (g : Tree) (K T : Trees) (b n k : ℕ) → b ≤ n
     → (G U : Trees) (m j : ℕ) → IsOf g b (state G U m j)
     → (l l' : List PlainWay) → RenamedPlainWays (lifted b n) (lowered b n) m (n + (m - b)) l l' → LocalPlainWays (λ x. x < b → occurs_all x (arguments g) ≡ true) l → LocalPlainWays (λ x. x < n → occurs_all x (arguments g) ≡ true) l'
     → (plain_children_by (append_trees (instance_all (lifted_var b n) G) (instance_all (fitted g b n U) K)) (instance_all (fitted g b n U) T) (n + (m - b)) (k + j) l'
-      ≡ grafts b (state (more g K) T n k) (plain_children_by G U m j l)) × AreOf g b (plain_children_by G U m j l)
+    ≡ grafts b (state (more g K) T n k) (plain_children_by G U m j l)) × AreOf g b (plain_children_by G U m j l)
 plain_children_by-graft g K T b n k bn hK hT G U m j o [] [] h a a' = (refl, tt)
-plain_children_by-graft g K T b n k bn hK hT G U m j o (way s d w ∷ l) (way r c v ∷ l') h a a' =
-    (ap₂ (λ x y. x ∷ y) (plain_child-graft g K T b n k bn hK hT G U m j o.0 o.4 o.1 (LocalAll-IsOwn_below g b m G o.2) (LocalAll-IsOwn_below g b m U o.3) s r d c w v h.0 a'.0.0)
-        (plain_children_by-graft g K T b n k bn hK hT G U m j o l l' h.1 a.1 a'.1).0,
-      (IsOf-plain_child g b n G U m j o s r d c w v h.0 a.0.0 a.0.1, (plain_children_by-graft g K T b n k bn hK hT G U m j o l l' h.1 a.1 a'.1).1))
+plain_children_by-graft g K T b n k bn hK hT G U m j o (way s d w ∷ l) (way r c v ∷ l') h a a' = (
+  ap₂ (λ x y. x ∷ y) (plain_child-graft g K T b n k bn hK hT G U m j o.0 o.4 o.1 (LocalAll-IsOwn_below g b m G o.2) (LocalAll-IsOwn_below g b m U o.3) s r d c w v h.0 a'.0.0)
+      (plain_children_by-graft g K T b n k bn hK hT G U m j o l l' h.1 a.1 a'.1).0,
+  (IsOf-plain_child g b n G U m j o s r d c w v h.0 a.0.0 a.0.1, (plain_children_by-graft g K T b n k bn hK hT G U m j o l l' h.1 a.1 a'.1).1),
+)
 plain_children_by-graft g K T b n k bn hK hT G U m j o _ _ h a a' = absurd h
 
 pub followed-append : (a b : List Action) (k : Plain → ℕ → List Action) → followed (a ++ b) k ≡ followed a k ++ followed b k
@@ -220,23 +227,23 @@ flat_map-grafts g b s F G k e (u ∷ l) h =
     ap₂ (λ a b. a ++ b) (e u h.0) (flat_map-grafts g b s F G k e l h.1) ∙ sym (followed-append (G u) (flat_map G l) k)
 
 module _ (A : Ways) (renames : Renames A) (locals : Locals A) where
-
   -- the calls of a graft are the grafts of the calls
   pub plain_children-graft : (g : Tree) (K T : Trees) (b n k : ℕ) → b ≤ n → LocalAll (λ x. x < n) K → LocalAll (λ x. x < n) T
       → (t : Tree) (G U : Trees) (m j : ℕ) → IsOf g b (state (more t G) U m j)
       → (plain_children A (graft b (state (more g K) T n k) (state (more t G) U m j)) ≡ grafts b (state (more g K) T n k) (plain_children A (state (more t G) U m j))) × AreOf g b (plain_children A (state (more t G) U m j))
   plain_children-graft g K T b n k bn hK hT t G U m j o =
       plain_children_by-graft g K T b n k bn hK hT G U m j (o.0, o.1, o.2.1, o.3, o.4) (A t m) (A (instance (lifted_var b n) t) (n + (m - b)))
-        (renames (lifted b n) (lowered b n) m (n + (m - b)) t (instance (lifted_var b n) t)
-          (λ i. lifted-new b n (i + m) (omega (arith, o.4)) ∙ omega (arith, o.4))
-          (λ i. lowered-new b n (i + (n + (m - b))) (omega arith) ∙ omega (arith, o.4))
-          (Renamed-lifted b n m (n + (m - b)) bn o.4 refl t (Local-weaken (IsOwn g b m) (λ x. x < m) (λ x p. p.0) t o.2.0)))
-        (locals (λ x. x < b → occurs_all x (arguments g) ≡ true) t m (Local-weaken (IsOwn g b m) (λ x. x < b → occurs_all x (arguments g) ≡ true) (λ x p. p.1) t o.2.0) (λ x l l'. absurd (far x l l' o.4)))
-        (locals (λ x. x < n → occurs_all x (arguments g) ≡ true) (instance (lifted_var b n) t) (n + (m - b))
-          (Local-instance (IsOwn g b m) (λ x. x < n → occurs_all x (arguments g) ≡ true) (lifted_var b n) moved t o.2.0) (λ x l l'. absurd (omega arith)))
+      (renames (lifted b n) (lowered b n) m (n + (m - b)) t (instance (lifted_var b n) t)
+      (λ i. lifted-new b n (i + m) (omega (arith, o.4)) ∙ omega (arith, o.4))
+      (λ i. lowered-new b n (i + (n + (m - b))) (omega arith) ∙ omega (arith, o.4))
+      (Renamed-lifted b n m (n + (m - b)) bn o.4 refl t (Local-weaken (IsOwn g b m) (λ x. x < m) (λ x p. p.0) t o.2.0)))
+      (locals (λ x. x < b → occurs_all x (arguments g) ≡ true) t m (Local-weaken (IsOwn g b m) (λ x. x < b → occurs_all x (arguments g) ≡ true) (λ x p. p.1) t o.2.0) (λ x l l'. absurd (far x l l' o.4)))
+      (locals (λ x. x < n → occurs_all x (arguments g) ≡ true) (instance (lifted_var b n) t) (n + (m - b))
+      (Local-instance (IsOwn g b m) (λ x. x < n → occurs_all x (arguments g) ≡ true) (lifted_var b n) moved t o.2.0) (λ x l l'. absurd (omega arith)))
     where
       far : (x : ℕ) → m ≤ x → x < b → b ≤ m → ⊥
       far x l l' h = omega arith
+
       moved : (x : ℕ) → IsOwn g b m x → lifted b n x < n → occurs_all (lifted b n x) (arguments g) ≡ true
       moved x p l = go (below_or_not x b)
         where
@@ -256,9 +263,9 @@ module _ (A : Ways) (renames : Renames A) (locals : Locals A) where
   trace-graft g K T b n k bn hK hT zero (state (more t G) U m j) h = refl
   trace-graft g K T b n k bn hK hT (suc r) (state (more t G) U m j) h =
       ap (λ z. called ∷ z)
-        (ap (flat_map (λ s. trace A r s)) (plain_children-graft g K T b n k bn hK hT t G U m j h).0
-          ∙ flat_map-grafts g b (state (more g K) T n k) (λ s. trace A r s) (λ s. trace A r s) (λ a l. trace A l (graft b (state (more g K) T n k) a))
-              (trace-graft g K T b n k bn hK hT r) (plain_children_by G U m j (A t m)) (plain_children-graft g K T b n k bn hK hT t G U m j h).1)
+      (ap (flat_map (λ s. trace A r s)) (plain_children-graft g K T b n k bn hK hT t G U m j h).0
+      ∙ flat_map-grafts g b (state (more g K) T n k) (λ s. trace A r s) (λ s. trace A r s) (λ a l. trace A l (graft b (state (more g K) T n k) a))
+      (trace-graft g K T b n k bn hK hT r) (plain_children_by G U m j (A t m)) (plain_children-graft g K T b n k bn hK hT t G U m j h).1)
 
 pub IsOf-alone : (g : Tree) (b : ℕ) → Local (λ x. x < b) g → IsOf g b (alone g b)
 IsOf-alone g b h = (var, sym (instance_all_var (arguments g)), (own, tt), LocalAll-arguments (IsOwn g b b) g own, omega arith)
@@ -272,11 +279,13 @@ graft-alone g K T b n k h = state-eq (ap₂ more first (rest K)) (rest T) (omega
   where
     first : instance (lifted_var b n) g ≡ g
     first = instance-Local (λ x. x < b) (lifted_var b n) var (λ x l. ap var (lifted-old b n x l)) g h ∙ instance_var g
+
     at : (x : ℕ) → fitted g b n (arguments g) x ≡ var x
     at x = fitted-value g b n var (arguments g) (sym (instance_all_var (arguments g))) x ∙ go (occurs_all x (arguments g)) refl
       where
         go : (c : Bool) → occurs_all x (arguments g) ≡ c → cond c (lifted_var b n x) (var x) ≡ var x
         go true e = ap var (lifted-old b n x (LocalAll-at (λ y. y < b) var (arguments g) (subst (LocalAll (λ y. y < b)) (sym (instance_all_var (arguments g))) (LocalAll-arguments (λ y. y < b) g h)) x e))
         go false e = refl
+
     rest : (ts : Trees) → instance_all (fitted g b n (arguments g)) ts ≡ ts
     rest ts = instance_all-same (fitted g b n (arguments g)) var at ts ∙ instance_all_var ts

@@ -1,14 +1,13 @@
 -- What every event of a parallel search keeps.
-use Rattle.std.proofs.Common.{◌≡◌, ℕ, zero, suc, ◌+◌, ◌-◌, ◌<◌, ◌≤◌, ◌⊎◌, true, false, List, [], ◌∷◌, ◌++◌}
-use Rattle.std.specs.List.{flat_map}
+use Rattle.std.proofs.Common.{◌≡◌, ℕ, ◌+◌, ◌-◌, ◌<◌, ◌≤◌, List, [], ◌∷◌, ◌++◌}
 use Rattle.ap_term.specs.Tree.{Tree, Trees, none, more}
 use Rattle.ap_term.specs.Independence.{AreApart}
-use Rattle.ap_laws.specs.Renaming.{Local, LocalAll}
-use Rattle.ap_laws.specs.Plain.{Plain, state, Ways, append_trees, goals_left, next_of, plain_children_by}
+use Rattle.ap_laws.specs.Renaming.{Local}
+use Rattle.ap_laws.specs.Plain.{Plain, state, Ways, append_trees, goals_left, next_of}
 use Rattle.ap_laws.specs.Graft.{alone, graft, grafts, IsOf, IsDead}
-use Rattle.ap_laws.specs.Gives.{Gives, Rejoins}
-use Rattle.ap_laws.specs.Tasks.{Round, first, later, closed, Task, task, Alternatives, exhausted, plain, frame, Slots, no_slot, fresh, busy, held, redone, again, joined_if, flat_task, flat_alternatives, flat_slots, left, edge_round, edge_alternatives, edge_slots, slot_goals}
-use Rattle.ap_laws.specs.Events.{IsExhausted, plains, freshes, joined, IsFull, HasFailed, HasFailedLater, HasNoAlternative, IsUsedUp, resets, NextRedo, next_busy, next_redone, next_held, next_again, over_fresh, over_busy, over_redone, over_held, over_again, Step, infer, fork, in_first, in_later, join_first, join_later, break_first, break_later, dropped, redo, Turn, start, given_back, inside, answers, past_fresh, past_busy, Spin, inside_redone, answers_redone, right_of, left_of, Runs, none_yet, and_then, emits, RejoinsTask, RejoinsAlternatives, RejoinsSlots}
+use Rattle.ap_laws.specs.Gives.{Gives}
+use Rattle.ap_laws.specs.Tasks.{first, later, closed, Task, task, Alternatives, exhausted, plain, frame, Slots, no_slot, fresh, busy, held, redone, again, flat_task, flat_alternatives, flat_slots, left, slot_goals}
+use Rattle.ap_laws.specs.Events.{IsExhausted, IsUsedUp, resets}
 
 -- ---- the reading that the invariant is about
 

@@ -1,6 +1,6 @@
 -- What is computed of trees has only variables of them.
-use Rattle.std.proofs.Common.{◌≡◌, ℕ, zero, suc, ◌+◌, Bool, true, false, ◌||◌, ◌==◌, nat_eq, if◌then◌else◌, List, [], ◌∷◌, ◌++◌, map, length, Option, Some, None, option_and_then, option_map, refl, ap, sym, ◌∙◌, subst}
-use Rattle.std.specs.List.{flat_map, AllByRecursion}
+use Rattle.std.proofs.Common.{◌≡◌, ℕ, zero, suc, Bool, true, false, ◌||◌, ◌==◌, if◌then◌else◌, List, [], ◌∷◌, ◌++◌, map, length, Option, Some, None, option_and_then, option_map, refl, sym, subst}
+use Rattle.std.specs.List.{AllByRecursion}
 use Rattle.std.specs.Ordering.{int_eq}
 use Rattle.std.proofs.lemmas.Bool.{false≢true}
 use Rattle.ap_term.specs.declared.clauses.Check.{Check}
@@ -63,7 +63,6 @@ mutual
 -- ---- unifiers
 
 module _ (P : ℕ → Type 0) where
-
   Local-if : (b : Bool) (t u : Tree) → Local P t → Local P u → Local P (if b then t else u)
   Local-if true t u h k = h
   Local-if false t u h k = k
@@ -166,7 +165,6 @@ mutual
   AllByRecursion-add_all_vars P (more t ts) xs h k = AllByRecursion-add_all_vars P ts (add_vars t xs) h.1 (AllByRecursion-add_vars P t xs h.0 k)
 
 module _ (P Q : ℕ → Type 0) (f : ℕ → Tree) (e : (x : ℕ) → P x → Local Q (f x)) where
-
   vars-of : (x : ℕ) → P x → AllByRecursion Q (vars (f x))
   vars-of x h = AllByRecursion-add_vars Q (f x) [] (e x h) tt
 

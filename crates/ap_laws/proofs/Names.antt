@@ -1,18 +1,18 @@
 -- Searches of states that are the same up to names.
-use Rattle.std.proofs.Common.{◌≡◌, ℕ, zero, suc, ◌+◌, ◌-◌, ◌<◌, Bool, true, false, ◌||◌, if◌then◌else◌, nat_eq, List, [], ◌∷◌, ◌++◌, map, Some, refl, ap, ap₂, sym, ◌∙◌, subst, arith}
+use Rattle.std.proofs.Common.{◌≡◌, ℕ, zero, suc, ◌-◌, ◌<◌, Bool, true, false, ◌||◌, nat_eq, List, [], ◌∷◌, ◌++◌, refl, ap, ap₂, sym, ◌∙◌, subst}
 use Rattle.std.specs.List.{flat_map, AllZip, AllByRecursion}
 use Rattle.std.proofs.lemmas.Bool.{false≢true}
 use Rattle.ap_term.specs.Tree.{Tree, Trees, var, int, atom, node, none, more}
 use Rattle.ap_term.specs.Vars.{has, add_all_vars}
 use Rattle.ap_term.specs.Substitution.{instance, instance_all}
-use Rattle.ap_term.specs.Goals.{Part, call, group, Program, opened}
+use Rattle.ap_term.specs.Goals.{Part, call, group, Program}
 use Rattle.ap_term.specs.WellFormed.{IsProgram}
 use Rattle.ap_term.specs.UpToNames.{renumbered, SameUpToNames}
 use Rattle.ap_term.specs.Search.{State, Found, by_goals, answers_below, answers_to_depth, done, open_states, with_answers, turn, search, children}
 use Rattle.ap_term.proofs.Renamings.{KeepsApart, renumbered-renamed}
 use Rattle.ap_term.proofs.Solutions.{same_var}
-use Rattle.ap_laws.specs.Renaming.{Renamed, RenamedAll, RenamedPart, RenamedParts, RenamedCheck, Linked, SameState, SameTuple, RenamedBy, Local, LocalAll, LocalPart, LocalParts, LocalCheck, IsBelow}
-use Rattle.ap_laws.specs.Laws.{SameFound, RenamingLaw, ChildrenLaw}
+use Rattle.ap_laws.specs.Renaming.{Renamed, RenamedAll, RenamedPart, RenamedParts, RenamedCheck, Linked, SameState, SameTuple, Local, LocalAll, LocalPart, LocalCheck, IsBelow}
+use Rattle.ap_laws.specs.Laws.{SameFound, RenamingLaw}
 use Rattle.ap_laws.proofs.Zips.{AllZip-append, AllZip-flat_map, AllZip-weaken}
 use Rattle.ap_laws.proofs.Local.{AllByRecursion-add_all_vars}
 use Rattle.ap_laws.proofs.Ways.{SameState-children}
@@ -62,11 +62,14 @@ SameUpToNames-SameTuple ts us h = sym (renumbered-renamed f ts apart) ∙ ap ren
   where
     f : ℕ → ℕ
     f = h.0
+
     g : ℕ → ℕ
     g = h.1
+
     comes_back : (x : ℕ) → has (add_all_vars ts []) x ≡ true → g (f x) ≡ x
     comes_back = AllByRecursion-has (λ x. g (f x) ≡ x) (add_all_vars ts [])
         (AllByRecursion-add_all_vars (λ x. g (f x) ≡ x) ts [] (LocalAll-RenamedAll (Linked f g h.2 h.3) (λ x. g (f x) ≡ x) (λ x y k. ap g k.0 ∙ k.1) ts us h.4) tt)
+
     apart : KeepsApart f (add_all_vars ts [])
     apart x y p q e = sym (comes_back x p) ∙ ap g e ∙ comes_back y q
 
@@ -82,7 +85,6 @@ by_goals-related S R [] (_ ∷ _) h a b c d k l = absurd h
 by_goals-related S R (_ ∷ _) [] h a b c d k l = absurd h
 
 module _ (p : Program) (good : IsProgram p) where
-
   SameTuple-answers_below : (n : ℕ) (s t : State) → SameState s t → AllZip SameTuple (answers_below p n s) (answers_below p n t)
   SameTuple-answers_below zero s t h =
       by_goals-related (AllZip SameTuple) (Linked h.0 h.1 s.next t.next) s.goals t.goals h.2.0 (s.tuple ∷ []) [] (t.tuple ∷ []) [] (SameTuple-SameState s t h, tt) tt
@@ -138,9 +140,10 @@ module _ (p : Program) (good : IsProgram p) where
       let r = Alike-search n ss ts h in (AllZip-weaken SameTuple SameUpToNames SameUpToNames-SameTuple (search p n ss).answers (search p n ts).answers r.0, r.1)
 
 pub renaming : RenamingLaw
-renaming p good s t h =
-    (λ d. AllZip-weaken SameTuple SameUpToNames SameUpToNames-SameTuple (answers_to_depth p s d) (answers_to_depth p t d) (SameTuple-answers_to_depth p good d s t h),
-     λ n. SameFound-search p good n (s ∷ []) (t ∷ []) (h, tt))
+renaming p good s t h = (
+  λ d. AllZip-weaken SameTuple SameUpToNames SameUpToNames-SameTuple (answers_to_depth p s d) (answers_to_depth p t d) (SameTuple-answers_to_depth p good d s t h),
+  λ n. SameFound-search p good n (s ∷ []) (t ∷ []) (h, tt),
+)
 
 -- ---- the variables of children
 
@@ -166,9 +169,10 @@ LocalPart-RenamedPart R P e (group _ _) (call _) h = absurd h
 IsBelow-SameState : (s t : State) → SameState s t → IsBelow s
 IsBelow-SameState s t h =
     let R : ℕ → ℕ → Type 0 = Linked h.0 h.1 s.next t.next in
-    let e : (x y : ℕ) → R x y → x < s.next = λ x y k. k.2 in
-    (AllByRecursion-AllZip (RenamedPart R) (LocalPart (λ x. x < s.next)) (LocalPart-RenamedPart R (λ x. x < s.next) e) s.goals t.goals h.2.0,
-     LocalAll-RenamedAll R (λ x. x < s.next) e s.tuple t.tuple h.2.1)
+    let e : (x y : ℕ) → R x y → x < s.next = λ x y k. k.2 in (
+      AllByRecursion-AllZip (RenamedPart R) (LocalPart (λ x. x < s.next)) (LocalPart-RenamedPart R (λ x. x < s.next) e) s.goals t.goals h.2.0,
+      LocalAll-RenamedAll R (λ x. x < s.next) e s.tuple t.tuple h.2.1,
+    )
 
 -- a list is related to itself
 AllZip-refl : {A : Type 0} (P : A → Type 0) (R : A → A → Type 0) → ((x : A) → P x → R x x) → (xs : List A) → AllByRecursion P xs → AllZip R xs xs

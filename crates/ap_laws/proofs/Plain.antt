@@ -1,15 +1,14 @@
 -- Plain states: lists of goals, and the ways on of a program's plain form.
-use Rattle.std.proofs.Common.{◌≡◌, ℕ, ◌+◌, ◌<◌, ◌≤◌, true, false, ◌||◌, List, [], ◌∷◌, ◌++◌, map, refl, ap, ap₂, sym, ◌∙◌, subst, arith}
-use Rattle.std.specs.List.{AllZip, AllByRecursion}
-use Rattle.ap_term.specs.Tree.{Tree, Trees, var, int, atom, node, none, more, count_trees}
+use Rattle.std.proofs.Common.{◌≡◌, ℕ, ◌+◌, true, false, List, [], ◌∷◌, refl, ap}
+use Rattle.ap_term.specs.Tree.{Tree, Trees, var, int, atom, node, none, more}
 use Rattle.ap_term.specs.Vars.{occurs, occurs_all}
-use Rattle.ap_term.specs.Substitution.{instance, instance_all, Subst, value}
+use Rattle.ap_term.specs.Substitution.{instance, instance_all}
 use Rattle.ap_term.specs.Goals.{Part, call, group, Program}
 use Rattle.ap_term.specs.WellFormed.{IsProgram}
-use Rattle.ap_term.specs.Search.{Way, ways}
-use Rattle.ap_term.proofs.Solutions.{same_test, instance_agree, instance_all_agree, or_left, or_right}
-use Rattle.ap_laws.specs.Renaming.{Renamed, RenamedAll, RenamedPart, RenamedParts, Linked, RenamedWay, Local, LocalAll, LocalPart, LocalParts, LocalWay}
-use Rattle.ap_laws.specs.Plain.{append_trees, plain_goals, plain_way, plain_ways, Renames, Locals, RenamedPlainWay, LocalPlainWay, RenamedPlainWays}
+use Rattle.ap_term.specs.Search.{ways}
+use Rattle.ap_term.proofs.Solutions.{same_test, instance_agree, instance_all_agree, or_left}
+use Rattle.ap_laws.specs.Renaming.{RenamedAll, RenamedParts, Linked, RenamedWay, Local, LocalAll, LocalParts, LocalWay}
+use Rattle.ap_laws.specs.Plain.{append_trees, plain_goals, plain_way, plain_ways, Renames, Locals, RenamedPlainWay, LocalPlainWay}
 use Rattle.ap_laws.specs.Graft.{arguments}
 use Rattle.ap_laws.proofs.Zips.{AllZip-map, AllByRecursion-map}
 use Rattle.ap_laws.proofs.Local.{Local-occurs, LocalAll-occurs_all, Local-each, LocalAll-each}

@@ -1,27 +1,24 @@
 -- What it means that a search rejoins another, in answers and budgets.
-use Rattle.std.proofs.Common.{◌≡◌, ℕ, zero, suc, ◌+◌, ◌-◌, ◌<◌, ◌≤◌, ◌⊎◌, inl, inr, Bool, true, false, List, [], ◌∷◌, ◌++◌, map, refl, ap, ap₂, sym, ◌∙◌, subst, arith, append-nil}
-use Rattle.std.specs.List.{flat_map, AllByRecursion}
+use Rattle.std.proofs.Common.{◌≡◌, ℕ, zero, suc, ◌+◌, ◌-◌, ◌<◌, ◌≤◌, ◌⊎◌, inl, inr, List, [], ◌∷◌, ◌++◌, map, refl, ap, ap₂, sym, ◌∙◌, subst, arith, append-nil}
+use Rattle.std.specs.List.{flat_map}
 use Rattle.std.proofs.lemmas.List.{map-append}
 use Rattle.ap_term.specs.Tree.{Tree, Trees, node, none, more}
-use Rattle.ap_term.specs.Substitution.{instance, instance_all}
 use Rattle.ap_term.specs.Goals.{Program}
 use Rattle.ap_term.specs.Independence.{AreApart}
-use Rattle.ap_term.specs.Blocks.{IsPrefix}
 use Rattle.ap_term.specs.WellFormed.{IsProgram}
-use Rattle.ap_term.specs.Search.{State, Found, answers_to_depth, search}
-use Rattle.ap_laws.specs.Renaming.{Renamed, LocalAll, IsBelow}
-use Rattle.ap_laws.specs.Plain.{Plain, state, Ways, append_trees, tuple_of, goals_left, next_of, steps_of, plain_of, plain_goals, as_state, plain_ways, HasFullGroups, Renames, Locals, IsPlainBelow}
+use Rattle.ap_term.specs.Search.{State, answers_to_depth, search}
+use Rattle.ap_laws.specs.Plain.{Plain, state, Ways, append_trees, tuple_of, next_of, plain_of, plain_goals, as_state, plain_ways, HasFullGroups, Renames, Locals, IsPlainBelow}
 use Rattle.ap_laws.specs.Trace.{Action, called, cut, answered, trace, trace_to, traces, answers_in, calls_in, found_upto}
-use Rattle.ap_laws.specs.Graft.{alone, graft, grafts, IsOf, lifted_var, fitted}
-use Rattle.ap_laws.specs.Gives.{GivesAt, Gives, Rejoins, IsCallDue}
-use Rattle.ap_laws.specs.Tasks.{Round, first, later, closed, Task, task, Alternatives, exhausted, plain, frame, Slots, no_slot, fresh, busy, held, redone, again, joined_if, flat_task, flat_alternatives, flat_slots, left, edge_alternatives, edge_slots, slot_goals}
-use Rattle.ap_laws.specs.Events.{Runs, RejoinsTask, RejoinsAlternatives, RejoinsSlots}
+use Rattle.ap_laws.specs.Graft.{alone, graft, grafts, IsOf}
+use Rattle.ap_laws.specs.Gives.{GivesAt, Rejoins, IsCallDue}
+use Rattle.ap_laws.specs.Tasks.{Round, first, later, closed, Task, task, Alternatives, exhausted, plain, frame, Slots, no_slot, fresh, busy, held, redone, again, flat_task, flat_alternatives, flat_slots, left, edge_alternatives, edge_slots, slot_goals}
+use Rattle.ap_laws.specs.Events.{RejoinsTask, RejoinsAlternatives, RejoinsSlots}
 use Rattle.ap_laws.specs.Rejoining.{IsOnTheWay, IsRejoined, IsRejoinedAlone, AreRejoined, AreRejoinedIn, AreSlotsRejoined, IsSpent, IsSpentIn, IsSlotSpent, MeaningLaw, RejoinLaw}
 use Rattle.ap_laws.proofs.Invariant.{Weak, TaskInvariant, AlternativesInvariant}
 use Rattle.ap_laws.proofs.Plain.{Renames-plain_ways, Locals-plain_ways, LocalAll-plain_goals}
 use Rattle.ap_laws.proofs.Answers.{answers_in-append}
 use Rattle.ap_laws.proofs.Gives.{graft-answer}
-use Rattle.ap_laws.proofs.Flat.{IsPlainBelow-IsOf, IsOf-graft, next_of-le, Weak-Strong, Weak-Pivot}
+use Rattle.ap_laws.proofs.Flat.{IsPlainBelow-IsOf, next_of-le, Weak-Strong, Weak-Pivot}
 use Rattle.ap_laws.proofs.Runs.{IsOf-query, Rejoins-base, Rejoins-Runs, RejoinsTask-Runs}
 use Rattle.ap_laws.proofs.Views.{plain_of-as_state, AreGroups-calls, answers_to_depth-trace, search-trace}
 
@@ -56,7 +53,6 @@ traces-due A d (state (more g G) T n k ∷ l) c = go (d - k)
 -- ---- the meaning
 
 module _ (p : Program) (good : IsProgram p) where
-
   pub answers_to_depth-as_state : (d : ℕ) (u : Plain) → answers_to_depth p (as_state u) d ≡ map tuple_of (answers_in (trace_to (plain_ways p) d u))
   answers_to_depth-as_state d (state G T n k) =
       answers_to_depth-trace p good d (as_state (state G T n k)) (AreGroups-calls G)
@@ -74,13 +70,12 @@ module _ (p : Program) (good : IsProgram p) where
       ap answers_in (sym (append-nil (trace_to (plain_ways p) d u)) ∙ x.1) ∙ answers_in-append x.0 (traces (plain_ways p) d rest) ∙ ap (λ g. g ++ answers_in (traces (plain_ways p) d rest)) x.2
 
   module _ (s : State) (full : HasFullGroups s) (given rest : List Plain) (c : ℕ) (h : Rejoins (plain_ways p) (plain_of s) given rest c) where
-
     answers-Rejoins : (m : ℕ) × ((d : ℕ) → m ≤ d → answers_to_depth p s d ≡ map tuple_of given ++ flat_map (λ u. answers_to_depth p (as_state u) d) rest)
     answers-Rejoins = (
       h.0,
       λ d k.
           answers_to_depth-trace p good d s full ∙ ap (map tuple_of) (answers-GivesAt d (plain_of s) given rest c (h.1 d k))
-              ∙ map-append tuple_of given (answers_in (traces (plain_ways p) d rest)) ∙ ap (λ z. map tuple_of given ++ z) (sym (answers_to_depth-traces d rest)),
+          ∙ map-append tuple_of given (answers_in (traces (plain_ways p) d rest)) ∙ ap (λ z. map tuple_of given ++ z) (sym (answers_to_depth-traces d rest)),
     )
 
     -- a budget's search is that of the trace to a depth that is large enough
@@ -95,6 +90,7 @@ module _ (p : Program) (good : IsProgram p) where
       where
         d : ℕ
         d = h.0 + (n + s.steps)
+
         go : GivesAt (plain_ways p) d (plain_of s ∷ []) given rest c → IsOnTheWay (search p n (s ∷ [])) (map tuple_of given)
         go x = budget-at n d (omega arith) x (found_upto-short n x.0 (traces (plain_ways p) d rest) (omega (arith, x.3)))
 
@@ -103,6 +99,7 @@ module _ (p : Program) (good : IsProgram p) where
       where
         d : ℕ
         d = h.0 + (n + s.steps)
+
         go : GivesAt (plain_ways p) d (plain_of s ∷ []) given rest c → IsOnTheWay (search p n (s ∷ [])) (map tuple_of given)
         go x = budget-at n d (omega arith) x (found_upto-due n x.0 (traces (plain_ways p) d rest) (omega (arith, x.3)) (traces-due (plain_ways p) d rest due))
 
@@ -164,7 +161,6 @@ IsPast-frame budget c r e l m (inr h) = go h.1
     go (inr k) = inr (omega (arith, h.0, k.0), IsCallDue-append l m k.1)
 
 module _ (A : Ways) (renames : Renames A) (locals : Locals A) where
-
   mutual
     IsPast-IsSpent : (budget : ℕ) (t : Task) (h : Tree) (z : ℕ) → TaskInvariant A h z t → IsSpent budget t → IsPast budget (left t) (flat_task t)
     IsPast-IsSpent budget (task c l) h z i s = IsPast-IsSpentIn budget c l h z i s
@@ -177,16 +173,20 @@ module _ (A : Ways) (renames : Renames A) (locals : Locals A) where
     IsPast-IsSpentIn budget c (frame s closed w l) h z i q = absurd q
     IsPast-IsSpentIn budget c (frame s first w l) h z i (inl q) = inl q
     IsPast-IsSpentIn budget c (frame s first w l) h z i (inr q) =
-        IsPast-frame budget c q.0 (edge_slots w) (flat_slots w first (next_of s) s) (flat_alternatives l) (inr (q.1,
+        IsPast-frame budget c q.0 (edge_slots w) (flat_slots w first (next_of s) s) (flat_alternatives l) (inr (
+          q.1,
           subst (λ x. IsPast q.0 (edge_slots w) (flat_slots w first (next_of s) x)) (sym i.1.4)
-          (IsPast-IsSlotSpent q.0 w first (next_of s) i.1.0 i.1.1 i.1.2 i.1.3 (next_of-le s i.1.2 (ap next_of i.1.4)) i.1.5 (subst IsPlainBelow i.1.4 (IsPlainBelow-IsOf h z s i.0))
-          (Weak-Strong A renames locals w (next_of s) i.2) q.2)))
+              (IsPast-IsSlotSpent q.0 w first (next_of s) i.1.0 i.1.1 i.1.2 i.1.3 (next_of-le s i.1.2 (ap next_of i.1.4)) i.1.5 (subst IsPlainBelow i.1.4 (IsPlainBelow-IsOf h z s i.0))
+              (Weak-Strong A renames locals w (next_of s) i.2) q.2),
+        ))
     IsPast-IsSpentIn budget c (frame s later w l) h z i (inl q) = inl q
     IsPast-IsSpentIn budget c (frame s later w l) h z i (inr q) =
-        IsPast-frame budget c q.0 (edge_slots w) (flat_slots w later (next_of s) s) (flat_alternatives l) (inr (q.1,
+        IsPast-frame budget c q.0 (edge_slots w) (flat_slots w later (next_of s) s) (flat_alternatives l) (inr (
+          q.1,
           subst (λ x. IsPast q.0 (edge_slots w) (flat_slots w later (next_of s) x)) (sym i.1.4)
-          (IsPast-IsSlotSpent q.0 w later (next_of s) i.1.0 i.1.1 i.1.2 i.1.3 (next_of-le s i.1.2 (ap next_of i.1.4)) i.1.5 (subst IsPlainBelow i.1.4 (IsPlainBelow-IsOf h z s i.0))
-          (Weak-Pivot A renames locals w (next_of s) i.2) q.2)))
+              (IsPast-IsSlotSpent q.0 w later (next_of s) i.1.0 i.1.1 i.1.2 i.1.3 (next_of-le s i.1.2 (ap next_of i.1.4)) i.1.5 (subst IsPlainBelow i.1.4 (IsPlainBelow-IsOf h z s i.0))
+              (Weak-Pivot A renames locals w (next_of s) i.2) q.2),
+        ))
 
     IsPast-IsSlotSpent : (r : ℕ) (w : Slots) (round : Round) (b : ℕ) (K T : Trees) (n k : ℕ) → b ≤ n → AreApart (slot_goals w) → IsPlainBelow (state (append_trees (slot_goals w) K) T n k) → Weak A b w
         → IsSlotSpent r w → IsPast r (edge_slots w) (flat_slots w round b (state (append_trees (slot_goals w) K) T n k))
@@ -218,16 +218,22 @@ rejoin p good q below full emitted t runs = (rejoined, AreRejoined-RejoinsTask p
   where
     A : Ways
     A = plain_ways p
+
     renames : Renames A
     renames = Renames-plain_ways p good
+
     locals : Locals A
     locals = Locals-plain_ways p good
+
     G : Trees
     G = plain_goals q.goals
+
     own : IsOf (node 0 q.tuple) 0 (plain_of q)
     own = IsOf-query G q.tuple q.next q.steps (LocalAll-plain_goals (λ x. x < q.next) q.goals below.0) below.1
+
     rejoined : IsRejoined p q (map tuple_of emitted) (flat_task t) (left t)
     rejoined = IsRejoined-Rejoins p good q full emitted (flat_task t) (left t) (Rejoins-Runs A renames locals G q.tuple q.next q.steps own runs)
+
     spent : (budget : ℕ) → IsSpent budget t → IsOnTheWay (search p budget (q ∷ [])) (map tuple_of emitted)
     spent budget s = go (IsPast-IsSpent A renames locals budget t (node 0 q.tuple) 0 (Rejoins-base A renames locals G q.tuple q.next q.steps own runs).0 s)
       where

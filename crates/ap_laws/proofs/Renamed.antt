@@ -1,6 +1,6 @@
 -- What is computed of related trees is related: instances, variables, unifiers.
-use Rattle.std.proofs.Common.{◌≡◌, ℕ, zero, suc, ◌+◌, Bool, true, false, ◌||◌, ◌==◌, nat_eq, if◌then◌else◌, List, [], ◌∷◌, ◌++◌, map, length, Option, Some, None, option_and_then, option_map, refl, ap, ap₂, sym, ◌∙◌, subst, arith}
-use Rattle.std.specs.List.{flat_map, AllZip}
+use Rattle.std.proofs.Common.{◌≡◌, ℕ, zero, suc, ◌||◌, ◌==◌, nat_eq, List, [], ◌∷◌, ◌++◌, map, length, Option, Some, None, option_and_then, option_map, refl, ap₂, subst}
+use Rattle.std.specs.List.{AllZip}
 use Rattle.std.specs.Ordering.{int_eq}
 use Rattle.ap_term.specs.declared.clauses.Check.{Check}
 use Rattle.ap_term.specs.declared.clauses.Check.TheVariants.{Ground, Indep}
@@ -77,7 +77,6 @@ abbrev pub IsOneToOne : (ℕ → ℕ → Type 0) → Type 0
 IsOneToOne R = (x x' y y' : ℕ) → R x x' → R y y' → nat_eq x y ≡ nat_eq x' y'
 
 module _ (R : ℕ → ℕ → Type 0) (one_one : IsOneToOne R) where
-
   -- ---- variables
 
   mutual
@@ -230,7 +229,6 @@ module _ (R : ℕ → ℕ → Type 0) (one_one : IsOneToOne R) where
 -- ---- goals
 
 module _ (R S : ℕ → ℕ → Type 0) (one_one : IsOneToOne S) (f g : ℕ → Tree) (e : (x y : ℕ) → R x y → Renamed S (f x) (g y)) where
-
   vars-of : (x y : ℕ) → R x y → AllZip S (vars (f x)) (vars (g y))
   vars-of x y h = Renamed-add_vars S one_one (f x) (g y) [] [] (e x y h) tt
 

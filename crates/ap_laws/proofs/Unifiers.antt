@@ -1,13 +1,12 @@
 -- Two most general unifiers are the same up to names.
-use Rattle.std.proofs.Common.{◌≡◌, ℕ, Bool, true, false, ◌||◌, Some, refl, ap, ap₂, sym, ◌∙◌, subst}
+use Rattle.std.proofs.Common.{◌≡◌, ℕ, Bool, true, false, ◌||◌, refl, ap, sym, ◌∙◌, subst}
 use Rattle.std.proofs.lemmas.Bool.{false≢true}
 use Rattle.ap_term.specs.Tree.{Tree, Trees, var, int, atom, node, none, more}
 use Rattle.ap_term.specs.Vars.{occurs, occurs_all}
 use Rattle.ap_term.specs.Substitution.{instance, instance_all, Subst, value}
-use Rattle.ap_term.specs.Unifier.{IsMostGeneral}
 use Rattle.ap_term.proofs.Copies.{instance_var, instance_twice}
-use Rattle.ap_term.proofs.Solutions.{same_var, same_test, instance_agree}
-use Rattle.ap_laws.specs.Renaming.{Renamed, Local}
+use Rattle.ap_term.proofs.Solutions.{same_var, instance_agree}
+use Rattle.ap_laws.specs.Renaming.{Renamed}
 use Rattle.ap_laws.specs.Laws.{Inverse, UniqueUnifierLaw}
 use Rattle.ap_laws.proofs.Local.{Local-each}
 use Rattle.ap_laws.proofs.Ways.{Renamed-both}
@@ -42,7 +41,6 @@ named f (atom a) y e = cc
 named f (node a ts) y e = cc
 
 module _ (s r : Subst) (one : (x : ℕ) → instance (value r) (value s x) ≡ value r x) (two : (x : ℕ) → instance (value s) (value r x) ≡ value s x) where
-
   -- what stands there comes back
   back : (x y : ℕ) → occurs y (value s x) ≡ true → instance (value s) (value r y) ≡ var y
   back x y o =
@@ -64,12 +62,16 @@ unique a b s r h k =
   where
     one : (x : ℕ) → instance (value r) (value s x) ≡ value r x
     one = h.1 (value r) k.0
+
     two : (x : ℕ) → instance (value s) (value r x) ≡ value s x
     two = k.1 (value s) h.0
+
     f : ℕ → ℕ
     f y = name_of (value r y)
+
     g : ℕ → ℕ
     g y = name_of (value s y)
+
     related : (x : ℕ) → Renamed (Inverse f g) (value s x) (value r x)
     related x =
         subst (λ u. Renamed (Inverse f g) u (value r x)) (instance_var (value s x))

@@ -1,19 +1,19 @@
 -- The answers to a depth and what a budget finds are views of the trace of a state's plain form.
-use Rattle.std.proofs.Common.{◌≡◌, ℕ, zero, suc, ◌+◌, ◌-◌, ◌<◌, ◌≤◌, Bool, true, false, ◌&&◌, List, [], ◌∷◌, ◌++◌, map, Option, Some, None, refl, ap, ap₂, sym, ◌∙◌, subst, arith, append-nil, append_assoc}
+use Rattle.std.proofs.Common.{◌≡◌, ℕ, zero, suc, ◌+◌, ◌-◌, ◌≤◌, true, false, List, [], ◌∷◌, ◌++◌, map, Option, Some, None, refl, ap, ap₂, sym, ◌∙◌, arith}
 use Rattle.std.specs.List.{flat_map, AllByRecursion, list_all}
 use Rattle.std.proofs.lemmas.Bool.{false≢true}
 use Rattle.std.proofs.lemmas.Grind.{flat_map-append}
 use Rattle.std.proofs.lemmas.List.{map-append}
 use Rattle.std.proofs.lemmas.List.Elements.{All-head, All-tail}
-use Rattle.ap_term.specs.Tree.{Tree, Trees, none, more, count_trees}
+use Rattle.ap_term.specs.Tree.{Tree, Trees, none, more}
 use Rattle.ap_term.specs.Substitution.{instance, instance_all, Subst, value, shift}
-use Rattle.ap_term.specs.Goals.{Part, call, group, Clause, Program, instance_part, calls, opened}
+use Rattle.ap_term.specs.Goals.{Part, call, group, Program, instance_part, calls, opened}
 use Rattle.ap_term.specs.Builtins.{builtin}
-use Rattle.ap_term.specs.WellFormed.{well_formed_part, all_callable, numbered_all, numbered_check, IsClause, IsProgram}
-use Rattle.ap_term.specs.Search.{State, Way, way_if, clause_way, ways_by, ways, child, children_by, children, Found, by_goals, answers_below, answers_to_depth, done, open_states, with_answers, turn, search}
+use Rattle.ap_term.specs.WellFormed.{well_formed_part, numbered_check, IsClause, IsProgram}
+use Rattle.ap_term.specs.Search.{State, Way, way_if, clause_way, ways_by, ways, child, children_by, children, by_goals, answers_below, answers_to_depth, done, open_states, with_answers, turn, search}
 use Rattle.ap_term.proofs.SearchLaws.{HasGoals, AllSteps, children-steps, open-first}
-use Rattle.ap_laws.specs.Plain.{Plain, state, PlainWay, way, append_trees, tuple_of, plain_goals, plain_of, as_state, AreGroups, HasFullGroups, plain_way, plain_ways, plain_child, plain_children_by, plain_children}
-use Rattle.ap_laws.specs.Trace.{Action, called, cut, answered, trace, trace_to, traces, answers_in, found_before, found_upto}
+use Rattle.ap_laws.specs.Plain.{Plain, state, append_trees, tuple_of, plain_goals, plain_of, as_state, AreGroups, HasFullGroups, plain_way, plain_ways, plain_child, plain_children_by, plain_children}
+use Rattle.ap_laws.specs.Trace.{Action, called, trace, trace_to, traces, answers_in, found_before, found_upto}
 use Rattle.ap_laws.proofs.Zips.{AllByRecursion-append}
 use Rattle.ap_laws.proofs.Ways.{and_both}
 use Rattle.ap_laws.proofs.Graft.{state-eq}
@@ -151,7 +151,6 @@ HasFullGroups-children p good s h = HasFullGroups-children_by p good s (opened s
 -- ---- answers to a depth
 
 module _ (p : Program) (good : IsProgram p) where
-
   abbrev tuples : List Action → List Trees
   tuples es = map tuple_of (answers_in es)
 

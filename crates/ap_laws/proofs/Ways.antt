@@ -1,5 +1,5 @@
 -- The ways on from related goals, and the children of related states.
-use Rattle.std.proofs.Common.{◌≡◌, ℕ, ◌+◌, ◌-◌, ◌<◌, ◌≤◌, Bool, true, false, ◌&&◌, cond, nat_eq, nat_le, nat_lt, ltb, if◌then◌else◌, List, [], ◌∷◌, ◌++◌, map, Option, Some, None, refl, ap, sym, ◌∙◌, subst, arith}
+use Rattle.std.proofs.Common.{◌≡◌, ℕ, ◌+◌, ◌-◌, ◌<◌, ◌≤◌, Bool, true, false, ◌&&◌, nat_eq, nat_le, nat_lt, if◌then◌else◌, List, [], ◌∷◌, ◌++◌, map, Option, Some, None, refl, ap, sym, ◌∙◌, arith}
 use Rattle.std.specs.List.{flat_map, AllZip, AllByRecursion, list_all}
 use Rattle.std.proofs.lemmas.Bool.{false≢true, leb-true, lt-ltb, le-ltb}
 use Rattle.std.proofs.lemmas.List.Elements.{All-head, All-tail}
@@ -7,16 +7,15 @@ use Rattle.ap_term.specs.declared.clauses.Check.{Check}
 use Rattle.ap_term.specs.declared.clauses.Check.TheVariants.{Ground, Indep}
 use Rattle.ap_term.specs.Tree.{Tree, Trees, var, int, atom, node, none, more}
 use Rattle.ap_term.specs.Substitution.{instance, instance_all, Subst, value, shift}
-use Rattle.ap_term.specs.Unification.{mgu}
 use Rattle.ap_term.specs.Goals.{Part, call, group, Clause, Program, instance_check, instance_part, opened}
 use Rattle.ap_term.specs.Vars.{vars}
 use Rattle.ap_term.specs.WellFormed.{in_range, numbered, numbered_all, callable, all_callable, numbered_check, well_formed_part, IsClause, IsProgram}
 use Rattle.ap_term.specs.Builtins.{builtin}
 use Rattle.ap_term.specs.Search.{State, Way, way_if, clause_way, ways_by, ways, child, children_by, children}
-use Rattle.ap_laws.specs.Renaming.{OptionZip, OptionAll, Renamed, RenamedAll, RenamedPair, RenamedSubst, RenamedCheck, RenamedPart, RenamedParts, Linked, RenamedWay, RenamedBy, SameState, Local, LocalAll, LocalSubst, LocalCheck, LocalPart, LocalParts, LocalWay, IsBelow}
-use Rattle.ap_laws.proofs.Zips.{AllZip-append, AllZip-map, AllZip-flat_map, AllZip-weaken, AllZip-both, AllZip-flat_map_both, AllByRecursion-append, AllByRecursion-weaken}
+use Rattle.ap_laws.specs.Renaming.{OptionZip, OptionAll, Renamed, RenamedAll, RenamedSubst, RenamedCheck, RenamedPart, RenamedParts, Linked, RenamedWay, RenamedBy, SameState, Local, LocalAll, LocalSubst, LocalCheck, LocalPart, LocalParts, LocalWay}
+use Rattle.ap_laws.proofs.Zips.{AllZip-append, AllZip-map, AllZip-flat_map, AllZip-both, AllZip-flat_map_both, AllByRecursion-append, AllByRecursion-weaken}
 use Rattle.ap_laws.proofs.Renamed.{IsOneToOne, Renamed-weaken, RenamedAll-weaken, RenamedParts-weaken, Renamed-opened, Renamed-value, RenamedAll-instance_all, Renamed-mgu, Renamed-add_vars, RenamedParts-instance_part}
-use Rattle.ap_laws.proofs.Local.{Local-mgu, Local-weaken, LocalAll-weaken, Local-instance, LocalAll-instance_all, LocalParts-instance_part}
+use Rattle.ap_laws.proofs.Local.{Local-mgu, Local-weaken, LocalAll-weaken, Local-instance, LocalParts-instance_part}
 use Rattle.ap_laws.proofs.Builtins.{Renamed-builtin, Local-builtin}
 use Rattle.ap_term.proofs.Solutions.{same_var, same_test}
 
@@ -125,7 +124,6 @@ mutual
   RenamedAll-both P R f g e (more t ts) h = (Renamed-both P R f g e t h.0, RenamedAll-both P R f g e ts h.1)
 
 module _ (P : ℕ → Type 0) (R : ℕ → ℕ → Type 0) (one_one : IsOneToOne R) (f g : ℕ → Tree) (e : (x : ℕ) → P x → Renamed R (f x) (g x)) where
-
   vars-both : (x : ℕ) → P x → AllZip R (vars (f x)) (vars (g x))
   vars-both x h = Renamed-add_vars R one_one (f x) (g x) [] [] (e x h) tt
 
@@ -153,7 +151,6 @@ way_if-renamed f g n m k None (Some _) b c h j = absurd h
 way_if-renamed f g n m k (Some _) None b c h j = absurd h
 
 module _ (f g : ℕ → ℕ) (n m : ℕ) (forth : Continues f n m) (back : Continues g m n) where
-
   new-linked : (k x : ℕ) → x ≤ k → Linked f g (n + (k + 1)) (m + (k + 1)) (x + n) (x + m)
   new-linked k x h = (forth x, back x, omega arith, omega arith)
 
@@ -189,7 +186,6 @@ module _ (f g : ℕ → ℕ) (n m : ℕ) (forth : Continues f n m) (back : Conti
 -- ---- what a way binds and mentions
 
 module _ (P : ℕ → Type 0) where
-
   way_if-local : (o : Option Subst) (b : List Part) (k : ℕ) → OptionAll (LocalSubst P) o → LocalParts P b → AllByRecursion (LocalWay P) (way_if o b k)
   way_if-local None b k h j = tt
   way_if-local (Some s) b k h j = ((h, j), tt)
@@ -216,20 +212,25 @@ module _ (P : ℕ → Type 0) where
 -- ---- children
 
 module _ (f g : ℕ → ℕ) (s t : State) (same : RenamedBy f g s t) where
-
   pub SameState-child : (ps qs : List Part) → RenamedParts (Linked f g s.next t.next) ps qs → (v w : Way) → RenamedWay f g s.next t.next v w → SameState (child s ps v) (child t qs w)
-  SameState-child ps qs h v w k = (f, g, (
-    RenamedParts-instance_part R R one_one (value v.binds) (value w.binds) values (v.body ++ ps) (w.body ++ qs)
-        (AllZip-append (RenamedPart R) v.body ps w.body qs k.2 (RenamedParts-weaken (Linked f g s.next t.next) R (Linked-more f g s.next t.next v.takes w.takes) ps qs h)),
-    RenamedAll-instance_all R R (value v.binds) (value w.binds) values s.tuple t.tuple
-        (RenamedAll-weaken (Linked f g s.next t.next) R (Linked-more f g s.next t.next v.takes w.takes) s.tuple t.tuple same.1),
-    ap (λ n. n + 1) same.2,
-  ))
+  SameState-child ps qs h v w k = (
+    f,
+    g,
+    (
+      RenamedParts-instance_part R R one_one (value v.binds) (value w.binds) values (v.body ++ ps) (w.body ++ qs)
+          (AllZip-append (RenamedPart R) v.body ps w.body qs k.2 (RenamedParts-weaken (Linked f g s.next t.next) R (Linked-more f g s.next t.next v.takes w.takes) ps qs h)),
+      RenamedAll-instance_all R R (value v.binds) (value w.binds) values s.tuple t.tuple
+          (RenamedAll-weaken (Linked f g s.next t.next) R (Linked-more f g s.next t.next v.takes w.takes) s.tuple t.tuple same.1),
+      ap (λ n. n + 1) same.2,
+    ),
+  )
     where
       R : ℕ → ℕ → Type 0
       R = Linked f g (s.next + v.takes) (t.next + w.takes)
+
       one_one : IsOneToOne R
       one_one = IsOneToOne-Linked f g (s.next + v.takes) (t.next + w.takes)
+
       values : (x y : ℕ) → R x y → Renamed R (value v.binds x) (value w.binds y)
       values = Renamed-value R one_one v.binds w.binds k.1
 

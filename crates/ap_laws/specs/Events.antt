@@ -1,13 +1,11 @@
 -- The events of a parallel search.
-use Rattle.std.specs.Prelude.{◌≡◌, ℕ, zero, suc, ◌+◌, ◌-◌, ◌<◌, ◌≤◌, ◌⊎◌, true, false, List, [], ◌∷◌, ◌++◌}
-use Rattle.std.specs.List.{flat_map}
+use Rattle.std.specs.Prelude.{◌≡◌, ℕ, suc, ◌+◌, ◌-◌, ◌≤◌, ◌⊎◌, List, [], ◌∷◌, ◌++◌}
 use Rattle.ap_term.specs.Tree.{Tree, Trees, none, more}
 use Rattle.ap_term.specs.Independence.{AreApart}
-use Rattle.ap_laws.specs.Renaming.{Local, LocalAll}
-use Rattle.ap_laws.specs.Plain.{Plain, state, Ways, append_trees, goals_left, next_of, plain_children_by}
-use Rattle.ap_laws.specs.Graft.{alone, graft, grafts, IsOf, IsDead}
-use Rattle.ap_laws.specs.Gives.{Gives, Rejoins}
-use Rattle.ap_laws.specs.Tasks.{Round, first, later, closed, Task, task, Alternatives, exhausted, plain, frame, Slots, no_slot, fresh, busy, held, redone, again, joined_if, flat_task, flat_alternatives, flat_slots, left, edge_round, edge_alternatives, edge_slots, slot_goals}
+use Rattle.ap_laws.specs.Plain.{Plain, state, Ways, append_trees, next_of, plain_children_by}
+use Rattle.ap_laws.specs.Graft.{alone, graft}
+use Rattle.ap_laws.specs.Gives.{Rejoins}
+use Rattle.ap_laws.specs.Tasks.{first, later, closed, Task, task, Alternatives, exhausted, plain, frame, Slots, no_slot, fresh, busy, held, redone, again, flat_task, left, edge_slots}
 
 abbrev pub plains : List Plain → Alternatives → Alternatives
 plains [] l = l

@@ -1,14 +1,14 @@
 -- The laws that the crate's functions stand for.
-use Rattle.std.specs.Prelude.{◌≡◌, ℕ, ◌+◌, ◌≤◌, Bool, true, List, [], ◌∷◌, Option, Some, None}
+use Rattle.std.specs.Prelude.{◌≡◌, ℕ, ◌+◌, ◌≤◌, Bool, true, [], ◌∷◌, Some}
 use Rattle.std.specs.List.{AllZip, AllByRecursion}
-use Rattle.ap_term.specs.Tree.{Tree, Trees, var}
+use Rattle.ap_term.specs.Tree.{Tree, var}
 use Rattle.ap_term.specs.Substitution.{instance, Subst, value}
 use Rattle.ap_term.specs.Unification.{mgu}
 use Rattle.ap_term.specs.Unifier.{IsMostGeneral}
 use Rattle.ap_term.specs.Goals.{Program}
 use Rattle.ap_term.specs.WellFormed.{IsProgram}
 use Rattle.ap_term.specs.UpToNames.{SameUpToNames}
-use Rattle.ap_term.specs.Search.{State, Found, Way, ways, children, answers_to_depth, search}
+use Rattle.ap_term.specs.Search.{State, Found, ways, children, answers_to_depth, search}
 use Rattle.ap_laws.specs.Renaming.{OptionZip, OptionAll, Renamed, RenamedSubst, Linked, RenamedWay, SameState, Local, LocalSubst, LocalWay, IsBelow}
 
 -- Trees that are the same up to names have most general unifiers that are, or none; and a unifier binds and mentions

@@ -11,7 +11,7 @@ use Rattle.ap_laws.specs.Plain.{Plain, tuple_of, goals_left, next_of, plain_of, 
 use Rattle.ap_laws.specs.Trace.{trace_to, traces, answers_in}
 use Rattle.ap_laws.specs.Graft.{alone}
 use Rattle.ap_laws.specs.Gives.{Rejoins, IsCallDue}
-use Rattle.ap_laws.specs.Tasks.{Round, first, later, closed, Task, task, Alternatives, exhausted, plain, frame, Slots, no_slot, fresh, busy, held, redone, again, flat_task, left, edge_slots}
+use Rattle.ap_laws.specs.Tasks.{first, later, closed, Task, task, Alternatives, exhausted, plain, frame, Slots, no_slot, fresh, busy, held, redone, again, flat_task, left, edge_slots}
 use Rattle.ap_laws.specs.Events.{Runs}
 
 -- it hasn't ended, and what it found begins the list

@@ -1,5 +1,5 @@
 -- The laws of searching a conjunction.
-use Rattle.std.specs.Prelude.{◌≡◌, ℕ, ◌+◌, ◌-◌, ◌<◌, ◌≤◌, false, List, [], ◌∷◌, ◌++◌, map}
+use Rattle.std.specs.Prelude.{◌≡◌, ℕ, ◌+◌, ◌<◌, ◌≤◌, false, List, [], ◌∷◌, ◌++◌, map}
 use Rattle.std.specs.List.{AllByRecursion}
 use Rattle.ap_term.specs.Tree.{Tree, Trees, none, more}
 use Rattle.ap_term.specs.Vars.{occurs}
@@ -27,7 +27,7 @@ TraceLaw =
     × ((s : State) → HasFullGroups s → AllByRecursion HasFullGroups (children p s))
     × ((s : State) → HasFullGroups s → (d : ℕ) → answers_to_depth p s d ≡ map tuple_of (answers_in (trace_to (plain_ways p) d (plain_of s))))
     × ((ss : List State) → AllByRecursion HasFullGroups ss → (d n : ℕ) → AllByRecursion (λ s. n + s.steps ≤ d) ss
-        → search p n ss ≡ found_upto n (traces (plain_ways p) d (map plain_of ss)))
+    → search p n ss ≡ found_upto n (traces (plain_ways p) d (map plain_of ss)))
 
 -- A state of a goal's own search, put in the goal's place: its children are the children in the goal's own search, put
 -- there; so are the states of its whole search; and the goal alone, put there, is the state itself.
@@ -35,10 +35,10 @@ abbrev pub GraftLaw : Type 0
 GraftLaw =
     (p : Program) → IsProgram p → (g : Tree) (K T : Trees) (b n k : ℕ) → b ≤ n → IsPlainBelow (state (more g K) T n k)
     → ((t : Tree) (G U : Trees) (m j : ℕ) → IsOf g b (state (more t G) U m j)
-        → (plain_children (plain_ways p) (graft b (state (more g K) T n k) (state (more t G) U m j)) ≡ grafts b (state (more g K) T n k) (plain_children (plain_ways p) (state (more t G) U m j)))
-        × AreOf g b (plain_children (plain_ways p) (state (more t G) U m j)))
+    → (plain_children (plain_ways p) (graft b (state (more g K) T n k) (state (more t G) U m j)) ≡ grafts b (state (more g K) T n k) (plain_children (plain_ways p) (state (more t G) U m j)))
+    × AreOf g b (plain_children (plain_ways p) (state (more t G) U m j)))
     × ((r : ℕ) (u : Plain) → IsOf g b u
-        → trace (plain_ways p) r (graft b (state (more g K) T n k) u) ≡ followed (trace (plain_ways p) r u) (λ a l. trace (plain_ways p) l (graft b (state (more g K) T n k) a)))
+    → trace (plain_ways p) r (graft b (state (more g K) T n k) u) ≡ followed (trace (plain_ways p) r u) (λ a l. trace (plain_ways p) l (graft b (state (more g K) T n k) a)))
     × (Local (λ x. x < b) g → IsOf g b (alone g b) × (graft b (state (more g K) T n k) (alone g b) ≡ state (more g K) T n k))
 
 -- searching a conjunction is searching its first goal alone and going on from each answer
@@ -55,7 +55,7 @@ IndependenceLaw =
     → Local (λ x. x < b) g → Local (λ x. x < b) h → SharesNoVariable g h
     → trace (plain_ways p) r (state (more g (more h K)) T n k)
     ≡ followed (trace (plain_ways p) r (alone g b))
-        (λ a l. followed (trace (plain_ways p) l (alone h b)) (λ c i. trace (plain_ways p) i (graft b (graft b (state (more g (more h K)) T n k) a) c)))
+    (λ a l. followed (trace (plain_ways p) l (alone h b)) (λ c i. trace (plain_ways p) i (graft b (graft b (state (more g (more h K)) T n k) a) c)))
 
 -- behind goals with which it shares no variable, a goal without answers leaves the conjunction none
 abbrev pub DeadConjunctLaw : Type 0
@@ -76,5 +76,5 @@ GivesLaw =
     × ((T : Trees) (n k : ℕ) (l : List Plain) → Gives (plain_ways p) (state none T n k ∷ l) (state none T n k ∷ []) l 0)
     × ((g : Tree) (G T : Trees) (n k : ℕ) → Gives (plain_ways p) (state (more g G) T n k ∷ []) [] (plain_children (plain_ways p) (state (more g G) T n k)) 1)
     × ((g : Tree) (K T : Trees) (b n k : ℕ) → b ≤ n → IsPlainBelow (state (more g K) T n k) → (l m : List Plain) (c : ℕ) → AreOf g b l → AreOf g b m
-        → Gives (plain_ways p) l [] m c → Gives (plain_ways p) (grafts b (state (more g K) T n k) l) [] (grafts b (state (more g K) T n k) m) c)
+    → Gives (plain_ways p) l [] m c → Gives (plain_ways p) (grafts b (state (more g K) T n k) l) [] (grafts b (state (more g K) T n k) m) c)
     × ((s : State) (m : List Plain) (c : ℕ) → HasFullGroups s → ((d : ℕ) → answers_to_depth p s d ≡ []) → Gives (plain_ways p) (plain_of s ∷ []) [] m c → Gives (plain_ways p) (plain_of s ∷ []) [] [] c)

@@ -1,7 +1,7 @@
 -- The trace of a depth-bounded search. The answers to a depth and what a budget finds are two views of it.
-use Rattle.std.specs.Prelude.{◌≡◌, ℕ, zero, suc, ◌+◌, ◌-◌, ◌<◌, ◌≤◌, false, true, List, [], ◌∷◌, ◌++◌}
+use Rattle.std.specs.Prelude.{ℕ, zero, suc, ◌-◌, false, true, List, [], ◌∷◌, ◌++◌}
 use Rattle.std.specs.List.{flat_map}
-use Rattle.ap_term.specs.Tree.{Tree, Trees, int, none, more}
+use Rattle.ap_term.specs.Tree.{Trees, none, more}
 use Rattle.ap_term.specs.Search.{Found}
 use Rattle.ap_laws.specs.Plain.{Plain, state, Ways, steps_of, plain_children_by, tuple_of}
 

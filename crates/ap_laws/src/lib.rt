@@ -10,83 +10,69 @@ ghost use Rattle.ap_laws.specs.Rejoining.{MeaningLaw, RejoinLaw};
 /// Unification commutes with renamings, and binds and mentions only variables of its input.
 pub fn unifier_law()
     ensures { UnifierLaw }
-{
-}
+{}
 
 /// Two most general unifiers of one pair of terms are equal up to a renaming.
 pub fn unique_unifier_law()
     ensures { UniqueUnifierLaw }
-{
-}
+{}
 
 /// The ways on from a goal commute with renamings, and bind and mention only the goal's variables and new ones.
 pub fn ways_law()
     ensures { WaysLaw }
-{
-}
+{}
 
 /// The children of a state commute with renamings, and have only variables below their first unused one.
 pub fn children_law()
     ensures { ChildrenLaw }
-{
-}
+{}
 
 /// A search does not depend on the names of variables.
 pub fn renaming_law()
     ensures { RenamingLaw }
-{
-}
+{}
 
 /// A query begins in a state that meets the conditions of the other laws.
 pub fn query_law()
     ensures { QueryLaw }
-{
-}
+{}
 
 /// The answers to a depth and what a budget finds are two views of one trace.
 pub fn trace_law()
     ensures { TraceLaw }
-{
-}
+{}
 
 /// A goal's search in the goal's place is the goal's own search, put there.
 pub fn graft_law()
     ensures { GraftLaw }
-{
-}
+{}
 
 /// Searching a conjunction is searching its first goal and going on from each answer.
 pub fn split_law()
     ensures { SplitLaw }
-{
-}
+{}
 
 /// Behind an independent goal a goal has the answers and costs that it has alone.
 pub fn independence_law()
     ensures { IndependenceLaw }
-{
-}
+{}
 
 /// A goal without answers leaves a conjunction none.
 pub fn dead_conjunct_law()
     ensures { DeadConjunctLaw }
-{
-}
+{}
 
 /// What searches give can be put together.
 pub fn gives_law()
     ensures { GivesLaw }
-{
-}
+{}
 
 /// What it means that what is left of a search rejoins it.
 pub fn meaning_law()
     ensures { MeaningLaw }
-{
-}
+{}
 
 /// A parallel search rejoins the sequential one at each moment.
 pub fn rejoin_law()
     ensures { RejoinLaw }
-{
-}
+{}
