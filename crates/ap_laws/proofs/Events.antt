@@ -144,7 +144,7 @@ pub LocalAll-append_right : (P : ℕ → Type 0) (ts us : Trees) → LocalAll P 
 LocalAll-append_right P none us h = h
 LocalAll-append_right P (more t ts) us h = LocalAll-append_right P ts us h.1
 
--- in a closed frame what D16's `next_redo` finds has nothing but answers left of it, and nothing to read right of it
+-- in a closed frame the rightmost slot with an alternative has nothing but answers left of it, and nothing to read right of it
 pub NextRedo-IsUntouched : {w v : Slots} → NextRedo w v → IsUntouched w → ⊥
 NextRedo-IsUntouched (next_busy q n) h = h
 NextRedo-IsUntouched (next_redone q n) h = h

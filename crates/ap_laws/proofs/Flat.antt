@@ -150,7 +150,7 @@ module _ (A : Ways) (renames : Renames A) (locals : Locals A) where
     AreOf-base_slots (again g m a t c w) h z b K T n k bn ind o i =
         (IsOf-graft h z g (append_trees (slot_goals w) K) T b n k bn o a i.2, AreOf-grafts h z g (append_trees (slot_goals w) K) T b n k bn o (flat_task t) (AreOf-flat_task t g b i.1))
 
-  -- from the base to what D19 reads
+  -- from the base to what is read
   mutual
     pub Gives-flat_task : (t : Task) (h : Tree) (z : ℕ) → TaskInvariant A h z t → (e : ℕ) × Gives A (base t) [] (flat_task t) e × (left t ≤ cost t + e)
     Gives-flat_task (task c l) h z i = let q = Gives-flat_alternatives l h z i in (q.0, q.1, omega (arith, q.2))

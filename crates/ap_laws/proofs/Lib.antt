@@ -17,3 +17,4 @@ pub mod Events
 pub mod Runs
 pub mod Rejoining
 pub mod Conjunctions
+pub mod CopiedAnswers

@@ -1,15 +1,16 @@
 -- Two most general unifiers are the same up to names.
-use Rattle.std.proofs.Common.{◌≡◌, ℕ, Bool, true, false, ◌||◌, refl, ap, sym, ◌∙◌, subst}
+use Rattle.std.proofs.Common.{◌≡◌, ℕ, ◌+◌, ◌<◌, Bool, true, false, ◌||◌, ◌++◌, refl, ap, sym, ◌∙◌, subst}
 use Rattle.std.proofs.lemmas.Bool.{false≢true}
 use Rattle.ap_term.specs.Tree.{Tree, Trees, var, int, atom, node, none, more}
 use Rattle.ap_term.specs.Vars.{occurs, occurs_all}
 use Rattle.ap_term.specs.Substitution.{instance, instance_all, Subst, value}
 use Rattle.ap_term.proofs.Copies.{instance_var, instance_twice}
 use Rattle.ap_term.proofs.Solutions.{same_var, instance_agree}
-use Rattle.ap_laws.specs.Renaming.{Renamed}
-use Rattle.ap_laws.specs.Laws.{Inverse, UniqueUnifierLaw}
-use Rattle.ap_laws.proofs.Local.{Local-each}
-use Rattle.ap_laws.proofs.Ways.{Renamed-both}
+use Rattle.ap_laws.specs.Renaming.{Renamed, RenamedAll, Linked, Local, LocalAll}
+use Rattle.ap_laws.specs.Laws.{Inverse, UniqueUnifierLaw, ChildByUnifierLaw}
+use Rattle.ap_laws.proofs.Local.{Local-each, Local-value}
+use Rattle.ap_laws.proofs.Renamed.{Renamed-weaken}
+use Rattle.ap_laws.proofs.Ways.{IsOneToOne-Linked, Renamed-both, RenamedAll-both, RenamedParts-both}
 
 mutual
   -- maps that give one instance agree on the variables that occur
@@ -77,3 +78,36 @@ unique a b s r h k =
         subst (λ u. Renamed (Inverse f g) u (value r x)) (instance_var (value s x))
         (subst (Renamed (Inverse f g) (instance (λ y. var y) (value s x))) (sym (renamed_is s r one two x))
         (Renamed-both (λ y. g (f y) ≡ y) (Inverse f g) (λ y. var y) (λ y. var (f y)) (λ y e. (refl, e)) (value s x) (Local-each (λ y. g (f y) ≡ y) (value s x) (inverse s r one two x))))
+
+-- ---- children by two unifiers
+
+mutual
+  Renamed-and : (R : ℕ → ℕ → Type 0) (P : ℕ → Type 0) (t u : Tree) → Renamed R t u → Local P t → Local P u → Renamed (λ x y. R x y × P x × P y) t u
+  Renamed-and R P (var x) (var y) h j k = (h, j, k)
+  Renamed-and R P (int z) (int w) h j k = h
+  Renamed-and R P (atom a) (atom b) h j k = h
+  Renamed-and R P (node a ts) (node b us) h j k = (h.0, RenamedAll-and R P ts us h.1 j k)
+  Renamed-and R P _ _ h j k = absurd h
+
+  RenamedAll-and : (R : ℕ → ℕ → Type 0) (P : ℕ → Type 0) (ts us : Trees) → RenamedAll R ts us → LocalAll P ts → LocalAll P us → RenamedAll (λ x y. R x y × P x × P y) ts us
+  RenamedAll-and R P none none h j k = tt
+  RenamedAll-and R P (more t ts) (more u us) h j k = (Renamed-and R P t u h.0 j.0 k.0, RenamedAll-and R P ts us h.1 j.1 k.1)
+  RenamedAll-and R P _ _ h j k = absurd h
+
+pub SameState-unifiers : ChildByUnifierLaw
+SameState-unifiers s rest body takes a b u v hu hv lu lv lp lt = (q.0, q.1, (
+  RenamedParts-both (λ x. x < n) R (IsOneToOne-Linked q.0 q.1 n n) (value u) (value v) each (body ++ rest) lp,
+  RenamedAll-both (λ x. x < n) R (value u) (value v) each s.tuple lt,
+  refl,
+))
+  where
+    n : ℕ
+    n = s.next + takes
+    q : (f : ℕ → ℕ) × (g : ℕ → ℕ) × ((x : ℕ) → (value v x ≡ instance (λ y. var (f y)) (value u x)) × (value u x ≡ instance (λ y. var (g y)) (value v x)) × Renamed (Inverse f g) (value u x) (value v x))
+    q = unique a b u v hu hv
+    R : ℕ → ℕ → Type 0
+    R = Linked q.0 q.1 n n
+    each : (x : ℕ) → x < n → Renamed R (value u x) (value v x)
+    each x l =
+        Renamed-weaken (λ x y. Inverse q.0 q.1 x y × (x < n) × (y < n)) R (λ x y k. (k.0.0, k.0.1, k.1, k.2)) (value u x) (value v x)
+        (Renamed-and (Inverse q.0 q.1) (λ x. x < n) (value u x) (value v x) (q.2 x).2 (Local-value (λ x. x < n) u lu x l) (Local-value (λ x. x < n) v lv x l))

@@ -1,15 +1,17 @@
 -- The laws that the crate's functions stand for.
-use Rattle.std.specs.Prelude.{◌≡◌, ℕ, ◌+◌, ◌≤◌, Bool, true, [], ◌∷◌, Some}
+use Rattle.std.specs.Prelude.{◌≡◌, ℕ, ◌+◌, ◌≤◌, Bool, true, List, [], ◌∷◌, Some, ◌-◌, ◌<◌, ◌++◌, map}
 use Rattle.std.specs.List.{AllZip, AllByRecursion}
-use Rattle.ap_term.specs.Tree.{Tree, var}
-use Rattle.ap_term.specs.Substitution.{instance, Subst, value}
+use Rattle.ap_term.specs.Tree.{Tree, Trees, var, none}
+use Rattle.ap_term.specs.Substitution.{instance, instance_all, Subst, value}
 use Rattle.ap_term.specs.Unification.{mgu}
 use Rattle.ap_term.specs.Unifier.{IsMostGeneral}
-use Rattle.ap_term.specs.Goals.{Program}
+use Rattle.ap_term.specs.Goals.{Part, Program, instance_part}
 use Rattle.ap_term.specs.WellFormed.{IsProgram}
 use Rattle.ap_term.specs.UpToNames.{SameUpToNames}
-use Rattle.ap_term.specs.Search.{State, Found, ways, children, answers_to_depth, search}
-use Rattle.ap_laws.specs.Renaming.{OptionZip, OptionAll, Renamed, RenamedSubst, Linked, RenamedWay, SameState, Local, LocalSubst, LocalWay, IsBelow}
+use Rattle.ap_term.specs.Search.{State, Found, Way, ways, child, children, answers_to_depth, search}
+use Rattle.ap_laws.specs.Renaming.{OptionZip, OptionAll, Renamed, RenamedAll, RenamedSubst, Linked, RenamedWay, SameState, Local, LocalAll, LocalSubst, LocalParts, LocalWay, IsBelow}
+use Rattle.ap_laws.specs.Plain.{state}
+use Rattle.ap_laws.specs.Graft.{arguments, fit_all, fitted, IsOf}
 
 -- Trees that are the same up to names have most general unifiers that are, or none; and a unifier binds and mentions
 -- only variables of the two trees: of each kind that has all of these.
@@ -43,6 +45,24 @@ ChildrenLaw =
     (p : Program) → IsProgram p
     → ((s t : State) → SameState s t → AllZip SameState (children p s) (children p t))
     × ((s : State) → IsBelow s → AllByRecursion IsBelow (children p s))
+
+-- A call's child is the same up to names whichever most general unifier binds it.
+abbrev pub ChildByUnifierLaw : Type 0
+ChildByUnifierLaw =
+    (s : State) (rest body : List Part) (takes : ℕ) (a b : Tree) (u v : Subst) → IsMostGeneral a b (Some u) → IsMostGeneral a b (Some v)
+    → LocalSubst (λ x. x < s.next + takes) u → LocalSubst (λ x. x < s.next + takes) v → LocalParts (λ x. x < s.next + takes) (body ++ rest) → LocalAll (λ x. x < s.next + takes) s.tuple
+    → SameState (child s rest (record { binds = u; body = body; takes = takes })) (child s rest (record { binds = v; body = body; takes = takes }))
+
+-- A goal's answer, copied under other names that are new, serves as well: what becomes of the goals and of the tuple
+-- behind the goal is the same up to names.
+abbrev pub CopiedAnswerLaw : Type 0
+CopiedAnswerLaw =
+    (g : Tree) (b n m j k n' : ℕ) (U V : Trees) (f h : ℕ → ℕ) (ps : List Part) (T : Trees)
+    → b ≤ n → n ≤ n' → IsOf g b (state none U m j) → RenamedAll (Linked f h m n') U V → LocalAll (λ x. n ≤ x) V
+    → LocalParts (λ x. x < n) ps → LocalAll (λ x. x < n) T
+    → SameState
+        (record { goals = map (instance_part (fitted g b n U)) ps; tuple = instance_all (fitted g b n U) T; next = n + (m - b); steps = k })
+        (record { goals = map (instance_part (value (fit_all (arguments g) V []))) ps; tuple = instance_all (value (fit_all (arguments g) V [])) T; next = n'; steps = k })
 
 -- the answers are the same up to names, in the same order, and so is the end
 abbrev pub SameFound : Found → Found → Type 0

@@ -3,7 +3,7 @@
 //! Stands on `ap_term` alone. Each function here has an empty body; its contract is a law.
 #![tactic(auto)]
 
-ghost use Rattle.ap_laws.specs.Laws.{UnifierLaw, UniqueUnifierLaw, WaysLaw, ChildrenLaw, RenamingLaw};
+ghost use Rattle.ap_laws.specs.Laws.{UnifierLaw, UniqueUnifierLaw, WaysLaw, ChildrenLaw, ChildByUnifierLaw, CopiedAnswerLaw, RenamingLaw};
 ghost use Rattle.ap_laws.specs.SearchLaws.{QueryLaw, TraceLaw, GraftLaw, SplitLaw, IndependenceLaw, DeadConjunctLaw, GivesLaw};
 ghost use Rattle.ap_laws.specs.Rejoining.{MeaningLaw, RejoinLaw};
 
@@ -25,6 +25,16 @@ pub fn ways_law()
 /// The children of a state commute with renamings, and have only variables below their first unused one.
 pub fn children_law()
     ensures { ChildrenLaw }
+{}
+
+/// A child by another most general unifier is equal up to a renaming.
+pub fn child_by_unifier_law()
+    ensures { ChildByUnifierLaw }
+{}
+
+/// An answer that was copied under other names serves as well in its goal's place.
+pub fn copied_answer_law()
+    ensures { CopiedAnswerLaw }
 {}
 
 /// A search does not depend on the names of variables.
