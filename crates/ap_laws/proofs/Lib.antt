@@ -18,3 +18,4 @@ pub mod Runs
 pub mod Rejoining
 pub mod Conjunctions
 pub mod CopiedAnswers
+pub mod Example

@@ -6,6 +6,7 @@
 ghost use Rattle.ap_laws.specs.Laws.{UnifierLaw, UniqueUnifierLaw, WaysLaw, ChildrenLaw, ChildByUnifierLaw, CopiedAnswerLaw, RenamingLaw};
 ghost use Rattle.ap_laws.specs.SearchLaws.{QueryLaw, TraceLaw, GraftLaw, SplitLaw, IndependenceLaw, DeadConjunctLaw, GivesLaw};
 ghost use Rattle.ap_laws.specs.Rejoining.{MeaningLaw, RejoinLaw};
+ghost use Rattle.ap_laws.specs.Example.{ExampleLaw};
 
 /// Unification commutes with renamings, and binds and mentions only variables of its input.
 pub fn unifier_law()
@@ -85,4 +86,9 @@ pub fn meaning_law()
 /// A parallel search rejoins the sequential one at each moment.
 pub fn rejoin_law()
     ensures { RejoinLaw }
+{}
+
+/// The definitions compute, and a parallel search of two goals exists.
+pub fn example_law()
+    ensures { ExampleLaw }
 {}
