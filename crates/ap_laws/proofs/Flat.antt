@@ -9,24 +9,17 @@ use Rattle.ap_laws.specs.Renaming.{LocalAll}
 use Rattle.ap_laws.specs.Plain.{Plain, state, Ways, append_trees, next_of, Renames, Locals, IsPlainBelow}
 use Rattle.ap_laws.specs.Graft.{arguments, alone, lifted, lifted_var, fitted, graft, grafts, IsOwn, IsOf, AreOf}
 use Rattle.ap_laws.proofs.Local.{LocalAll-occurs_all, LocalAll-instance_all}
+use Rattle.ap_laws.proofs.Zips.{AllByRecursion-append}
 use Rattle.ap_laws.proofs.Plain.{LocalAll-append_trees, LocalAll-arguments}
 use Rattle.ap_laws.specs.Gives.{Gives, Rejoins}
 use Rattle.ap_laws.specs.Tasks.{Round, first, later, closed, Task, task, Alternatives, exhausted, plain, frame, Slots, no_slot, fresh, busy, held, redone, again, joined_if, flat_task, flat_alternatives, flat_slots, left, edge_alternatives, edge_slots, slot_goals}
-use Rattle.ap_laws.specs.Events.{RejoinsTask, RejoinsAlternatives, RejoinsSlots}
-use Rattle.ap_laws.proofs.Invariant.{base, base_alternatives, base_slots, cost, cost_alternatives, cost_slots, HasGiven, Strong, Pivot, Weak, TaskInvariant, AlternativesInvariant}
+use Rattle.ap_laws.proofs.Invariant.{base, base_alternatives, base_slots, cost, cost_alternatives, cost_slots, HasGiven, Strong, Pivot, Weak, TaskInvariant, AlternativesInvariant, RejoinsTask, RejoinsAlternatives, RejoinsSlots}
 use Rattle.ap_laws.proofs.Graft.{lifted-old, lifted-new, below_or_not, Linked-lifted, LocalAll-IsOwn_below, IsOf-alone, graft-alone}
 use Rattle.ap_laws.proofs.Dead.{Local-fitted}
 use Rattle.ap_laws.proofs.Gives.{Gives-then, Gives-beside, Gives-none, Gives-less, Gives-graft, graft-answer}
 
 pub IsPlainBelow-IsOf : (g : Tree) (b : ℕ) (s : Plain) → IsOf g b s → IsPlainBelow s
 IsPlainBelow-IsOf g b (state G U m j) o = (LocalAll-IsOwn_below g b m G o.2, LocalAll-IsOwn_below g b m U o.3)
-
-pub next_of-IsOf : (g : Tree) (b : ℕ) (s : Plain) → IsOf g b s → b ≤ next_of s
-next_of-IsOf g b (state G U m j) o = o.4
-
-pub AreOf-append : (g : Tree) (b : ℕ) (l m : List Plain) → AreOf g b l → AreOf g b m → AreOf g b (l ++ m)
-AreOf-append g b [] m h k = k
-AreOf-append g b (s ∷ l) m h k = (h.0, AreOf-append g b l m h.1 k)
 
 -- a graft on a state of a goal's search is one again
 pub IsOf-graft : (h : Tree) (c : ℕ) (g : Tree) (K T : Trees) (b n k : ℕ) → b ≤ n → IsOf h c (state (more g K) T n k) → (a : Plain) → IsOf g b a → IsOf h c (graft b (state (more g K) T n k) a)
@@ -88,15 +81,15 @@ module _ (A : Ways) (renames : Renames A) (locals : Locals A) where
     AreOf-flat_alternatives exhausted h z i = tt
     AreOf-flat_alternatives (plain s l) h z i = (i.0, AreOf-flat_alternatives l h z i.2)
     AreOf-flat_alternatives (frame s first w l) h z i =
-        AreOf-append h z (flat_slots w first (next_of s) s) (flat_alternatives l)
+        AllByRecursion-append (IsOf h z) (flat_slots w first (next_of s) s) (flat_alternatives l)
         (subst (λ x. AreOf h z (flat_slots w first (next_of s) x)) (sym i.1.4) (AreOf-flat_slots w h z first (next_of s) i.1.0 i.1.1 i.1.2 i.1.3 (next_of-le s i.1.2 (ap next_of i.1.4)) i.1.5 (subst (IsOf h z) i.1.4 i.0) (Weak-Strong w (next_of s) i.2)))
         (AreOf-flat_alternatives l h z i.4)
     AreOf-flat_alternatives (frame s later w l) h z i =
-        AreOf-append h z (flat_slots w later (next_of s) s) (flat_alternatives l)
+        AllByRecursion-append (IsOf h z) (flat_slots w later (next_of s) s) (flat_alternatives l)
         (subst (λ x. AreOf h z (flat_slots w later (next_of s) x)) (sym i.1.4) (AreOf-flat_slots w h z later (next_of s) i.1.0 i.1.1 i.1.2 i.1.3 (next_of-le s i.1.2 (ap next_of i.1.4)) i.1.5 (subst (IsOf h z) i.1.4 i.0) (Weak-Pivot w (next_of s) i.2)))
         (AreOf-flat_alternatives l h z i.4)
     AreOf-flat_alternatives (frame s closed w l) h z i =
-        AreOf-append h z (flat_slots w closed (next_of s) s) (flat_alternatives l)
+        AllByRecursion-append (IsOf h z) (flat_slots w closed (next_of s) s) (flat_alternatives l)
         (subst (λ x. AreOf h z (flat_slots w closed (next_of s) x)) (sym i.1.4) (AreOf-flat_slots w h z closed (next_of s) i.1.0 i.1.1 i.1.2 i.1.3 (next_of-le s i.1.2 (ap next_of i.1.4)) i.1.5 (subst (IsOf h z) i.1.4 i.0) i.2))
         (AreOf-flat_alternatives l h z i.4)
 
@@ -110,13 +103,13 @@ module _ (A : Ways) (renames : Renames A) (locals : Locals A) where
     AreOf-flat_slots (redone g m t j w) h z r b K T n k bn ind o i = AreOf-grafts h z g (append_trees (slot_goals w) K) T b n k bn o (flat_task t) (AreOf-flat_task t g b i.1)
     AreOf-flat_slots (held g m a t c w) h z r b K T n k bn ind o i =
         let q = graft-answer g (slot_goals w) K T b n k a bn (IsPlainBelow-IsOf h z (state (more g (append_trees (slot_goals w) K)) T n k) o) ind.0 i.2 i.3.0 in
-        AreOf-append h z (flat_slots w r b (graft b (state (more g (append_trees (slot_goals w) K)) T n k) a)) (grafts b (state (more g (append_trees (slot_goals w) K)) T n k) (flat_task t))
+        AllByRecursion-append (IsOf h z) (flat_slots w r b (graft b (state (more g (append_trees (slot_goals w) K)) T n k) a)) (grafts b (state (more g (append_trees (slot_goals w) K)) T n k) (flat_task t))
         (subst (λ x. AreOf h z (flat_slots w r b x)) (sym q.4)
         (AreOf-flat_slots w h z r b q.0 q.1 q.2 q.3 q.6 ind.1 (subst (IsOf h z) q.4 (IsOf-graft h z g (append_trees (slot_goals w) K) T b n k bn o a i.2)) i.4))
         (AreOf-grafts h z g (append_trees (slot_goals w) K) T b n k bn o (flat_task t) (AreOf-flat_task t g b i.1))
     AreOf-flat_slots (again g m a t c w) h z r b K T n k bn ind o i =
         let q = graft-answer g (slot_goals w) K T b n k a bn (IsPlainBelow-IsOf h z (state (more g (append_trees (slot_goals w) K)) T n k) o) ind.0 i.2 i.3.0 in
-        AreOf-append h z (flat_slots w r b (graft b (state (more g (append_trees (slot_goals w) K)) T n k) a)) (grafts b (state (more g (append_trees (slot_goals w) K)) T n k) (flat_task t))
+        AllByRecursion-append (IsOf h z) (flat_slots w r b (graft b (state (more g (append_trees (slot_goals w) K)) T n k) a)) (grafts b (state (more g (append_trees (slot_goals w) K)) T n k) (flat_task t))
         (subst (λ x. AreOf h z (flat_slots w r b x)) (sym q.4)
         (AreOf-flat_slots w h z r b q.0 q.1 q.2 q.3 q.6 ind.1 (subst (IsOf h z) q.4 (IsOf-graft h z g (append_trees (slot_goals w) K) T b n k bn o a i.2)) i.4))
         (AreOf-grafts h z g (append_trees (slot_goals w) K) T b n k bn o (flat_task t) (AreOf-flat_task t g b i.1))
@@ -130,7 +123,7 @@ module _ (A : Ways) (renames : Renames A) (locals : Locals A) where
     AreOf-base_alternatives (plain s l) h z i = (i.0, AreOf-flat_alternatives l h z i.2)
     AreOf-base_alternatives (frame s first w l) h z i = (i.0, AreOf-flat_alternatives l h z i.4)
     AreOf-base_alternatives (frame s later w l) h z i =
-        AreOf-append h z (base_slots w (next_of s) s) (flat_alternatives l)
+        AllByRecursion-append (IsOf h z) (base_slots w (next_of s) s) (flat_alternatives l)
         (subst (λ x. AreOf h z (base_slots w (next_of s) x)) (sym i.1.4) (AreOf-base_slots w h z (next_of s) i.1.0 i.1.1 i.1.2 i.1.3 (next_of-le s i.1.2 (ap next_of i.1.4)) i.1.5 (subst (IsOf h z) i.1.4 i.0) i.2))
         (AreOf-flat_alternatives l h z i.4)
     AreOf-base_alternatives (frame s closed w l) h z i = AreOf-flat_alternatives (frame s closed w l) h z i
@@ -143,7 +136,7 @@ module _ (A : Ways) (renames : Renames A) (locals : Locals A) where
     AreOf-base_slots (redone g m t j w) h z b K T n k bn ind o i = AreOf-grafts h z g (append_trees (slot_goals w) K) T b n k bn o (base t) (AreOf-base t g b i.1)
     AreOf-base_slots (held g m a t c w) h z b K T n k bn ind o i =
         let q = graft-answer g (slot_goals w) K T b n k a bn (IsPlainBelow-IsOf h z (state (more g (append_trees (slot_goals w) K)) T n k) o) ind.0 i.2 i.3.0 in
-        AreOf-append h z (base_slots w b (graft b (state (more g (append_trees (slot_goals w) K)) T n k) a)) (grafts b (state (more g (append_trees (slot_goals w) K)) T n k) (flat_task t))
+        AllByRecursion-append (IsOf h z) (base_slots w b (graft b (state (more g (append_trees (slot_goals w) K)) T n k) a)) (grafts b (state (more g (append_trees (slot_goals w) K)) T n k) (flat_task t))
         (subst (λ x. AreOf h z (base_slots w b x)) (sym q.4)
         (AreOf-base_slots w h z b q.0 q.1 q.2 q.3 q.6 ind.1 (subst (IsOf h z) q.4 (IsOf-graft h z g (append_trees (slot_goals w) K) T b n k bn o a i.2)) i.4))
         (AreOf-grafts h z g (append_trees (slot_goals w) K) T b n k bn o (flat_task t) (AreOf-flat_task t g b i.1))

@@ -165,14 +165,14 @@ mutual
   AllByRecursion-add_all_vars P (more t ts) xs h k = AllByRecursion-add_all_vars P ts (add_vars t xs) h.1 (AllByRecursion-add_vars P t xs h.0 k)
 
 module _ (P Q : ℕ → Type 0) (f : ℕ → Tree) (e : (x : ℕ) → P x → Local Q (f x)) where
-  vars-of : (x : ℕ) → P x → AllByRecursion Q (vars (f x))
-  vars-of x h = AllByRecursion-add_vars Q (f x) [] (e x h) tt
+  AllByRecursion-vars : (x : ℕ) → P x → AllByRecursion Q (vars (f x))
+  AllByRecursion-vars x h = AllByRecursion-add_vars Q (f x) [] (e x h) tt
 
   LocalCheck-instance_check : (c : Check) → LocalCheck P c → AllByRecursion (LocalCheck Q) (instance_check f c)
-  LocalCheck-instance_check (Ground x) h = AllByRecursion-map Q (LocalCheck Q) Ground (λ a k. k) (vars (f x)) (vars-of x h)
+  LocalCheck-instance_check (Ground x) h = AllByRecursion-map Q (LocalCheck Q) Ground (λ a k. k) (vars (f x)) (AllByRecursion-vars x h)
   LocalCheck-instance_check (Indep x y) h =
       AllByRecursion-flat_map Q (LocalCheck Q) (λ u. map (Indep u) (vars (f y)))
-      (λ a k. AllByRecursion-map Q (LocalCheck Q) (Indep a) (λ b l. (k, l)) (vars (f y)) (vars-of y h.1)) (vars (f x)) (vars-of x h.0)
+      (λ a k. AllByRecursion-map Q (LocalCheck Q) (Indep a) (λ b l. (k, l)) (vars (f y)) (AllByRecursion-vars y h.1)) (vars (f x)) (AllByRecursion-vars x h.0)
 
   LocalPart-instance_part : (p : Part) → LocalPart P p → LocalPart Q (instance_part f p)
   LocalPart-instance_part (call t) h = Local-instance P Q f e t h

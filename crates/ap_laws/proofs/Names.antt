@@ -78,18 +78,18 @@ SameTuple-SameState s t h = (h.0, h.1, s.next, t.next, h.2.1)
 
 -- ---- answers and budgets
 
-by_goals-related : {A B : Type 0} (S : A → B → Type 0) (R : ℕ → ℕ → Type 0) (ps qs : List Part) → RenamedParts R ps qs → (a b : A) (c d : B) → S a c → S b d → S (by_goals ps a b) (by_goals qs c d)
-by_goals-related S R [] [] h a b c d k l = k
-by_goals-related S R (p ∷ ps) (q ∷ qs) h a b c d k l = l
-by_goals-related S R [] (_ ∷ _) h a b c d k l = absurd h
-by_goals-related S R (_ ∷ _) [] h a b c d k l = absurd h
+related-by_goals : {A B : Type 0} (S : A → B → Type 0) (R : ℕ → ℕ → Type 0) (ps qs : List Part) → RenamedParts R ps qs → (a b : A) (c d : B) → S a c → S b d → S (by_goals ps a b) (by_goals qs c d)
+related-by_goals S R [] [] h a b c d k l = k
+related-by_goals S R (p ∷ ps) (q ∷ qs) h a b c d k l = l
+related-by_goals S R [] (_ ∷ _) h a b c d k l = absurd h
+related-by_goals S R (_ ∷ _) [] h a b c d k l = absurd h
 
 module _ (p : Program) (good : IsProgram p) where
   SameTuple-answers_below : (n : ℕ) (s t : State) → SameState s t → AllZip SameTuple (answers_below p n s) (answers_below p n t)
   SameTuple-answers_below zero s t h =
-      by_goals-related (AllZip SameTuple) (Linked h.0 h.1 s.next t.next) s.goals t.goals h.2.0 (s.tuple ∷ []) [] (t.tuple ∷ []) [] (SameTuple-SameState s t h, tt) tt
+      related-by_goals (AllZip SameTuple) (Linked h.0 h.1 s.next t.next) s.goals t.goals h.2.0 (s.tuple ∷ []) [] (t.tuple ∷ []) [] (SameTuple-SameState s t h, tt) tt
   SameTuple-answers_below (suc n) s t h =
-      by_goals-related (AllZip SameTuple) (Linked h.0 h.1 s.next t.next) s.goals t.goals h.2.0 (s.tuple ∷ []) (flat_map (answers_below p n) (children p s)) (t.tuple ∷ []) (flat_map (answers_below p n) (children p t))
+      related-by_goals (AllZip SameTuple) (Linked h.0 h.1 s.next t.next) s.goals t.goals h.2.0 (s.tuple ∷ []) (flat_map (answers_below p n) (children p s)) (t.tuple ∷ []) (flat_map (answers_below p n) (children p t))
       (SameTuple-SameState s t h, tt)
       (AllZip-flat_map SameState SameTuple (answers_below p n) (answers_below p n) (SameTuple-answers_below n) (children p s) (children p t) (SameState-children p good s t h))
 
@@ -106,14 +106,14 @@ module _ (p : Program) (good : IsProgram p) where
   SameTuple-done : (ss ts : List State) → AllZip SameState ss ts → AllZip SameTuple (done ss) (done ts)
   SameTuple-done [] [] h = tt
   SameTuple-done (s ∷ ss) (t ∷ ts) h =
-      by_goals-related (AllZip SameTuple) (Linked h.0.0 h.0.1 s.next t.next) s.goals t.goals h.0.2.0 (s.tuple ∷ done ss) [] (t.tuple ∷ done ts) [] (SameTuple-SameState s t h.0, SameTuple-done ss ts h.1) tt
+      related-by_goals (AllZip SameTuple) (Linked h.0.0 h.0.1 s.next t.next) s.goals t.goals h.0.2.0 (s.tuple ∷ done ss) [] (t.tuple ∷ done ts) [] (SameTuple-SameState s t h.0, SameTuple-done ss ts h.1) tt
   SameTuple-done [] (_ ∷ _) h = absurd h
   SameTuple-done (_ ∷ _) [] h = absurd h
 
   SameState-open_states : (ss ts : List State) → AllZip SameState ss ts → AllZip SameState (open_states ss) (open_states ts)
   SameState-open_states [] [] h = tt
   SameState-open_states (s ∷ ss) (t ∷ ts) h =
-      by_goals-related (AllZip SameState) (Linked h.0.0 h.0.1 s.next t.next) s.goals t.goals h.0.2.0 (open_states ss) (s ∷ ss) (open_states ts) (t ∷ ts) (SameState-open_states ss ts h.1) h
+      related-by_goals (AllZip SameState) (Linked h.0.0 h.0.1 s.next t.next) s.goals t.goals h.0.2.0 (open_states ss) (s ∷ ss) (open_states ts) (t ∷ ts) (SameState-open_states ss ts h.1) h
   SameState-open_states [] (_ ∷ _) h = absurd h
   SameState-open_states (_ ∷ _) [] h = absurd h
 

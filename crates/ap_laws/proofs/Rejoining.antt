@@ -12,9 +12,11 @@ use Rattle.ap_laws.specs.Trace.{Action, called, cut, answered, trace, trace_to, 
 use Rattle.ap_laws.specs.Graft.{alone, graft, grafts, IsOf}
 use Rattle.ap_laws.specs.Gives.{GivesAt, Rejoins, IsCallDue}
 use Rattle.ap_laws.specs.Tasks.{Round, first, later, closed, Task, task, Alternatives, exhausted, plain, frame, Slots, no_slot, fresh, busy, held, redone, again, flat_task, flat_alternatives, flat_slots, left, edge_alternatives, edge_slots, slot_goals}
-use Rattle.ap_laws.specs.Events.{RejoinsTask, RejoinsAlternatives, RejoinsSlots}
-use Rattle.ap_laws.specs.Rejoining.{IsOnTheWay, IsRejoined, IsRejoinedAlone, AreRejoined, AreRejoinedIn, AreSlotsRejoined, IsSpent, IsSpentIn, IsSlotSpent, MeaningLaw, RejoinLaw}
-use Rattle.ap_laws.proofs.Invariant.{Weak, TaskInvariant, AlternativesInvariant}
+use Rattle.ap_term.specs.Blocks.{Begins, IsAll}
+use Rattle.ap_laws.specs.Events.{IsExhausted}
+use Rattle.ap_laws.proofs.Events.{flat_task-IsExhausted}
+use Rattle.ap_laws.specs.Rejoining.{IsOnTheWay, IsRejoined, IsRejoinedAlone, AreRejoined, AreRejoinedIn, AreSlotsRejoined, IsSpent, IsSpentIn, IsSlotSpent, MeaningLaw, RejoinLaw, EmittedLaw}
+use Rattle.ap_laws.proofs.Invariant.{Weak, TaskInvariant, AlternativesInvariant, RejoinsTask, RejoinsAlternatives, RejoinsSlots}
 use Rattle.ap_laws.proofs.Plain.{Renames-plain_ways, Locals-plain_ways, LocalAll-plain_goals}
 use Rattle.ap_laws.proofs.Answers.{answers_in-append}
 use Rattle.ap_laws.proofs.Gives.{graft-answer}
@@ -240,3 +242,24 @@ rejoin p good q below full emitted t runs = (rejoined, AreRejoined-RejoinsTask p
         go : IsPast budget (left t) (flat_task t) → IsOnTheWay (search p budget (q ∷ [])) (map tuple_of emitted)
         go (inl h) = rejoined.1 budget h
         go (inr h) = rejoined.2 h.1 budget h.0
+
+pub emitted_lines : EmittedLaw
+emitted_lines line p good q below full emitted t runs = (begins, all)
+  where
+    answers : (m : ℕ) × ((d : ℕ) → m ≤ d → answers_to_depth p q d ≡ map tuple_of emitted ++ flat_map (λ u. answers_to_depth p (as_state u) d) (flat_task t))
+    answers = (rejoin p good q below full emitted t runs).0.0
+    begins : Begins line p q (map line (map tuple_of emitted))
+    begins = (
+      answers.0,
+      λ d k.
+          let rest : List Trees = flat_map (λ u. answers_to_depth p (as_state u) d) (flat_task t) in
+          (map line rest, sym (map-append line (map tuple_of emitted) rest) ∙ ap (map line) (sym (answers.1 d k))),
+    )
+    all : IsExhausted t → IsAll line p q (map line (map tuple_of emitted))
+    all none_left = (
+      answers.0,
+      λ d k.
+          ap (map line)
+              (sym (append-nil (map tuple_of emitted)) ∙ ap (λ l. map tuple_of emitted ++ flat_map (λ u. answers_to_depth p (as_state u) d) l) (sym (flat_task-IsExhausted t none_left))
+              ∙ sym (answers.1 d k)),
+    )

@@ -229,14 +229,14 @@ module _ (R : ℕ → ℕ → Type 0) (one_one : IsOneToOne R) where
 -- ---- goals
 
 module _ (R S : ℕ → ℕ → Type 0) (one_one : IsOneToOne S) (f g : ℕ → Tree) (e : (x y : ℕ) → R x y → Renamed S (f x) (g y)) where
-  vars-of : (x y : ℕ) → R x y → AllZip S (vars (f x)) (vars (g y))
-  vars-of x y h = Renamed-add_vars S one_one (f x) (g y) [] [] (e x y h) tt
+  AllZip-vars : (x y : ℕ) → R x y → AllZip S (vars (f x)) (vars (g y))
+  AllZip-vars x y h = Renamed-add_vars S one_one (f x) (g y) [] [] (e x y h) tt
 
   RenamedCheck-instance_check : (c d : Check) → RenamedCheck R c d → AllZip (RenamedCheck S) (instance_check f c) (instance_check g d)
-  RenamedCheck-instance_check (Ground x) (Ground y) h = AllZip-map S (RenamedCheck S) Ground Ground (λ a b k. k) (vars (f x)) (vars (g y)) (vars-of x y h)
+  RenamedCheck-instance_check (Ground x) (Ground y) h = AllZip-map S (RenamedCheck S) Ground Ground (λ a b k. k) (vars (f x)) (vars (g y)) (AllZip-vars x y h)
   RenamedCheck-instance_check (Indep x y) (Indep z w) h =
       AllZip-flat_map S (RenamedCheck S) (λ u. map (Indep u) (vars (f y))) (λ u. map (Indep u) (vars (g w)))
-      (λ a b k. AllZip-map S (RenamedCheck S) (Indep a) (Indep b) (λ c d l. (k, l)) (vars (f y)) (vars (g w)) (vars-of y w h.1)) (vars (f x)) (vars (g z)) (vars-of x z h.0)
+      (λ a b k. AllZip-map S (RenamedCheck S) (Indep a) (Indep b) (λ c d l. (k, l)) (vars (f y)) (vars (g w)) (AllZip-vars y w h.1)) (vars (f x)) (vars (g z)) (AllZip-vars x z h.0)
   RenamedCheck-instance_check (Ground _) (Indep _ _) h = absurd h
   RenamedCheck-instance_check (Indep _ _) (Ground _) h = absurd h
 

@@ -8,8 +8,8 @@ use Rattle.ap_laws.specs.Graft.{IsOwn, IsOf}
 use Rattle.ap_laws.proofs.Local.{LocalAll-weaken}
 use Rattle.ap_laws.specs.Gives.{Gives, Rejoins}
 use Rattle.ap_laws.specs.Tasks.{Task, task, exhausted, plain, flat_task, flat_alternatives, left}
-use Rattle.ap_laws.specs.Events.{Runs, none_yet, and_then, emits, RejoinsTask}
-use Rattle.ap_laws.proofs.Invariant.{base, cost, cost_alternatives, TaskInvariant}
+use Rattle.ap_laws.specs.Events.{Runs, none_yet, and_then, emits}
+use Rattle.ap_laws.proofs.Invariant.{base, cost, cost_alternatives, TaskInvariant, RejoinsTask}
 use Rattle.ap_laws.proofs.Gives.{Gives-then, Gives-none, Gives-less, Gives-answer}
 use Rattle.ap_laws.proofs.Flat.{Gives-flat_task, RejoinsTask-TaskInvariant}
 use Rattle.ap_laws.proofs.Events.{base_alternatives-IsQuiet, cost_alternatives-IsQuiet, Effect-Step}

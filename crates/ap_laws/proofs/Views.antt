@@ -222,29 +222,29 @@ module _ (p : Program) (good : IsProgram p) where
   abbrev IsNear : ℕ → ℕ → State → Type 0
   IsNear d n s = n + s.steps ≤ d
 
-  near-open : (d n : ℕ) (ss : List State) → AllByRecursion (IsNear d n) ss → AllByRecursion (IsNear d n) (open_states ss)
-  near-open d n [] h = tt
-  near-open d n (s ∷ ss) h = go s.goals (near-open d n ss h.1)
+  IsNear-open_states : (d n : ℕ) (ss : List State) → AllByRecursion (IsNear d n) ss → AllByRecursion (IsNear d n) (open_states ss)
+  IsNear-open_states d n [] h = tt
+  IsNear-open_states d n (s ∷ ss) h = go s.goals (IsNear-open_states d n ss h.1)
     where
       go : (ps : List Part) → AllByRecursion (IsNear d n) (open_states ss) → AllByRecursion (IsNear d n) (by_goals ps (open_states ss) (s ∷ ss))
       go [] ih = ih
       go (q ∷ ps) ih = h
 
-  groups-open : (ss : List State) → AllByRecursion HasFullGroups ss → AllByRecursion HasFullGroups (open_states ss)
-  groups-open [] h = tt
-  groups-open (s ∷ ss) h = go s.goals (groups-open ss h.1)
+  HasFullGroups-open_states : (ss : List State) → AllByRecursion HasFullGroups ss → AllByRecursion HasFullGroups (open_states ss)
+  HasFullGroups-open_states [] h = tt
+  HasFullGroups-open_states (s ∷ ss) h = go s.goals (HasFullGroups-open_states ss h.1)
     where
       go : (ps : List Part) → AllByRecursion HasFullGroups (open_states ss) → AllByRecursion HasFullGroups (by_goals ps (open_states ss) (s ∷ ss))
       go [] ih = ih
       go (q ∷ ps) ih = h
 
-  near-steps : (d n k : ℕ) → suc n + k ≤ d → (ss : List State) → AllSteps (k + 1) ss → AllByRecursion (IsNear d n) ss
-  near-steps d n k h [] q = tt
-  near-steps d n k h (s ∷ ss) q = (omega (arith, q.0), near-steps d n k h ss q.1)
+  IsNear-AllSteps : (d n k : ℕ) → suc n + k ≤ d → (ss : List State) → AllSteps (k + 1) ss → AllByRecursion (IsNear d n) ss
+  IsNear-AllSteps d n k h [] q = tt
+  IsNear-AllSteps d n k h (s ∷ ss) q = (omega (arith, q.0), IsNear-AllSteps d n k h ss q.1)
 
-  near-less : (d n : ℕ) (ss : List State) → AllByRecursion (IsNear d (suc n)) ss → AllByRecursion (IsNear d n) ss
-  near-less d n [] h = tt
-  near-less d n (s ∷ ss) h = (omega (arith, h.0), near-less d n ss h.1)
+  IsNear-less : (d n : ℕ) (ss : List State) → AllByRecursion (IsNear d (suc n)) ss → AllByRecursion (IsNear d n) ss
+  IsNear-less d n [] h = tt
+  IsNear-less d n (s ∷ ss) h = (omega (arith, h.0), IsNear-less d n ss h.1)
 
   -- a state with goals calls the first one
   found_upto-zero : (d : ℕ) (t : State) → HasFullGroups t → HasGoals t.goals → (es : List Action)
@@ -276,13 +276,13 @@ module _ (p : Program) (good : IsProgram p) where
 
   -- what a budget finds is the trace up to its next call, to each depth that leaves so many calls
   pub search-trace : (d n : ℕ) (ss : List State) → AllByRecursion HasFullGroups ss → AllByRecursion (IsNear d n) ss → search p n ss ≡ found_upto n (traces (plain_ways p) d (map plain_of ss))
-  search-trace d zero ss h l = go (open_states ss) refl (groups-open ss h) ∙ sym (found_upto-done zero d ss h)
+  search-trace d zero ss h l = go (open_states ss) refl (HasFullGroups-open_states ss h) ∙ sym (found_upto-done zero d ss h)
     where
       go : (os : List State) → open_states ss ≡ os → AllByRecursion HasFullGroups os
           → with_answers (done ss) (turn (λ t ts. record { answers = []; ended = false }) os) ≡ with_answers (done ss) (found_upto zero (traces (plain_ways p) d (map plain_of os)))
       go [] e q = refl
       go (t ∷ ts) e q = ap (with_answers (done ss)) (sym (found_upto-zero d t q.0 (open-first ss t ts e) (traces (plain_ways p) d (map plain_of ts))))
-  search-trace d (suc n) ss h l = go (open_states ss) refl (groups-open ss h) (near-open d (suc n) ss l) (search-trace d n) ∙ sym (found_upto-done (suc n) d ss h)
+  search-trace d (suc n) ss h l = go (open_states ss) refl (HasFullGroups-open_states ss h) (IsNear-open_states d (suc n) ss l) (search-trace d n) ∙ sym (found_upto-done (suc n) d ss h)
     where
       go : (os : List State) → open_states ss ≡ os → AllByRecursion HasFullGroups os → AllByRecursion (IsNear d (suc n)) os
           → ((ts : List State) → AllByRecursion HasFullGroups ts → AllByRecursion (IsNear d n) ts → search p n ts ≡ found_upto n (traces (plain_ways p) d (map plain_of ts)))
@@ -291,7 +291,7 @@ module _ (p : Program) (good : IsProgram p) where
       go (t ∷ ts) e q l ih =
           ap (with_answers (done ss))
           (ih (children p t ++ ts) (AllByRecursion-append HasFullGroups (children p t) ts (HasFullGroups-children p good t q.0) q.1)
-          (AllByRecursion-append (IsNear d n) (children p t) ts (near-steps d n t.steps l.0 (children p t) (children-steps p t)) (near-less d n ts l.1))
+          (AllByRecursion-append (IsNear d n) (children p t) ts (IsNear-AllSteps d n t.steps l.0 (children p t) (children-steps p t)) (IsNear-less d n ts l.1))
           ∙ ap (λ us. found_upto n (traces (plain_ways p) d us)) (map-append plain_of (children p t) ts)
           ∙ ap (found_upto n) (flat_map-append (λ u. trace_to (plain_ways p) d u) (map plain_of (children p t)) (map plain_of ts))
           ∙ sym (ap (λ es. found_upto (suc n) (es ++ traces (plain_ways p) d (map plain_of ts))) (trace-turn d n t q.0 (open-first ss t ts e) l.0)))

@@ -124,14 +124,14 @@ mutual
   RenamedAll-both P R f g e (more t ts) h = (Renamed-both P R f g e t h.0, RenamedAll-both P R f g e ts h.1)
 
 module _ (P : ℕ → Type 0) (R : ℕ → ℕ → Type 0) (one_one : IsOneToOne R) (f g : ℕ → Tree) (e : (x : ℕ) → P x → Renamed R (f x) (g x)) where
-  vars-both : (x : ℕ) → P x → AllZip R (vars (f x)) (vars (g x))
-  vars-both x h = Renamed-add_vars R one_one (f x) (g x) [] [] (e x h) tt
+  AllZip-vars_both : (x : ℕ) → P x → AllZip R (vars (f x)) (vars (g x))
+  AllZip-vars_both x h = Renamed-add_vars R one_one (f x) (g x) [] [] (e x h) tt
 
   RenamedCheck-both : (c : Check) → LocalCheck P c → AllZip (RenamedCheck R) (instance_check f c) (instance_check g c)
-  RenamedCheck-both (Ground x) h = AllZip-map R (RenamedCheck R) Ground Ground (λ a b k. k) (vars (f x)) (vars (g x)) (vars-both x h)
+  RenamedCheck-both (Ground x) h = AllZip-map R (RenamedCheck R) Ground Ground (λ a b k. k) (vars (f x)) (vars (g x)) (AllZip-vars_both x h)
   RenamedCheck-both (Indep x y) h =
       AllZip-flat_map R (RenamedCheck R) (λ u. map (Indep u) (vars (f y))) (λ u. map (Indep u) (vars (g y)))
-      (λ a b k. AllZip-map R (RenamedCheck R) (Indep a) (Indep b) (λ c d l. (k, l)) (vars (f y)) (vars (g y)) (vars-both y h.1)) (vars (f x)) (vars (g x)) (vars-both x h.0)
+      (λ a b k. AllZip-map R (RenamedCheck R) (Indep a) (Indep b) (λ c d l. (k, l)) (vars (f y)) (vars (g y)) (AllZip-vars_both y h.1)) (vars (f x)) (vars (g x)) (AllZip-vars_both x h.0)
 
   RenamedPart-both : (p : Part) → LocalPart P p → RenamedPart R (instance_part f p) (instance_part g p)
   RenamedPart-both (call t) h = Renamed-both P R f g e t h
@@ -143,71 +143,71 @@ module _ (P : ℕ → Type 0) (R : ℕ → ℕ → Type 0) (one_one : IsOneToOne
 
 -- ---- ways
 
-way_if-renamed : (f g : ℕ → ℕ) (n m k : ℕ) (o p : Option Subst) (b c : List Part) → OptionZip (RenamedSubst (Linked f g (n + k) (m + k))) o p → RenamedParts (Linked f g (n + k) (m + k)) b c
+Renamed-way_if : (f g : ℕ → ℕ) (n m k : ℕ) (o p : Option Subst) (b c : List Part) → OptionZip (RenamedSubst (Linked f g (n + k) (m + k))) o p → RenamedParts (Linked f g (n + k) (m + k)) b c
     → AllZip (RenamedWay f g n m) (way_if o b k) (way_if p c k)
-way_if-renamed f g n m k None None b c h j = tt
-way_if-renamed f g n m k (Some s) (Some r) b c h j = ((refl, h, j), tt)
-way_if-renamed f g n m k None (Some _) b c h j = absurd h
-way_if-renamed f g n m k (Some _) None b c h j = absurd h
+Renamed-way_if f g n m k None None b c h j = tt
+Renamed-way_if f g n m k (Some s) (Some r) b c h j = ((refl, h, j), tt)
+Renamed-way_if f g n m k None (Some _) b c h j = absurd h
+Renamed-way_if f g n m k (Some _) None b c h j = absurd h
 
 module _ (f g : ℕ → ℕ) (n m : ℕ) (forth : Continues f n m) (back : Continues g m n) where
-  new-linked : (k x : ℕ) → x ≤ k → Linked f g (n + (k + 1)) (m + (k + 1)) (x + n) (x + m)
-  new-linked k x h = (forth x, back x, omega arith, omega arith)
+  Linked-new : (k x : ℕ) → x ≤ k → Linked f g (n + (k + 1)) (m + (k + 1)) (x + n) (x + m)
+  Linked-new k x h = (forth x, back x, omega arith, omega arith)
 
-  clause_way-renamed : (t u : Tree) → Renamed (Linked f g n m) t u → (c : Clause) → IsClause c → AllZip (RenamedWay f g n m) (clause_way n t c) (clause_way m u c)
-  clause_way-renamed t u h c good =
+  Renamed-clause_way : (t u : Tree) → Renamed (Linked f g n m) t u → (c : Clause) → IsClause c → AllZip (RenamedWay f g n m) (clause_way n t c) (clause_way m u c)
+  Renamed-clause_way t u h c good =
       let k : ℕ = c.vars + 1 in
       let R : ℕ → ℕ → Type 0 = Linked f g (n + k) (m + k) in
-      way_if-renamed f g n m k _ _ _ _
+      Renamed-way_if f g n m k _ _ _ _
       (Renamed-mgu R (IsOneToOne-Linked f g (n + k) (m + k)) t u (instance (shift n) c.head) (instance (shift m) c.head)
       (Renamed-weaken (Linked f g n m) R (Linked-more f g n m k k) t u h)
-      (Renamed-both (λ x. x ≤ c.vars) R (shift n) (shift m) (new-linked c.vars) c.head (Local-head c good)))
-      (RenamedParts-both (λ x. x ≤ c.vars) R (IsOneToOne-Linked f g (n + k) (m + k)) (shift n) (shift m) (new-linked c.vars) c.body (LocalParts-body c good))
+      (Renamed-both (λ x. x ≤ c.vars) R (shift n) (shift m) (Linked-new c.vars) c.head (Local-head c good)))
+      (RenamedParts-both (λ x. x ≤ c.vars) R (IsOneToOne-Linked f g (n + k) (m + k)) (shift n) (shift m) (Linked-new c.vars) c.body (LocalParts-body c good))
 
-  clause_ways-renamed : (t u : Tree) → Renamed (Linked f g n m) t u → (p : Program) → IsProgram p → AllZip (RenamedWay f g n m) (flat_map (clause_way n t) p) (flat_map (clause_way m u) p)
-  clause_ways-renamed t u h [] good = tt
-  clause_ways-renamed t u h (c ∷ p) good =
+  Renamed-clause_ways : (t u : Tree) → Renamed (Linked f g n m) t u → (p : Program) → IsProgram p → AllZip (RenamedWay f g n m) (flat_map (clause_way n t) p) (flat_map (clause_way m u) p)
+  Renamed-clause_ways t u h [] good = tt
+  Renamed-clause_ways t u h (c ∷ p) good =
       AllZip-append (RenamedWay f g n m) (clause_way n t c) (flat_map (clause_way n t) p) (clause_way m u c) (flat_map (clause_way m u) p)
-      (clause_way-renamed t u h c (All-head IsClause c p good)) (clause_ways-renamed t u h p (All-tail IsClause c p good))
+      (Renamed-clause_way t u h c (All-head IsClause c p good)) (Renamed-clause_ways t u h p (All-tail IsClause c p good))
 
-  ways_by-renamed : (p : Program) → IsProgram p → (t u : Tree) → Renamed (Linked f g n m) t u → (a b : Option (Option Subst)) → OptionZip (OptionZip (RenamedSubst (Linked f g (n + 0) (m + 0)))) a b
+  Renamed-ways_by : (p : Program) → IsProgram p → (t u : Tree) → Renamed (Linked f g n m) t u → (a b : Option (Option Subst)) → OptionZip (OptionZip (RenamedSubst (Linked f g (n + 0) (m + 0)))) a b
       → AllZip (RenamedWay f g n m) (ways_by p n t a) (ways_by p m u b)
-  ways_by-renamed p good t u h None None k = clause_ways-renamed t u h p good
-  ways_by-renamed p good t u h (Some a) (Some b) k = way_if-renamed f g n m 0 a b [] [] k tt
-  ways_by-renamed p good t u h None (Some _) k = absurd k
-  ways_by-renamed p good t u h (Some _) None k = absurd k
+  Renamed-ways_by p good t u h None None k = Renamed-clause_ways t u h p good
+  Renamed-ways_by p good t u h (Some a) (Some b) k = Renamed-way_if f g n m 0 a b [] [] k tt
+  Renamed-ways_by p good t u h None (Some _) k = absurd k
+  Renamed-ways_by p good t u h (Some _) None k = absurd k
 
   -- related goals have related ways on
   pub Renamed-ways : (p : Program) → IsProgram p → (t u : Tree) → Renamed (Linked f g n m) t u → AllZip (RenamedWay f g n m) (ways p n t) (ways p m u)
   Renamed-ways p good t u h =
-      ways_by-renamed p good t u h (builtin t) (builtin u)
+      Renamed-ways_by p good t u h (builtin t) (builtin u)
       (Renamed-builtin (Linked f g (n + 0) (m + 0)) (IsOneToOne-Linked f g (n + 0) (m + 0)) t u (Renamed-weaken (Linked f g n m) (Linked f g (n + 0) (m + 0)) (Linked-more f g n m 0 0) t u h))
 
 -- ---- what a way binds and mentions
 
 module _ (P : ℕ → Type 0) where
-  way_if-local : (o : Option Subst) (b : List Part) (k : ℕ) → OptionAll (LocalSubst P) o → LocalParts P b → AllByRecursion (LocalWay P) (way_if o b k)
-  way_if-local None b k h j = tt
-  way_if-local (Some s) b k h j = ((h, j), tt)
+  Local-way_if : (o : Option Subst) (b : List Part) (k : ℕ) → OptionAll (LocalSubst P) o → LocalParts P b → AllByRecursion (LocalWay P) (way_if o b k)
+  Local-way_if None b k h j = tt
+  Local-way_if (Some s) b k h j = ((h, j), tt)
 
-  clause_ways-local : (n : ℕ) (t : Tree) → Local P t → ((x : ℕ) → n ≤ x → P x) → (p : Program) → IsProgram p → AllByRecursion (LocalWay P) (flat_map (clause_way n t) p)
-  clause_ways-local n t h new [] good = tt
-  clause_ways-local n t h new (c ∷ p) good =
+  Local-clause_ways : (n : ℕ) (t : Tree) → Local P t → ((x : ℕ) → n ≤ x → P x) → (p : Program) → IsProgram p → AllByRecursion (LocalWay P) (flat_map (clause_way n t) p)
+  Local-clause_ways n t h new [] good = tt
+  Local-clause_ways n t h new (c ∷ p) good =
       let e : (x : ℕ) → x ≤ c.vars → P (x + n) = λ x l. new (x + n) (omega arith) in
       AllByRecursion-append (LocalWay P) (clause_way n t c) (flat_map (clause_way n t) p)
-      (way_if-local _ _ (c.vars + 1)
+      (Local-way_if _ _ (c.vars + 1)
       (Local-mgu P t (instance (shift n) c.head) h (Local-instance (λ x. x ≤ c.vars) P (shift n) e c.head (Local-head c (All-head IsClause c p good))))
       (LocalParts-instance_part (λ x. x ≤ c.vars) P (shift n) e c.body (LocalParts-body c (All-head IsClause c p good))))
-      (clause_ways-local n t h new p (All-tail IsClause c p good))
+      (Local-clause_ways n t h new p (All-tail IsClause c p good))
 
-  ways_by-local : (p : Program) → IsProgram p → (n : ℕ) (t : Tree) → Local P t → ((x : ℕ) → n ≤ x → P x) → (a : Option (Option Subst)) → OptionAll (OptionAll (LocalSubst P)) a
+  Local-ways_by : (p : Program) → IsProgram p → (n : ℕ) (t : Tree) → Local P t → ((x : ℕ) → n ≤ x → P x) → (a : Option (Option Subst)) → OptionAll (OptionAll (LocalSubst P)) a
       → AllByRecursion (LocalWay P) (ways_by p n t a)
-  ways_by-local p good n t h new None k = clause_ways-local n t h new p good
-  ways_by-local p good n t h new (Some a) k = way_if-local a [] 0 k tt
+  Local-ways_by p good n t h new None k = Local-clause_ways n t h new p good
+  Local-ways_by p good n t h new (Some a) k = Local-way_if a [] 0 k tt
 
   -- the goal's variables and new ones
   pub Local-ways : (p : Program) → IsProgram p → (n : ℕ) (t : Tree) → Local P t → ((x : ℕ) → n ≤ x → P x) → AllByRecursion (LocalWay P) (ways p n t)
-  Local-ways p good n t h new = ways_by-local p good n t h new (builtin t) (Local-builtin P t h)
+  Local-ways p good n t h new = Local-ways_by p good n t h new (builtin t) (Local-builtin P t h)
 
 -- ---- children
 

@@ -133,21 +133,3 @@ pub data Runs (A : Ways) (t : Task) : List Plain → Task → Type 0 where
   none_yet : Runs A t [] t
   and_then : {m : List Plain} {u v : Task} → Runs A t m u → Step A u v → Runs A t m v
   emits : {m : List Plain} {c : ℕ} {T : Trees} {n k : ℕ} {l : Alternatives} → Runs A t m (task c (plain (state none T n k) l)) → Runs A t (m ++ (state none T n k ∷ [])) (task c l)
-
--- each slot's task rejoins its goal's search, with the slot's answers so far
-abbrev mutual
-  pub RejoinsTask : Ways → Task → Type 0
-  RejoinsTask A (task c l) = RejoinsAlternatives A l
-
-  pub RejoinsAlternatives : Ways → Alternatives → Type 0
-  RejoinsAlternatives A exhausted = Unit {0}
-  RejoinsAlternatives A (plain s l) = RejoinsAlternatives A l
-  RejoinsAlternatives A (frame s r w l) = RejoinsSlots A (next_of s) w × RejoinsAlternatives A l
-
-  pub RejoinsSlots : Ways → ℕ → Slots → Type 0
-  RejoinsSlots A b no_slot = Unit {0}
-  RejoinsSlots A b (fresh g w) = RejoinsSlots A b w
-  RejoinsSlots A b (busy g t w) = Rejoins A (alone g b) [] (flat_task t) (left t) × RejoinsTask A t × RejoinsSlots A b w
-  RejoinsSlots A b (held g m a t c w) = Rejoins A (alone g b) m (flat_task t) (left t) × RejoinsTask A t × RejoinsSlots A b w
-  RejoinsSlots A b (redone g m t i w) = Rejoins A (alone g b) m (flat_task t) (left t) × RejoinsTask A t × RejoinsSlots A b w
-  RejoinsSlots A b (again g m a t c w) = Rejoins A (alone g b) m (flat_task t) (left t) × RejoinsTask A t × RejoinsSlots A b w

@@ -3,7 +3,7 @@ use Rattle.std.specs.Prelude.{◌≡◌, ℕ, ◌+◌, ◌<◌, ◌≤◌, ◌�
 use Rattle.std.specs.List.{flat_map}
 use Rattle.ap_term.specs.Tree.{Tree, Trees, none}
 use Rattle.ap_term.specs.Goals.{Program}
-use Rattle.ap_term.specs.Blocks.{IsPrefix}
+use Rattle.ap_term.specs.Blocks.{IsPrefix, Begins, IsAll}
 use Rattle.ap_term.specs.WellFormed.{IsProgram}
 use Rattle.ap_term.specs.Search.{State, Found, answers_to_depth, search}
 use Rattle.ap_laws.specs.Renaming.{IsBelow}
@@ -12,7 +12,7 @@ use Rattle.ap_laws.specs.Trace.{trace_to, traces, answers_in}
 use Rattle.ap_laws.specs.Graft.{alone}
 use Rattle.ap_laws.specs.Gives.{Rejoins, IsCallDue}
 use Rattle.ap_laws.specs.Tasks.{first, later, closed, Task, task, Alternatives, exhausted, plain, frame, Slots, no_slot, fresh, busy, held, redone, again, flat_task, left, edge_slots}
-use Rattle.ap_laws.specs.Events.{Runs}
+use Rattle.ap_laws.specs.Events.{Runs, IsExhausted}
 
 -- it hasn't ended, and what it found begins the list
 abbrev pub IsOnTheWay : Found → List Trees → Type 0
@@ -73,7 +73,7 @@ abbrev mutual
   IsSlotSpent r (redone g m t i w) = IsSpent (i + r) t
   IsSlotSpent r (again g m a t c w) = IsSlotSpent r w
 
--- what an event says of a program's ways on says the same of the search
+-- what rejoins by traces rejoins in answers and budgets
 abbrev pub MeaningLaw : Type 0
 MeaningLaw =
     (p : Program) → IsProgram p → (s : State) → HasFullGroups s → (given rest : List Plain) (c : ℕ)
@@ -89,3 +89,10 @@ RejoinLaw =
     → IsRejoined p q (map tuple_of emitted) (flat_task t) (left t)
     × AreRejoined p t
     × ((budget : ℕ) → IsSpent budget t → IsOnTheWay (search p budget (q ∷ [])) (map tuple_of emitted))
+
+-- The lines that were emitted begin the answers' lines, and where the root has no alternative they are all.
+abbrev pub EmittedLaw : Type 0
+EmittedLaw =
+    (line : Trees → List ℕ) (p : Program) → IsProgram p → (q : State) → IsBelow q → HasFullGroups q → (emitted : List Plain) (t : Task)
+    → Runs (plain_ways p) (task 0 (plain (plain_of q) exhausted)) emitted t
+    → Begins line p q (map line (map tuple_of emitted)) × (IsExhausted t → IsAll line p q (map line (map tuple_of emitted)))

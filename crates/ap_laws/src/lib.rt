@@ -5,7 +5,7 @@
 
 ghost use Rattle.ap_laws.specs.Laws.{UnifierLaw, UniqueUnifierLaw, WaysLaw, ChildrenLaw, ChildByUnifierLaw, CopiedAnswerLaw, RenamingLaw};
 ghost use Rattle.ap_laws.specs.SearchLaws.{QueryLaw, TraceLaw, GraftLaw, SplitLaw, IndependenceLaw, DeadConjunctLaw, GivesLaw};
-ghost use Rattle.ap_laws.specs.Rejoining.{MeaningLaw, RejoinLaw};
+ghost use Rattle.ap_laws.specs.Rejoining.{MeaningLaw, RejoinLaw, EmittedLaw};
 ghost use Rattle.ap_laws.specs.Example.{ExampleLaw};
 
 /// Unification commutes with renamings, and binds and mentions only variables of its input.
@@ -86,6 +86,11 @@ pub fn meaning_law()
 /// A parallel search rejoins the sequential one at each moment.
 pub fn rejoin_law()
     ensures { RejoinLaw }
+{}
+
+/// What a parallel search emits begins the answers of sequential search, and is all where nothing is left.
+pub fn emitted_law()
+    ensures { EmittedLaw }
 {}
 
 /// The definitions compute, and a parallel search of two goals exists.
