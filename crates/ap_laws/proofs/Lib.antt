@@ -19,3 +19,4 @@ pub mod Rejoining
 pub mod Conjunctions
 pub mod CopiedAnswers
 pub mod Example
+pub mod GroupedGrafts

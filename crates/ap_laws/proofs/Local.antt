@@ -182,7 +182,7 @@ module _ (P Q : ℕ → Type 0) (f : ℕ → Tree) (e : (x : ℕ) → P x → Lo
   pub LocalParts-instance_part : (ps : List Part) → LocalParts P ps → LocalParts Q (map (instance_part f) ps)
   LocalParts-instance_part ps h = AllByRecursion-map (LocalPart P) (LocalPart Q) (instance_part f) LocalPart-instance_part ps h
 
-LocalAll-calls : (P : ℕ → Type 0) (ts : Trees) → LocalAll P ts → LocalParts P (calls ts)
+pub LocalAll-calls : (P : ℕ → Type 0) (ts : Trees) → LocalAll P ts → LocalParts P (calls ts)
 LocalAll-calls P none h = tt
 LocalAll-calls P (more t ts) h = (h.0, LocalAll-calls P ts h.1)
 

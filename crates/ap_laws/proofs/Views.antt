@@ -28,13 +28,13 @@ plain_goals-append (call t ∷ ps) qs = ap (more t) (plain_goals-append ps qs)
 plain_goals-append (group cs none ∷ ps) qs = plain_goals-append ps qs
 plain_goals-append (group cs (more t ts) ∷ ps) qs = ap (more t) (plain_goals-append (group cs ts ∷ ps) qs)
 
-plain_goals-instance : (f : ℕ → Tree) (ps : List Part) → plain_goals (map (instance_part f) ps) ≡ instance_all f (plain_goals ps)
+pub plain_goals-instance : (f : ℕ → Tree) (ps : List Part) → plain_goals (map (instance_part f) ps) ≡ instance_all f (plain_goals ps)
 plain_goals-instance f [] = refl
 plain_goals-instance f (call t ∷ ps) = ap (more (instance f t)) (plain_goals-instance f ps)
 plain_goals-instance f (group cs ts ∷ ps) =
     ap (append_trees (instance_all f ts)) (plain_goals-instance f ps) ∙ sym (instance_all-append_trees f ts (plain_goals ps))
 
-plain_goals-calls_append : (ts : Trees) (ps : List Part) → plain_goals (calls ts ++ ps) ≡ append_trees ts (plain_goals ps)
+pub plain_goals-calls_append : (ts : Trees) (ps : List Part) → plain_goals (calls ts ++ ps) ≡ append_trees ts (plain_goals ps)
 plain_goals-calls_append none ps = refl
 plain_goals-calls_append (more t ts) ps = ap (more t) (plain_goals-calls_append ts ps)
 
@@ -42,7 +42,7 @@ pub plain_goals-calls : (ts : Trees) → plain_goals (calls ts) ≡ ts
 plain_goals-calls none = refl
 plain_goals-calls (more t ts) = ap (more t) (plain_goals-calls ts)
 
-plain_goals-opened : (ps : List Part) → plain_goals (opened ps) ≡ plain_goals ps
+pub plain_goals-opened : (ps : List Part) → plain_goals (opened ps) ≡ plain_goals ps
 plain_goals-opened [] = refl
 plain_goals-opened (call t ∷ ps) = refl
 plain_goals-opened (group cs none ∷ ps) = plain_goals-opened ps
@@ -53,12 +53,12 @@ plain_of-as_state (state G T n k) = ap (λ z. state z T n k) (plain_goals-calls 
 
 -- ---- children
 
-abbrev StartsWithCall : List Part → Type 0
+abbrev pub StartsWithCall : List Part → Type 0
 StartsWithCall [] = Unit {0}
 StartsWithCall (call t ∷ ps) = Unit {0}
 StartsWithCall (group cs ts ∷ ps) = ⊥
 
-StartsWithCall-opened : (ps : List Part) → StartsWithCall (opened ps)
+pub StartsWithCall-opened : (ps : List Part) → StartsWithCall (opened ps)
 StartsWithCall-opened [] = tt
 StartsWithCall-opened (call t ∷ ps) = tt
 StartsWithCall-opened (group cs none ∷ ps) = StartsWithCall-opened ps
@@ -87,13 +87,13 @@ plain_children-plain_of p s =
 
 -- ---- groups have goals, and stay so
 
-AreGroups-append : (ps qs : List Part) → AreGroups ps → AreGroups qs → AreGroups (ps ++ qs)
+pub AreGroups-append : (ps qs : List Part) → AreGroups ps → AreGroups qs → AreGroups (ps ++ qs)
 AreGroups-append [] qs h k = k
 AreGroups-append (call t ∷ ps) qs h k = AreGroups-append ps qs h k
 AreGroups-append (group cs none ∷ ps) qs h k = absurd h
 AreGroups-append (group cs (more t ts) ∷ ps) qs h k = AreGroups-append ps qs h k
 
-AreGroups-instance : (f : ℕ → Tree) (ps : List Part) → AreGroups ps → AreGroups (map (instance_part f) ps)
+pub AreGroups-instance : (f : ℕ → Tree) (ps : List Part) → AreGroups ps → AreGroups (map (instance_part f) ps)
 AreGroups-instance f [] h = tt
 AreGroups-instance f (call t ∷ ps) h = AreGroups-instance f ps h
 AreGroups-instance f (group cs none ∷ ps) h = absurd h
@@ -103,7 +103,7 @@ pub AreGroups-calls : (ts : Trees) → AreGroups (calls ts)
 AreGroups-calls none = tt
 AreGroups-calls (more t ts) = AreGroups-calls ts
 
-AreGroups-opened : (ps : List Part) → AreGroups ps → AreGroups (opened ps)
+pub AreGroups-opened : (ps : List Part) → AreGroups ps → AreGroups (opened ps)
 AreGroups-opened [] h = tt
 AreGroups-opened (call t ∷ ps) h = h
 AreGroups-opened (group cs none ∷ ps) h = absurd h

@@ -64,6 +64,12 @@ CopiedAnswerLaw =
         (record { goals = map (instance_part (fitted g b n U)) ps; tuple = instance_all (fitted g b n U) T; next = n + (m - b); steps = k })
         (record { goals = map (instance_part (value (fit_all (arguments g) V []))) ps; tuple = instance_all (value (fit_all (arguments g) V [])) T; next = n'; steps = k })
 
+-- Bindings by which related tuples are fitted into related arguments are related.
+abbrev pub FittingLaw : Type 0
+FittingLaw =
+    (f g : ℕ → ℕ) (n m : ℕ) (ts us vs ws : Trees) → RenamedAll (Linked f g n m) ts us → RenamedAll (Linked f g n m) vs ws
+    → RenamedSubst (Linked f g n m) (fit_all ts vs []) (fit_all us ws [])
+
 -- the answers are the same up to names, in the same order, and so is the end
 abbrev pub SameFound : Found → Found → Type 0
 SameFound f g = AllZip SameUpToNames f.answers g.answers × (f.ended ≡ g.ended)

@@ -3,14 +3,14 @@ use Rattle.std.specs.Prelude.{◌≡◌, ℕ, ◌+◌, ◌<◌, ◌≤◌, false
 use Rattle.std.specs.List.{AllByRecursion}
 use Rattle.ap_term.specs.Tree.{Tree, Trees, none, more}
 use Rattle.ap_term.specs.Vars.{occurs}
-use Rattle.ap_term.specs.Goals.{Program, Query}
+use Rattle.ap_term.specs.Goals.{Part, call, opened, Program, Query}
 use Rattle.ap_term.specs.Independence.{SharesNoVariable}
 use Rattle.ap_term.specs.WellFormed.{IsProgram, IsQuery}
 use Rattle.ap_term.specs.Search.{State, start, children, answers_to_depth, search}
 use Rattle.ap_laws.specs.Renaming.{Local, LocalAll, IsBelow}
 use Rattle.ap_laws.specs.Plain.{Plain, state, append_trees, tuple_of, plain_of, as_state, HasFullGroups, plain_ways, plain_children, IsPlainBelow}
 use Rattle.ap_laws.specs.Trace.{trace, trace_to, traces, answers_in, found_upto, followed}
-use Rattle.ap_laws.specs.Graft.{alone, graft, grafts, IsOf, AreOf}
+use Rattle.ap_laws.specs.Graft.{alone, graft, grafts, graft_state, IsOf, AreOf}
 use Rattle.ap_laws.specs.Gives.{Gives}
 
 -- a query begins in a state whose variables are below its first unused one, and whose groups have goals
@@ -40,6 +40,13 @@ GraftLaw =
     × ((r : ℕ) (u : Plain) → IsOf g b u
     → trace (plain_ways p) r (graft b (state (more g K) T n k) u) ≡ followed (trace (plain_ways p) r u) (λ a l. trace (plain_ways p) l (graft b (state (more g K) T n k) a)))
     × (Local (λ x. x < b) g → IsOf g b (alone g b) × (graft b (state (more g K) T n k) (alone g b) ≡ state (more g K) T n k))
+
+-- The same with groups that stay: the plain form is that of plain states, and the conditions on states are kept.
+abbrev pub GraftStateLaw : Type 0
+GraftStateLaw =
+    ((b : ℕ) (s : State) (u : Plain) → plain_of (graft_state b s u) ≡ graft b (plain_of s) u)
+    × ((b : ℕ) (s : State) (u : Plain) → HasFullGroups s → HasFullGroups (graft_state b s u))
+    × ((b : ℕ) (s : State) (g : Tree) (rest : List Part) (u : Plain) → opened s.goals ≡ call g ∷ rest → b ≤ s.next → IsBelow s → IsOf g b u → IsBelow (graft_state b s u))
 
 -- searching a conjunction is searching its first goal alone and going on from each answer
 abbrev pub SplitLaw : Type 0

@@ -3,8 +3,8 @@
 //! Stands on `ap_term` alone. Each function here has an empty body; its contract is a law.
 #![tactic(auto)]
 
-ghost use Rattle.ap_laws.specs.Laws.{UnifierLaw, UniqueUnifierLaw, WaysLaw, ChildrenLaw, ChildByUnifierLaw, CopiedAnswerLaw, RenamingLaw};
-ghost use Rattle.ap_laws.specs.SearchLaws.{QueryLaw, TraceLaw, GraftLaw, SplitLaw, IndependenceLaw, DeadConjunctLaw, GivesLaw};
+ghost use Rattle.ap_laws.specs.Laws.{UnifierLaw, UniqueUnifierLaw, WaysLaw, ChildrenLaw, ChildByUnifierLaw, CopiedAnswerLaw, FittingLaw, RenamingLaw};
+ghost use Rattle.ap_laws.specs.SearchLaws.{QueryLaw, TraceLaw, GraftLaw, GraftStateLaw, SplitLaw, IndependenceLaw, DeadConjunctLaw, GivesLaw};
 ghost use Rattle.ap_laws.specs.Rejoining.{MeaningLaw, RejoinLaw, EmittedLaw};
 ghost use Rattle.ap_laws.specs.Example.{ExampleLaw};
 
@@ -38,6 +38,11 @@ pub fn copied_answer_law()
     ensures { CopiedAnswerLaw }
 {}
 
+/// Fitting a tuple into a goal's arguments commutes with renamings.
+pub fn fitting_law()
+    ensures { FittingLaw }
+{}
+
 /// A search does not depend on the names of variables.
 pub fn renaming_law()
     ensures { RenamingLaw }
@@ -56,6 +61,11 @@ pub fn trace_law()
 /// A goal's search in the goal's place is the goal's own search, put there.
 pub fn graft_law()
     ensures { GraftLaw }
+{}
+
+/// A goal's search can be put in the goal's place in states with groups, too.
+pub fn graft_state_law()
+    ensures { GraftStateLaw }
 {}
 
 /// Searching a conjunction is searching its first goal and going on from each answer.
