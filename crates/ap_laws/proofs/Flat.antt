@@ -13,7 +13,7 @@ use Rattle.ap_laws.proofs.Zips.{AllByRecursion-append}
 use Rattle.ap_laws.proofs.Plain.{LocalAll-append_trees, LocalAll-arguments}
 use Rattle.ap_laws.specs.Gives.{Gives, Rejoins}
 use Rattle.ap_laws.specs.Tasks.{Round, first, later, closed, Task, task, Alternatives, exhausted, plain, frame, Slots, no_slot, fresh, busy, held, redone, again, joined_if, flat_task, flat_alternatives, flat_slots, left, edge_alternatives, edge_slots, slot_goals}
-use Rattle.ap_laws.proofs.Invariant.{base, base_alternatives, base_slots, cost, cost_alternatives, cost_slots, HasGiven, Strong, Pivot, Weak, TaskInvariant, AlternativesInvariant, RejoinsTask, RejoinsAlternatives, RejoinsSlots}
+use Rattle.ap_laws.proofs.Invariant.{base, base_alternatives, base_slots, cost, cost_alternatives, cost_slots, HasGiven, Strong, Pivot, Weak, TaskInvariant, AlternativesInvariant}
 use Rattle.ap_laws.proofs.Graft.{lifted-old, lifted-new, below_or_not, Linked-lifted, LocalAll-IsOwn_below, IsOf-alone, graft-alone}
 use Rattle.ap_laws.proofs.Dead.{Local-fitted}
 use Rattle.ap_laws.proofs.Gives.{Gives-then, Gives-beside, Gives-none, Gives-less, Gives-graft, graft-answer}
@@ -220,22 +220,3 @@ module _ (A : Ways) (renames : Renames A) (locals : Locals A) where
       Gives-less A (alone g b ∷ []) m (flat_task t) (cost t + q.0) (left t) q.2
       (subst (λ z. Gives A (alone g b ∷ []) z (flat_task t) (cost t + q.0)) (append-nil m)
       (Gives-then A (alone g b ∷ []) m (base t) [] (flat_task t) (cost t) q.0 p q.1))
-
-  mutual
-    pub RejoinsTask-TaskInvariant : (t : Task) (h : Tree) (z : ℕ) → TaskInvariant A h z t → RejoinsTask A t
-    RejoinsTask-TaskInvariant (task c l) h z i = RejoinsAlternatives-AlternativesInvariant l h z i
-
-    pub RejoinsAlternatives-AlternativesInvariant : (l : Alternatives) (h : Tree) (z : ℕ) → AlternativesInvariant A h z l → RejoinsAlternatives A l
-    RejoinsAlternatives-AlternativesInvariant exhausted h z i = tt
-    RejoinsAlternatives-AlternativesInvariant (plain s l) h z i = RejoinsAlternatives-AlternativesInvariant l h z i.2
-    RejoinsAlternatives-AlternativesInvariant (frame s first w l) h z i = (RejoinsSlots-Weak w (next_of s) (Weak-Strong w (next_of s) i.2), RejoinsAlternatives-AlternativesInvariant l h z i.4)
-    RejoinsAlternatives-AlternativesInvariant (frame s later w l) h z i = (RejoinsSlots-Weak w (next_of s) (Weak-Pivot w (next_of s) i.2), RejoinsAlternatives-AlternativesInvariant l h z i.4)
-    RejoinsAlternatives-AlternativesInvariant (frame s closed w l) h z i = (RejoinsSlots-Weak w (next_of s) i.2, RejoinsAlternatives-AlternativesInvariant l h z i.4)
-
-    pub RejoinsSlots-Weak : (w : Slots) (b : ℕ) → Weak A b w → RejoinsSlots A b w
-    RejoinsSlots-Weak no_slot b i = tt
-    RejoinsSlots-Weak (fresh g w) b i = RejoinsSlots-Weak w b i.1
-    RejoinsSlots-Weak (busy g t w) b i = (Rejoins-HasGiven g b [] t i.1 i.3, RejoinsTask-TaskInvariant t g b i.1, RejoinsSlots-Weak w b i.2)
-    RejoinsSlots-Weak (held g m a t c w) b i = (Rejoins-HasGiven g b m t i.1 i.5, RejoinsTask-TaskInvariant t g b i.1, RejoinsSlots-Weak w b i.4)
-    RejoinsSlots-Weak (redone g m t j w) b i = (Rejoins-HasGiven g b m t i.1 i.3, RejoinsTask-TaskInvariant t g b i.1, RejoinsSlots-Weak w b i.2)
-    RejoinsSlots-Weak (again g m a t c w) b i = (Rejoins-HasGiven g b m t i.1 i.5, RejoinsTask-TaskInvariant t g b i.1, RejoinsSlots-Weak w b i.4)

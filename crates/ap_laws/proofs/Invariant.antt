@@ -154,21 +154,3 @@ pub data Redo : Slots → Slots → Type 0 where
   redo_again : {g : Tree} {m : List Plain} {a : Plain} {t : Task} {c : ℕ} {w : Slots} → IsUsedUp w → Redo (again g m a t c w) (redone g m t (left t) (resets w))
   past_held : {g : Tree} {m : List Plain} {a : Plain} {t : Task} {c : ℕ} {w v : Slots} → Redo w v → Redo (held g m a t c w) (held g m a t 0 v)
   past_again : {g : Tree} {m : List Plain} {a : Plain} {t : Task} {c : ℕ} {w v : Slots} → Redo w v → Redo (again g m a t c w) (held g m a t 0 v)
-
--- each slot's task rejoins its goal's search, with the slot's answers so far
-abbrev mutual
-  pub RejoinsTask : Ways → Task → Type 0
-  RejoinsTask A (task c l) = RejoinsAlternatives A l
-
-  pub RejoinsAlternatives : Ways → Alternatives → Type 0
-  RejoinsAlternatives A exhausted = Unit {0}
-  RejoinsAlternatives A (plain s l) = RejoinsAlternatives A l
-  RejoinsAlternatives A (frame s r w l) = RejoinsSlots A (next_of s) w × RejoinsAlternatives A l
-
-  pub RejoinsSlots : Ways → ℕ → Slots → Type 0
-  RejoinsSlots A b no_slot = Unit {0}
-  RejoinsSlots A b (fresh g w) = RejoinsSlots A b w
-  RejoinsSlots A b (busy g t w) = Rejoins A (alone g b) [] (flat_task t) (left t) × RejoinsTask A t × RejoinsSlots A b w
-  RejoinsSlots A b (held g m a t c w) = Rejoins A (alone g b) m (flat_task t) (left t) × RejoinsTask A t × RejoinsSlots A b w
-  RejoinsSlots A b (redone g m t i w) = Rejoins A (alone g b) m (flat_task t) (left t) × RejoinsTask A t × RejoinsSlots A b w
-  RejoinsSlots A b (again g m a t c w) = Rejoins A (alone g b) m (flat_task t) (left t) × RejoinsTask A t × RejoinsSlots A b w

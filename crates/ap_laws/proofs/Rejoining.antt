@@ -16,12 +16,12 @@ use Rattle.ap_term.specs.Blocks.{Begins, IsAll}
 use Rattle.ap_laws.specs.Events.{IsExhausted}
 use Rattle.ap_laws.proofs.Events.{flat_task-IsExhausted}
 use Rattle.ap_laws.specs.Rejoining.{IsOnTheWay, IsRejoined, IsRejoinedAlone, AreRejoined, AreRejoinedIn, AreSlotsRejoined, IsSpent, IsSpentIn, IsSlotSpent, MeaningLaw, RejoinLaw, EmittedLaw}
-use Rattle.ap_laws.proofs.Invariant.{Weak, TaskInvariant, AlternativesInvariant, RejoinsTask, RejoinsAlternatives, RejoinsSlots}
+use Rattle.ap_laws.proofs.Invariant.{HasGiven, Weak, TaskInvariant, AlternativesInvariant}
 use Rattle.ap_laws.proofs.Plain.{Renames-plain_ways, Locals-plain_ways, LocalAll-plain_goals}
 use Rattle.ap_laws.proofs.Answers.{answers_in-append}
 use Rattle.ap_laws.proofs.Gives.{graft-answer}
-use Rattle.ap_laws.proofs.Flat.{IsPlainBelow-IsOf, next_of-le, Weak-Strong, Weak-Pivot}
-use Rattle.ap_laws.proofs.Runs.{IsOf-query, Rejoins-base, Rejoins-Runs, RejoinsTask-Runs}
+use Rattle.ap_laws.proofs.Flat.{IsPlainBelow-IsOf, next_of-le, Weak-Strong, Weak-Pivot, Rejoins-HasGiven}
+use Rattle.ap_laws.proofs.Runs.{IsOf-query, Rejoins-base, Rejoins-Runs}
 use Rattle.ap_laws.proofs.Views.{plain_of-as_state, AreGroups-calls, answers_to_depth-trace, search-trace}
 
 -- ---- budgets
@@ -108,29 +108,6 @@ module _ (p : Program) (good : IsProgram p) where
     pub IsRejoined-Rejoins : IsRejoined p s (map tuple_of given) rest c
     IsRejoined-Rejoins = (answers-Rejoins, search-short, search-due)
 
-  IsRejoinedAlone-Rejoins : (g : Tree) (b : ℕ) (m : List Plain) (t : Task) → Rejoins (plain_ways p) (alone g b) m (flat_task t) (left t) → IsRejoinedAlone p g b m t
-  IsRejoinedAlone-Rejoins g b m t h = (
-    IsRejoined-Rejoins (as_state (alone g b)) tt m (flat_task t) (left t) h,
-    (h.0, λ d k. answers-GivesAt d (alone g b) m (flat_task t) (left t) (h.1 d k)),
-  )
-
-  mutual
-    AreRejoined-RejoinsTask : (t : Task) → RejoinsTask (plain_ways p) t → AreRejoined p t
-    AreRejoined-RejoinsTask (task c l) h = AreRejoinedIn-RejoinsAlternatives l h
-
-    AreRejoinedIn-RejoinsAlternatives : (l : Alternatives) → RejoinsAlternatives (plain_ways p) l → AreRejoinedIn p l
-    AreRejoinedIn-RejoinsAlternatives exhausted h = tt
-    AreRejoinedIn-RejoinsAlternatives (plain s l) h = AreRejoinedIn-RejoinsAlternatives l h
-    AreRejoinedIn-RejoinsAlternatives (frame s r w l) h = (AreSlotsRejoined-RejoinsSlots (next_of s) w h.0, AreRejoinedIn-RejoinsAlternatives l h.1)
-
-    AreSlotsRejoined-RejoinsSlots : (b : ℕ) (w : Slots) → RejoinsSlots (plain_ways p) b w → AreSlotsRejoined p b w
-    AreSlotsRejoined-RejoinsSlots b no_slot h = tt
-    AreSlotsRejoined-RejoinsSlots b (fresh g w) h = AreSlotsRejoined-RejoinsSlots b w h
-    AreSlotsRejoined-RejoinsSlots b (busy g t w) h = (IsRejoinedAlone-Rejoins g b [] t h.0, AreRejoined-RejoinsTask t h.1, AreSlotsRejoined-RejoinsSlots b w h.2)
-    AreSlotsRejoined-RejoinsSlots b (held g m a t c w) h = (IsRejoinedAlone-Rejoins g b m t h.0, AreRejoined-RejoinsTask t h.1, AreSlotsRejoined-RejoinsSlots b w h.2)
-    AreSlotsRejoined-RejoinsSlots b (redone g m t i w) h = (IsRejoinedAlone-Rejoins g b m t h.0, AreRejoined-RejoinsTask t h.1, AreSlotsRejoined-RejoinsSlots b w h.2)
-    AreSlotsRejoined-RejoinsSlots b (again g m a t c w) h = (IsRejoinedAlone-Rejoins g b m t h.0, AreRejoined-RejoinsTask t h.1, AreSlotsRejoined-RejoinsSlots b w h.2)
-
 pub meaning : MeaningLaw
 meaning p good s full given rest c h = IsRejoined-Rejoins p good s full given rest c h
 
@@ -213,35 +190,67 @@ module _ (A : Ways) (renames : Renames A) (locals : Locals A) where
         IsPast-more r (edge_slots w) (c + edge_slots w) (flat_slots w round b (graft b (state (more g (append_trees (slot_goals w) K)) T n k) a)) (grafts b (state (more g (append_trees (slot_goals w) K)) T n k) (flat_task t))
         (subst (λ x. IsPast r (edge_slots w) (flat_slots w round b x)) (sym q.4) (IsPast-IsSlotSpent r w round b q.0 q.1 q.2 q.3 q.6 ind.1 q.5 i.4 s)) (omega arith)
 
+-- ---- tasks of goals alone
+
+module _ (p : Program) (good : IsProgram p) where
+  abbrev A : Ways
+  A = plain_ways p
+
+  renames : Renames A
+  renames = Renames-plain_ways p good
+
+  locals : Locals A
+  locals = Locals-plain_ways p good
+
+  -- where a budget is spent, the search hasn't ended within it
+  search-IsSpent : (s : State) (given : List Plain) (t : Task) (h : Tree) (z : ℕ) → TaskInvariant A h z t → IsRejoined p s (map tuple_of given) (flat_task t) (left t) → (budget : ℕ) → IsSpent budget t
+      → IsOnTheWay (search p budget (s ∷ [])) (map tuple_of given)
+  search-IsSpent s given t h z i rejoined budget spent = go (IsPast-IsSpent A renames locals budget t h z i spent)
+    where
+      go : IsPast budget (left t) (flat_task t) → IsOnTheWay (search p budget (s ∷ [])) (map tuple_of given)
+      go (inl k) = rejoined.1 budget k
+      go (inr k) = rejoined.2 k.1 budget k.0
+
+  IsRejoinedAlone-HasGiven : (g : Tree) (b : ℕ) (m : List Plain) (t : Task) → TaskInvariant A g b t → HasGiven A g b m t → IsRejoinedAlone p g b m t
+  IsRejoinedAlone-HasGiven g b m t i past =
+      let h : Rejoins A (alone g b) m (flat_task t) (left t) = Rejoins-HasGiven A renames locals g b m t i past in
+      let rejoined = IsRejoined-Rejoins p good (as_state (alone g b)) tt m (flat_task t) (left t) h in
+      (rejoined, (h.0, λ d k. answers-GivesAt p good d (alone g b) m (flat_task t) (left t) (h.1 d k)), search-IsSpent (as_state (alone g b)) m t g b i rejoined)
+
+  mutual
+    AreRejoined-TaskInvariant : (t : Task) (h : Tree) (z : ℕ) → TaskInvariant A h z t → AreRejoined p t
+    AreRejoined-TaskInvariant (task c l) h z i = AreRejoinedIn-AlternativesInvariant l h z i
+
+    AreRejoinedIn-AlternativesInvariant : (l : Alternatives) (h : Tree) (z : ℕ) → AlternativesInvariant A h z l → AreRejoinedIn p l
+    AreRejoinedIn-AlternativesInvariant exhausted h z i = tt
+    AreRejoinedIn-AlternativesInvariant (plain s l) h z i = AreRejoinedIn-AlternativesInvariant l h z i.2
+    AreRejoinedIn-AlternativesInvariant (frame s first w l) h z i =
+        (AreSlotsRejoined-Weak w (next_of s) (Weak-Strong A renames locals w (next_of s) i.2), AreRejoinedIn-AlternativesInvariant l h z i.4)
+    AreRejoinedIn-AlternativesInvariant (frame s later w l) h z i =
+        (AreSlotsRejoined-Weak w (next_of s) (Weak-Pivot A renames locals w (next_of s) i.2), AreRejoinedIn-AlternativesInvariant l h z i.4)
+    AreRejoinedIn-AlternativesInvariant (frame s closed w l) h z i = (AreSlotsRejoined-Weak w (next_of s) i.2, AreRejoinedIn-AlternativesInvariant l h z i.4)
+
+    AreSlotsRejoined-Weak : (w : Slots) (b : ℕ) → Weak A b w → AreSlotsRejoined p b w
+    AreSlotsRejoined-Weak no_slot b i = tt
+    AreSlotsRejoined-Weak (fresh g w) b i = AreSlotsRejoined-Weak w b i.1
+    AreSlotsRejoined-Weak (busy g t w) b i = (IsRejoinedAlone-HasGiven g b [] t i.1 i.3, AreRejoined-TaskInvariant t g b i.1, AreSlotsRejoined-Weak w b i.2)
+    AreSlotsRejoined-Weak (held g m a t c w) b i = (IsRejoinedAlone-HasGiven g b m t i.1 i.5, AreRejoined-TaskInvariant t g b i.1, AreSlotsRejoined-Weak w b i.4)
+    AreSlotsRejoined-Weak (redone g m t j w) b i = (IsRejoinedAlone-HasGiven g b m t i.1 i.3, AreRejoined-TaskInvariant t g b i.1, AreSlotsRejoined-Weak w b i.2)
+    AreSlotsRejoined-Weak (again g m a t c w) b i = (IsRejoinedAlone-HasGiven g b m t i.1 i.5, AreRejoined-TaskInvariant t g b i.1, AreSlotsRejoined-Weak w b i.4)
+
 -- ---- the whole
 
 pub rejoin : RejoinLaw
-rejoin p good q below full emitted t runs = (rejoined, AreRejoined-RejoinsTask p good t (RejoinsTask-Runs A renames locals G q.tuple q.next q.steps own runs), spent)
+rejoin p good q below full emitted t runs = (rejoined, AreRejoined-TaskInvariant p good t (node 0 q.tuple) 0 invariant, search-IsSpent p good q emitted t (node 0 q.tuple) 0 invariant rejoined)
   where
-    A : Ways
-    A = plain_ways p
-
-    renames : Renames A
-    renames = Renames-plain_ways p good
-
-    locals : Locals A
-    locals = Locals-plain_ways p good
-
     G : Trees
     G = plain_goals q.goals
-
     own : IsOf (node 0 q.tuple) 0 (plain_of q)
     own = IsOf-query G q.tuple q.next q.steps (LocalAll-plain_goals (λ x. x < q.next) q.goals below.0) below.1
-
+    invariant : TaskInvariant (plain_ways p) (node 0 q.tuple) 0 t
+    invariant = (Rejoins-base (plain_ways p) (renames p good) (locals p good) G q.tuple q.next q.steps own runs).0
     rejoined : IsRejoined p q (map tuple_of emitted) (flat_task t) (left t)
-    rejoined = IsRejoined-Rejoins p good q full emitted (flat_task t) (left t) (Rejoins-Runs A renames locals G q.tuple q.next q.steps own runs)
-
-    spent : (budget : ℕ) → IsSpent budget t → IsOnTheWay (search p budget (q ∷ [])) (map tuple_of emitted)
-    spent budget s = go (IsPast-IsSpent A renames locals budget t (node 0 q.tuple) 0 (Rejoins-base A renames locals G q.tuple q.next q.steps own runs).0 s)
-      where
-        go : IsPast budget (left t) (flat_task t) → IsOnTheWay (search p budget (q ∷ [])) (map tuple_of emitted)
-        go (inl h) = rejoined.1 budget h
-        go (inr h) = rejoined.2 h.1 budget h.0
+    rejoined = IsRejoined-Rejoins p good q full emitted (flat_task t) (left t) (Rejoins-Runs (plain_ways p) (renames p good) (locals p good) G q.tuple q.next q.steps own runs)
 
 pub emitted_lines : EmittedLaw
 emitted_lines line p good q below full emitted t runs = (begins, all)

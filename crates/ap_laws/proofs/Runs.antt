@@ -9,9 +9,9 @@ use Rattle.ap_laws.proofs.Local.{LocalAll-weaken}
 use Rattle.ap_laws.specs.Gives.{Gives, Rejoins}
 use Rattle.ap_laws.specs.Tasks.{Task, task, exhausted, plain, flat_task, flat_alternatives, left}
 use Rattle.ap_laws.specs.Events.{Runs, none_yet, and_then, emits}
-use Rattle.ap_laws.proofs.Invariant.{base, cost, cost_alternatives, TaskInvariant, RejoinsTask}
+use Rattle.ap_laws.proofs.Invariant.{base, cost, cost_alternatives, TaskInvariant}
 use Rattle.ap_laws.proofs.Gives.{Gives-then, Gives-none, Gives-less, Gives-answer}
-use Rattle.ap_laws.proofs.Flat.{Gives-flat_task, RejoinsTask-TaskInvariant}
+use Rattle.ap_laws.proofs.Flat.{Gives-flat_task}
 use Rattle.ap_laws.proofs.Events.{base_alternatives-IsQuiet, cost_alternatives-IsQuiet, Effect-Step}
 
 -- the query stands for a goal whose arguments are its tuple
@@ -49,6 +49,3 @@ module _ (A : Ways) (renames : Renames A) (locals : Locals A) where
       Gives-less A (state G T n k ∷ []) m (flat_task t) (cost t + e.0) (left t) e.2
       (subst (λ z. Gives A (state G T n k ∷ []) z (flat_task t) (cost t + e.0)) (append-nil m)
       (Gives-then A (state G T n k ∷ []) m (base t) [] (flat_task t) (cost t) e.0 q.1 e.1))
-
-  pub RejoinsTask-Runs : (G T : Trees) (n k : ℕ) → IsOf (node 0 T) 0 (state G T n k) → {m : List Plain} {t : Task} → Runs A (task 0 (plain (state G T n k) exhausted)) m t → RejoinsTask A t
-  RejoinsTask-Runs G T n k o {t = t} r = RejoinsTask-TaskInvariant A renames locals t (node 0 T) 0 (Rejoins-base G T n k o r).0

@@ -27,30 +27,6 @@ IsRejoined p s given rest c =
     × ((n : ℕ) → n < c → IsOnTheWay (search p n (s ∷ [])) given)
     × (IsCallDue rest → (n : ℕ) → n ≤ c → IsOnTheWay (search p n (s ∷ [])) given)
 
--- the same of a goal alone, where the answers count with the calls made on the way to each
-abbrev pub IsRejoinedAlone : Program → Tree → ℕ → List Plain → Task → Type 0
-IsRejoinedAlone p g b given t =
-    IsRejoined p (as_state (alone g b)) (map tuple_of given) (flat_task t) (left t)
-    × ((m : ℕ) × ((d : ℕ) → m ≤ d → answers_in (trace_to (plain_ways p) d (alone g b)) ≡ given ++ answers_in (traces (plain_ways p) d (flat_task t))))
-
-abbrev mutual
-  -- each slot's task, with its goal and its answers so far, to any depth of frames
-  pub AreRejoined : Program → Task → Type 0
-  AreRejoined p (task c l) = AreRejoinedIn p l
-
-  pub AreRejoinedIn : Program → Alternatives → Type 0
-  AreRejoinedIn p exhausted = Unit {0}
-  AreRejoinedIn p (plain s l) = AreRejoinedIn p l
-  AreRejoinedIn p (frame s r w l) = AreSlotsRejoined p (next_of s) w × AreRejoinedIn p l
-
-  pub AreSlotsRejoined : Program → ℕ → Slots → Type 0
-  AreSlotsRejoined p b no_slot = Unit {0}
-  AreSlotsRejoined p b (fresh g w) = AreSlotsRejoined p b w
-  AreSlotsRejoined p b (busy g t w) = IsRejoinedAlone p g b [] t × AreRejoined p t × AreSlotsRejoined p b w
-  AreSlotsRejoined p b (held g m a t c w) = IsRejoinedAlone p g b m t × AreRejoined p t × AreSlotsRejoined p b w
-  AreSlotsRejoined p b (redone g m t i w) = IsRejoinedAlone p g b m t × AreRejoined p t × AreSlotsRejoined p b w
-  AreSlotsRejoined p b (again g m a t c w) = IsRejoinedAlone p g b m t × AreRejoined p t × AreSlotsRejoined p b w
-
 abbrev mutual
   -- Where a task may spend so much, its budget is spent: a call is due and nothing is left for it, or an open frame's
   -- left edge is more than what is left, or what is left is spent by the leftmost slot without an answer.
@@ -72,6 +48,32 @@ abbrev mutual
   IsSlotSpent r (held g m a t c w) = IsSlotSpent r w
   IsSlotSpent r (redone g m t i w) = IsSpent (i + r) t
   IsSlotSpent r (again g m a t c w) = IsSlotSpent r w
+
+-- The same of a goal alone, where the answers count with the calls made on the way to each; and where a budget of it is
+-- spent, the goal's search hasn't ended within it.
+abbrev pub IsRejoinedAlone : Program → Tree → ℕ → List Plain → Task → Type 0
+IsRejoinedAlone p g b given t =
+    IsRejoined p (as_state (alone g b)) (map tuple_of given) (flat_task t) (left t)
+    × ((m : ℕ) × ((d : ℕ) → m ≤ d → answers_in (trace_to (plain_ways p) d (alone g b)) ≡ given ++ answers_in (traces (plain_ways p) d (flat_task t))))
+    × ((budget : ℕ) → IsSpent budget t → IsOnTheWay (search p budget (as_state (alone g b) ∷ [])) (map tuple_of given))
+
+abbrev mutual
+  -- each slot's task, with its goal and its answers so far, to any depth of frames
+  pub AreRejoined : Program → Task → Type 0
+  AreRejoined p (task c l) = AreRejoinedIn p l
+
+  pub AreRejoinedIn : Program → Alternatives → Type 0
+  AreRejoinedIn p exhausted = Unit {0}
+  AreRejoinedIn p (plain s l) = AreRejoinedIn p l
+  AreRejoinedIn p (frame s r w l) = AreSlotsRejoined p (next_of s) w × AreRejoinedIn p l
+
+  pub AreSlotsRejoined : Program → ℕ → Slots → Type 0
+  AreSlotsRejoined p b no_slot = Unit {0}
+  AreSlotsRejoined p b (fresh g w) = AreSlotsRejoined p b w
+  AreSlotsRejoined p b (busy g t w) = IsRejoinedAlone p g b [] t × AreRejoined p t × AreSlotsRejoined p b w
+  AreSlotsRejoined p b (held g m a t c w) = IsRejoinedAlone p g b m t × AreRejoined p t × AreSlotsRejoined p b w
+  AreSlotsRejoined p b (redone g m t i w) = IsRejoinedAlone p g b m t × AreRejoined p t × AreSlotsRejoined p b w
+  AreSlotsRejoined p b (again g m a t c w) = IsRejoinedAlone p g b m t × AreRejoined p t × AreSlotsRejoined p b w
 
 -- what rejoins by traces rejoins in answers and budgets
 abbrev pub MeaningLaw : Type 0
