@@ -20,3 +20,4 @@ pub mod Conjunctions
 pub mod CopiedAnswers
 pub mod Example
 pub mod GroupedGrafts
+pub mod SameStates

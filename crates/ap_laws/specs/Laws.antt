@@ -64,6 +64,13 @@ CopiedAnswerLaw =
         (record { goals = map (instance_part (fitted g b n U)) ps; tuple = instance_all (fitted g b n U) T; next = n + (m - b); steps = k })
         (record { goals = map (instance_part (value (fit_all (arguments g) V []))) ps; tuple = instance_all (value (fit_all (arguments g) V [])) T; next = n'; steps = k })
 
+-- To be equal up to names is an equivalence of states whose variables are below their first unused one.
+abbrev pub SameStateLaw : Type 0
+SameStateLaw =
+    ((s : State) → IsBelow s → SameState s s)
+    × ((s t : State) → SameState s t → SameState t s)
+    × ((s t u : State) → SameState s t → SameState t u → SameState s u)
+
 -- Bindings by which related tuples are fitted into related arguments are related.
 abbrev pub FittingLaw : Type 0
 FittingLaw =

@@ -3,7 +3,7 @@
 //! Stands on `ap_term` alone. Each function here has an empty body; its contract is a law.
 #![tactic(auto)]
 
-ghost use Rattle.ap_laws.specs.Laws.{UnifierLaw, UniqueUnifierLaw, WaysLaw, ChildrenLaw, ChildByUnifierLaw, CopiedAnswerLaw, FittingLaw, RenamingLaw};
+ghost use Rattle.ap_laws.specs.Laws.{UnifierLaw, UniqueUnifierLaw, WaysLaw, ChildrenLaw, ChildByUnifierLaw, CopiedAnswerLaw, FittingLaw, SameStateLaw, RenamingLaw};
 ghost use Rattle.ap_laws.specs.SearchLaws.{QueryLaw, TraceLaw, GraftLaw, GraftStateLaw, SplitLaw, IndependenceLaw, DeadConjunctLaw, GivesLaw};
 ghost use Rattle.ap_laws.specs.Rejoining.{MeaningLaw, RejoinLaw, EmittedLaw};
 ghost use Rattle.ap_laws.specs.Example.{ExampleLaw};
@@ -36,6 +36,11 @@ pub fn child_by_unifier_law()
 /// An answer that was copied under other names serves as well in its goal's place.
 pub fn copied_answer_law()
     ensures { CopiedAnswerLaw }
+{}
+
+/// Equality up to names is an equivalence of states.
+pub fn same_state_law()
+    ensures { SameStateLaw }
 {}
 
 /// Fitting a tuple into a goal's arguments commutes with renamings.
