@@ -38,6 +38,7 @@ pub query : QueryLaw
 query q h = (
   (LocalParts-weaken (λ x. x ≤ q.question.vars) (λ x. x < q.question.vars + 1) (λ x l. omega arith) q.question.body (LocalParts-body q.question h.question), LocalAll-variables q.question.vars),
   AreGroups-well_formed q.question.vars q.question.body h.question.body,
+  λ p good. All-append IsClause p (q.question ∷ q.lifted) good (All-cons IsClause q.question q.lifted h.question h.lifted),
 )
 
 -- ---- conjunctions

@@ -3,7 +3,7 @@ use Rattle.std.specs.Prelude.{◌≡◌, ℕ, ◌+◌, ◌<◌, ◌≤◌, false
 use Rattle.std.specs.List.{AllByRecursion}
 use Rattle.ap_term.specs.Tree.{Tree, Trees, none, more}
 use Rattle.ap_term.specs.Vars.{occurs}
-use Rattle.ap_term.specs.Goals.{Part, call, opened, Program, Query}
+use Rattle.ap_term.specs.Goals.{Part, call, opened, Program, Query, joined}
 use Rattle.ap_term.specs.Independence.{SharesNoVariable}
 use Rattle.ap_term.specs.WellFormed.{IsProgram, IsQuery}
 use Rattle.ap_term.specs.Search.{State, start, children, answers_to_depth, search}
@@ -13,9 +13,10 @@ use Rattle.ap_laws.specs.Trace.{trace, trace_to, traces, answers_in, found_upto,
 use Rattle.ap_laws.specs.Graft.{alone, graft, grafts, graft_state, IsOf, AreOf}
 use Rattle.ap_laws.specs.Gives.{Gives}
 
--- a query begins in a state whose variables are below its first unused one, and whose groups have goals
+-- A query begins in a state whose variables are below its first unused one, and whose groups have goals; behind a
+-- program its clauses make a program.
 abbrev pub QueryLaw : Type 0
-QueryLaw = (q : Query) → IsQuery q → IsBelow (start q) × HasFullGroups (start q)
+QueryLaw = (q : Query) → IsQuery q → IsBelow (start q) × HasFullGroups (start q) × ((p : Program) → IsProgram p → IsProgram (joined p q))
 
 -- Groups that come first are conjunctions: the plain forms of a state's children are the children of its plain form.
 -- The answers of a state to a depth are those of its trace, and what a budget finds is what comes before the call in
