@@ -4,7 +4,8 @@ use Rattle.ap_term.specs.Tree.{Tree, Trees, var, none, more, push_tree, count_tr
 use Rattle.ap_term.specs.Vars.{occurs}
 use Rattle.ap_term.specs.Goals.{Program}
 use Rattle.ap_term.specs.Independence.{SharesNoVariable}
-use Rattle.ap_term.specs.WellFormed.{IsProgram}
+use Rattle.std.proofs.lemmas.List.Elements.{All-append, All-cons}
+use Rattle.ap_term.specs.WellFormed.{IsClause, IsProgram}
 use Rattle.ap_term.specs.Search.{State, variables, answers_to_depth}
 use Rattle.ap_laws.specs.Renaming.{Local, LocalAll}
 use Rattle.ap_laws.specs.Plain.{Plain, state, Ways, append_trees, tuple_of, goals_left, plain_of, as_state, HasFullGroups, plain_ways, IsPlainBelow, Renames, Locals}

@@ -1,13 +1,12 @@
 -- A goal's answer under other names, put in the goal's place.
-use Rattle.std.proofs.Common.{◌≡◌, ℕ, ◌+◌, ◌-◌, ◌<◌, ◌≤◌, ◌⊎◌, inl, inr, Bool, true, false, ◌||◌, cond, if◌then◌else◌, List, [], ◌∷◌, map, refl, ap, sym, ◌∙◌, subst, arith}
+use Rattle.std.proofs.Common.{◌≡◌, ℕ, ◌+◌, ◌-◌, ◌<◌, ◌≤◌, ◌⊎◌, inl, inr, Bool, true, false, ◌||◌, cond, if◌then◌else◌, [], refl, ap, sym, ◌∙◌, subst, arith}
 use Rattle.std.proofs.lemmas.Bool.{false≢true}
 use Rattle.ap_term.specs.Tree.{Tree, Trees, var, int, atom, node, none, more}
 use Rattle.ap_term.specs.Vars.{occurs, occurs_all}
 use Rattle.ap_term.specs.Substitution.{instance, instance_all, value}
-use Rattle.ap_term.specs.Goals.{Part, instance_part}
 use Rattle.ap_term.proofs.Copies.{instance_all_twice}
 use Rattle.ap_term.proofs.Solutions.{same_var, same_test, or_left, or_right}
-use Rattle.ap_laws.specs.Renaming.{Renamed, RenamedAll, Linked, LocalAll, LocalParts}
+use Rattle.ap_laws.specs.Renaming.{Renamed, RenamedAll, Linked, LocalAll}
 use Rattle.ap_laws.specs.Plain.{state}
 use Rattle.ap_laws.specs.Graft.{arguments, fit_all, lifted, lifted_var, lowered, fitted, IsOwn, IsOf}
 use Rattle.ap_laws.specs.Laws.{CopiedAnswerLaw}
@@ -34,7 +33,6 @@ mutual
       go false e p here ih = or_right (occurs (f x) (instance (λ y. var (f y)) t)) (occurs_all (f x) (instance_all (λ y. var (f y)) ts)) (ih p)
 
 module _ (g : Tree) (b n m j n' : ℕ) (U V : Trees) (f h : ℕ → ℕ) (bn : b ≤ n) (nn : n ≤ n') (o : IsOf g b (state none U m j)) (r : RenamedAll (Linked f h m n') U V) (fresh : LocalAll (λ x. n ≤ x) V) where
-
   -- the renaming: the answer's variables go to the copy's, and the others stay
   pub forth : ℕ → ℕ
   forth x = if occurs_all x (instance_all (lifted_var b n) U) then f (lowered b n x) else x
@@ -59,6 +57,7 @@ module _ (g : Tree) (b n m j n' : ℕ) (U V : Trees) (f h : ℕ → ℕ) (bn : b
     where
       low : Linked (lifted b n) (lowered b n) m (n + (m - b)) z (lifted b n z)
       low = Linked-lifted b n m (n + (m - b)) bn o.4 refl z (LocalAll-occurs_all (λ x. x < m) U (LocalAll-RenamedAll (Linked f h m n') (λ x. x < m) (λ x y k. k.2) U V r) z p)
+
       comes_back : h (f z) ≡ z
       comes_back = LocalAll-occurs_all (λ x. h (f x) ≡ x) U (LocalAll-RenamedAll (Linked f h m n') (λ x. h (f x) ≡ x) (λ x y k. ap h k.0 ∙ k.1) U V r) z p
 
@@ -79,6 +78,7 @@ module _ (g : Tree) (b n m j n' : ℕ) (U V : Trees) (f h : ℕ → ℕ) (bn : b
       stays : (c : Bool) → occurs_all x (instance_all (lifted_var b n) U) ≡ c → (if c then f (lowered b n x) else x) ≡ x
       stays true e = absurd (false≢true (sym p ∙ LocalAll-occurs_all (λ y. y < n → occurs_all y (arguments g) ≡ true) (instance_all (lifted_var b n) U) old_of_goal x e l))
       stays false e = refl
+
       stays_there : (c : Bool) → occurs_all x V ≡ c → (if c then lifted b n (h x) else x) ≡ x
       stays_there true e = let k : n ≤ x = LocalAll-occurs_all (λ y. n ≤ y) V fresh x e in absurd (omega arith)
       stays_there false e = refl
@@ -93,6 +93,7 @@ module _ (g : Tree) (b n m j n' : ℕ) (U V : Trees) (f h : ℕ → ℕ) (bn : b
       there =
           ap (λ W. value (fit_all (arguments g) W []) x) (copy_is ∙ ap (instance_all (λ y. var (f y))) o.1 ∙ instance_all_twice o.0 (λ y. var (f y)) (arguments g))
           ∙ value-fit_all (λ y. instance (λ z. var (f z)) (o.0 y)) (arguments g) [] x
+
       go : (c : Bool) → occurs_all x (arguments g) ≡ c → Renamed R (cond c (instance (lifted_var b n) (o.0 x)) (var x)) (cond c (instance (λ y. var (f y)) (o.0 x)) (var x))
       go true e =
           Renamed-both (λ z. occurs_all z U ≡ true) R (lifted_var b n) (λ y. var (f y)) of_answer (o.0 x)
@@ -100,10 +101,13 @@ module _ (g : Tree) (b n m j n' : ℕ) (U V : Trees) (f h : ℕ → ℕ) (bn : b
       go false e = of_others x l e
 
 pub copied : CopiedAnswerLaw
-copied g b n m j k n' U V f h ps T bn nn o r fresh hp hT =
-    (forth g b n m j n' U V f h bn nn o r fresh, back g b n m j n' U V f h bn nn o r fresh, (
-      RenamedParts-both (λ x. x < n) (R g b n m j n' U V f h bn nn o r fresh) (IsOneToOne-Linked _ _ (n + (m - b)) n') (fitted g b n U) (value (fit_all (arguments g) V []))
-          (fitted-copy g b n m j n' U V f h bn nn o r fresh) ps hp,
-      RenamedAll-both (λ x. x < n) (R g b n m j n' U V f h bn nn o r fresh) (fitted g b n U) (value (fit_all (arguments g) V [])) (fitted-copy g b n m j n' U V f h bn nn o r fresh) T hT,
-      refl,
-    ))
+copied g b n m j k n' U V f h ps T bn nn o r fresh hp hT = (
+  forth g b n m j n' U V f h bn nn o r fresh,
+  back g b n m j n' U V f h bn nn o r fresh,
+  (
+    RenamedParts-both (λ x. x < n) (R g b n m j n' U V f h bn nn o r fresh) (IsOneToOne-Linked _ _ (n + (m - b)) n') (fitted g b n U) (value (fit_all (arguments g) V []))
+        (fitted-copy g b n m j n' U V f h bn nn o r fresh) ps hp,
+    RenamedAll-both (λ x. x < n) (R g b n m j n' U V f h bn nn o r fresh) (fitted g b n U) (value (fit_all (arguments g) V [])) (fitted-copy g b n m j n' U V f h bn nn o r fresh) T hT,
+    refl,
+  ),
+)

@@ -1,14 +1,12 @@
 -- Grafts on states with groups, and fitting under other names.
-use Rattle.std.proofs.Common.{◌≡◌, ℕ, ◌+◌, ◌-◌, ◌<◌, ◌≤◌, ◌⊎◌, inl, inr, true, false, List, [], ◌∷◌, ◌++◌, map, refl, ap, ap₂, sym, ◌∙◌, subst, arith}
-use Rattle.std.specs.List.{AllByRecursion}
+use Rattle.std.proofs.Common.{◌≡◌, ℕ, ◌+◌, ◌-◌, ◌<◌, ◌≤◌, List, [], ◌∷◌, map, refl, ap, sym, ◌∙◌, subst, arith}
 use Rattle.ap_term.specs.Tree.{Tree, Trees, var, int, atom, node, none, more}
-use Rattle.ap_term.specs.Vars.{occurs_all}
 use Rattle.ap_term.specs.Substitution.{instance_all, Subst}
 use Rattle.ap_term.specs.Goals.{Part, call, group, instance_part, calls, opened}
 use Rattle.ap_term.specs.Search.{State}
 use Rattle.ap_laws.specs.Renaming.{Renamed, RenamedAll, RenamedSubst, Linked, Local, LocalAll, LocalPart, LocalParts, IsBelow}
-use Rattle.ap_laws.specs.Plain.{Plain, state, plain_goals, plain_of, AreGroups, HasFullGroups, append_trees}
-use Rattle.ap_laws.specs.Graft.{fit, fit_all, lifted, lifted_var, fitted, graft, graft_by, graft_state, IsOwn, IsOf}
+use Rattle.ap_laws.specs.Plain.{Plain, state, plain_goals, plain_of, AreGroups, append_trees}
+use Rattle.ap_laws.specs.Graft.{fit, fit_all, lifted, lifted_var, fitted, graft, graft_by, IsOwn, IsOf}
 use Rattle.ap_laws.specs.Laws.{FittingLaw}
 use Rattle.ap_laws.specs.SearchLaws.{GraftStateLaw}
 use Rattle.ap_laws.proofs.Zips.{AllByRecursion-append}
@@ -82,8 +80,10 @@ IsBelow-graft_by b s g rest (state G U m j) bn h hT o = (
   where
     n : ℕ
     n = s.next + (m - b)
+
     moved : (x : ℕ) → IsOwn g b m x → lifted b s.next x < n
     moved x p = (Linked-lifted b s.next m n bn o.4 refl x p.0).3
+
     stays : (x : ℕ) → x < s.next → Local (λ y. y < n) (fitted g b s.next U x)
     stays = Local-fitted (λ y. y < n) (λ y. y < s.next) g b s.next m o.0 U o.1 o.3 moved (λ x l p. omega arith)
 
@@ -91,9 +91,9 @@ pub grafted_state : GraftStateLaw
 grafted_state = (
   λ b s u.
       plain_of-graft_by b s (opened s.goals) u (StartsWithCall-opened s.goals) (plain_goals-opened s.goals)
-          ∙ ap (λ G. graft b (state G s.tuple s.next s.steps) u) (plain_goals-opened s.goals),
+      ∙ ap (λ G. graft b (state G s.tuple s.next s.steps) u) (plain_goals-opened s.goals),
   λ b s u h. AreGroups-graft_by b s (opened s.goals) u h (AreGroups-opened s.goals h),
   λ b s g rest u e bn h o.
       subst (λ ps. IsBelow (graft_by b s ps u)) (sym e)
-          (IsBelow-graft_by b s g rest u bn (subst (LocalParts (λ x. x < s.next)) e (LocalParts-opened (λ x. x < s.next) s.goals h.0)) h.1 o),
+      (IsBelow-graft_by b s g rest u bn (subst (LocalParts (λ x. x < s.next)) e (LocalParts-opened (λ x. x < s.next) s.goals h.0)) h.1 o),
 )

@@ -5,7 +5,7 @@ use Rattle.ap_term.specs.Independence.{AreApart}
 use Rattle.ap_laws.specs.Renaming.{Local}
 use Rattle.ap_laws.specs.Plain.{Plain, state, Ways, append_trees, goals_left, next_of}
 use Rattle.ap_laws.specs.Graft.{alone, graft, grafts, IsOf, IsDead}
-use Rattle.ap_laws.specs.Gives.{Gives, Rejoins}
+use Rattle.ap_laws.specs.Gives.{Gives}
 use Rattle.ap_laws.specs.Tasks.{first, later, closed, Task, task, Alternatives, exhausted, plain, frame, Slots, no_slot, fresh, busy, held, redone, again, flat_task, flat_alternatives, flat_slots, left, slot_goals}
 use Rattle.ap_laws.specs.Events.{IsExhausted, IsUsedUp, resets}
 

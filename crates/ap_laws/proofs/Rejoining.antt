@@ -245,10 +245,13 @@ rejoin p good q below full emitted t runs = (rejoined, AreRejoined-TaskInvariant
   where
     G : Trees
     G = plain_goals q.goals
+
     own : IsOf (node 0 q.tuple) 0 (plain_of q)
     own = IsOf-query G q.tuple q.next q.steps (LocalAll-plain_goals (λ x. x < q.next) q.goals below.0) below.1
+
     invariant : TaskInvariant (plain_ways p) (node 0 q.tuple) 0 t
     invariant = (Rejoins-base (plain_ways p) (renames p good) (locals p good) G q.tuple q.next q.steps own runs).0
+
     rejoined : IsRejoined p q (map tuple_of emitted) (flat_task t) (left t)
     rejoined = IsRejoined-Rejoins p good q full emitted (flat_task t) (left t) (Rejoins-Runs (plain_ways p) (renames p good) (locals p good) G q.tuple q.next q.steps own runs)
 
@@ -257,6 +260,7 @@ emitted_lines line p good q below full emitted t runs = (begins, all)
   where
     answers : (m : ℕ) × ((d : ℕ) → m ≤ d → answers_to_depth p q d ≡ map tuple_of emitted ++ flat_map (λ u. answers_to_depth p (as_state u) d) (flat_task t))
     answers = (rejoin p good q below full emitted t runs).0.0
+
     begins : Begins line p q (map line (map tuple_of emitted))
     begins = (
       answers.0,
@@ -264,11 +268,12 @@ emitted_lines line p good q below full emitted t runs = (begins, all)
           let rest : List Trees = flat_map (λ u. answers_to_depth p (as_state u) d) (flat_task t) in
           (map line rest, sym (map-append line (map tuple_of emitted) rest) ∙ ap (map line) (sym (answers.1 d k))),
     )
+
     all : IsExhausted t → IsAll line p q (map line (map tuple_of emitted))
     all none_left = (
       answers.0,
       λ d k.
           ap (map line)
-              (sym (append-nil (map tuple_of emitted)) ∙ ap (λ l. map tuple_of emitted ++ flat_map (λ u. answers_to_depth p (as_state u) d) l) (sym (flat_task-IsExhausted t none_left))
-              ∙ sym (answers.1 d k)),
+          (sym (append-nil (map tuple_of emitted)) ∙ ap (λ l. map tuple_of emitted ++ flat_map (λ u. answers_to_depth p (as_state u) d) l) (sym (flat_task-IsExhausted t none_left))
+          ∙ sym (answers.1 d k)),
     )

@@ -1,5 +1,5 @@
 -- States that are equal up to names: an equivalence.
-use Rattle.std.proofs.Common.{◌≡◌, ℕ, List, [], ◌∷◌, refl, ap, sym, ◌∙◌}
+use Rattle.std.proofs.Common.{ℕ, List, [], ◌∷◌, ap, sym, ◌∙◌}
 use Rattle.std.specs.List.{AllZip}
 use Rattle.ap_term.specs.declared.clauses.Check.{Check}
 use Rattle.ap_term.specs.declared.clauses.Check.TheVariants.{Ground, Indep}
@@ -105,12 +105,15 @@ SameState-trans s t u h j =
     let R : ℕ → ℕ → Type 0 = Linked h.0 h.1 s.next t.next in
     let S : ℕ → ℕ → Type 0 = Linked j.0 j.1 t.next u.next in
     let Q : ℕ → ℕ → Type 0 = Linked (λ x. j.0 (h.0 x)) (λ x. h.1 (j.1 x)) s.next u.next in
-    let e : (x y z : ℕ) → R x y → S y z → Q x z = λ x y z k l. (ap j.0 k.0 ∙ l.0, ap h.1 l.1 ∙ k.1, k.2, l.3) in
-    (λ x. j.0 (h.0 x), λ x. h.1 (j.1 x), (
-      AllZip-trans (RenamedPart R) (RenamedPart S) (RenamedPart Q) (RenamedPart-trans R S Q e) s.goals t.goals u.goals h.2.0 j.2.0,
-      RenamedAll-trans R S Q e s.tuple t.tuple u.tuple h.2.1 j.2.1,
-      h.2.2 ∙ j.2.2,
-    ))
+    let e : (x y z : ℕ) → R x y → S y z → Q x z = λ x y z k l. (ap j.0 k.0 ∙ l.0, ap h.1 l.1 ∙ k.1, k.2, l.3) in (
+      λ x. j.0 (h.0 x),
+      λ x. h.1 (j.1 x),
+      (
+        AllZip-trans (RenamedPart R) (RenamedPart S) (RenamedPart Q) (RenamedPart-trans R S Q e) s.goals t.goals u.goals h.2.0 j.2.0,
+        RenamedAll-trans R S Q e s.tuple t.tuple u.tuple h.2.1 j.2.1,
+        h.2.2 ∙ j.2.2,
+      ),
+    )
 
 pub same_states : SameStateLaw
 same_states = (SameState-refl, SameState-sym, SameState-trans)

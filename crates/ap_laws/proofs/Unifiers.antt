@@ -95,18 +95,25 @@ mutual
   RenamedAll-and R P _ _ h j k = absurd h
 
 pub SameState-unifiers : ChildByUnifierLaw
-SameState-unifiers s rest body takes a b u v hu hv lu lv lp lt = (q.0, q.1, (
-  RenamedParts-both (λ x. x < n) R (IsOneToOne-Linked q.0 q.1 n n) (value u) (value v) each (body ++ rest) lp,
-  RenamedAll-both (λ x. x < n) R (value u) (value v) each s.tuple lt,
-  refl,
-))
+SameState-unifiers s rest body takes a b u v hu hv lu lv lp lt = (
+  q.0,
+  q.1,
+  (
+    RenamedParts-both (λ x. x < n) R (IsOneToOne-Linked q.0 q.1 n n) (value u) (value v) each (body ++ rest) lp,
+    RenamedAll-both (λ x. x < n) R (value u) (value v) each s.tuple lt,
+    refl,
+  ),
+)
   where
     n : ℕ
     n = s.next + takes
+
     q : (f : ℕ → ℕ) × (g : ℕ → ℕ) × ((x : ℕ) → (value v x ≡ instance (λ y. var (f y)) (value u x)) × (value u x ≡ instance (λ y. var (g y)) (value v x)) × Renamed (Inverse f g) (value u x) (value v x))
     q = unique a b u v hu hv
+
     R : ℕ → ℕ → Type 0
     R = Linked q.0 q.1 n n
+
     each : (x : ℕ) → x < n → Renamed R (value u x) (value v x)
     each x l =
         Renamed-weaken (λ x y. Inverse q.0 q.1 x y × (x < n) × (y < n)) R (λ x y k. (k.0.0, k.0.1, k.1, k.2)) (value u x) (value v x)

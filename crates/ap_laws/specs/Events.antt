@@ -4,8 +4,7 @@ use Rattle.ap_term.specs.Tree.{Tree, Trees, none, more}
 use Rattle.ap_term.specs.Independence.{AreApart}
 use Rattle.ap_laws.specs.Plain.{Plain, state, Ways, append_trees, next_of, plain_children_by}
 use Rattle.ap_laws.specs.Graft.{alone, graft}
-use Rattle.ap_laws.specs.Gives.{Rejoins}
-use Rattle.ap_laws.specs.Tasks.{first, later, closed, Task, task, Alternatives, exhausted, plain, frame, Slots, no_slot, fresh, busy, held, redone, again, flat_task, left, edge_slots}
+use Rattle.ap_laws.specs.Tasks.{first, later, closed, Task, task, Alternatives, exhausted, plain, frame, Slots, no_slot, fresh, busy, held, redone, again, left, edge_slots}
 
 abbrev pub plains : List Plain → Alternatives → Alternatives
 plains [] l = l

@@ -8,7 +8,7 @@ use Rattle.ap_term.specs.Unifier.{IsMostGeneral}
 use Rattle.ap_term.specs.Goals.{Part, Program, instance_part}
 use Rattle.ap_term.specs.WellFormed.{IsProgram}
 use Rattle.ap_term.specs.UpToNames.{SameUpToNames}
-use Rattle.ap_term.specs.Search.{State, Found, Way, ways, child, children, answers_to_depth, search}
+use Rattle.ap_term.specs.Search.{State, Found, ways, child, children, answers_to_depth, search}
 use Rattle.ap_laws.specs.Renaming.{OptionZip, OptionAll, Renamed, RenamedAll, RenamedSubst, Linked, RenamedWay, SameState, Local, LocalAll, LocalSubst, LocalParts, LocalWay, IsBelow}
 use Rattle.ap_laws.specs.Plain.{state}
 use Rattle.ap_laws.specs.Graft.{arguments, fit_all, fitted, IsOf}
@@ -61,8 +61,8 @@ CopiedAnswerLaw =
     → b ≤ n → n ≤ n' → IsOf g b (state none U m j) → RenamedAll (Linked f h m n') U V → LocalAll (λ x. n ≤ x) V
     → LocalParts (λ x. x < n) ps → LocalAll (λ x. x < n) T
     → SameState
-        (record { goals = map (instance_part (fitted g b n U)) ps; tuple = instance_all (fitted g b n U) T; next = n + (m - b); steps = k })
-        (record { goals = map (instance_part (value (fit_all (arguments g) V []))) ps; tuple = instance_all (value (fit_all (arguments g) V [])) T; next = n'; steps = k })
+    (record { goals = map (instance_part (fitted g b n U)) ps; tuple = instance_all (fitted g b n U) T; next = n + (m - b); steps = k })
+    (record { goals = map (instance_part (value (fit_all (arguments g) V []))) ps; tuple = instance_all (value (fit_all (arguments g) V [])) T; next = n'; steps = k })
 
 -- To be equal up to names is an equivalence of states whose variables are below their first unused one.
 abbrev pub SameStateLaw : Type 0
