@@ -2,8 +2,9 @@
 use Rattle.std.proofs.Common.{◌≡◌, ℕ, zero, suc, ◌+◌, ◌-◌, ◌<◌, ◌≤◌, false, List, [], ◌∷◌, ◌++◌, map, refl, ap, ap₂, sym, ◌∙◌, subst, arith}
 use Rattle.ap_term.specs.Tree.{Tree, Trees, var, none, more, push_tree, count_trees}
 use Rattle.ap_term.specs.Vars.{occurs}
+use Rattle.ap_term.specs.Substitution.{instance_all}
 use Rattle.ap_term.specs.Goals.{Program}
-use Rattle.ap_term.specs.Independence.{SharesNoVariable}
+use Rattle.ap_term.specs.Independence.{AreApart}
 use Rattle.std.proofs.lemmas.List.Elements.{All-append, All-cons}
 use Rattle.ap_term.specs.WellFormed.{IsClause, IsProgram}
 use Rattle.ap_term.specs.Search.{State, variables, answers_to_depth}
@@ -12,7 +13,7 @@ use Rattle.ap_laws.specs.Plain.{Plain, state, Ways, append_trees, tuple_of, goal
 use Rattle.ap_laws.specs.Trace.{Action, called, cut, answered, trace, trace_to, answers_in, followed, AllAnswers, NoAnswers}
 use Rattle.ap_laws.specs.Graft.{alone, graft, IsOf, IsDead}
 use Rattle.ap_laws.specs.Gives.{Gives}
-use Rattle.ap_laws.specs.SearchLaws.{QueryLaw, TraceLaw, GraftLaw, SplitLaw, GivesLaw}
+use Rattle.ap_laws.specs.SearchLaws.{one_by_one, IndependenceLaw, QueryLaw, TraceLaw, GraftLaw, SplitLaw, GivesLaw}
 use Rattle.ap_laws.proofs.Local.{LocalAll-weaken}
 use Rattle.ap_laws.proofs.Ways.{LocalParts-body, LocalParts-weaken}
 use Rattle.ap_laws.proofs.Plain.{Renames-plain_ways, Locals-plain_ways}
@@ -64,23 +65,25 @@ module _ (p : Program) (good : IsProgram p) where
   locals : Locals A
   locals = Locals-plain_ways p good
 
-  pub trace-independent : (g h : Tree) (K T : Trees) (b n k r : ℕ) → b ≤ n → IsPlainBelow (state (more g (more h K)) T n k) → Local (λ x. x < b) g → Local (λ x. x < b) h → SharesNoVariable g h
-      → trace A r (state (more g (more h K)) T n k)
-      ≡ followed (trace A r (alone g b)) (λ a l. followed (trace A l (alone h b)) (λ c i. trace A i (graft b (graft b (state (more g (more h K)) T n k) a) c)))
-  trace-independent g h K T b n k r bn below hg hh apart =
-      trace-split A renames locals g (more h K) T b n k r bn below hg
+  pub trace-one_by_one : (gs K T : Trees) (b n k r : ℕ) → b ≤ n → LocalAll (λ x. x < b) gs → IsPlainBelow (state (append_trees gs K) T n k) → AreApart gs
+      → trace A r (state (append_trees gs K) T n k) ≡ one_by_one A b gs r (state (append_trees gs K) T n k)
+  trace-one_by_one none K T b n k r bn hb below apart = refl
+  trace-one_by_one (more g gs) K T b n k r bn hb below apart =
+      trace-split A renames locals g (append_trees gs K) T b n k r bn below hb.0
       ∙ followed-agree (trace A r (alone g b)) _ _
-      (AllAnswers-weaken (λ a l. IsOf g b a × (goals_left a ≡ none)) _ each (trace A r (alone g b))
-      (AllAnswers-and (λ a l. IsOf g b a) (λ a l. goals_left a ≡ none) (trace A r (alone g b)) (AllAnswers-IsOf A renames locals g b r (alone g b) (IsOf-alone g b hg)) (AllAnswers-done A r (alone g b))))
+      (AllAnswers-weaken (λ a l. IsOf g b a × (goals_left a ≡ none)) _ (λ a l o. each a l o (trace-one_by_one gs)) (trace A r (alone g b))
+      (AllAnswers-and (λ a l. IsOf g b a) (λ a l. goals_left a ≡ none) (trace A r (alone g b)) (AllAnswers-IsOf A renames locals g b r (alone g b) (IsOf-alone g b hb.0)) (AllAnswers-done A r (alone g b))))
     where
       s : Plain
-      s = state (more g (more h K)) T n k
+      s = state (more g (append_trees gs K)) T n k
 
-      each : (a : Plain) (l : ℕ) → IsOf g b a × (goals_left a ≡ none) → trace A l (graft b s a) ≡ followed (trace A l (alone h b)) (λ c i. trace A i (graft b (graft b s a) c))
-      each a l o =
-          let q = graft-answer g (more h none) K T b n k a bn below (apart, tt) o.0 o.1 in
-          subst (λ x. trace A l x ≡ followed (trace A l (alone h b)) (λ c i. trace A i (graft b x c))) (sym q.4)
-          (trace-split A renames locals h q.0 q.1 b q.2 q.3 l q.6 q.5 hh)
+      each : (a : Plain) (l : ℕ) → IsOf g b a × (goals_left a ≡ none)
+          → ((L V : Trees) (b m j i : ℕ) → b ≤ m → LocalAll (λ x. x < b) gs → IsPlainBelow (state (append_trees gs L) V m j) → AreApart gs
+          → trace A i (state (append_trees gs L) V m j) ≡ one_by_one A b gs i (state (append_trees gs L) V m j))
+          → trace A l (graft b s a) ≡ one_by_one A b gs l (graft b s a)
+      each a l o ih =
+          let q = graft-answer g gs K T b n k a bn below apart.0 o.0 o.1 in
+          subst (λ x. trace A l x ≡ one_by_one A b gs l x) (sym q.4) (ih q.0 q.1 b q.2 q.3 l q.6 hb.1 q.5 apart.1)
 
   no_answers : (u : Plain) (d : ℕ) → answers_to_depth p (as_state u) d ≡ [] → NoAnswers (trace_to A d u)
   no_answers u d e = NoAnswers-none (trace_to A d u) (map-none (answers_in (trace_to A d u)) (sym (answers_to_depth-as_state p good d u) ∙ e))
@@ -125,6 +128,9 @@ grafted p good g K T b n k bn below = (
 
 pub split : SplitLaw
 split p good g K T b n k r bn below h = trace-split (plain_ways p) (Renames-plain_ways p good) (Locals-plain_ways p good) g K T b n k r bn below h
+
+pub independent : IndependenceLaw
+independent p good f goals apart K T b n k r bn hb below = trace-one_by_one p good (instance_all f goals) K T b n k r bn hb below apart
 
 pub given : GivesLaw
 given p good =

@@ -3,13 +3,14 @@ use Rattle.std.specs.Prelude.{◌≡◌, ℕ, ◌+◌, ◌<◌, ◌≤◌, false
 use Rattle.std.specs.List.{AllByRecursion}
 use Rattle.ap_term.specs.Tree.{Tree, Trees, none, more}
 use Rattle.ap_term.specs.Vars.{occurs}
+use Rattle.ap_term.specs.Substitution.{instance_all}
 use Rattle.ap_term.specs.Goals.{Part, call, opened, Program, Query, joined}
-use Rattle.ap_term.specs.Independence.{SharesNoVariable}
+use Rattle.ap_term.specs.Independence.{IsStrictlyIndependent}
 use Rattle.ap_term.specs.WellFormed.{IsProgram, IsQuery}
 use Rattle.ap_term.specs.Search.{State, start, children, answers_to_depth, search}
 use Rattle.ap_laws.specs.Renaming.{Local, LocalAll, IsBelow}
-use Rattle.ap_laws.specs.Plain.{Plain, state, append_trees, tuple_of, plain_of, as_state, HasFullGroups, plain_ways, plain_children, IsPlainBelow}
-use Rattle.ap_laws.specs.Trace.{trace, trace_to, traces, answers_in, found_upto, followed}
+use Rattle.ap_laws.specs.Plain.{Plain, state, Ways, append_trees, tuple_of, plain_of, as_state, HasFullGroups, plain_ways, plain_children, IsPlainBelow}
+use Rattle.ap_laws.specs.Trace.{Action, trace, trace_to, traces, answers_in, found_upto, followed}
 use Rattle.ap_laws.specs.Graft.{alone, graft, grafts, graft_state, IsOf, AreOf}
 use Rattle.ap_laws.specs.Gives.{Gives}
 
@@ -55,15 +56,19 @@ SplitLaw =
     (p : Program) → IsProgram p → (g : Tree) (K T : Trees) (b n k r : ℕ) → b ≤ n → IsPlainBelow (state (more g K) T n k) → Local (λ x. x < b) g
     → trace (plain_ways p) r (state (more g K) T n k) ≡ followed (trace (plain_ways p) r (alone g b)) (λ a l. trace (plain_ways p) l (graft b (state (more g K) T n k) a))
 
--- Behind a goal with which it shares no variable, a goal is searched as it is alone, call by call and answer by
--- answer, once for each answer of the first.
+-- the goals searched alone, each once for each answer of those before it, and then what is behind them
+abbrev pub one_by_one : Ways → ℕ → Trees → ℕ → Plain → List Action
+one_by_one A b none r s = trace A r s
+one_by_one A b (more g gs) r s = followed (trace A r (alone g b)) (λ a l. one_by_one A b gs l (graft b s a))
+
+-- Beside strictly independent goals of its conjunction a goal is searched as it is alone, call by call and answer by
+-- answer.
 abbrev pub IndependenceLaw : Type 0
 IndependenceLaw =
-    (p : Program) → IsProgram p → (g h : Tree) (K T : Trees) (b n k r : ℕ) → b ≤ n → IsPlainBelow (state (more g (more h K)) T n k)
-    → Local (λ x. x < b) g → Local (λ x. x < b) h → SharesNoVariable g h
-    → trace (plain_ways p) r (state (more g (more h K)) T n k)
-    ≡ followed (trace (plain_ways p) r (alone g b))
-    (λ a l. followed (trace (plain_ways p) l (alone h b)) (λ c i. trace (plain_ways p) i (graft b (graft b (state (more g (more h K)) T n k) a) c)))
+    (p : Program) → IsProgram p → (f : ℕ → Tree) (goals : Trees) → IsStrictlyIndependent f goals → (K T : Trees) (b n k r : ℕ) → b ≤ n
+    → LocalAll (λ x. x < b) (instance_all f goals) → IsPlainBelow (state (append_trees (instance_all f goals) K) T n k)
+    → trace (plain_ways p) r (state (append_trees (instance_all f goals) K) T n k)
+    ≡ one_by_one (plain_ways p) b (instance_all f goals) r (state (append_trees (instance_all f goals) K) T n k)
 
 -- behind goals with which it shares no variable, a goal without answers leaves the conjunction none
 abbrev pub DeadConjunctLaw : Type 0

@@ -1,5 +1,5 @@
-use Rattle.ap_laws.proofs.Conjunctions.{trace-independent}
+use Rattle.ap_laws.proofs.Conjunctions.{independent}
 use Rattle.ap_laws.proofs.independence_law.Goals as goal
 
 pub returns : goal.returns
-returns c = trace-independent
+returns c = independent
