@@ -18,7 +18,7 @@ use Rattle.ap_laws.proofs.Local.{LocalAll-weaken}
 use Rattle.ap_laws.proofs.Ways.{LocalParts-body, LocalParts-weaken}
 use Rattle.ap_laws.proofs.Plain.{Renames-plain_ways, Locals-plain_ways}
 use Rattle.ap_laws.proofs.Graft.{plain_children-graft, trace-graft, IsOf-alone, graft-alone}
-use Rattle.ap_laws.proofs.Answers.{AllAnswers-and, AllAnswers-done, AllAnswers-IsOf}
+use Rattle.ap_laws.proofs.Traces.{AllAnswers-and, AllAnswers-done, AllAnswers-IsOf}
 use Rattle.ap_laws.proofs.Dead.{AllAnswers-weaken, trace-split, NoAnswers-IsDead}
 use Rattle.ap_laws.proofs.Gives.{NoAnswers-none, answers_in-none, Gives-then, Gives-beside, Gives-none, Gives-less, Gives-answer, Gives-infer, Gives-graft, Gives-drop, graft-answer}
 use Rattle.ap_laws.proofs.Views.{plain_children-plain_of, AreGroups-well_formed, HasFullGroups-children, answers_to_depth-trace, search-trace}

@@ -1,6 +1,7 @@
 -- A goal without answers leaves a conjunction none.
 use Rattle.std.proofs.Common.{◌≡◌, ℕ, zero, suc, ◌+◌, ◌-◌, ◌<◌, ◌≤◌, ◌⊎◌, inl, inr, Bool, true, false, cond, List, [], ◌∷◌, refl, ap, sym, ◌∙◌, subst, arith, le_refl}
-use Rattle.ap_term.specs.Tree.{Tree, Trees, var, none, more, count_trees}
+use Rattle.std.proofs.lemmas.Bool.{false≢true}
+use Rattle.ap_term.specs.Tree.{Tree, Trees, var, int, atom, node, none, more, count_trees}
 use Rattle.ap_term.specs.Vars.{occurs, occurs_all}
 use Rattle.ap_term.specs.Substitution.{instance, instance_all}
 use Rattle.ap_term.proofs.Copies.{instance_var}
@@ -8,10 +9,10 @@ use Rattle.ap_laws.specs.Renaming.{Local, LocalAll}
 use Rattle.ap_laws.specs.Plain.{Plain, state, Ways, append_trees, goals_left, Renames, Locals, IsPlainBelow}
 use Rattle.ap_laws.specs.Trace.{Action, called, cut, answered, trace, followed, AllAnswers, NoAnswers}
 use Rattle.ap_laws.specs.Graft.{arguments, alone, lifted, lifted_var, fitted, graft, IsOwn, IsOf, IsDead}
-use Rattle.ap_laws.proofs.Local.{Local-occurs, LocalAll-occurs_all, Local-weaken, Local-instance, LocalAll-instance_all}
-use Rattle.ap_laws.proofs.Plain.{instance-Local, Local-self, LocalAll-append_trees, instance_all-append_trees, LocalAll-arguments}
+use Rattle.ap_laws.proofs.Local.{Local-each, Local-occurs, LocalAll-occurs_all, Local-weaken, Local-instance, LocalAll-instance_all}
+use Rattle.ap_laws.proofs.Plain.{instance-Local, LocalAll-append_trees, instance_all-append_trees, LocalAll-arguments}
 use Rattle.ap_laws.proofs.Graft.{LocalAll-at, lifted-old, lifted-new, below_or_not, Linked-lifted, fitted-value, trace-graft, IsOf-alone, graft-alone}
-use Rattle.ap_laws.proofs.Answers.{AllAnswers-append, AllAnswers-and, AllAnswers-done, AllAnswers-IsOf}
+use Rattle.ap_laws.proofs.Traces.{AllAnswers-append, AllAnswers-and, AllAnswers-done, AllAnswers-IsOf}
 
 -- what the variables of the rest become
 pub Local-fitted : (P Q : ℕ → Type 0) (g : Tree) (b n m : ℕ) (f : ℕ → Tree) (U : Trees) → U ≡ instance_all f (arguments g) → LocalAll (IsOwn g b m) U
@@ -70,13 +71,19 @@ occurs-above g n h y l = false_of (occurs y g) (λ e. lem (Local-occurs (λ x. x
     lem : y < n → ⊥
     lem k = omega arith
 
--- apartness, the other way round
-pub apart_other : (p g : Tree) → Local (λ x. occurs x g ≡ false) p → Local (λ x. occurs_all x (arguments p) ≡ false) g
-apart_other p g h = Local-weaken (λ x. occurs x g ≡ true) (λ x. occurs_all x (arguments p) ≡ false)
-    (λ x e. false_of (occurs_all x (arguments p)) (λ d. clash (occurs x g) e (LocalAll-occurs_all (λ y. occurs y g ≡ false) (arguments p) (LocalAll-arguments (λ y. occurs y g ≡ false) p h) x d))) g (Local-self g)
-  where
-    clash : (b : Bool) → b ≡ true → b ≡ false → ⊥
-    clash b e d = cc
+-- where p has no variable of g, g has none of p
+pub Local-apart : (p g : Tree) → Local (λ x. occurs x g ≡ false) p → Local (λ x. occurs x p ≡ false) g
+Local-apart p g h =
+    Local-each (λ x. occurs x p ≡ false) g (λ x o. false_of (occurs x p) (λ k. false≢true (sym (Local-occurs (λ y. occurs y g ≡ false) p h x k) ∙ o)))
+
+pub occurs_all-arguments : (x : ℕ) (g : Tree) → occurs x g ≡ false → occurs_all x (arguments g) ≡ false
+occurs_all-arguments x (var y) e = simp e
+occurs_all-arguments x (int i) e = refl
+occurs_all-arguments x (atom i) e = refl
+occurs_all-arguments x (node f ts) e = e
+
+Local-apart_arguments : (p g : Tree) → Local (λ x. occurs x g ≡ false) p → Local (λ x. occurs_all x (arguments p) ≡ false) g
+Local-apart_arguments p g h = Local-weaken (λ x. occurs x p ≡ false) (λ x. occurs_all x (arguments p) ≡ false) (λ x e. occurs_all-arguments x p e) g (Local-apart p g h)
 
 module _ (A : Ways) (renames : Renames A) (locals : Locals A) where
   -- the search of a state is that of its first goal alone, with the rest grafted on each answer
@@ -122,4 +129,4 @@ module _ (A : Ways) (renames : Renames A) (locals : Locals A) where
               go (inr z) = subst (λ v. occurs v g ≡ false) (sym (lifted-new n n y z)) (occurs-above g n (Local-weaken (λ x. x < b) (λ x. x < n) (λ x l. omega arith) g hb) (n + (y - n)) (omega arith))
 
           ge : instance_all t (append_trees pre (more g K)) ≡ append_trees (instance_all t pre) (more g (instance_all t K))
-          ge = instance_all-append_trees t pre (more g K) ∙ ap (λ z. append_trees (instance_all t pre) (more z (instance_all t K))) (instance-fitted_apart p n n o.0 U o.1 g (apart_other p g free.0))
+          ge = instance_all-append_trees t pre (more g K) ∙ ap (λ z. append_trees (instance_all t pre) (more z (instance_all t K))) (instance-fitted_apart p n n o.0 U o.1 g (Local-apart_arguments p g free.0))

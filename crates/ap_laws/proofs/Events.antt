@@ -1,21 +1,20 @@
 -- Each event keeps the invariant.
-use Rattle.std.proofs.Common.{◌≡◌, ℕ, ◌+◌, ◌-◌, ◌<◌, ◌≤◌, inl, inr, Bool, true, false, List, [], ◌∷◌, ◌++◌, refl, ap, ap₂, sym, ◌∙◌, subst, arith, append-nil, le_refl}
+use Rattle.std.proofs.Common.{◌≡◌, ℕ, ◌+◌, ◌-◌, ◌<◌, ◌≤◌, inl, inr, false, List, [], ◌∷◌, ◌++◌, refl, ap, ap₂, sym, ◌∙◌, subst, arith, append-nil, le_refl}
 use Rattle.ap_term.specs.Tree.{Tree, Trees, none, more, count_trees}
 use Rattle.ap_term.specs.Vars.{occurs}
 use Rattle.ap_term.specs.Independence.{AreApart}
-use Rattle.ap_laws.specs.Renaming.{Local, LocalAll}
+use Rattle.ap_laws.specs.Renaming.{LocalAll}
 use Rattle.ap_laws.specs.Plain.{Plain, state, Ways, append_trees, goals_left, next_of, plain_children_by, Renames, Locals, IsPlainBelow}
 use Rattle.ap_laws.specs.Trace.{trace, trace_to, traces, NoAnswers}
 use Rattle.ap_laws.specs.Graft.{alone, graft, grafts, IsOf, AreOf, IsDead}
-use Rattle.ap_laws.proofs.Local.{Local-occurs, Local-weaken}
-use Rattle.ap_laws.proofs.Plain.{Local-self, LocalAll-append_trees}
+use Rattle.ap_laws.proofs.Plain.{LocalAll-append_trees}
 use Rattle.ap_laws.specs.Gives.{GivesAt, Gives}
 use Rattle.ap_laws.specs.Tasks.{Round, first, later, closed, Task, task, Alternatives, exhausted, plain, frame, Slots, no_slot, fresh, busy, held, redone, again, joined_if, flat_task, flat_alternatives, flat_slots, left, edge_alternatives, edge_slots, slot_goals}
 use Rattle.ap_laws.specs.Events.{IsExhausted, plains, freshes, joined, IsFull, HasFailed, HasFailedLater, HasNoAlternative, IsUsedUp, resets, NextRedo, next_busy, next_redone, next_held, next_again, over_fresh, over_busy, over_redone, over_held, over_again, Step, infer, fork, in_first, in_later, join_first, join_later, break_first, break_later, dropped, redo, Turn, start, given_back, inside, answers, past_fresh, past_busy, Spin, inside_redone, answers_redone, right_of, left_of}
 use Rattle.ap_laws.proofs.Invariant.{base, base_alternatives, base_slots, cost, cost_alternatives, cost_slots, IsForkOf, IsQuiet, IsQuietTask, HasGiven, AreLive, IsUntouched, IsShut, HasBegun, Strong, Pivot, Weak, TaskInvariant, AlternativesInvariant, Effect, IsStuck, Redo, redo_held, redo_again, past_held, past_again}
 use Rattle.ap_laws.proofs.Graft.{IsOf-alone}
-use Rattle.ap_laws.proofs.Answers.{AllAnswers-append, AllAnswers-left, AllAnswers-right, NoAnswers-below, AreOf-plain_children}
-use Rattle.ap_laws.proofs.Dead.{false_of, NoAnswers-IsDead}
+use Rattle.ap_laws.proofs.Traces.{AllAnswers-append, AllAnswers-left, AllAnswers-right, NoAnswers-below, AreOf-plain_children}
+use Rattle.ap_laws.proofs.Dead.{Local-apart, NoAnswers-IsDead}
 use Rattle.ap_laws.proofs.Gives.{NoAnswers-none, Gives-then, Gives-beside, Gives-none, Gives-less, Gives-answer, Gives-infer, Gives-graft, Gives-drop, LocalAll-IsApart, graft-answer}
 use Rattle.ap_laws.proofs.Flat.{IsPlainBelow-IsOf, minus-le, next_of-le, Weak-Strong, Weak-Pivot, AreOf-flat_slots, AreOf-base, Gives-flat_task, Gives-flat_alternatives}
 
@@ -116,21 +115,13 @@ cost-IsQuietTask (task c l) q = ap (λ z. c + z) (cost_alternatives-IsQuiet l q 
 pub minus-same : (a b : ℕ) → a ≡ b → a - b ≡ 0
 minus-same a b e = omega arith
 
--- apartness, the other way round
-pub apart_other_way : (p g : Tree) → Local (λ x. occurs x p ≡ false) g → Local (λ x. occurs x g ≡ false) p
-apart_other_way p g h = Local-weaken (λ x. occurs x p ≡ true) (λ x. occurs x g ≡ false)
-    (λ x e. false_of (occurs x g) (λ d. clash (occurs x p) e (Local-occurs (λ y. occurs y p ≡ false) g h x d))) p (Local-self p)
-  where
-    clash : (b : Bool) → b ≡ true → b ≡ false → ⊥
-    clash b e d = cc
-
 abbrev pub AreAway : Trees → Trees → Type 0
 AreAway pre none = Unit {0}
 AreAway pre (more g gs) = LocalAll (λ x. occurs x g ≡ false) pre × AreAway pre gs
 
 pub AreAway-more : (pre : Trees) (p : Tree) (gs : Trees) → AreAway pre gs → LocalAll (λ x. occurs x p ≡ false) gs → AreAway (append_trees pre (more p none)) gs
 AreAway-more pre p none h k = tt
-AreAway-more pre p (more g gs) h k = (LocalAll-append_trees (λ x. occurs x g ≡ false) pre (more p none) h.0 (apart_other_way p g k.0, tt), AreAway-more pre p gs h.1 k.1)
+AreAway-more pre p (more g gs) h k = (LocalAll-append_trees (λ x. occurs x g ≡ false) pre (more p none) h.0 (Local-apart g p k.0, tt), AreAway-more pre p gs h.1 k.1)
 
 pub AreAway-none : (gs : Trees) → AreAway none gs
 AreAway-none none = tt

@@ -2,7 +2,7 @@
 use Rattle.std.proofs.Common.{◌≡◌, ℕ, suc, ◌+◌, ◌-◌, ◌≤◌, Bool, true, false, List, [], ◌∷◌, ◌++◌, refl, ap, ap₂, sym, ◌∙◌, subst, arith, append-nil, append_assoc, le_trans}
 use Rattle.std.proofs.lemmas.Bool.{false≢true}
 use Rattle.std.proofs.lemmas.Grind.{flat_map-append}
-use Rattle.ap_term.specs.Tree.{Tree, Trees, var, int, atom, node, none, more}
+use Rattle.ap_term.specs.Tree.{Tree, Trees, none, more}
 use Rattle.ap_term.specs.Vars.{occurs, occurs_all}
 use Rattle.ap_term.specs.Substitution.{instance_all}
 use Rattle.ap_term.specs.Independence.{IsApart}
@@ -14,8 +14,8 @@ use Rattle.ap_laws.proofs.Local.{Local-each, Local-weaken}
 use Rattle.ap_laws.proofs.Plain.{instance_all-append_trees}
 use Rattle.ap_laws.specs.Gives.{GivesAt, Gives}
 use Rattle.ap_laws.proofs.Graft.{followed-append, flat_map-grafts, trace-graft}
-use Rattle.ap_laws.proofs.Answers.{AllAnswers-append, answers_in-append, calls_in-append, trace-more}
-use Rattle.ap_laws.proofs.Dead.{instance-fitted_apart, IsPlainBelow-graft}
+use Rattle.ap_laws.proofs.Traces.{AllAnswers-append, answers_in-append, calls_in-append, trace-more}
+use Rattle.ap_laws.proofs.Dead.{occurs_all-arguments, instance-fitted_apart, IsPlainBelow-graft}
 
 pub followed-none : (p : List Action) (k : Plain → ℕ → List Action) → NoAnswers p → followed p k ≡ p
 followed-none [] k h = refl
@@ -113,12 +113,6 @@ module _ (A : Ways) (renames : Renames A) (locals : Locals A) where
         answers_in-none (x.0 ++ traces A d m) (subst NoAnswers x.1 (AllAnswers-append (λ a l. ⊥) (trace_to A d s) [] (dead (d - steps_of s)) tt)),
         subst (λ z. c ≤ z) (sym (calls_in-append x.0 (traces A d m))) (omega (arith, x.3)),
       )
-
-pub occurs_all-arguments : (x : ℕ) (g : Tree) → occurs x g ≡ false → occurs_all x (arguments g) ≡ false
-occurs_all-arguments x (var y) e = simp e
-occurs_all-arguments x (int i) e = refl
-occurs_all-arguments x (atom i) e = refl
-occurs_all-arguments x (node f ts) e = e
 
 pub instance_all-fitted_apart : (g : Tree) (b n : ℕ) (f : ℕ → Tree) (U : Trees) → U ≡ instance_all f (arguments g) → (gs : Trees) → LocalAll (λ x. occurs x g ≡ false) gs → instance_all (fitted g b n U) gs ≡ gs
 instance_all-fitted_apart g b n f U e none h = refl

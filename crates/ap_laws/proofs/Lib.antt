@@ -7,7 +7,7 @@ pub mod Unifiers
 pub mod Names
 pub mod Plain
 pub mod Graft
-pub mod Answers
+pub mod Traces
 pub mod Dead
 pub mod Gives
 pub mod Views

@@ -18,7 +18,7 @@ use Rattle.ap_laws.proofs.Events.{flat_task-IsExhausted}
 use Rattle.ap_laws.specs.Rejoining.{IsOnTheWay, IsRejoined, IsRejoinedAlone, AreRejoined, AreRejoinedIn, AreSlotsRejoined, IsSpent, IsSpentIn, IsSlotSpent, MeaningLaw, RejoinLaw, EmittedLaw}
 use Rattle.ap_laws.proofs.Invariant.{HasGiven, Weak, TaskInvariant, AlternativesInvariant}
 use Rattle.ap_laws.proofs.Plain.{Renames-plain_ways, Locals-plain_ways, LocalAll-plain_goals}
-use Rattle.ap_laws.proofs.Answers.{answers_in-append}
+use Rattle.ap_laws.proofs.Traces.{answers_in-append}
 use Rattle.ap_laws.proofs.Gives.{graft-answer}
 use Rattle.ap_laws.proofs.Flat.{IsPlainBelow-IsOf, next_of-le, Weak-Strong, Weak-Pivot, Rejoins-HasGiven}
 use Rattle.ap_laws.proofs.Runs.{IsOf-query, Rejoins-base, Rejoins-Runs}

@@ -18,7 +18,7 @@ use Rattle.ap_laws.proofs.Zips.{AllByRecursion-append}
 use Rattle.ap_laws.proofs.Ways.{and_both}
 use Rattle.ap_laws.proofs.Graft.{state-eq}
 use Rattle.ap_laws.proofs.Plain.{instance_all-append_trees}
-use Rattle.ap_laws.proofs.Answers.{answers_in-append, trace-more}
+use Rattle.ap_laws.proofs.Traces.{answers_in-append, trace-more}
 
 -- ---- goals read as one list
 
