@@ -1,0 +1,279 @@
+-- What it means that a search rejoins another, in answers and budgets.
+use Rattle.std.proofs.Common.{◌≡◌, ℕ, zero, suc, ◌+◌, ◌-◌, ◌<◌, ◌≤◌, ◌⊎◌, inl, inr, List, [], ◌∷◌, ◌++◌, map, refl, ap, ap₂, sym, ◌∙◌, subst, arith, append-nil}
+use Rattle.std.specs.List.{flat_map}
+use Rattle.std.proofs.lemmas.List.{map-append}
+use Rattle.ap_term.specs.Tree.{Tree, Trees, node, none, more}
+use Rattle.ap_term.specs.Goals.{Program}
+use Rattle.ap_term.specs.Independence.{AreApart}
+use Rattle.ap_term.specs.WellFormed.{IsProgram}
+use Rattle.ap_term.specs.Search.{State, answers_to_depth, search}
+use Rattle.ap_laws.specs.Plain.{Plain, state, Ways, append_trees, tuple_of, next_of, plain_of, plain_goals, as_state, plain_ways, HasFullGroups, Renames, Locals, IsPlainBelow}
+use Rattle.ap_laws.specs.Trace.{Action, called, cut, answered, trace, trace_to, traces, answers_in, calls_in, found_upto}
+use Rattle.ap_laws.specs.Graft.{alone, graft, grafts, IsOf}
+use Rattle.ap_laws.specs.Gives.{GivesAt, Rejoins, IsCallDue}
+use Rattle.ap_laws.specs.Tasks.{Round, first, later, closed, Task, task, Alternatives, exhausted, plain, frame, Slots, no_slot, fresh, busy, held, redone, again, flat_task, flat_alternatives, flat_slots, left, edge_alternatives, edge_slots, slot_goals}
+use Rattle.ap_term.specs.Blocks.{Begins, IsAll}
+use Rattle.ap_laws.specs.Events.{IsExhausted}
+use Rattle.ap_laws.proofs.Events.{flat_task-IsExhausted}
+use Rattle.ap_laws.specs.Rejoining.{IsOnTheWay, IsRejoined, IsRejoinedAlone, AreRejoined, AreRejoinedIn, AreSlotsRejoined, IsSpent, IsSpentIn, IsSlotSpent, MeaningLaw, RejoinLaw, EmittedLaw}
+use Rattle.ap_laws.proofs.Invariant.{HasGiven, Weak, TaskInvariant, AlternativesInvariant}
+use Rattle.ap_laws.proofs.Plain.{Renames-plain_ways, Locals-plain_ways, LocalAll-plain_goals}
+use Rattle.ap_laws.proofs.Traces.{answers_in-append}
+use Rattle.ap_laws.proofs.Gives.{graft-answer}
+use Rattle.ap_laws.proofs.Flat.{IsPlainBelow-IsOf, next_of-le, Weak-Strong, Weak-Pivot, Rejoins-HasGiven}
+use Rattle.ap_laws.proofs.Runs.{IsOf-query, Rejoins-base, Rejoins-Runs}
+use Rattle.ap_laws.proofs.Views.{plain_of-as_state, AreGroups-calls, answers_to_depth-trace, search-trace}
+
+-- ---- budgets
+
+-- what is found before the charge is used up
+found_upto-short : (n : ℕ) (p x : List Action) → n < calls_in p → IsOnTheWay (found_upto n (p ++ x)) (map tuple_of (answers_in p))
+found_upto-short n [] x k = absurd (omega arith)
+found_upto-short zero (called ∷ p) x k = (refl, (map tuple_of (answers_in p), refl))
+found_upto-short (suc n) (called ∷ p) x k = found_upto-short n p x (omega arith)
+found_upto-short n (cut ∷ p) x k = (refl, (map tuple_of (answers_in p), refl))
+found_upto-short n (answered t m ∷ p) x k = let q = found_upto-short n p x k in (q.0, (q.1.0, ap (λ z. tuple_of t ∷ z) q.1.1))
+
+found_upto-due : (n : ℕ) (p x : List Action) → n ≤ calls_in p → IsOnTheWay (found_upto 0 x) [] → IsOnTheWay (found_upto n (p ++ x)) (map tuple_of (answers_in p))
+found_upto-due zero [] x k due = due
+found_upto-due (suc n) [] x k due = absurd (omega arith)
+found_upto-due zero (called ∷ p) x k due = (refl, (map tuple_of (answers_in p), refl))
+found_upto-due (suc n) (called ∷ p) x k due = found_upto-due n p x (omega arith) due
+found_upto-due n (cut ∷ p) x k due = (refl, (map tuple_of (answers_in p), refl))
+found_upto-due n (answered t m ∷ p) x k due = let q = found_upto-due n p x k due in (q.0, (q.1.0, ap (λ z. tuple_of t ∷ z) q.1.1))
+
+traces-due : (A : Ways) (d : ℕ) (l : List Plain) → IsCallDue l → IsOnTheWay (found_upto 0 (traces A d l)) []
+unfolding trace
+traces-due A d [] c = absurd c
+traces-due A d (state none T n k ∷ l) c = absurd c
+traces-due A d (state (more g G) T n k ∷ l) c = go (d - k)
+  where
+    go : (r : ℕ) → IsOnTheWay (found_upto 0 (trace A r (state (more g G) T n k) ++ traces A d l)) []
+    go zero = (refl, ([], refl))
+    go (suc r) = (refl, ([], refl))
+
+-- ---- the meaning
+
+module _ (p : Program) (good : IsProgram p) where
+  pub answers_to_depth-as_state : (d : ℕ) (u : Plain) → answers_to_depth p (as_state u) d ≡ map tuple_of (answers_in (trace_to (plain_ways p) d u))
+  answers_to_depth-as_state d (state G T n k) =
+      answers_to_depth-trace p good d (as_state (state G T n k)) (AreGroups-calls G)
+      ∙ ap (λ v. map tuple_of (answers_in (trace_to (plain_ways p) d v))) (plain_of-as_state (state G T n k))
+
+  answers_to_depth-traces : (d : ℕ) (l : List Plain) → flat_map (λ u. answers_to_depth p (as_state u) d) l ≡ map tuple_of (answers_in (traces (plain_ways p) d l))
+  answers_to_depth-traces d [] = refl
+  answers_to_depth-traces d (u ∷ l) =
+      ap₂ (λ a b. a ++ b) (answers_to_depth-as_state d u) (answers_to_depth-traces d l)
+      ∙ sym (ap (map tuple_of) (answers_in-append (trace_to (plain_ways p) d u) (traces (plain_ways p) d l)) ∙ map-append tuple_of (answers_in (trace_to (plain_ways p) d u)) (answers_in (traces (plain_ways p) d l)))
+
+  answers-GivesAt : (d : ℕ) (u : Plain) (given rest : List Plain) (c : ℕ) → GivesAt (plain_ways p) d (u ∷ []) given rest c
+      → answers_in (trace_to (plain_ways p) d u) ≡ given ++ answers_in (traces (plain_ways p) d rest)
+  answers-GivesAt d u given rest c x =
+      ap answers_in (sym (append-nil (trace_to (plain_ways p) d u)) ∙ x.1) ∙ answers_in-append x.0 (traces (plain_ways p) d rest) ∙ ap (λ g. g ++ answers_in (traces (plain_ways p) d rest)) x.2
+
+  module _ (s : State) (full : HasFullGroups s) (given rest : List Plain) (c : ℕ) (h : Rejoins (plain_ways p) (plain_of s) given rest c) where
+    answers-Rejoins : (m : ℕ) × ((d : ℕ) → m ≤ d → answers_to_depth p s d ≡ map tuple_of given ++ flat_map (λ u. answers_to_depth p (as_state u) d) rest)
+    answers-Rejoins = (
+      h.0,
+      λ d k.
+          answers_to_depth-trace p good d s full ∙ ap (map tuple_of) (answers-GivesAt d (plain_of s) given rest c (h.1 d k))
+          ∙ map-append tuple_of given (answers_in (traces (plain_ways p) d rest)) ∙ ap (λ z. map tuple_of given ++ z) (sym (answers_to_depth-traces d rest)),
+    )
+
+    -- a budget's search is that of the trace to a depth that is large enough
+    budget-at : (n d : ℕ) → n + s.steps ≤ d → (x : GivesAt (plain_ways p) d (plain_of s ∷ []) given rest c)
+        → IsOnTheWay (found_upto n (x.0 ++ traces (plain_ways p) d rest)) (map tuple_of (answers_in x.0)) → IsOnTheWay (search p n (s ∷ [])) (map tuple_of given)
+    budget-at n d l x k =
+        subst (λ f. IsOnTheWay f (map tuple_of given)) (sym (search-trace p good d n (s ∷ []) (full, tt) (l, tt) ∙ ap (found_upto n) x.1))
+        (subst (λ g. IsOnTheWay (found_upto n (x.0 ++ traces (plain_ways p) d rest)) (map tuple_of g)) x.2 k)
+
+    search-short : (n : ℕ) → n < c → IsOnTheWay (search p n (s ∷ [])) (map tuple_of given)
+    search-short n k = go (h.1 d (omega arith))
+      where
+        d : ℕ
+        d = h.0 + (n + s.steps)
+
+        go : GivesAt (plain_ways p) d (plain_of s ∷ []) given rest c → IsOnTheWay (search p n (s ∷ [])) (map tuple_of given)
+        go x = budget-at n d (omega arith) x (found_upto-short n x.0 (traces (plain_ways p) d rest) (omega (arith, x.3)))
+
+    search-due : IsCallDue rest → (n : ℕ) → n ≤ c → IsOnTheWay (search p n (s ∷ [])) (map tuple_of given)
+    search-due due n k = go (h.1 d (omega arith))
+      where
+        d : ℕ
+        d = h.0 + (n + s.steps)
+
+        go : GivesAt (plain_ways p) d (plain_of s ∷ []) given rest c → IsOnTheWay (search p n (s ∷ [])) (map tuple_of given)
+        go x = budget-at n d (omega arith) x (found_upto-due n x.0 (traces (plain_ways p) d rest) (omega (arith, x.3)) (traces-due (plain_ways p) d rest due))
+
+    pub IsRejoined-Rejoins : IsRejoined p s (map tuple_of given) rest c
+    IsRejoined-Rejoins = (answers-Rejoins, search-short, search-due)
+
+pub meaning : MeaningLaw
+meaning p good s full given rest c h = IsRejoined-Rejoins p good s full given rest c h
+
+-- ---- spent budgets
+
+-- the charge so far is more than the budget, or as much where a call is due
+abbrev IsPast : ℕ → ℕ → List Plain → Type 0
+IsPast budget c l = (budget < c) ⊎ ((budget ≤ c) × IsCallDue l)
+
+IsCallDue-append : (l m : List Plain) → IsCallDue l → IsCallDue (l ++ m)
+IsCallDue-append [] m h = absurd h
+IsCallDue-append (state none T n k ∷ l) m h = absurd h
+IsCallDue-append (state (more g G) T n k ∷ l) m h = h
+
+IsCallDue-grafts : (b : ℕ) (g : Tree) (K T : Trees) (n k : ℕ) (l : List Plain) → IsCallDue l → IsCallDue (grafts b (state (more g K) T n k) l)
+IsCallDue-grafts b g K T n k [] h = absurd h
+IsCallDue-grafts b g K T n k (state none U m j ∷ l) h = absurd h
+IsCallDue-grafts b g K T n k (state (more t G) U m j ∷ l) h = tt
+
+IsPast-more : (budget c e : ℕ) (l m : List Plain) → IsPast budget c l → c ≤ e → IsPast budget e (l ++ m)
+IsPast-more budget c e l m (inl h) k = inl (omega arith)
+IsPast-more budget c e l m (inr h) k = inr (omega (arith, h.0), IsCallDue-append l m h.1)
+
+IsPast-frame : (budget c r e : ℕ) (l m : List Plain) → (budget < c + e) ⊎ ((c + r ≡ budget) × IsPast r e l) → IsPast budget (c + e) (l ++ m)
+IsPast-frame budget c r e l m (inl h) = inl h
+IsPast-frame budget c r e l m (inr h) = go h.1
+  where
+    go : IsPast r e l → IsPast budget (c + e) (l ++ m)
+    go (inl k) = inl (omega (arith, h.0))
+    go (inr k) = inr (omega (arith, h.0, k.0), IsCallDue-append l m k.1)
+
+module _ (A : Ways) (renames : Renames A) (locals : Locals A) where
+  mutual
+    IsPast-IsSpent : (budget : ℕ) (t : Task) (h : Tree) (z : ℕ) → TaskInvariant A h z t → IsSpent budget t → IsPast budget (left t) (flat_task t)
+    IsPast-IsSpent budget (task c l) h z i s = IsPast-IsSpentIn budget c l h z i s
+
+    IsPast-IsSpentIn : (budget c : ℕ) (l : Alternatives) (h : Tree) (z : ℕ) → AlternativesInvariant A h z l → IsSpentIn budget c l
+        → IsPast budget (c + edge_alternatives l) (flat_alternatives l)
+    IsPast-IsSpentIn budget c exhausted h z i s = absurd s
+    IsPast-IsSpentIn budget c (plain (state none T n k) l) h z i s = absurd (s.1 refl)
+    IsPast-IsSpentIn budget c (plain (state (more g G) T n k) l) h z i s = inr (omega (arith, s.0), tt)
+    IsPast-IsSpentIn budget c (frame s closed w l) h z i q = absurd q
+    IsPast-IsSpentIn budget c (frame s first w l) h z i (inl q) = inl q
+    IsPast-IsSpentIn budget c (frame s first w l) h z i (inr q) =
+        IsPast-frame budget c q.0 (edge_slots w) (flat_slots w first (next_of s) s) (flat_alternatives l) (inr (
+          q.1,
+          subst (λ x. IsPast q.0 (edge_slots w) (flat_slots w first (next_of s) x)) (sym i.1.4)
+              (IsPast-IsSlotSpent q.0 w first (next_of s) i.1.0 i.1.1 i.1.2 i.1.3 (next_of-le s i.1.2 (ap next_of i.1.4)) i.1.5 (subst IsPlainBelow i.1.4 (IsPlainBelow-IsOf h z s i.0))
+              (Weak-Strong A renames locals w (next_of s) i.2) q.2),
+        ))
+    IsPast-IsSpentIn budget c (frame s later w l) h z i (inl q) = inl q
+    IsPast-IsSpentIn budget c (frame s later w l) h z i (inr q) =
+        IsPast-frame budget c q.0 (edge_slots w) (flat_slots w later (next_of s) s) (flat_alternatives l) (inr (
+          q.1,
+          subst (λ x. IsPast q.0 (edge_slots w) (flat_slots w later (next_of s) x)) (sym i.1.4)
+              (IsPast-IsSlotSpent q.0 w later (next_of s) i.1.0 i.1.1 i.1.2 i.1.3 (next_of-le s i.1.2 (ap next_of i.1.4)) i.1.5 (subst IsPlainBelow i.1.4 (IsPlainBelow-IsOf h z s i.0))
+              (Weak-Pivot A renames locals w (next_of s) i.2) q.2),
+        ))
+
+    IsPast-IsSlotSpent : (r : ℕ) (w : Slots) (round : Round) (b : ℕ) (K T : Trees) (n k : ℕ) → b ≤ n → AreApart (slot_goals w) → IsPlainBelow (state (append_trees (slot_goals w) K) T n k) → Weak A b w
+        → IsSlotSpent r w → IsPast r (edge_slots w) (flat_slots w round b (state (append_trees (slot_goals w) K) T n k))
+    IsPast-IsSlotSpent r no_slot round b K T n k bn ind o i s = absurd s
+    IsPast-IsSlotSpent r (fresh g w) round b K T n k bn ind o i s = absurd s
+    IsPast-IsSlotSpent r (busy g t w) round b K T n k bn ind o i s = go (IsPast-IsSpent r t g b i.1 s)
+      where
+        go : IsPast r (left t) (flat_task t) → IsPast r (left t) (grafts b (state (more g (append_trees (slot_goals w) K)) T n k) (flat_task t))
+        go (inl h) = inl h
+        go (inr h) = inr (h.0, IsCallDue-grafts b g (append_trees (slot_goals w) K) T n k (flat_task t) h.1)
+    IsPast-IsSlotSpent r (redone g m t j w) round b K T n k bn ind o i s = go (IsPast-IsSpent (j + r) t g b i.1 s)
+      where
+        go : IsPast (j + r) (left t) (flat_task t) → IsPast r (left t - j) (grafts b (state (more g (append_trees (slot_goals w) K)) T n k) (flat_task t))
+        go (inl h) = inl (omega arith)
+        go (inr h) = inr (omega (arith, h.0), IsCallDue-grafts b g (append_trees (slot_goals w) K) T n k (flat_task t) h.1)
+    IsPast-IsSlotSpent r (held g m a t c w) round b K T n k bn ind o i s =
+        let q = graft-answer g (slot_goals w) K T b n k a bn o ind.0 i.2 i.3.0 in
+        IsPast-more r (edge_slots w) (c + edge_slots w) (flat_slots w round b (graft b (state (more g (append_trees (slot_goals w) K)) T n k) a)) (grafts b (state (more g (append_trees (slot_goals w) K)) T n k) (flat_task t))
+        (subst (λ x. IsPast r (edge_slots w) (flat_slots w round b x)) (sym q.4) (IsPast-IsSlotSpent r w round b q.0 q.1 q.2 q.3 q.6 ind.1 q.5 i.4 s)) (omega arith)
+    IsPast-IsSlotSpent r (again g m a t c w) round b K T n k bn ind o i s =
+        let q = graft-answer g (slot_goals w) K T b n k a bn o ind.0 i.2 i.3.0 in
+        IsPast-more r (edge_slots w) (c + edge_slots w) (flat_slots w round b (graft b (state (more g (append_trees (slot_goals w) K)) T n k) a)) (grafts b (state (more g (append_trees (slot_goals w) K)) T n k) (flat_task t))
+        (subst (λ x. IsPast r (edge_slots w) (flat_slots w round b x)) (sym q.4) (IsPast-IsSlotSpent r w round b q.0 q.1 q.2 q.3 q.6 ind.1 q.5 i.4 s)) (omega arith)
+
+-- ---- tasks of goals alone
+
+module _ (p : Program) (good : IsProgram p) where
+  abbrev A : Ways
+  A = plain_ways p
+
+  renames : Renames A
+  renames = Renames-plain_ways p good
+
+  locals : Locals A
+  locals = Locals-plain_ways p good
+
+  -- where a budget is spent, the search hasn't ended within it
+  search-IsSpent : (s : State) (given : List Plain) (t : Task) (h : Tree) (z : ℕ) → TaskInvariant A h z t → IsRejoined p s (map tuple_of given) (flat_task t) (left t) → (budget : ℕ) → IsSpent budget t
+      → IsOnTheWay (search p budget (s ∷ [])) (map tuple_of given)
+  search-IsSpent s given t h z i rejoined budget spent = go (IsPast-IsSpent A renames locals budget t h z i spent)
+    where
+      go : IsPast budget (left t) (flat_task t) → IsOnTheWay (search p budget (s ∷ [])) (map tuple_of given)
+      go (inl k) = rejoined.1 budget k
+      go (inr k) = rejoined.2 k.1 budget k.0
+
+  IsRejoinedAlone-HasGiven : (g : Tree) (b : ℕ) (m : List Plain) (t : Task) → TaskInvariant A g b t → HasGiven A g b m t → IsRejoinedAlone p g b m t
+  IsRejoinedAlone-HasGiven g b m t i past =
+      let h : Rejoins A (alone g b) m (flat_task t) (left t) = Rejoins-HasGiven A renames locals g b m t i past in
+      let rejoined = IsRejoined-Rejoins p good (as_state (alone g b)) tt m (flat_task t) (left t) h in
+      (rejoined, (h.0, λ d k. answers-GivesAt p good d (alone g b) m (flat_task t) (left t) (h.1 d k)), search-IsSpent (as_state (alone g b)) m t g b i rejoined)
+
+  mutual
+    AreRejoined-TaskInvariant : (t : Task) (h : Tree) (z : ℕ) → TaskInvariant A h z t → AreRejoined p t
+    AreRejoined-TaskInvariant (task c l) h z i = AreRejoinedIn-AlternativesInvariant l h z i
+
+    AreRejoinedIn-AlternativesInvariant : (l : Alternatives) (h : Tree) (z : ℕ) → AlternativesInvariant A h z l → AreRejoinedIn p l
+    AreRejoinedIn-AlternativesInvariant exhausted h z i = tt
+    AreRejoinedIn-AlternativesInvariant (plain s l) h z i = AreRejoinedIn-AlternativesInvariant l h z i.2
+    AreRejoinedIn-AlternativesInvariant (frame s first w l) h z i =
+        (AreSlotsRejoined-Weak w (next_of s) (Weak-Strong A renames locals w (next_of s) i.2), AreRejoinedIn-AlternativesInvariant l h z i.4)
+    AreRejoinedIn-AlternativesInvariant (frame s later w l) h z i =
+        (AreSlotsRejoined-Weak w (next_of s) (Weak-Pivot A renames locals w (next_of s) i.2), AreRejoinedIn-AlternativesInvariant l h z i.4)
+    AreRejoinedIn-AlternativesInvariant (frame s closed w l) h z i = (AreSlotsRejoined-Weak w (next_of s) i.2, AreRejoinedIn-AlternativesInvariant l h z i.4)
+
+    AreSlotsRejoined-Weak : (w : Slots) (b : ℕ) → Weak A b w → AreSlotsRejoined p b w
+    AreSlotsRejoined-Weak no_slot b i = tt
+    AreSlotsRejoined-Weak (fresh g w) b i = AreSlotsRejoined-Weak w b i.1
+    AreSlotsRejoined-Weak (busy g t w) b i = (IsRejoinedAlone-HasGiven g b [] t i.1 i.3, AreRejoined-TaskInvariant t g b i.1, AreSlotsRejoined-Weak w b i.2)
+    AreSlotsRejoined-Weak (held g m a t c w) b i = (IsRejoinedAlone-HasGiven g b m t i.1 i.5, AreRejoined-TaskInvariant t g b i.1, AreSlotsRejoined-Weak w b i.4)
+    AreSlotsRejoined-Weak (redone g m t j w) b i = (IsRejoinedAlone-HasGiven g b m t i.1 i.3, AreRejoined-TaskInvariant t g b i.1, AreSlotsRejoined-Weak w b i.2)
+    AreSlotsRejoined-Weak (again g m a t c w) b i = (IsRejoinedAlone-HasGiven g b m t i.1 i.5, AreRejoined-TaskInvariant t g b i.1, AreSlotsRejoined-Weak w b i.4)
+
+-- ---- the whole
+
+pub rejoin : RejoinLaw
+rejoin p good q below full emitted t runs = (rejoined, AreRejoined-TaskInvariant p good t (node 0 q.tuple) 0 invariant, search-IsSpent p good q emitted t (node 0 q.tuple) 0 invariant rejoined)
+  where
+    G : Trees
+    G = plain_goals q.goals
+
+    own : IsOf (node 0 q.tuple) 0 (plain_of q)
+    own = IsOf-query G q.tuple q.next q.steps (LocalAll-plain_goals (λ x. x < q.next) q.goals below.0) below.1
+
+    invariant : TaskInvariant (plain_ways p) (node 0 q.tuple) 0 t
+    invariant = (Rejoins-base (plain_ways p) (renames p good) (locals p good) G q.tuple q.next q.steps own runs).0
+
+    rejoined : IsRejoined p q (map tuple_of emitted) (flat_task t) (left t)
+    rejoined = IsRejoined-Rejoins p good q full emitted (flat_task t) (left t) (Rejoins-Runs (plain_ways p) (renames p good) (locals p good) G q.tuple q.next q.steps own runs)
+
+pub emitted_lines : EmittedLaw
+emitted_lines line p good q below full emitted t runs = (begins, all)
+  where
+    answers : (m : ℕ) × ((d : ℕ) → m ≤ d → answers_to_depth p q d ≡ map tuple_of emitted ++ flat_map (λ u. answers_to_depth p (as_state u) d) (flat_task t))
+    answers = (rejoin p good q below full emitted t runs).0.0
+
+    begins : Begins line p q (map line (map tuple_of emitted))
+    begins = (
+      answers.0,
+      λ d k.
+          let rest : List Trees = flat_map (λ u. answers_to_depth p (as_state u) d) (flat_task t) in
+          (map line rest, sym (map-append line (map tuple_of emitted) rest) ∙ ap (map line) (sym (answers.1 d k))),
+    )
+
+    all : IsExhausted t → IsAll line p q (map line (map tuple_of emitted))
+    all none_left = (
+      answers.0,
+      λ d k.
+          ap (map line)
+          (sym (append-nil (map tuple_of emitted)) ∙ ap (λ l. map tuple_of emitted ++ flat_map (λ u. answers_to_depth p (as_state u) d) l) (sym (flat_task-IsExhausted t none_left))
+          ∙ sym (answers.1 d k)),
+    )

@@ -1,0 +1,5 @@
+use Rattle.ap_laws.proofs.GroupedGrafts.{fitting}
+use Rattle.ap_laws.proofs.fitting_law.Goals as goal
+
+pub returns : goal.returns
+returns c = fitting
