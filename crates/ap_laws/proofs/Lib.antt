@@ -21,3 +21,5 @@ pub mod CopiedAnswers
 pub mod Example
 pub mod GroupedGrafts
 pub mod SameStates
+pub mod TraceNames
+pub mod GroupedEvents

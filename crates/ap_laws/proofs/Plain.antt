@@ -49,7 +49,7 @@ pub append_trees-assoc : (ts us vs : Trees) → append_trees (append_trees ts us
 append_trees-assoc none us vs = refl
 append_trees-assoc (more t ts) us vs = ap (more t) (append_trees-assoc ts us vs)
 
-RenamedAll-append_trees : (R : ℕ → ℕ → Type 0) (ts us vs ws : Trees) → RenamedAll R ts us → RenamedAll R vs ws → RenamedAll R (append_trees ts vs) (append_trees us ws)
+pub RenamedAll-append_trees : (R : ℕ → ℕ → Type 0) (ts us vs ws : Trees) → RenamedAll R ts us → RenamedAll R vs ws → RenamedAll R (append_trees ts vs) (append_trees us ws)
 RenamedAll-append_trees R none none vs ws h k = k
 RenamedAll-append_trees R (more t ts) (more u us) vs ws h k = (h.0, RenamedAll-append_trees R ts us vs ws h.1 k)
 RenamedAll-append_trees R _ _ vs ws h k = absurd h

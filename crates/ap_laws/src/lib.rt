@@ -3,14 +3,14 @@
 //! Stands on `ap_term` alone. Each function here has an empty body; its contract is a law.
 #![tactic(auto)]
 
-ghost use Rattle.ap_laws.specs.Laws.{UnifierLaw, UniqueUnifierLaw, WaysLaw, ChildrenLaw, ChildByUnifierLaw, CopiedAnswerLaw, FittingLaw, SameStateLaw, RenamingLaw};
-ghost use Rattle.ap_laws.specs.SearchLaws.{QueryLaw, TraceLaw, GraftLaw, GraftStateLaw, SplitLaw, IndependenceLaw, DeadConjunctLaw, GivesLaw};
-ghost use Rattle.ap_laws.specs.Rejoining.{MeaningLaw, RejoinLaw, EmittedLaw};
+ghost use Rattle.ap_laws.specs.Laws.{MguLaw, UniqueUnifierLaw, WaysLaw, ChildrenLaw, ChildByUnifierLaw, CopiedAnswerLaw, FittingLaw, SameStateLaw, RenamingLaw};
+ghost use Rattle.ap_laws.specs.SearchLaws.{QueryLaw, TraceLaw, GraftLaw, GraftStateLaw, SplitLaw, IndependenceLaw, DeadConjunctLaw, GivesLaw, TraceRenamingLaw};
+ghost use Rattle.ap_laws.specs.Rejoining.{EventLaw, MeaningLaw, RejoinLaw, EmittedLaw};
 ghost use Rattle.ap_laws.specs.Example.{ExampleLaw};
 
 /// Unification commutes with renamings, and binds and mentions only variables of its input.
-pub fn unifier_law()
-    ensures { UnifierLaw }
+pub fn mgu_law()
+    ensures { MguLaw }
 {}
 
 /// Two most general unifiers of one pair of terms are equal up to a renaming.
@@ -63,6 +63,11 @@ pub fn trace_law()
     ensures { TraceLaw }
 {}
 
+/// A trace does not depend on the names of variables.
+pub fn trace_renaming_law()
+    ensures { TraceRenamingLaw }
+{}
+
 /// A goal's search in the goal's place is the goal's own search, put there.
 pub fn graft_law()
     ensures { GraftLaw }
@@ -78,7 +83,7 @@ pub fn split_law()
     ensures { SplitLaw }
 {}
 
-/// Behind an independent goal a goal has the answers and costs that it has alone.
+/// Beside strictly independent goals a goal has the answers and costs that it has alone.
 pub fn independence_law()
     ensures { IndependenceLaw }
 {}
@@ -91,6 +96,11 @@ pub fn dead_conjunct_law()
 /// What searches give can be put together.
 pub fn gives_law()
     ensures { GivesLaw }
+{}
+
+/// The events of a parallel search, on states with groups.
+pub fn event_law()
+    ensures { EventLaw }
 {}
 
 /// What it means that what is left of a search rejoins it.
