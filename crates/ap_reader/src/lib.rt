@@ -1,0 +1,12 @@
+//! The reader.
+#![tactic(auto)]
+
+mod law;
+mod operators;
+mod pass;
+mod word;
+
+pub use law::{machine_is_exact, one_tree};
+pub use operators::{Fixity, OPERATORS, Operator};
+pub use pass::{ParseErr, Step, parse};
+pub use word::{Word, words};
