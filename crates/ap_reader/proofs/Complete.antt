@@ -1,5 +1,5 @@
 -- The machine finds each term.
-use Rattle.std.proofs.Common.{◌≡◌, ℕ, ◌-◌, ◌<◌, ◌≤◌, List, [], ◌∷◌, ◌++◌, Bool, true, false, cond, leb, ◌&&◌, Some, None, refl, sym, ap, ◌∙◌, append_assoc, codes, arith}
+use Rattle.std.proofs.Common.{◌≡◌, ℕ, ◌-◌, ◌^◌, ◌<◌, ◌≤◌, List, [], ◌∷◌, ◌++◌, Bool, true, false, cond, leb, ◌&&◌, Some, None, refl, sym, ap, ◌∙◌, append_assoc, codes, arith}
 use Rattle.std.proofs.lemmas.List.{append-nil}
 use Rattle.std.proofs.lemmas.Bool.{le-leb, lt-leb, lt-ltb}
 use Rattle.ap_reader.specs.declared.word.Word.{Word}
@@ -37,8 +37,8 @@ unwound m (Infix l o r) s ok h =
     let below : priority r ≤ m = omega (arith, right_max-le (infix_rank o), ok.2) in
     unwound m r (AfterInfix l o ∷ s) ok.4 below ∙ reduced-infix m l o r s h
 unwound m (Single at) s ok h = refl
-unwound m (Positive at) s ok h = refl
-unwound m (Negative sign i at small) s ok h = refl
+unwound m (Positive n) s ok h = refl
+unwound m (Negative sign i n) s ok h = refl
 unwound m (Group t) s ok h = refl
 unwound m (Compound at i items t) s ok h = refl
 unwound m Empty s ok h = refl
@@ -60,7 +60,7 @@ prefixed-is : (o : Word) (s : List Frame) → 0 < prefix_rank o → prefix_rank 
 prefixed-is (w.Operator at i p) s h k =
     ap (λ b. cond (b && leb p (room s)) (Wants (AfterPrefix (w.Operator at i p) ∷ s)) Stuck) (lt-ltb 0 p h) ∙ ap (λ b. cond b (Wants (AfterPrefix (w.Operator at i p) ∷ s)) Stuck) (le-leb p (room s) k)
 prefixed-is (w.Operand at) s h k = absurd (omega arith)
-prefixed-is (w.Number at small) s h k = absurd (omega arith)
+prefixed-is (w.Number n) s h k = absurd (omega arith)
 prefixed-is (w.Sign at i) s h k = absurd (omega arith)
 prefixed-is (w.Functor at i) s h k = absurd (omega arith)
 prefixed-is w.Open s h k = absurd (omega arith)
@@ -96,7 +96,7 @@ infixed (w.Sign at i) l s h ok fits k =
 infixed (w.Comma at) l s h ok fits k =
     ap (parted at) (ap (λ m. reduced m (edge l) (spine l s)) (sym left-comma) ∙ unwound (left_max (priority_of false (codes ","))) l s ok fits ∙ settled (priority_of false (codes ",")) l s h k) ∙ comma-is at l s (omega (arith, comma_is)) ∙ shifted-is (w.Comma at) l s h k
 infixed (w.Operand at) l s h ok fits k = absurd (omega arith)
-infixed (w.Number at small) l s h ok fits k = absurd (omega arith)
+infixed (w.Number n) l s h ok fits k = absurd (omega arith)
 infixed (w.Functor at i) l s h ok fits k =
     ap (shifted (w.Functor at i)) (unwound (left_max i) l s ok fits ∙ settled i l s h k) ∙ shifted-is (w.Functor at i) l s h k
 infixed w.Open l s h ok fits k = absurd (omega arith)
@@ -126,8 +126,8 @@ reduced-none m t = refl
 mutual
   pub walk : (t : Tree) (s : List Frame) (rest : List Word) → IsTerm t → priority t ≤ room s → over (Wants s) (spelled t ++ rest) ≡ over (Has (edge t) (spine t s)) rest
   walk (Single at) s rest ok fits = refl
-  walk (Positive at) s rest ok fits = refl
-  walk (Negative sign i at small) s rest ok fits = refl
+  walk (Positive n) s rest ok fits = ap (λ b. over (cond b (Has (Positive n) s) Stuck) rest) (lt-ltb n (2 ^ 63) ok)
+  walk (Negative sign i n) s rest ok fits = ap (λ b. over (cond b (Has (Negative sign i n) s) Stuck) rest) (le-leb n (2 ^ 63) ok)
   walk (Prefix o t) s rest ok fits =
       ap (λ x. over x (spelled t ++ rest)) (prefixed-is o s ok.0 fits) ∙ walk t (AfterPrefix o ∷ s) rest ok.2 ok.1
   walk (Infix l o r) s rest ok fits =

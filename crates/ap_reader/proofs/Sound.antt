@@ -1,5 +1,5 @@
 -- What the machine finds is a term, and is spelled by the words that it went over.
-use Rattle.std.proofs.Common.{◌≡◌, ℕ, ◌-◌, ◌<◌, ◌≤◌, List, [], ◌∷◌, ◌++◌, Bool, true, false, cond, leb, ltb, ◌&&◌, Option, Some, None, refl, sym, ap, subst, ◌∙◌, append_assoc, codes, arith}
+use Rattle.std.proofs.Common.{◌≡◌, ℕ, ◌-◌, ◌^◌, ◌<◌, ◌≤◌, List, [], ◌∷◌, ◌++◌, Bool, true, false, cond, leb, ltb, ◌&&◌, Option, Some, None, refl, sym, ap, subst, ◌∙◌, append_assoc, codes, arith}
 use Rattle.std.proofs.lemmas.List.{append-nil}
 use Rattle.std.proofs.lemmas.Bool.{leb-true, ltb-true}
 use Rattle.ap_reader.specs.declared.word.Word.{Word}
@@ -143,8 +143,8 @@ kept_single words t s ok low k =
 
 kept_want : (words : List Word) (s : List Frame) (word : Word) → Keeps 0 words (Wants s) → Keeps 0 (words ++ word ∷ []) (on_want s word)
 kept_want words s (w.Operand at) k = kept_single words (Single at) s tt (omega arith) k
-kept_want words s (w.Number at true) k = kept_single words (Positive at) s tt (omega arith) k
-kept_want words s (w.Number at false) k = tt
+kept_want words s (w.Number n) k =
+    on_cond (Keeps 0 (words ++ w.Number n ∷ [])) (ltb n (2 ^ 63)) (Has (Positive n) s) Stuck (λ e. kept_single words (Positive n) s (ltb-true n (2 ^ 63) e) (omega arith) k) (λ e. tt)
 kept_want words s (w.Sign at i) k = (k.0, ap (λ x. x ++ w.Sign at i ∷ []) k.1)
 kept_want words s (w.Operator at i p) k = kept_prefixed words (w.Operator at i p) s k
 kept_want words s (w.Functor at i) k = (k.0, ap (λ x. x ++ w.Functor at i ∷ []) k.1)
@@ -166,8 +166,9 @@ kept_want words (Inside Bracket (Then items t at) ∷ s) w.CloseList k = tt
 kept_want words (InTail items t ∷ s) w.CloseList k = tt
 
 kept_sign : (sign i : ℕ) (words : List Word) (s : List Frame) (word : Word) → Keeps 0 words (Signed sign i s) → Keeps 0 (words ++ word ∷ []) (on_sign sign i s word)
-kept_sign sign i words s (w.Number at small) k =
-    (k.0, tt, omega arith, omega arith, sym (append_assoc (before s) (w.Sign sign i ∷ []) (w.Number at small ∷ [])) ∙ ap (λ x. x ++ w.Number at small ∷ []) k.1)
+kept_sign sign i words s (w.Number n) k =
+    let e = sym (append_assoc (before s) (w.Sign sign i ∷ []) (w.Number n ∷ [])) ∙ ap (λ x. x ++ w.Number n ∷ []) k.1 in
+    on_cond (Keeps 0 (words ++ w.Number n ∷ [])) (leb n (2 ^ 63)) (Has (Negative sign i n) s) Stuck (λ small. (k.0, leb-true n (2 ^ 63) small, omega arith, omega arith, e)) (λ large. tt)
 kept_sign sign i words s _ k = tt
 
 kept_call : (at i : ℕ) (words : List Word) (s : List Frame) (word : Word) → Keeps 0 words (Called at i s) → Keeps 0 (words ++ word ∷ []) (on_call at i s word)
@@ -183,7 +184,7 @@ kept_has words t s w.Bar k = kept_barred 999 words (reduced 999 t s) (kept_reduc
 kept_has words t s w.Close k = kept_closed 1200 words (reduced 1200 t s) (kept_reduced 1200 words t s (raised 0 1200 words t s (omega arith) k))
 kept_has words t s w.CloseList k = kept_list_closed 999 words (reduced 999 t s) (kept_reduced 999 words t s (raised 0 999 words t s (omega arith) k))
 kept_has words t s (w.Operand at) k = tt
-kept_has words t s (w.Number at small) k = tt
+kept_has words t s (w.Number n) k = tt
 kept_has words t s w.Open k = tt
 kept_has words t s w.OpenList k = tt
 kept_has words t s w.Other k = tt

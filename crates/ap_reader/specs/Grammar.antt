@@ -1,5 +1,5 @@
 -- Which lists of words are terms, and of which priority.
-use Rattle.std.specs.Prelude.{ℕ, ◌<◌, ◌≤◌, Bool, true, false, List, [], ◌∷◌, ◌++◌, codes}
+use Rattle.std.specs.Prelude.{ℕ, ◌^◌, ◌<◌, ◌≤◌, false, List, [], ◌∷◌, ◌++◌, codes}
 use Rattle.ap_reader.specs.Operator.{priority_of, left_max, right_max}
 use Rattle.ap_reader.specs.declared.word.Word.{Word}
 use Rattle.ap_reader.specs.declared.word.Word.TheVariants as w
@@ -21,7 +21,7 @@ mutual
   pub data Tree : Type 0 where
     Single : ℕ → Tree
     Positive : ℕ → Tree
-    Negative : ℕ → ℕ → ℕ → Bool → Tree
+    Negative : ℕ → ℕ → ℕ → Tree
     Prefix : Word → Tree → Tree
     Infix : Tree → Word → Tree → Tree
     Group : Tree → Tree
@@ -38,8 +38,8 @@ mutual
 abbrev mutual
   pub spelled : Tree → List Word
   spelled (Single at) = w.Operand at ∷ []
-  spelled (Positive at) = w.Number at true ∷ []
-  spelled (Negative sign i at small) = w.Sign sign i ∷ w.Number at small ∷ []
+  spelled (Positive n) = w.Number n ∷ []
+  spelled (Negative sign i n) = w.Sign sign i ∷ w.Number n ∷ []
   spelled (Prefix o t) = o ∷ spelled t
   spelled (Infix l o r) = spelled l ++ o ∷ spelled r
   spelled (Group t) = w.Open ∷ (spelled t ++ w.Close ∷ [])
@@ -57,13 +57,13 @@ priority (Prefix o t) = prefix_rank o
 priority (Infix l o r) = infix_rank o
 priority _ = 0
 
--- The rules of priority. An operator's operands have at most what its type leaves them; arguments and
--- elements have at most 999, and what stands in parentheses at most 1200.
+-- The rules. An operator's operands have at most the priority that its fixity leaves them; arguments and elements have
+-- at most 999, and what stands in parentheses at most 1200. The integer 2 ^ 63 stands behind a minus alone.
 abbrev mutual
   pub IsTerm : Tree → Type 0
   IsTerm (Single at) = Unit {0}
-  IsTerm (Positive at) = Unit {0}
-  IsTerm (Negative sign i at small) = Unit {0}
+  IsTerm (Positive n) = n < 2 ^ 63
+  IsTerm (Negative sign i n) = n ≤ 2 ^ 63
   IsTerm (Prefix o t) = (0 < prefix_rank o) × (priority t ≤ right_max (prefix_rank o)) × IsTerm t
   IsTerm (Infix l o r) = (0 < infix_rank o) × (priority l ≤ left_max (infix_rank o)) × (priority r ≤ right_max (infix_rank o)) × IsTerm l × IsTerm r
   IsTerm (Group t) = (priority t ≤ 1200) × IsTerm t

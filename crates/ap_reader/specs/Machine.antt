@@ -1,5 +1,5 @@
 -- The one pass that finds a term: an operand or the want of one, over what is open.
-use Rattle.std.specs.Prelude.{ℕ, ◌&&◌, nat_le, nat_lt, if◌then◌else◌, List, [], ◌∷◌, Bool, true, false, Option, Some, None, IsTrue}
+use Rattle.std.specs.Prelude.{ℕ, ◌^◌, ◌&&◌, nat_le, nat_lt, if◌then◌else◌, List, [], ◌∷◌, Bool, true, false, Option, Some, None, IsTrue}
 use Rattle.ap_reader.specs.declared.word.Word.{Word}
 use Rattle.ap_reader.specs.declared.word.Word.TheVariants as w
 use Rattle.ap_reader.specs.Grammar.{Tree, Single, Positive, Negative, Prefix, Infix, Group, Compound, Empty, Listed, Tailed, Items, Begin, Then, infix_rank, prefix_rank}
@@ -71,7 +71,7 @@ barred _ = Stuck
 
 abbrev pub on_want : List Frame → Word → State
 on_want s (w.Operand at) = Has (Single at) s
-on_want s (w.Number at small) = if small then Has (Positive at) s else Stuck
+on_want s (w.Number n) = if nat_lt n (2 ^ 63) then Has (Positive n) s else Stuck
 on_want s (w.Sign at i) = Signed at i s
 on_want s (w.Operator at i p) = prefixed (w.Operator at i p) s
 on_want s (w.Functor at i) = Called at i s
@@ -81,7 +81,7 @@ on_want (Inside Bracket Begin ∷ s) w.CloseList = Has Empty s
 on_want s _ = Stuck
 
 abbrev pub on_sign : ℕ → ℕ → List Frame → Word → State
-on_sign sign i s (w.Number at small) = Has (Negative sign i at small) s
+on_sign sign i s (w.Number n) = if nat_le n (2 ^ 63) then Has (Negative sign i n) s else Stuck
 on_sign sign i s _ = Stuck
 
 abbrev pub on_call : ℕ → ℕ → List Frame → Word → State

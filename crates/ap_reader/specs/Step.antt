@@ -1,5 +1,5 @@
 -- A term as steps, each after those of its operands, and the pass as the code keeps it.
-use Rattle.std.specs.Prelude.{◌≡◌, ℕ, ◌≢◌, List, [], ◌∷◌, ◌++◌, Bool, true, false, if◌then◌else◌, nat_le, Option, Some, None, Result, Ok, Err}
+use Rattle.std.specs.Prelude.{◌≡◌, ℕ, ◌≢◌, List, [], ◌∷◌, ◌++◌, Bool, true, false, if◌then◌else◌, nat_le, Option, Some, None, Result, Ok, Err, pos, neg_ℤ}
 use Rattle.std.specs.declared.alloc.Global.{Global}
 use Rattle.std.specs.declared.vec.Vec.{Vec}
 use Rattle.ap_reader.specs.declared.word.Word.{Word}
@@ -18,7 +18,6 @@ use Rattle.ap_reader.specs.Machine.{Head, Named, Bracket, Frame, AfterPrefix, Af
 -- where the token of a word stands; brackets have none
 abbrev pub place : Word → ℕ
 place (w.Operand at) = at
-place (w.Number at small) = at
 place (w.Sign at i) = at
 place (w.Operator at i p) = at
 place (w.Functor at i) = at
@@ -28,8 +27,8 @@ place _ = 0
 abbrev mutual
   pub postfix : Tree → List Step
   postfix (Single at) = p.Operand at ∷ []
-  postfix (Positive at) = p.Operand at ∷ []
-  postfix (Negative sign i at small) = p.Negative at ∷ []
+  postfix (Positive n) = p.Integer (pos n) ∷ []
+  postfix (Negative sign i n) = p.Integer (neg_ℤ (pos n)) ∷ []
   postfix (Prefix o t) = postfix t ++ p.Prefix (place o) ∷ []
   postfix (Infix l o r) = postfix l ++ (postfix r ++ p.Infix (place o) ∷ [])
   postfix (Group t) = postfix t ++ p.Group ∷ []

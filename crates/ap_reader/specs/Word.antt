@@ -1,5 +1,5 @@
 -- What each token is to the grammar, by the tokens beside it.
-use Rattle.std.specs.Prelude.{◌≡◌, ℕ, ◌+◌, ◌^◌, Bool, true, false, ◌&&◌, ◌||◌, ◌==◌, if◌then◌else◌, nat_lt, nat_le, List, [], ◌∷◌, Option, Some, None, codes, bytes_eq}
+use Rattle.std.specs.Prelude.{◌≡◌, ℕ, ◌+◌, ◌^◌, Bool, true, false, ◌&&◌, ◌||◌, ◌==◌, if◌then◌else◌, nat_le, List, [], ◌∷◌, Option, Some, None, codes, bytes_eq}
 use Rattle.std.specs.Borrow.{Bor}
 use Rattle.ap_lexer.specs.declared.kind.TokenKind.{TokenKind}
 use Rattle.ap_lexer.specs.declared.kind.TokenKind.TheVariants as token
@@ -63,8 +63,8 @@ quoted_word at t after = if touches is_open t after then word.Functor at 0 else 
 abbrev pub comma_word : ℕ → Option TokenKind → Option Placed → Word
 comma_word at before after = if starts before && after_is stops after then word.Operand at else word.Comma at
 
-abbrev pub number_word : ℕ → ℕ → Word
-number_word at n = if nat_le n (2 ^ 63) then word.Number at (nat_lt n (2 ^ 63)) else word.Other
+abbrev pub number_word : ℕ → Word
+number_word n = if nat_le n (2 ^ 63) then word.Number n else word.Other
 
 abbrev pub word_by : TokenKind → ℕ → Option TokenKind → Placed → Option Placed → Word
 word_by token.Name at before t after = named_word at before t after
@@ -74,7 +74,7 @@ word_by token.Quoted at before t after = quoted_word at t after
 word_by token.Comma at before t after = comma_word at before after
 word_by token.Cut at before t after = word.Operand at
 word_by token.Variable at before t after = word.Operand at
-word_by token.Integer at before t after = number_word at (number t.text)
+word_by token.Integer at before t after = number_word (number t.text)
 word_by token.Bar at before t after = word.Bar
 word_by token.Open at before t after = word.Open
 word_by token.Close at before t after = word.Close

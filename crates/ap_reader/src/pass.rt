@@ -1,5 +1,5 @@
 // The pass that finds a term: one word after another, over what is open.
-ghost use Rattle.std.specs.Prelude.{◌≡◌, ℕ, ◌+◌, List, [], ◌∷◌, ◌++◌, true, vec_len, OnOk, OnErr};
+ghost use Rattle.std.specs.Prelude.{◌≡◌, ℕ, ◌+◌, ◌^◌, ◌≤◌, pos, neg_ℤ, List, [], ◌∷◌, ◌++◌, true, vec_len, OnOk, OnErr};
 ghost use Rattle.ap_reader.specs.Grammar.{Tree, spelled, IsWhole, infix_rank, prefix_rank};
 ghost use Rattle.ap_reader.specs.Machine.{Frame, State, Has, room, reduced, prefixed, shifted, closed, list_closed, parted, barred, on_want, on_has, next, parsed};
 
@@ -11,7 +11,7 @@ use std::alloc::{AllocFailed, Global};
 #[derive(Clone, Copy, Debug, PartialEq, Eq)]
 pub enum Step {
     Operand(usize),
-    Negative(usize),
+    Integer(i64),
     Prefix(usize),
     Infix(usize),
     /// Parentheses round the last operand.
@@ -94,13 +94,20 @@ fn place(word: Word) -> usize
 {
     match word {
         Word::Operand(at)
-        | Word::Number(at, _)
         | Word::Sign(at, _)
         | Word::Operator(at, _, _)
         | Word::Functor(at, _)
         | Word::Comma(at) => at,
         _ => 0,
     }
+}
+
+/// The integer below zero of that magnitude.
+fn negative(magnitude: u64) -> i64
+    requires { magnitude ≤ 2 ^ 63 }
+    ensures { result ≡ neg_ℤ (pos magnitude) }
+{
+    (-i128::from(magnitude)) as i64
 }
 
 /// The greatest priority that an operand may have behind what is open last.
@@ -271,8 +278,12 @@ impl Pass {
         ensures { (s : List Frame) → Awaits s self.old.stack.items self.old.out.items → Follows (on_want s word) result self.new.stack.items self.new.out.items }
     {
         match word {
-            Word::Operand(at) | Word::Number(at, true) => {
+            Word::Operand(at) => {
                 self.out.push(Step::Operand(at))?;
+                Ok(Mode::Has)
+            }
+            Word::Number(n) if n < 1 << 63 => {
+                self.out.push(Step::Integer(n as i64))?;
                 Ok(Mode::Has)
             }
             Word::Sign(_, _) => Ok(Mode::Signed),
@@ -288,7 +299,7 @@ impl Pass {
                 Ok(Mode::Wants)
             }
             Word::CloseList => self.close_empty(),
-            Word::Number(_, false) | Word::Close | Word::Comma(_) | Word::Bar | Word::Other => Err(ParseErr::NotATerm),
+            Word::Number(_) | Word::Close | Word::Comma(_) | Word::Bar | Word::Other => Err(ParseErr::NotATerm),
         }
     }
 
@@ -316,7 +327,7 @@ impl Pass {
                 self.reduce(999)?;
                 self.close_list()
             }
-            Word::Operand(_) | Word::Number(_, _) | Word::Open | Word::OpenList | Word::Other => {
+            Word::Operand(_) | Word::Number(_) | Word::Open | Word::OpenList | Word::Other => {
                 Err(ParseErr::NotATerm)
             }
         }
@@ -329,8 +340,8 @@ impl Pass {
             Mode::Wants => self.on_want(word),
             Mode::Has => self.on_has(word),
             Mode::Signed => match word {
-                Word::Number(at, _) => {
-                    self.out.push(Step::Negative(at))?;
+                Word::Number(n) if n <= 1 << 63 => {
+                    self.out.push(Step::Integer(negative(n)))?;
                     Ok(Mode::Has)
                 }
                 _ => Err(ParseErr::NotATerm),

@@ -1,6 +1,6 @@
 //! What each token is to the grammar, by the tokens beside it.
 
-ghost use Rattle.std.specs.Prelude.{◌≡◌, ◌<◌, ◌≤◌, ◌^◌, ℕ, IfOk, map, nat_lt, nat_le};
+ghost use Rattle.std.specs.Prelude.{◌≡◌, ◌<◌, ◌≤◌, ◌^◌, ℕ, IfOk, map, nat_le};
 ghost use Rattle.ap_lexer.specs.Lexeme.{number};
 ghost use Rattle.ap_lexer.specs.Token.{view};
 ghost use Rattle.ap_reader.specs.Word as spec;
@@ -14,8 +14,8 @@ use std::alloc::{AllocError, Global};
 pub enum Word {
     /// A variable, or an atom that stands for itself.
     Operand(usize),
-    /// An integer of at most 2 ^ 63, and whether it is below.
-    Number(usize, bool),
+    /// An integer of at most 2 ^ 63.
+    Number(u64),
     /// A minus directly before an integer, with its priority as infix.
     Sign(usize, u16),
     /// The name of an operator, with its priorities as infix and as prefix; 0 where it has none.
@@ -98,11 +98,11 @@ fn bare_word(at: usize, before: Option<TokenKind>, token: &Token, after: Option<
     }
 }
 
-fn number_word(at: usize, digits: &[u8]) -> Word
-    ensures { result ≡ spec.number_word at (number digits.now) }
+fn number_word(digits: &[u8]) -> Word
+    ensures { result ≡ spec.number_word (number digits.now) }
 {
     match ap_lexer::number(digits) {
-        Some(n) => Word::Number(at, n < 1 << 63),
+        Some(n) => Word::Number(n),
         None => Word::Other,
     }
 }
@@ -134,7 +134,7 @@ fn word_of(at: usize, before: Option<TokenKind>, token: &Token, after: Option<&T
         }
         TokenKind::Semicolon => bare_word(at, before, token, after),
         TokenKind::Cut | TokenKind::Variable => Word::Operand(at),
-        TokenKind::Integer => number_word(at, token.text),
+        TokenKind::Integer => number_word(token.text),
         TokenKind::Bar => Word::Bar,
         TokenKind::Open => Word::Open,
         TokenKind::Close => Word::Close,
