@@ -1,12 +1,15 @@
 //! The reader.
 #![tactic(auto)]
 
+mod bracket;
 mod law;
+mod leaf;
 mod operators;
 mod pass;
 mod word;
 
 pub use law::{machine_is_exact, one_tree};
+pub use leaf::Leaf;
 pub use operators::{Fixity, OPERATORS, Operator};
 pub use pass::{ParseErr, Step, parse};
 pub use word::{Word, words};
