@@ -6,3 +6,5 @@ pub mod Step
 pub mod Written
 pub mod Leaves
 pub mod Bracket
+pub mod Evaluated
+pub mod Depth

@@ -203,3 +203,14 @@ pub(crate) fn leaves<'a>(
     }
     Ok((out, variables.names))
 }
+
+/// The name that a token is, and an empty one where it is none.
+pub(crate) fn name_at<'l>(leaves: &'l [Leaf], at: usize) -> &'l str
+    ensures { result.now ≡ spec.name_at (map spec.leaf_of leaves.now) at }
+{
+    match leaves.get(at) {
+        Some(Leaf::Name(name)) => name,
+        Some(Leaf::Unquoted(name)) => name.as_str(),
+        _ => "",
+    }
+}

@@ -2,6 +2,7 @@
 #![tactic(auto)]
 
 mod bracket;
+mod depth;
 mod law;
 mod leaf;
 mod operators;
@@ -9,6 +10,7 @@ mod pass;
 mod word;
 
 pub use law::{machine_is_exact, one_tree};
+pub use depth::MAX_DEPTH;
 pub use leaf::Leaf;
 pub use operators::{Fixity, OPERATORS, Operator};
 pub use pass::{ParseErr, Step, parse};
