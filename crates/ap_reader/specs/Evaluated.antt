@@ -70,11 +70,11 @@ module _ (xs : List Written) where
   each_meaning Begin = []
   each_meaning (Then items t at) = each_meaning items ++ meaning xs t ∷ []
 
-  with_rest-push : (ys : List Written) (x : Written) (rest : Writtens) → with_rest (ys ++ x ∷ []) rest ≡ with_rest ys (Cons x rest)
+  pub with_rest-push : (ys : List Written) (x : Written) (rest : Writtens) → with_rest (ys ++ x ∷ []) rest ≡ with_rest ys (Cons x rest)
   with_rest-push [] x rest = refl
   with_rest-push (y ∷ ys) x rest = ap (Cons y) (with_rest-push ys x rest)
 
-  cells-push : (ys : List Written) (x rest : Written) → cells (ys ++ x ∷ []) rest ≡ cells ys (cell x rest)
+  pub cells-push : (ys : List Written) (x rest : Written) → cells (ys ++ x ∷ []) rest ≡ cells ys (cell x rest)
   cells-push [] x rest = refl
   cells-push (y ∷ ys) x rest = ap (cell y) (cells-push ys x rest)
 

@@ -8,3 +8,4 @@ pub mod Leaves
 pub mod Bracket
 pub mod Evaluated
 pub mod Depth
+pub mod Build

@@ -2,6 +2,7 @@
 #![tactic(auto)]
 
 mod bracket;
+mod build;
 mod depth;
 mod law;
 mod leaf;
