@@ -6,7 +6,9 @@ use Rattle.std.proofs.lemmas.Bool.{false≢true}
 use Rattle.std.proofs.lemmas.Slice.Eq.{bytes_eq-Decides}
 use Rattle.ap_lexer.specs.Lexeme.{Text}
 use Rattle.ap_term.specs.AtomTable.{capacity, is_held, insert_name, insert_names, IsWithoutRepeats, IsAtomTable}
-use Rattle.ap_reader.specs.Build.{place_of, Extends}
+use Rattle.ap_term.specs.declared.names.InternErr.{InternErr}
+use Rattle.ap_term.specs.declared.names.InternErr.TheVariants as err
+use Rattle.ap_reader.specs.Build.{place_of, Extends, FaultAt}
 
 Some-inj : {a b : Text} → Some a ≡ Some b → a ≡ b
 Some-inj e = cc
@@ -71,3 +73,14 @@ length-new names name e = ap (λ b. length (cond b names (names ++ name ∷ []))
 
 pub full-table : (names : List Text) (name : Text) → is_held names name ≡ false → length names ≡ capacity → capacity < length (insert_names names (name ∷ []))
 full-table names name e h = omega (arith, length-new names name e)
+
+-- a fault at some of the names is one at all of them
+pub fault-at : (e : InternErr) (added more all first old new : List Text) → Extends first old → insert_names old (added ++ more) ≡ insert_names first all → FaultAt added old new e → FaultAt all first new e
+fault-at err.Full added more all first old new grows same fault =
+    let longer = length-extends (insert_names old added) (insert_names old (added ++ more)) (subst (Extends (insert_names old added)) (sym (insert_names-append old added more)) (extends-names (insert_names old added) more)) in
+    let total = ap length same in
+    (omega (arith, fault.0), extends-trans first old new grows fault.1)
+fault-at err.NoMemory added more all first old new grows same fault = extends-trans first old new grows fault
+
+pub grown : (first old new added : List Text) → Extends first old → new ≡ insert_names old added → Extends first new
+grown first old new added grows e = subst (Extends first) (sym e) (extends-trans first old (insert_names old added) grows (extends-names old added))

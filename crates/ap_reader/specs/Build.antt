@@ -56,11 +56,15 @@ names xs (s ∷ steps) = step_names xs s ++ names xs steps
 abbrev pub Extends : List Text → List Text → Type 0
 Extends ns ms = (more : List Text) × (ms ≡ ns ++ more)
 
--- the table after names were put into it, or before the one that it has no room for
+-- the table before the name that it has no room for, or for which there was no memory
+abbrev pub FaultAt : List Text → List Text → List Text → InternErr → Type 0
+FaultAt added old new err.Full = (capacity < length (insert_names old added)) × Extends old new
+FaultAt added old new err.NoMemory = Extends old new
+
+-- the table after names were put into it
 abbrev pub Interned : {A : Type 0} → List Text → List Text → List Text → Result A InternErr → Type 0
 Interned added old new (Ok a) = new ≡ insert_names old added
-Interned added old new (Err err.Full) = (capacity < length (insert_names old added)) × Extends old new
-Interned added old new (Err err.NoMemory) = Extends old new
+Interned added old new (Err e) = FaultAt added old new e
 
 -- ---- what the code keeps of the values
 

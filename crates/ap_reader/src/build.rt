@@ -5,10 +5,12 @@ ghost use Rattle.ap_lexer.specs.Lexeme.{Text};
 ghost use Rattle.ap_term.specs.AtomTable.{insert_names};
 ghost use Rattle.ap_term.specs.TermView.{tree_of};
 ghost use Rattle.ap_term.specs.Tree.{node, more, none};
-ghost use Rattle.ap_reader.specs.Written.{Written, Node, Cons, Nil, cell, leaf_of, leaf_at};
+ghost use Rattle.ap_reader.specs.Written.{Written, Node, Cons, Nil, cell, leaf_of, leaf_at, meaning};
 ghost use Rattle.ap_reader.specs.Evaluated as spec;
 ghost use Rattle.ap_reader.specs.Evaluated.{ATerm, top_term, top_items, below, made, left, stacked};
-ghost use Rattle.ap_reader.specs.Build.{place_of, term_in, leaf_names, step_names, Interned, built_of, resolved, tree_cells};
+ghost use Rattle.ap_reader.specs.Build.{place_of, term_in, leaf_names, step_names, names, Interned, built_of, resolved, tree_cells};
+ghost use Rattle.ap_reader.specs.Grammar.{Tree};
+ghost use Rattle.ap_reader.specs.Step.{postfix};
 
 use crate::leaf::{Leaf, name_at};
 use crate::pass::Step;
@@ -232,4 +234,28 @@ fn value_after(
             listed(alloc, stack, atoms, tail)
         }
     }
+}
+
+/// The term that the steps of one make. After an error the table has some of its names.
+pub(crate) fn build(
+    alloc: Global,
+    leaves: &[Leaf],
+    steps: &[Step],
+    atoms: &mut Atoms,
+) -> Result<Term, InternErr>
+    ensures value { IfOk result (λ r. (t : Tree) → steps.now ≡ postfix t → tree_of r ≡ term_in atoms.new (meaning (map leaf_of leaves.now) t)) }
+    ensures table { Interned (names (map leaf_of leaves.now) steps.now) atoms.old atoms.new result }
+{
+    let mut stack = Vec::new(alloc);
+    for step in steps {
+        match value_after(alloc, &mut stack, leaves, atoms, *step) {
+            Ok(value) => {
+                let Ok(()) = stack.push(value) else {
+                    return Err(InternErr::NoMemory);
+                };
+            }
+            Err(e) => return Err(e),
+        }
+    }
+    Ok(pop_term(&mut stack))
 }
