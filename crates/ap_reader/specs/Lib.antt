@@ -9,3 +9,4 @@ pub mod Bracket
 pub mod Evaluated
 pub mod Depth
 pub mod Build
+pub mod Reading

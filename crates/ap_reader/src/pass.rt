@@ -359,7 +359,7 @@ impl Pass {
 }
 
 /// The steps of the one term that the words spell.
-pub fn parse(alloc: Global, words: &[Word]) -> Result<Vec<Step>, ParseErr>
+pub(crate) fn steps(alloc: Global, words: &[Word]) -> Result<Vec<Step>, ParseErr>
     ensures { Finds words.now (items_of result) }
 {
     let mut pass = Pass {

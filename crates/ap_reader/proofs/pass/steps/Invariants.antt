@@ -1,7 +1,7 @@
 use Rattle.std.proofs.Common.{◌≡◌, [], drop}
 use Rattle.ap_reader.specs.Machine.{State, Wants, over}
 use Rattle.ap_reader.specs.Step.{Shows}
-use Rattle.ap_reader.proofs.pass.parse.Given as goal
+use Rattle.ap_reader.proofs.pass.steps.Given as goal
 
 abbrev pub invariant-loop-word : goal.invariant-loop-word
 invariant-loop-word l =

@@ -8,7 +8,7 @@ use Rattle.ap_reader.specs.declared.pass.Open.{Open}
 use Rattle.ap_reader.specs.Machine.{State, Wants, over, parsed, ended, next}
 use Rattle.ap_reader.specs.Step.{Shows, Follows, Finds}
 use Rattle.ap_reader.proofs.Parsed.{none_spelled, fault_at, wants_more, at_end}
-use Rattle.ap_reader.proofs.pass.parse.Goals as goal
+use Rattle.ap_reader.proofs.pass.steps.Goals as goal
 
 not_empty : (xs : List Open) → xs ≡ [] → (length xs ≡ 0 → ⊥) → ⊥
 not_empty xs e h = h (ap length e)

@@ -1,6 +1,6 @@
 use Rattle.ap_reader.proofs.Complete.{complete}
 use Rattle.ap_reader.proofs.Sound.{sound}
-use Rattle.ap_reader.proofs.law.machine_is_exact.Goals as goal
+use Rattle.ap_reader.proofs.law.pass_is_exact.Goals as goal
 
 pub returns-clause-sound : goal.returns-clause-sound
 returns-clause-sound c = sound
