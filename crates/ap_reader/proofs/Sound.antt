@@ -56,8 +56,8 @@ kept_reduced m words t (AfterPrefix o ∷ s) k =
 kept_reduced m words t (AfterInfix l o ∷ s) k =
     on_cond (Keeps m words) (leb (infix_rank o) m) (reduced m (Infix l o t) s) (Has t (AfterInfix l o ∷ s))
     (λ e.
-        let law : (before s ++ (spelled l ++ o ∷ [])) ++ spelled t ≡ before s ++ (spelled l ++ o ∷ spelled t) = simp append_assoc in
-        kept_reduced m words (Infix l o t) s (k.0.4, (k.0.0, k.0.1, k.3, k.0.2, k.1), leb-true (infix_rank o) m e, k.0.3, sym law ∙ k.4))
+    let law : (before s ++ (spelled l ++ o ∷ [])) ++ spelled t ≡ before s ++ (spelled l ++ o ∷ spelled t) = simp append_assoc in
+    kept_reduced m words (Infix l o t) s (k.0.4, (k.0.0, k.0.1, k.3, k.0.2, k.1), leb-true (infix_rank o) m e, k.0.3, sym law ∙ k.4))
     (λ e. k)
 kept_reduced m words t (InGroup ∷ s) k = k
 kept_reduced m words t (Inside h items ∷ s) k = k
@@ -72,16 +72,16 @@ kept_prefixed : (words : List Word) (o : Word) (s : List Frame) → Keeps 0 word
 kept_prefixed words o s k =
     on_cond (Keeps 0 (words ++ o ∷ [])) (ltb 0 (prefix_rank o) && leb (prefix_rank o) (room s)) (Wants (AfterPrefix o ∷ s)) Stuck
     (λ e.
-        let tests = both (ltb 0 (prefix_rank o)) (leb (prefix_rank o) (room s)) e in
-        ((ltb-true 0 (prefix_rank o) tests.0, leb-true (prefix_rank o) (room s) tests.1, k.0), ap (λ x. x ++ o ∷ []) k.1))
+    let tests = both (ltb 0 (prefix_rank o)) (leb (prefix_rank o) (room s)) e in
+    ((ltb-true 0 (prefix_rank o) tests.0, leb-true (prefix_rank o) (room s) tests.1, k.0), ap (λ x. x ++ o ∷ []) k.1))
     (λ e. tt)
 
 kept_shifted : (words : List Word) (o : Word) (x : State) → Keeps (left_max (infix_rank o)) words x → Keeps 0 (words ++ o ∷ []) (shifted o x)
 kept_shifted words o (Has t s) k =
     on_cond (Keeps 0 (words ++ o ∷ [])) (ltb 0 (infix_rank o) && leb (infix_rank o) (room s)) (Wants (AfterInfix t o ∷ s)) Stuck
     (λ e.
-        let tests = both (ltb 0 (infix_rank o)) (leb (infix_rank o) (room s)) e in
-        ((ltb-true 0 (infix_rank o) tests.0, k.2, k.1, leb-true (infix_rank o) (room s) tests.1, k.0), sym (append_assoc (before s) (spelled t) (o ∷ [])) ∙ ap (λ x. x ++ o ∷ []) k.4))
+    let tests = both (ltb 0 (infix_rank o)) (leb (infix_rank o) (room s)) e in
+    ((ltb-true 0 (infix_rank o) tests.0, k.2, k.1, leb-true (infix_rank o) (room s) tests.1, k.0), sym (append_assoc (before s) (spelled t) (o ∷ [])) ∙ ap (λ x. x ++ o ∷ []) k.4))
     (λ e. tt)
 kept_shifted words o (Wants s) k = tt
 kept_shifted words o (Signed sign i s) k = tt

@@ -10,3 +10,4 @@ pub mod Evaluated
 pub mod Depth
 pub mod Build
 pub mod Reading
+pub mod Examples

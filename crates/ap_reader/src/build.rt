@@ -88,12 +88,7 @@ fn list(alloc: Global, dot: Atom, items: Vec<Term>, tail: Term) -> Result<Term, 
     Ok(rest)
 }
 
-fn leaf(
-    alloc: Global,
-    leaves: &[Leaf],
-    atoms: &mut Atoms,
-    at: usize,
-) -> Result<Value, InternErr>
+fn leaf(alloc: Global, leaves: &[Leaf], atoms: &mut Atoms, at: usize) -> Result<Value, InternErr>
     ensures value { IfOk result (λ v. (more : List Text) → built_of v ≡ resolved (insert_names atoms.new more) (ATerm (leaf_at (slice_get (map leaf_of leaves.now) at)))) }
     ensures table { Interned (leaf_names (leaf_at (slice_get (map leaf_of leaves.now) at))) atoms.old atoms.new result }
 {

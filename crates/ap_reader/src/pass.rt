@@ -299,7 +299,9 @@ impl Pass {
                 Ok(Mode::Wants)
             }
             Word::CloseList => self.close_empty(),
-            Word::Number(_) | Word::Close | Word::Comma(_) | Word::Bar | Word::Other => Err(ParseErr::NotATerm),
+            Word::Number(_) | Word::Close | Word::Comma(_) | Word::Bar | Word::Other => Err(
+                ParseErr::NotATerm,
+            ),
         }
     }
 
@@ -377,5 +379,9 @@ pub(crate) fn steps(alloc: Global, words: &[Word]) -> Result<Vec<Step>, ParseErr
         return Err(ParseErr::NotATerm);
     };
     pass.reduce(1200)?;
-    if pass.stack.is_empty() { Ok(pass.out) } else { Err(ParseErr::NotATerm) }
+    if pass.stack.is_empty() {
+        Ok(pass.out)
+    } else {
+        Err(ParseErr::NotATerm)
+    }
 }

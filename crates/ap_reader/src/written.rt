@@ -1,9 +1,7 @@
 //! Tokens as a term: its steps, then the term itself.
 
 ghost use Rattle.std.specs.Prelude.{◌≡◌, List, MatchOption, map};
-
 ghost use Rattle.ap_lexer.specs.Token.{Placed, view};
-
 ghost use Rattle.ap_reader.specs.Reading as spec;
 
 use crate::bracket::most_open;
@@ -155,11 +153,7 @@ impl<'a> WrittenTerm<'a> {
 /// In this order: `TooDeep` where more than `MAX_OPEN` brackets are open at once; `NotAClause`
 /// exactly where the tokens spell no term; `TooDeep` where it is deeper than `MAX_DEPTH`;
 /// `TooManyAtoms` where the table has no room for its names. `NoMemory` may come at any point.
-pub fn read_term(
-    alloc: Global,
-    tokens: &[Token],
-    atoms: &mut Atoms,
-) -> Result<ReadTerm, ReadErr>
+pub fn read_term(alloc: Global, tokens: &[Token], atoms: &mut Atoms) -> Result<ReadTerm, ReadErr>
     ensures { spec.ReadAs (map view tokens.now) atoms.old atoms.new result }
 {
     match parse(alloc, tokens) {

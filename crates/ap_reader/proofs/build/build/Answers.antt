@@ -32,14 +32,16 @@ loop-step-preserved c =
     let next : drop i steps ≡ s ∷ rest = drop-cons steps i (step.Operand 0) c.loop-step-test.true ∙ ap (λ k. s ∷ drop k steps) (sym (add-one i)) in
     let table = c.in-Ok.ensures.table in
     let all : insert_names old (names xs (drop i steps)) ≡ insert_names new (names xs rest) =
-        ap (λ l. insert_names old (names xs l)) next ∙ insert_names-append old (step_names xs s) (names xs rest) ∙ ap (λ ns. insert_names ns (names xs rest)) (sym table) in
+    ap (λ l. insert_names old (names xs l)) next ∙ insert_names-append old (step_names xs s) (names xs rest) ∙ ap (λ ns. insert_names ns (names xs rest)) (sym table) in
     let ns = insert_names new (names xs rest) in
     let vs = inv.values.0 in
     let value = c.in-Ok.ensures.value (names xs rest) vs (inv.values.1 ∙ ap (λ x. stacked (resolved x) vs) all) in
     record {
-      values = (made xs s vs ∷ left xs s vs,
+      values = (
+        made xs s vs ∷ left xs s vs,
         ap (map built_of) c.in-Ok-push.ensures.items ∙ map-push built_of c.value_after.new.stack.items c.in-Ok.value ∙ ap (λ l. l ++ built_of c.in-Ok.value ∷ []) value.1 ∙ ap (λ b. stacked (resolved ns) (left xs s vs) ++ b ∷ []) value.0,
-        sym (ap (evaluated xs vs) next) ∙ inv.values.2);
+        sym (ap (evaluated xs vs) next) ∙ inv.values.2,
+      );
       table = sym all ∙ inv.table;
       grows = grown c.args.atoms.now old new (step_names xs s) inv.grows table;
     }
@@ -67,7 +69,7 @@ returns-clause-value c = λ t e.
     let past : length c.args.steps.now ≤ c.loop-step.step-index = omega arith in
     let none : drop c.loop-step.step-index c.args.steps.now ≡ [] = drop_of_length-le c.args.steps.now past in
     let end : inv.values.0 ≡ ATerm (meaning xs t) ∷ [] =
-        ap (evaluated xs inv.values.0) (sym none) ∙ inv.values.2 ∙ ap (evaluated xs []) (e ∙ sym (append-nil (postfix t))) ∙ evaluates xs t [] [] in
+    ap (evaluated xs inv.values.0) (sym none) ∙ inv.values.2 ∙ ap (evaluated xs []) (e ∙ sym (append-nil (postfix t))) ∙ evaluates xs t [] [] in
     (c.pop_term.ensures (insert_names c.loop-step.atoms (names xs (drop c.loop-step.step-index c.args.steps.now))) inv.values.0 inv.values.1).0
     ∙ ap (λ vs. term_in (insert_names c.loop-step.atoms (names xs (drop c.loop-step.step-index c.args.steps.now))) (top_term vs)) end
     ∙ ap (λ l. term_in (insert_names c.loop-step.atoms (names xs l)) (meaning xs t)) none

@@ -51,6 +51,6 @@ returns-clause-value c =
     rw c.in-Tailed.is
     (if_ok (codes "." ∷ []) c.args.atoms.now c.listed-in-Tailed.new.atoms c.listed-in-Tailed.result
     (λ table v p. λ more vs e.
-        let tail = c.pop_term-tail.ensures (insert_names c.listed-in-Tailed.new.atoms more) vs e in
-        p more (below vs) (top_term vs) tail.1 tail.0)
+    let tail = c.pop_term-tail.ensures (insert_names c.listed-in-Tailed.new.atoms more) vs e in
+    p more (below vs) (top_term vs) tail.1 tail.0)
     c.listed-in-Tailed.ensures.value c.listed-in-Tailed.ensures.table)

@@ -16,5 +16,5 @@ returns c = λ t e.
     let xs = map leaf_of c.args.leaves.now in
     let none : c.loop-rest.rest.now ≡ [] = nil_from_length c.loop-rest.rest.now (omega arith) in
     let end : inv.0 ≡ ATerm (meaning xs t) ∷ [] =
-        ap (evaluated xs inv.0) (sym none) ∙ inv.2 ∙ ap (evaluated xs []) (e ∙ sym (append-nil (postfix t))) ∙ evaluates xs t [] [] in
+    ap (evaluated xs inv.0) (sym none) ∙ inv.2 ∙ ap (evaluated xs []) (e ∙ sym (append-nil (postfix t))) ∙ evaluates xs t [] [] in
     past_cap c.pop_term.result (depth (meaning xs t)) ((c.pop_term.ensures inv.0 inv.1).0 ∙ ap (λ vs. capped (depth (top_term vs))) end)
