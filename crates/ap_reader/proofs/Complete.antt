@@ -1,12 +1,12 @@
 -- The machine finds each term.
-use Rattle.std.proofs.Common.{◌≡◌, ℕ, ◌-◌, ◌^◌, ◌<◌, ◌≤◌, List, [], ◌∷◌, ◌++◌, Bool, true, false, cond, leb, ◌&&◌, Some, None, refl, sym, ap, ◌∙◌, append_assoc, codes, arith}
+use Rattle.std.proofs.Common.{◌≡◌, ℕ, ◌^◌, ◌<◌, ◌≤◌, List, [], ◌∷◌, ◌++◌, false, cond, leb, ◌&&◌, Some, refl, sym, ap, ◌∙◌, append_assoc, codes, arith}
 use Rattle.std.proofs.lemmas.List.{append-nil}
 use Rattle.std.proofs.lemmas.Bool.{le-leb, lt-leb, lt-ltb}
 use Rattle.ap_reader.specs.declared.word.Word.{Word}
 use Rattle.ap_reader.specs.declared.word.Word.TheVariants as w
 use Rattle.ap_reader.specs.Grammar.{Tree, Single, Positive, Negative, Prefix, Infix, Group, Compound, Empty, Listed, Tailed, Items, Begin, Then, infix_rank, prefix_rank, spelled, each, priority, IsTerm, AreItems, IsWhole}
-use Rattle.ap_reader.specs.Machine.{Head, Named, Bracket, Frame, AfterPrefix, AfterInfix, InGroup, Inside, InTail, State, Wants, Signed, Has, Stuck, room, reduced, shifted, closed, list_closed, parted, barred, over, next, parsed, ended, whole}
-use Rattle.ap_reader.specs.Operator.{priority_of, left_max, right_max}
+use Rattle.ap_reader.specs.Machine.{Head, Named, Bracket, Frame, AfterPrefix, AfterInfix, InGroup, Inside, InTail, Wants, Has, Stuck, room, reduced, shifted, closed, list_closed, parted, barred, over, next, parsed, ended, whole}
+use Rattle.ap_reader.specs.Operator.{priority_of, left_max}
 use Rattle.ap_reader.proofs.Levels.{left_max-le, right_max-le, apart, comma_is}
 
 -- the operand at the right end of a term, and what is open there

@@ -1,12 +1,12 @@
 -- The depth of compounds and lists by their items, and the stack of values.
-use Rattle.std.proofs.Common.{◌≡◌, ℕ, ◌+◌, min, max, List, [], ◌∷◌, ◌++◌, Bool, true, false, cond, Option, Some, None, zero, suc, map, slice_get, codes, refl, sym, ap, ◌∙◌, arith}
+use Rattle.std.proofs.Common.{◌≡◌, ℕ, ◌+◌, max, List, [], ◌∷◌, ◌++◌, false, cond, zero, suc, map, slice_get, codes, refl, ap, ◌∙◌, arith}
 use Rattle.std.specs.Prelude.{bytes_eq}
 use Rattle.ap_lexer.specs.Lexeme.{Text}
 use Rattle.ap_reader.specs.declared.leaf.Leaf.{Leaf}
 use Rattle.ap_reader.specs.declared.leaf.Leaf.TheVariants as leaf
 use Rattle.ap_reader.specs.declared.depth.Height.{Height}
 use Rattle.ap_reader.specs.declared.depth.Height.TheVariants as height
-use Rattle.ap_reader.specs.Written.{Written, Variable, Integer, Atom, Node, Paren, Writtens, Nil, Cons, cell, leaf_of, leaf_at}
+use Rattle.ap_reader.specs.Written.{Written, Node, Nil, Cons, cell, leaf_of, leaf_at}
 use Rattle.ap_reader.specs.Evaluated.{Gathered, with_rest, cells}
 use Rattle.ap_reader.specs.Depth.{depth, deepest, capped, highest, height_of, most_of}
 

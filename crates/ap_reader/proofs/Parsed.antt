@@ -1,6 +1,5 @@
 -- What the pass says at its ends.
-use Rattle.std.proofs.Common.{◌≡◌, ℕ, List, [], ◌∷◌, ◌++◌, Option, Some, None, Ok, Err, drop, refl, sym, ap, subst, ◌∙◌}
-use Rattle.std.proofs.lemmas.List.{append-nil}
+use Rattle.std.proofs.Common.{◌≡◌, List, [], ◌∷◌, Some, None, Ok, Err, refl, sym, ap, ◌∙◌}
 use Rattle.ap_reader.specs.declared.word.Word.{Word}
 use Rattle.ap_reader.specs.declared.pass.Step.{Step}
 use Rattle.ap_reader.specs.declared.pass.Open.{Open}
@@ -10,7 +9,7 @@ use Rattle.ap_reader.specs.declared.pass.ParseErr.{ParseErr}
 use Rattle.ap_reader.specs.declared.pass.ParseErr.TheVariants as err
 use Rattle.ap_reader.specs.Grammar.{Tree, spelled, IsWhole}
 use Rattle.ap_reader.specs.Machine.{Frame, State, Wants, Signed, Called, Has, Stuck, reduced, next, over, ended, whole, parsed}
-use Rattle.ap_reader.specs.Step.{postfix, opens, steps, open_of, Holds, Awaits, Shows, Follows, Finds}
+use Rattle.ap_reader.specs.Step.{opens, open_of, Holds, Shows, Follows, Finds}
 use Rattle.ap_reader.proofs.Complete.{complete}
 use Rattle.ap_reader.proofs.Sound.{sound}
 use Rattle.ap_reader.proofs.Stack.{nothing_last}

@@ -1,5 +1,5 @@
 -- What reading says of the tokens before the end token.
-use Rattle.std.proofs.Common.{◌≡◌, ℕ, ◌≤◌, List, [], ◌∷◌, ◌++◌, Result, Ok, Err, map, sym, ◌∙◌, subst, ap, inl, inr, refl}
+use Rattle.std.proofs.Common.{◌≡◌, ◌≤◌, List, [], Result, Ok, Err, map, sym, ◌∙◌, subst, ap, inl, inr, refl}
 use Rattle.ap_lexer.specs.Lexeme.{Text}
 use Rattle.ap_lexer.specs.Token.{Placed}
 use Rattle.ap_reader.specs.declared.written.WrittenTerm.{WrittenTerm}
@@ -12,7 +12,7 @@ use Rattle.ap_reader.specs.Grammar.{Tree, spelled, IsWhole}
 use Rattle.ap_reader.specs.Step.{postfix}
 use Rattle.ap_reader.specs.Word.{words}
 use Rattle.ap_reader.specs.Written.{AreText, leaves, leaf_of, variables}
-use Rattle.ap_reader.specs.Reading.{first_line, EndsAs, Spells, StandsFor, term_of, Parsed, BuiltAs, ReadAs}
+use Rattle.ap_reader.specs.Reading.{first_line, EndsAs, Spells, term_of, Parsed, BuiltAs, ReadAs}
 use Rattle.ap_reader.proofs.Stack.{last_same}
 use Rattle.ap_reader.proofs.Complete.{one}
 

@@ -1,13 +1,12 @@
 -- What the machine finds is a term, and is spelled by the words that it went over.
-use Rattle.std.proofs.Common.{◌≡◌, ℕ, ◌-◌, ◌^◌, ◌<◌, ◌≤◌, List, [], ◌∷◌, ◌++◌, Bool, true, false, cond, leb, ltb, ◌&&◌, Option, Some, None, refl, sym, ap, subst, ◌∙◌, append_assoc, codes, arith}
+use Rattle.std.proofs.Common.{◌≡◌, ℕ, ◌^◌, ◌<◌, ◌≤◌, List, [], ◌∷◌, ◌++◌, Bool, true, false, cond, leb, ltb, ◌&&◌, Some, refl, sym, ap, subst, ◌∙◌, append_assoc, codes, arith}
 use Rattle.std.proofs.lemmas.List.{append-nil}
 use Rattle.std.proofs.lemmas.Bool.{leb-true, ltb-true}
 use Rattle.ap_reader.specs.declared.word.Word.{Word}
 use Rattle.ap_reader.specs.declared.word.Word.TheVariants as w
-use Rattle.ap_reader.specs.Grammar.{Tree, Single, Positive, Negative, Prefix, Infix, Group, Compound, Empty, Listed, Tailed, Items, Begin, Then, infix_rank, prefix_rank, spelled, each, priority, IsTerm, AreItems, IsWhole}
+use Rattle.ap_reader.specs.Grammar.{Tree, Single, Positive, Negative, Prefix, Infix, Begin, Then, infix_rank, prefix_rank, spelled, each, priority, IsTerm, AreItems, IsWhole}
 use Rattle.ap_reader.specs.Machine.{Head, Named, Bracket, Frame, AfterPrefix, AfterInfix, InGroup, Inside, InTail, State, Wants, Signed, Called, Has, Stuck, room, reduced, prefixed, shifted, closed, list_closed, parted, barred, on_want, on_sign, on_call, on_has, over, next, parsed, ended, whole}
-use Rattle.ap_reader.specs.Operator.{priority_of, left_max, right_max}
-use Rattle.ap_reader.proofs.Levels.{left_max-le, right_max-le}
+use Rattle.ap_reader.specs.Operator.{priority_of, left_max}
 
 -- the words that a head is, and the words that were read before the next operand
 abbrev pub head_words : Head → List Word

@@ -1,16 +1,14 @@
 -- What the code's stack says of the frames that it stands for.
-use Rattle.std.proofs.Common.{◌≡◌, ℕ, ◌≤◌, List, [], ◌∷◌, ◌++◌, Bool, true, false, cond, leb, Option, Some, None, Ok, refl, sym, ap, subst, ◌∙◌, append_assoc, arith}
+use Rattle.std.proofs.Common.{◌≡◌, ℕ, List, [], ◌∷◌, ◌++◌, Bool, true, false, cond, leb, Some, None, Ok, refl, sym, ap, subst, ◌∙◌, append_assoc}
 use Rattle.std.proofs.lemmas.List.{append-nil}
 use Rattle.std.proofs.lemmas.Bool.{leb-true}
-use Rattle.ap_reader.specs.declared.word.Word.{Word}
 use Rattle.ap_reader.specs.declared.pass.Step.{Step}
 use Rattle.ap_reader.specs.declared.pass.Step.TheVariants as p
 use Rattle.ap_reader.specs.declared.pass.Open.{Open}
-use Rattle.ap_reader.specs.declared.pass.Open.TheVariants as o
 use Rattle.ap_reader.specs.declared.pass.Mode.TheVariants as mode
-use Rattle.ap_reader.specs.Grammar.{Tree, Single, Positive, Negative, Prefix, Infix, Group, Compound, Empty, Listed, Tailed, Items, Begin, Then, infix_rank, prefix_rank}
-use Rattle.ap_reader.specs.Machine.{Head, Named, Bracket, Frame, AfterPrefix, AfterInfix, InGroup, Inside, InTail, State, Wants, Signed, Called, Has, Stuck, reduced}
-use Rattle.ap_reader.specs.Step.{place, postfix, posts, open_of, opens, given, steps, Holds, Awaits, Shows, due, Takes}
+use Rattle.ap_reader.specs.Grammar.{Tree, Prefix, Infix, Begin, Then, infix_rank, prefix_rank}
+use Rattle.ap_reader.specs.Machine.{Named, Bracket, Frame, AfterPrefix, AfterInfix, InGroup, Inside, InTail, Has, reduced}
+use Rattle.ap_reader.specs.Step.{place, postfix, open_of, opens, steps, Holds, Shows, due, Takes}
 use Rattle.ap_reader.proofs.Complete.{reduced-prefix, reduced-infix}
 
 pub last_same : {A : Type 0} (xs ys : List A) (x y : A) → xs ++ x ∷ [] ≡ ys ++ y ∷ [] → (xs ≡ ys) × (x ≡ y)

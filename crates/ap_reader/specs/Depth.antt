@@ -1,6 +1,5 @@
 -- How deep a term is.
 use Rattle.std.specs.Prelude.{ℕ, ◌+◌, min, max, if◌then◌else◌, List, [], ◌∷◌, codes, bytes_eq}
-use Rattle.ap_lexer.specs.Lexeme.{Text}
 use Rattle.ap_reader.specs.declared.depth.TheConstants.{MAX_DEPTH}
 use Rattle.ap_reader.specs.declared.depth.Height.{Height}
 use Rattle.ap_reader.specs.declared.depth.Height.TheVariants as height

@@ -1,6 +1,6 @@
 -- Steps, one after another, on a stack of values.
-use Rattle.std.specs.Prelude.{◌≡◌, ℕ, List, [], ◌∷◌, ◌++◌, codes, slice_get, refl}
-use Rattle.std.proofs.Common.{sym, ◌∙◌, ap, append_assoc}
+use Rattle.std.specs.Prelude.{◌≡◌, List, [], ◌∷◌, ◌++◌, codes, slice_get, refl}
+use Rattle.std.proofs.Common.{◌∙◌, ap, append_assoc}
 use Rattle.ap_reader.specs.declared.pass.Step.{Step}
 use Rattle.ap_reader.specs.declared.pass.Step.TheVariants as step
 use Rattle.ap_reader.specs.Grammar.{Tree, Single, Positive, Negative, Prefix, Infix, Group, Compound, Empty, Listed, Tailed, Items, Begin, Then}

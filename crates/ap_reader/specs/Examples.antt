@@ -1,5 +1,5 @@
 -- Small texts and the terms that they are.
-use Rattle.std.specs.Prelude.{◌≡◌, ℕ, List, [], length, Option, Some, None, codes, refl, pos, negsuc}
+use Rattle.std.specs.Prelude.{◌≡◌, List, [], length, Option, Some, None, codes, refl, pos, negsuc}
 use Rattle.ap_lexer.specs.Lexeme.{Text, lexemes, lexeme}
 use Rattle.ap_lexer.specs.Token.{Placed, tokens_from}
 use Rattle.ap_reader.specs.Operator.{priority_of, left_max, right_max}

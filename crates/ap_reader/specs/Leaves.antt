@@ -1,5 +1,5 @@
 -- What the code finds of the tokens as operands and functors.
-use Rattle.std.specs.Prelude.{◌≡◌, ℕ, Bool, false, List, [], map, Result, Ok, Err, codes, bytes_eq, drop, string_bytes}
+use Rattle.std.specs.Prelude.{◌≡◌, ℕ, false, List, [], map, Result, Ok, Err, codes, bytes_eq, drop, string_bytes}
 use Rattle.std.specs.Str.{IsUtf8}
 use Rattle.std.specs.declared.string.String.{String}
 use Rattle.std.specs.declared.alloc.Global.{Global}

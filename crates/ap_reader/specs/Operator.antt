@@ -2,7 +2,7 @@
 use Rattle.std.specs.Prelude.{ℕ, ◌-◌, Bool, true, false, ◌&&◌, ◌==◌, if◌then◌else◌, List, [], ◌∷◌, map, bytes_eq, not}
 use Rattle.ap_lexer.specs.Lexeme.{Text}
 use Rattle.ap_reader.specs.declared.operators.Fixity.{Fixity}
-use Rattle.ap_reader.specs.declared.operators.Fixity.TheVariants.{Xfx, Xfy, Yfx, Fx, Fy}
+use Rattle.ap_reader.specs.declared.operators.Fixity.TheVariants.{Xfy, Yfx, Fx, Fy}
 use Rattle.ap_reader.specs.declared.operators.TheConstants.{OPERATORS}
 
 -- priority, fixity and name

@@ -13,7 +13,7 @@ use Rattle.ap_reader.specs.declared.pass.Mode.TheVariants as m
 use Rattle.ap_reader.specs.declared.pass.ParseErr.{ParseErr}
 use Rattle.ap_reader.specs.declared.pass.ParseErr.TheVariants as err
 use Rattle.ap_reader.specs.Grammar.{Tree, Single, Positive, Negative, Prefix, Infix, Group, Compound, Empty, Listed, Tailed, Items, Begin, Then, spelled, IsWhole, infix_rank, prefix_rank}
-use Rattle.ap_reader.specs.Machine.{Head, Named, Bracket, Frame, AfterPrefix, AfterInfix, InGroup, Inside, InTail, State, Wants, Signed, Called, Has, Stuck}
+use Rattle.ap_reader.specs.Machine.{Named, Bracket, Frame, AfterPrefix, AfterInfix, InGroup, Inside, InTail, State, Wants, Signed, Called, Has, Stuck}
 
 -- where the token of a word stands; brackets have none
 abbrev pub place : Word → ℕ

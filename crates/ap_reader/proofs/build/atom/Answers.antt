@@ -1,5 +1,4 @@
-use Rattle.std.proofs.Common.{rules, ◌≡◌, [], ◌∷◌}
-use Rattle.ap_reader.proofs.Tables.{placed, extends-self, full-table}
+use Rattle.ap_reader.proofs.Tables.{placed}
 use Rattle.ap_reader.proofs.build.atom.Goals as goal
 
 pub returns-in-Ok-clause-place : goal.returns-in-Ok-clause-place

@@ -1,4 +1,4 @@
-use Rattle.std.proofs.Common.{◌≡◌, ◌∙◌}
+use Rattle.std.proofs.Common.{◌∙◌}
 use Rattle.ap_term.specs.AtomTable.{insert_names}
 use Rattle.ap_reader.specs.Evaluated.{below, top_term, top_items}
 use Rattle.ap_reader.proofs.Trees.{arguments-in}

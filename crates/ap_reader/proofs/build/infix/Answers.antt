@@ -1,4 +1,3 @@
-use Rattle.std.proofs.Common.{◌≡◌}
 use Rattle.ap_term.specs.AtomTable.{insert_names}
 use Rattle.ap_reader.specs.Evaluated.{below}
 use Rattle.ap_reader.proofs.build.infix.Goals as goal

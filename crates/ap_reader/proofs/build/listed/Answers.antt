@@ -1,4 +1,4 @@
-use Rattle.std.proofs.Common.{◌≡◌, ◌∙◌, ap, map}
+use Rattle.std.proofs.Common.{ap, map}
 use Rattle.ap_term.specs.AtomTable.{insert_names}
 use Rattle.ap_term.specs.TermView.{tree_of}
 use Rattle.ap_reader.specs.Evaluated.{below, top_term, top_items}

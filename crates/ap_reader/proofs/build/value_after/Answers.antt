@@ -1,12 +1,10 @@
-use Rattle.std.proofs.Common.{◌≡◌, ◌∙◌, ap, sym, map, codes, List, [], ◌∷◌, Result, Ok, Err}
+use Rattle.std.proofs.Common.{◌≡◌, ◌∙◌, ap, sym, codes, List, [], ◌∷◌, Result, Ok, Err}
 use Rattle.std.specs.Prelude.{IfOk}
 use Rattle.ap_lexer.specs.Lexeme.{Text}
 use Rattle.ap_term.specs.AtomTable.{insert_names}
 use Rattle.ap_term.specs.Tree.{atom}
-use Rattle.ap_term.specs.TermView.{tree_of}
 use Rattle.ap_term.specs.declared.names.InternErr.{InternErr}
-use Rattle.ap_term.specs.declared.names.InternErr.TheVariants as err
-use Rattle.ap_reader.specs.Written.{leaf_of, Atom}
+use Rattle.ap_reader.specs.Written.{Atom}
 use Rattle.ap_reader.specs.Evaluated.{below, top_term}
 use Rattle.ap_reader.specs.Build.{ATree, Several, Interned, place_of}
 use Rattle.ap_reader.proofs.build.value_after.Goals as goal

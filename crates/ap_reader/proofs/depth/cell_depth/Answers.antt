@@ -1,4 +1,4 @@
-use Rattle.std.proofs.Common.{◌≡◌, ◌∙◌, ap, sym}
+use Rattle.std.proofs.Common.{◌∙◌, ap, sym}
 use Rattle.ap_reader.specs.Depth.{capped}
 use Rattle.ap_reader.proofs.Depths.{cell-is, no_cell-is}
 use Rattle.ap_reader.proofs.depth.cell_depth.Goals as goal

@@ -1,4 +1,4 @@
-use Rattle.std.proofs.Common.{◌≡◌, ◌∙◌, ap, sym, rules}
+use Rattle.std.proofs.Common.{◌∙◌, ap, sym, rules}
 use Rattle.ap_reader.specs.Depth.{capped}
 use Rattle.ap_reader.proofs.Depths.{depth-compound}
 use Rattle.ap_reader.proofs.depth.compound.Goals as goal

@@ -1,6 +1,6 @@
-use Rattle.std.proofs.Common.{◌≡◌, ◌∙◌, ap, sym, [], ◌∷◌, map}
+use Rattle.std.proofs.Common.{◌∙◌, ap, sym, [], ◌∷◌}
 use Rattle.ap_reader.specs.declared.depth.Height.TheVariants as height
-use Rattle.ap_reader.specs.Written.{Node, Cons, Nil, leaf_of}
+use Rattle.ap_reader.specs.Written.{Node, Cons, Nil}
 use Rattle.ap_reader.specs.Evaluated.{top_term, below}
 use Rattle.ap_reader.specs.Depth.{depth, capped}
 use Rattle.ap_reader.proofs.Depths.{depth-leaf}

@@ -1,12 +1,12 @@
-use Rattle.std.proofs.Common.{◌≡◌, ◌≤◌, [], ◌∷◌, refl, sym, ap, subst, ◌∙◌, drop, length, get_or, suc, false-eqb, rules, arith, add-one, vec_len, ◌==◌, List}
+use Rattle.std.proofs.Common.{◌≡◌, ◌≤◌, [], refl, ap, subst, ◌∙◌, drop, length, get_or, suc, false-eqb, rules, arith, vec_len, List}
 use Rattle.std.proofs.Math.ListN.{drop_of_length-le}
 use Rattle.std.proofs.Math.Seq.{drop-cons}
 use Rattle.std.proofs.lemmas.List.{nil_from_length}
 use Rattle.ap_reader.specs.declared.pass.Mode.TheVariants as mode
 use Rattle.ap_reader.specs.declared.word.Word.TheVariants as w
 use Rattle.ap_reader.specs.declared.pass.Open.{Open}
-use Rattle.ap_reader.specs.Machine.{State, Wants, over, parsed, ended, next}
-use Rattle.ap_reader.specs.Step.{Shows, Follows, Finds}
+use Rattle.ap_reader.specs.Machine.{Wants, over, ended}
+use Rattle.ap_reader.specs.Step.{Shows}
 use Rattle.ap_reader.proofs.Parsed.{none_spelled, fault_at, wants_more, at_end}
 use Rattle.ap_reader.proofs.pass.steps.Goals as goal
 

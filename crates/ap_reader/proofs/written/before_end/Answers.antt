@@ -1,4 +1,4 @@
-use Rattle.std.proofs.Common.{◌≡◌, ap, ◌∙◌, map}
+use Rattle.std.proofs.Common.{ap, ◌∙◌, map}
 use Rattle.ap_lexer.specs.Token.{view}
 use Rattle.ap_reader.proofs.Trees.{map-push}
 use Rattle.ap_reader.proofs.written.before_end.Goals as goal

@@ -1,5 +1,4 @@
-use Rattle.std.proofs.Common.{◌≡◌, ◌≤◌, arith}
-use Rattle.ap_reader.proofs.Read.{no_tree, no_text}
+use Rattle.std.proofs.Common.{arith}
 use Rattle.ap_reader.proofs.written.parse.Goals as goal
 
 pub returns-in_default : goal.returns-in_default

@@ -1,4 +1,4 @@
-use Rattle.std.proofs.Common.{rules, ◌≡◌}
+use Rattle.std.proofs.Common.{rules}
 use Rattle.std.proofs.lemmas.Map.Text.{hash_map_updates_str}
 use Rattle.ap_reader.proofs.Variables.{numbers-more, numbers-anonymous}
 use Rattle.ap_reader.proofs.leaf.Variables.number.Goals as goal
