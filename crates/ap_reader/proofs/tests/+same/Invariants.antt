@@ -1,0 +1,4 @@
+use Rattle.ap_reader.proofs.tests.+same.Given as goal
+
+abbrev pub decreases-same : goal.decreases-same
+decreases-same l = l.depth

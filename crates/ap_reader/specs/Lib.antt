@@ -1,0 +1,13 @@
+pub mod Operator
+pub mod Word
+pub mod Grammar
+pub mod Machine
+pub mod Step
+pub mod Written
+pub mod Leaves
+pub mod Bracket
+pub mod Evaluated
+pub mod Depth
+pub mod Build
+pub mod Reading
+pub mod Examples

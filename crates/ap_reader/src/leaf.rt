@@ -1,0 +1,216 @@
+//! What each token is as an operand or a functor: a variable's number or a name.
+
+ghost use Rattle.std.specs.Prelude.{◌≡◌, List, IfOk, OnOk, map, drop};
+ghost use Rattle.ap_lexer.specs.Lexeme.{Text};
+ghost use Rattle.ap_lexer.specs.Token.{Placed, view};
+ghost use Rattle.ap_reader.specs.Written as spec;
+ghost use Rattle.ap_reader.specs.Leaves.{Numbers, NameFor, LeafFor, LeavesFor, both_items};
+
+use ap_lexer::{Token, TokenKind};
+use ap_term::{Name, NoMemory};
+use std::alloc::{AllocError, Global};
+use std::collections::HashMap;
+
+/// What a token is as an operand or a functor.
+#[derive(Debug, Drop)]
+pub enum Leaf<'a> {
+    /// A variable, by its number.
+    Variable(u64),
+    /// A name as it stands in the text.
+    Name(&'a str),
+    /// A name that stood in quotes.
+    Unquoted(String),
+    /// An integer, or what is neither.
+    Mark,
+}
+
+/// Where a quoted name stands between two bytes: behind a character, a quote that may close it, or a
+/// backslash.
+#[derive(Clone, Copy)]
+pub(crate) enum Quote {
+    Plain,
+    Quote,
+    Escape,
+}
+
+fn unescaped(b: u8) -> u8
+    ensures { result ≡ spec.unescaped b }
+{
+    match b {
+        b'n' => b'\n',
+        b't' => b'\t',
+        _ => b,
+    }
+}
+
+/// The characters of a quoted token, from behind its first quote.
+fn unquoted(alloc: Global, text: &[u8]) -> Result<Vec<u8>, AllocError>
+    ensures { IfOk result (λ v. v.items ≡ spec.unquoted Quote.Plain text.now) }
+{
+    let mut out = Vec::new(alloc);
+    let mut state = Quote::Plain;
+    let mut left = text;
+    while let [b, rest @ ..] = left {
+        state = match (state, *b) {
+            (Quote::Plain, b'\'') => Quote::Quote,
+            (Quote::Plain, b'\\') => Quote::Escape,
+            (Quote::Quote, b'\'') | (Quote::Plain, _) => {
+                out.push(*b)?;
+                Quote::Plain
+            }
+            (Quote::Quote, _) => return Ok(out),
+            (Quote::Escape, _) => {
+                out.push(unescaped(*b))?;
+                Quote::Plain
+            }
+        };
+        left = rest;
+    }
+    Ok(out)
+}
+
+/// Why a token has no leaf.
+#[derive(Clone, Copy, Debug)]
+pub(crate) enum LeafErr {
+    /// A name or a variable isn't UTF-8.
+    NotText,
+    NoMemory,
+}
+
+/// The variables so far: their names by number, and the numbers of all but `_`.
+#[derive(Drop)]
+pub(crate) struct Variables<'a> {
+    numbers: HashMap<&'a str, u64>,
+    pub(crate) names: Vec<Name>,
+}
+
+impl<'a> Variables<'a> {
+    /// The number of a variable that stood before; `_` never did.
+    fn known(&self, name: &str) -> Option<u64>
+        requires { Numbers self.now.numbers self.now.names.items }
+        ensures { result ≡ spec.known self.now.names.items name.now }
+    {
+        if name == "_" {
+            None
+        } else {
+            self.numbers.get(name).copied()
+        }
+    }
+
+    /// The number of the next variable.
+    fn number(&mut self, alloc: Global, name: &'a str) -> Result<u64, NoMemory>
+        requires numbers { Numbers self.old.numbers self.old.names.items }
+        ensures number { IfOk result (λ n. n ≡ spec.number_after self.old.names.items (spec.known self.old.names.items name.now)) }
+        ensures seen { OnOk result (self.new.names.items ≡ spec.seen_after self.old.names.items name.now (spec.known self.old.names.items name.now)) }
+        ensures numbers { OnOk result (Numbers self.new.numbers self.new.names.items) }
+    {
+        if let Some(number) = self.known(name) {
+            return Ok(number);
+        }
+        let number = self.names.len() as u64 + 1;
+        self.names.push(Name::new(alloc, name)?)?;
+        if name != "_" {
+            self.numbers.insert(name, number)?;
+        }
+        Ok(number)
+    }
+
+    /// What the next token is.
+    fn leaf(&mut self, alloc: Global, token: &Token<'a>) -> Result<Leaf<'a>, LeafErr>
+        requires { Numbers self.old.numbers self.old.names.items }
+        ensures leaf { LeafFor (view token.now) self.old.names.items self.new.names.items result }
+        ensures numbers { OnOk result (Numbers self.new.numbers self.new.names.items) }
+    {
+        match token.kind {
+            TokenKind::Variable => {
+                let Ok(name) = std::str::from_utf8(token.text) else {
+                    return Err(LeafErr::NotText);
+                };
+                match self.number(alloc, name) {
+                    Ok(number) => Ok(Leaf::Variable(number)),
+                    Err(_) => Err(LeafErr::NoMemory),
+                }
+            }
+            TokenKind::Name
+            | TokenKind::Symbol
+            | TokenKind::Cut
+            | TokenKind::Semicolon
+            | TokenKind::Comma => match std::str::from_utf8(token.text) {
+                Ok(name) => Ok(Leaf::Name(name)),
+                Err(_) => Err(LeafErr::NotText),
+            },
+            TokenKind::Quoted => match unquoted_name(alloc, token.text) {
+                Ok(name) => Ok(Leaf::Unquoted(name)),
+                Err(e) => Err(e),
+            },
+            TokenKind::Integer
+            | TokenKind::Bar
+            | TokenKind::Open
+            | TokenKind::Close
+            | TokenKind::OpenList
+            | TokenKind::CloseList
+            | TokenKind::End => Ok(Leaf::Mark),
+        }
+    }
+}
+
+/// A text without its first byte.
+fn inside(text: &[u8]) -> &[u8]
+    ensures { result.now ≡ drop 1 text.now }
+{
+    match text {
+        [_, inside @ ..] => inside,
+        [] => text,
+    }
+}
+
+/// The name that a quoted token is.
+fn unquoted_name(alloc: Global, text: &[u8]) -> Result<String, LeafErr>
+    ensures { NameFor text.now result }
+{
+    let Ok(characters) = unquoted(alloc, inside(text)) else {
+        return Err(LeafErr::NoMemory);
+    };
+    match String::from_utf8(characters) {
+        Ok(name) => Ok(name),
+        Err(_) => Err(LeafErr::NotText),
+    }
+}
+
+/// What the tokens are, by place, and the names of the variables by number.
+pub(crate) fn leaves<'a>(
+    alloc: Global,
+    tokens: &[Token<'a>],
+) -> Result<(Vec<Leaf<'a>>, Vec<Name>), LeafErr>
+    ensures { LeavesFor (map view tokens.now) (both_items result) }
+{
+    let mut variables = Variables {
+        numbers: HashMap::new(alloc),
+        names: Vec::new(alloc),
+    };
+    let mut out = Vec::new(alloc);
+    let mut left = tokens;
+    while let [token, rest @ ..] = left {
+        match variables.leaf(alloc, token) {
+            Ok(leaf) => {
+                let Ok(()) = out.push(leaf) else {
+                    return Err(LeafErr::NoMemory);
+                };
+            }
+            Err(e) => return Err(e),
+        }
+        left = rest;
+    }
+    Ok((out, variables.names))
+}
+
+/// The name that a token is, and an empty one where it is none.
+pub(crate) fn name_at<'l>(leaves: &'l [Leaf], at: usize) -> &'l str
+    ensures { result.now ≡ spec.name_at (map spec.leaf_of leaves.now) at }
+{
+    match leaves.get(at) {
+        Some(Leaf::Name(name)) => name,
+        Some(Leaf::Unquoted(name)) => name.as_str(),
+        _ => "",
+    }
+}

@@ -1,0 +1,31 @@
+//! Reads a clause's tokens as a term, with operators (ISO 13211-1, section 6.3, narrowed).
+// What it is for: `read_term`, and its stages for callers that judge a term's form before its depth
+// and its names: `parse` gives the term as steps, each after those of its operands, and
+// `WrittenTerm::into_term` builds it. A text is read in one pass, in linear time, with a stack of its own.
+// What it stands on: ap_lexer for tokens, ap_term for terms and the table of atoms.
+// The contract that is used above it: the answer is the term that the grammar gives (the written
+// trees of specs/Grammar.antt, their spelling and the rules of priority), or the named cause.
+#![tactic(auto)]
+
+mod bracket;
+mod build;
+mod depth;
+mod error;
+mod law;
+mod leaf;
+mod operators;
+mod pass;
+mod word;
+mod written;
+
+pub use depth::MAX_DEPTH;
+pub use error::ReadErr;
+pub use law::{one_term, one_tree, pass_is_exact, steps_make_the_term};
+pub use leaf::Leaf;
+pub use operators::{Fixity, OPERATORS, Operator};
+pub use pass::Step;
+pub use word::Word;
+pub use written::{MAX_OPEN, ReadTerm, WrittenTerm, parse, read_term};
+
+#[cfg(test)]
+mod tests;

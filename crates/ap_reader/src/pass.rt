@@ -1,0 +1,387 @@
+// The pass that finds a term: one word after another, over what is open.
+ghost use Rattle.std.specs.Prelude.{◌≡◌, ℕ, ◌+◌, ◌^◌, ◌≤◌, pos, neg_ℤ, List, [], ◌∷◌, ◌++◌, true, vec_len, OnOk, OnErr};
+ghost use Rattle.ap_reader.specs.Grammar.{Tree, spelled, IsWhole, infix_rank, prefix_rank};
+ghost use Rattle.ap_reader.specs.Machine.{Frame, State, Has, room, reduced, prefixed, shifted, closed, list_closed, parted, barred, on_want, on_has, next, parsed};
+
+use crate::operators::{infix_of, left_max, right_max};
+use crate::word::Word;
+use std::alloc::{AllocFailed, Global};
+
+/// What is found, each step after those of its operands. A number is the place of a token.
+#[derive(Clone, Copy, Debug, PartialEq, Eq)]
+pub enum Step {
+    Operand(usize),
+    Integer(i64),
+    Prefix(usize),
+    Infix(usize),
+    /// Parentheses round the last operand.
+    Group,
+    /// Items begin, with none.
+    Begin,
+    /// The last operand joins the items below it.
+    Item,
+    /// A compound of the items and the last operand.
+    Compound(usize),
+    /// The empty list, of the items that began.
+    Empty,
+    /// A list of the items and the last operand.
+    List,
+    /// A list of the items and the last operand but one, with the last operand as its tail.
+    Tailed,
+}
+
+#[derive(Clone, Copy, Debug, PartialEq, Eq)]
+pub enum ParseErr {
+    NotATerm,
+    NoMemory,
+}
+
+/// What is open.
+#[derive(Clone, Copy, Debug, PartialEq, Eq)]
+pub enum Open {
+    Prefix(Word),
+    Infix(Word),
+    Group,
+    Call(usize),
+    /// A list, and whether it has an item.
+    List(bool),
+    Tail,
+}
+
+#[derive(Clone, Copy, Debug, PartialEq, Eq)]
+pub enum Mode {
+    Wants,
+    Signed,
+    Called(usize),
+    Has,
+}
+
+ghost use Rattle.ap_reader.specs.declared.pass.ParseErr.TheVariants.{NoMemory};
+
+impl<T: Drop> From<AllocFailed<T>> for ParseErr {
+    ghost from_gives = { λ _ e. e ≡ NoMemory };
+
+    fn from(_e: AllocFailed<T>) -> ParseErr {
+        ParseErr::NoMemory
+    }
+}
+
+fn infix_rank(word: Word) -> u16
+    ensures { result ≡ infix_rank word }
+{
+    match word {
+        Word::Operator(_, infix, _) => infix,
+        Word::Functor(_, infix) => infix,
+        Word::Sign(_, infix) => infix,
+        Word::Comma(_) => infix_of(b","),
+        _ => 0,
+    }
+}
+
+fn prefix_rank(word: Word) -> u16
+    ensures { result ≡ prefix_rank word }
+{
+    match word {
+        Word::Operator(_, _, prefix) => prefix,
+        _ => 0,
+    }
+}
+
+ghost use Rattle.ap_reader.specs.Step.{place, opens, Holds, Awaits, Shows, Follows, Finds, items_of, due, Takes};
+
+fn place(word: Word) -> usize
+    ensures { result ≡ place word }
+{
+    match word {
+        Word::Operand(at)
+        | Word::Sign(at, _)
+        | Word::Operator(at, _, _)
+        | Word::Functor(at, _)
+        | Word::Comma(at) => at,
+        _ => 0,
+    }
+}
+
+/// The integer below zero of that magnitude.
+fn negative(magnitude: u64) -> i64
+    requires { magnitude ≤ 2 ^ 63 }
+    ensures { result ≡ neg_ℤ (pos magnitude) }
+{
+    (-i128::from(magnitude)) as i64
+}
+
+/// The greatest priority that an operand may have behind what is open last.
+fn room(stack: &[Open]) -> u16
+    ensures { (s : List Frame) → stack.now ≡ opens s → result ≡ room s }
+{
+    match stack.last() {
+        None | Some(Open::Group) => 1200,
+        Some(Open::Prefix(word)) => right_max(prefix_rank(*word)),
+        Some(Open::Infix(word)) => right_max(infix_rank(*word)),
+        Some(_) => 999,
+    }
+}
+
+/// What an open operator of priority at most `most` gives when it takes its operand.
+fn due(top: Open, most: u16) -> Option<Step>
+    ensures { result ≡ due most top }
+{
+    match top {
+        Open::Prefix(word) if prefix_rank(word) <= most => Some(Step::Prefix(place(word))),
+        Open::Infix(word) if infix_rank(word) <= most => Some(Step::Infix(place(word))),
+        _ => None,
+    }
+}
+
+/// What is open, and the steps that were given.
+#[derive(Drop)]
+struct Pass {
+    stack: Vec<Open>,
+    out: Vec<Step>,
+}
+
+impl Pass {
+    /// Lets the operator that is open last take its operand, where its priority is at most `most`.
+    fn take_top(&mut self, most: u16) -> Result<bool, ParseErr>
+        ensures taken { Takes most self.old.stack.items self.old.out.items result self.new.stack.items self.new.out.items }
+        ensures shorter { result ≡ Ok true → vec_len self.new.stack + 1 ≡ vec_len self.old.stack }
+    {
+        let Some(top) = self.stack.pop() else {
+            return Ok(false);
+        };
+        match due(top, most) {
+            Some(step) => {
+                self.out.push(step)?;
+                Ok(true)
+            }
+            None => {
+                self.stack.push(top)?;
+                Ok(false)
+            }
+        }
+    }
+
+    /// Lets each open operator of priority at most `most` take its operand.
+    fn reduce(&mut self, most: u16) -> Result<(), ParseErr>
+        ensures done { OnOk result ((t : Tree) (s : List Frame) → Holds t s self.old.stack.items self.old.out.items → Shows (reduced most t s) Mode.Has self.new.stack.items self.new.out.items) }
+        ensures fault { OnErr result (result ≡ Err NoMemory) }
+    {
+        while self.take_top(most)? {}
+        Ok(())
+    }
+
+    /// The operator behind the term.
+    fn shift(&mut self, word: Word) -> Result<Mode, ParseErr>
+        ensures { (t : Tree) (s : List Frame) → Holds t s self.old.stack.items self.old.out.items → Follows (shifted word (Has t s)) result self.new.stack.items self.new.out.items }
+    {
+        let rank = infix_rank(word);
+        if 0 < rank && rank <= room(&self.stack) {
+            self.stack.push(Open::Infix(word))?;
+            Ok(Mode::Wants)
+        } else {
+            Err(ParseErr::NotATerm)
+        }
+    }
+
+    fn prefix(&mut self, word: Word) -> Result<Mode, ParseErr>
+        ensures { (s : List Frame) → Awaits s self.old.stack.items self.old.out.items → Follows (prefixed word s) result self.new.stack.items self.new.out.items }
+    {
+        let rank = prefix_rank(word);
+        if 0 < rank && rank <= room(&self.stack) {
+            self.stack.push(Open::Prefix(word))?;
+            Ok(Mode::Wants)
+        } else {
+            Err(ParseErr::NotATerm)
+        }
+    }
+
+    /// A closing parenthesis behind the term.
+    fn close(&mut self) -> Result<Mode, ParseErr>
+        ensures { (t : Tree) (s : List Frame) → Holds t s self.old.stack.items self.old.out.items → Follows (closed (Has t s)) result self.new.stack.items self.new.out.items }
+    {
+        match self.stack.pop() {
+            Some(Open::Group) => {
+                self.out.push(Step::Group)?;
+                Ok(Mode::Has)
+            }
+            Some(Open::Call(at)) => {
+                self.out.push(Step::Compound(at))?;
+                Ok(Mode::Has)
+            }
+            _ => Err(ParseErr::NotATerm),
+        }
+    }
+
+    fn close_list(&mut self) -> Result<Mode, ParseErr>
+        ensures { (t : Tree) (s : List Frame) → Holds t s self.old.stack.items self.old.out.items → Follows (list_closed (Has t s)) result self.new.stack.items self.new.out.items }
+    {
+        match self.stack.pop() {
+            Some(Open::List(_)) => {
+                self.out.push(Step::List)?;
+                Ok(Mode::Has)
+            }
+            Some(Open::Tail) => {
+                self.out.push(Step::Tailed)?;
+                Ok(Mode::Has)
+            }
+            _ => Err(ParseErr::NotATerm),
+        }
+    }
+
+    fn bar(&mut self) -> Result<Mode, ParseErr>
+        ensures { (t : Tree) (s : List Frame) → Holds t s self.old.stack.items self.old.out.items → Follows (barred (Has t s)) result self.new.stack.items self.new.out.items }
+    {
+        match self.stack.pop() {
+            Some(Open::List(_)) => {
+                self.stack.push(Open::Tail)?;
+                Ok(Mode::Wants)
+            }
+            _ => Err(ParseErr::NotATerm),
+        }
+    }
+
+    fn comma(&mut self, at: usize) -> Result<Mode, ParseErr>
+        ensures { (t : Tree) (s : List Frame) → Holds t s self.old.stack.items self.old.out.items → Follows (parted at (Has t s)) result self.new.stack.items self.new.out.items }
+    {
+        match self.stack.pop() {
+            Some(Open::Call(functor)) => {
+                self.stack.push(Open::Call(functor))?;
+                self.out.push(Step::Item)?;
+                Ok(Mode::Wants)
+            }
+            Some(Open::List(_)) => {
+                self.stack.push(Open::List(true))?;
+                self.out.push(Step::Item)?;
+                Ok(Mode::Wants)
+            }
+            Some(other) => {
+                self.stack.push(other)?;
+                self.shift(Word::Comma(at))
+            }
+            None => self.shift(Word::Comma(at)),
+        }
+    }
+
+    fn close_empty(&mut self) -> Result<Mode, ParseErr>
+        ensures { (s : List Frame) → Awaits s self.old.stack.items self.old.out.items → Follows (on_want s Word.CloseList) result self.new.stack.items self.new.out.items }
+    {
+        match self.stack.pop() {
+            Some(Open::List(false)) => {
+                self.out.push(Step::Empty)?;
+                Ok(Mode::Has)
+            }
+            _ => Err(ParseErr::NotATerm),
+        }
+    }
+
+    fn on_want(&mut self, word: Word) -> Result<Mode, ParseErr>
+        ensures { (s : List Frame) → Awaits s self.old.stack.items self.old.out.items → Follows (on_want s word) result self.new.stack.items self.new.out.items }
+    {
+        match word {
+            Word::Operand(at) => {
+                self.out.push(Step::Operand(at))?;
+                Ok(Mode::Has)
+            }
+            Word::Number(n) if n < 1 << 63 => {
+                self.out.push(Step::Integer(n as i64))?;
+                Ok(Mode::Has)
+            }
+            Word::Sign(_, _) => Ok(Mode::Signed),
+            Word::Operator(_, _, _) => self.prefix(word),
+            Word::Functor(at, _) => Ok(Mode::Called(at)),
+            Word::Open => {
+                self.stack.push(Open::Group)?;
+                Ok(Mode::Wants)
+            }
+            Word::OpenList => {
+                self.stack.push(Open::List(false))?;
+                self.out.push(Step::Begin)?;
+                Ok(Mode::Wants)
+            }
+            Word::CloseList => self.close_empty(),
+            Word::Number(_) | Word::Close | Word::Comma(_) | Word::Bar | Word::Other => Err(
+                ParseErr::NotATerm,
+            ),
+        }
+    }
+
+    fn on_has(&mut self, word: Word) -> Result<Mode, ParseErr>
+        ensures { (t : Tree) (s : List Frame) → Holds t s self.old.stack.items self.old.out.items → Follows (on_has t s word) result self.new.stack.items self.new.out.items }
+    {
+        match word {
+            Word::Operator(_, _, _) | Word::Functor(_, _) | Word::Sign(_, _) => {
+                self.reduce(left_max(infix_rank(word)))?;
+                self.shift(word)
+            }
+            Word::Comma(at) => {
+                self.reduce(999)?;
+                self.comma(at)
+            }
+            Word::Bar => {
+                self.reduce(999)?;
+                self.bar()
+            }
+            Word::Close => {
+                self.reduce(1200)?;
+                self.close()
+            }
+            Word::CloseList => {
+                self.reduce(999)?;
+                self.close_list()
+            }
+            Word::Operand(_) | Word::Number(_) | Word::Open | Word::OpenList | Word::Other => {
+                Err(ParseErr::NotATerm)
+            }
+        }
+    }
+
+    fn next(&mut self, mode: Mode, word: Word) -> Result<Mode, ParseErr>
+        ensures { (x : State) → Shows x mode self.old.stack.items self.old.out.items → Follows (next x word) result self.new.stack.items self.new.out.items }
+    {
+        match mode {
+            Mode::Wants => self.on_want(word),
+            Mode::Has => self.on_has(word),
+            Mode::Signed => match word {
+                Word::Number(n) if n <= 1 << 63 => {
+                    self.out.push(Step::Integer(negative(n)))?;
+                    Ok(Mode::Has)
+                }
+                _ => Err(ParseErr::NotATerm),
+            },
+            Mode::Called(at) => match word {
+                Word::Open => {
+                    self.stack.push(Open::Call(at))?;
+                    self.out.push(Step::Begin)?;
+                    Ok(Mode::Wants)
+                }
+                _ => Err(ParseErr::NotATerm),
+            },
+        }
+    }
+}
+
+/// The steps of the one term that the words spell.
+pub(crate) fn steps(alloc: Global, words: &[Word]) -> Result<Vec<Step>, ParseErr>
+    ensures { Finds words.now (items_of result) }
+{
+    let mut pass = Pass {
+        stack: Vec::new(alloc),
+        out: Vec::new(alloc),
+    };
+    let mut mode = Mode::Wants;
+    for word in words {
+        match pass.next(mode, *word) {
+            Ok(after) => mode = after,
+            Err(fault) => return Err(fault),
+        }
+    }
+    let Mode::Has = mode else {
+        return Err(ParseErr::NotATerm);
+    };
+    pass.reduce(1200)?;
+    if pass.stack.is_empty() {
+        Ok(pass.out)
+    } else {
+        Err(ParseErr::NotATerm)
+    }
+}

@@ -1,0 +1,163 @@
+//! Tokens as a term: its steps, then the term itself.
+
+ghost use Rattle.std.specs.Prelude.{◌≡◌, List, MatchOption, map};
+ghost use Rattle.ap_lexer.specs.Token.{Placed, view};
+ghost use Rattle.ap_reader.specs.Reading as spec;
+
+use crate::bracket::most_open;
+use crate::build::build;
+use crate::depth::{MAX_DEPTH, is_too_deep};
+use crate::error::ReadErr;
+use crate::leaf::{Leaf, LeafErr, leaves};
+use crate::pass::{ParseErr, Step, steps};
+use crate::word::words;
+use ap_lexer::{Token, TokenKind};
+use ap_term::{Atoms, InternErr, Name, NoMemory, Term};
+use std::alloc::Global;
+
+/// How many brackets may be open at once.
+pub const MAX_OPEN: usize = 1000;
+
+/// A term that isn't built yet: whether it can be is still to be judged.
+#[derive(Drop)]
+pub struct WrittenTerm<'a> {
+    /// What makes the term, each step after those of its operands.
+    pub steps: Vec<Step>,
+    /// What each token is as an operand or a functor, by the place that steps name.
+    pub leaves: Vec<Leaf<'a>>,
+    /// The names of the variables, by number from 1.
+    pub names: Vec<Name>,
+    /// The line of the first token, counted from 1.
+    pub line: u64,
+}
+
+/// A term and the names of its variables, by number from 1.
+#[derive(Drop)]
+pub struct ReadTerm {
+    pub term: Term,
+    pub names: Vec<Name>,
+}
+
+fn first_line(tokens: &[Token]) -> u64
+    ensures { result ≡ spec.first_line (map view tokens.now) }
+{
+    match tokens {
+        [token, ..] => token.line,
+        [] => 1,
+    }
+}
+
+/// The tokens before the end token that is the last.
+fn before_end<'t, 'a>(tokens: &'t [Token<'a>]) -> Option<&'t [Token<'a>]>
+    ensures { MatchOption result ((front : List Placed) → spec.EndsAs (map view tokens.now) front → ⊥) (λ front. spec.EndsAs (map view tokens.now) (map view front.now)) }
+{
+    match tokens.split_last() {
+        Some((last, front)) => match last.kind {
+            TokenKind::End => Some(front),
+            _ => None,
+        },
+        None => None,
+    }
+}
+
+/// The term that tokens spell, the last of which is an end token; it isn't built yet.
+///
+/// # Errors
+/// `TooDeep` where more than `MAX_OPEN` brackets are open at once; else `NotAClause` exactly where
+/// the tokens spell no term (ISO 13211-1, section 6.3); and `NoMemory`. Each has the first line.
+pub fn parse<'a>(alloc: Global, tokens: &[Token<'a>]) -> Result<WrittenTerm<'a>, ReadErr>
+    ensures { spec.Parsed (map view tokens.now) result }
+{
+    let line = first_line(tokens);
+    if most_open(tokens) > MAX_OPEN {
+        return Err(ReadErr::TooDeep { line });
+    }
+    let Some(front) = before_end(tokens) else {
+        return Err(ReadErr::NotAClause { line });
+    };
+    let Ok(words) = words(alloc, front) else {
+        return Err(ReadErr::NoMemory);
+    };
+    let steps = match steps(alloc, &words) {
+        Ok(steps) => steps,
+        Err(ParseErr::NotATerm) => return Err(ReadErr::NotAClause { line }),
+        Err(ParseErr::NoMemory) => return Err(ReadErr::NoMemory),
+    };
+    match leaves(alloc, front) {
+        Ok((leaves, names)) => Ok(WrittenTerm {
+            steps,
+            leaves,
+            names,
+            line,
+        }),
+        Err(LeafErr::NotText) => Err(ReadErr::NotAClause { line }),
+        Err(LeafErr::NoMemory) => Err(ReadErr::NoMemory),
+    }
+}
+
+impl<'a> WrittenTerm<'a> {
+    ghost use Rattle.std.specs.Prelude.{◌≡◌, nat_lt, map, IfOk, OnErr};
+    ghost use Rattle.ap_reader.specs.Grammar.{Tree};
+    ghost use Rattle.ap_reader.specs.Step.{postfix};
+    ghost use Rattle.ap_reader.specs.Written.{leaf_of, meaning};
+    ghost use Rattle.ap_reader.specs.Depth.{depth};
+    ghost use Rattle.ap_reader.specs.Reading as spec;
+
+    /// Whether the term is deeper than `MAX_DEPTH`. The tails of lists add no depth.
+    pub fn is_too_deep(&self, alloc: Global) -> Result<bool, NoMemory>
+        ensures { IfOk result (λ b. (t : Tree) → self.now.steps.items ≡ postfix t → b ≡ nat_lt MAX_DEPTH (depth (meaning (map leaf_of self.now.leaves.items) t))) }
+    {
+        is_too_deep(alloc, &self.leaves, &self.steps)
+    }
+
+    /// The term. Its names go into the table of atoms, those of arguments before that of their
+    /// functor; after an error the table is as it was.
+    ///
+    /// # Errors
+    /// `TooDeep` where it is deeper than `MAX_DEPTH`; else `TooManyAtoms` exactly where the table
+    /// has no room for its names; and `NoMemory`. Each has the first token's line.
+    pub fn into_term(self, alloc: Global, atoms: &mut Atoms) -> Result<ReadTerm, ReadErr>
+        ensures built { (t : Tree) → self.entry.steps.items ≡ postfix t → spec.BuiltAs (map leaf_of self.entry.leaves.items) t self.entry.line self.entry.names.items atoms.old atoms.new result }
+        ensures kept { OnErr result (atoms.new ≡ atoms.old) }
+    {
+        match self.is_too_deep(alloc) {
+            Ok(false) => {}
+            Ok(true) => return Err(ReadErr::TooDeep { line: self.line }),
+            Err(_) => return Err(ReadErr::NoMemory),
+        }
+        let mark = atoms.mark();
+        match build(alloc, &self.leaves, &self.steps, atoms) {
+            Ok(term) => {
+                let _room = atoms.mark();
+                Ok(ReadTerm {
+                    term,
+                    names: self.names,
+                })
+            }
+            Err(InternErr::Full) => {
+                atoms.cut_to(mark);
+                Err(ReadErr::TooManyAtoms { line: self.line })
+            }
+            Err(InternErr::NoMemory) => {
+                atoms.cut_to(mark);
+                Err(ReadErr::NoMemory)
+            }
+        }
+    }
+}
+
+/// The term that tokens spell, the last of which is an end token, with its names in the table of
+/// atoms; after an error the table is as it was.
+///
+/// # Errors
+/// In this order: `TooDeep` where more than `MAX_OPEN` brackets are open at once; `NotAClause`
+/// exactly where the tokens spell no term; `TooDeep` where it is deeper than `MAX_DEPTH`;
+/// `TooManyAtoms` where the table has no room for its names. `NoMemory` may come at any point.
+pub fn read_term(alloc: Global, tokens: &[Token], atoms: &mut Atoms) -> Result<ReadTerm, ReadErr>
+    ensures { spec.ReadAs (map view tokens.now) atoms.old atoms.new result }
+{
+    match parse(alloc, tokens) {
+        Ok(written) => written.into_term(alloc, atoms),
+        Err(e) => Err(e),
+    }
+}
