@@ -5,11 +5,12 @@ use Rattle.std.proofs.lemmas.Bool.{false≢true}
 use Rattle.ap_term.specs.Tree.{Tree, Trees, var, int, atom, node, none, more}
 use Rattle.ap_term.specs.Vars.{has, add_all_vars}
 use Rattle.ap_term.specs.Substitution.{instance, instance_all}
+use Rattle.ap_term.specs.Laws.{KeepsApart}
 use Rattle.ap_term.specs.Goals.{Part, call, group, Program}
 use Rattle.ap_term.specs.WellFormed.{IsProgram}
 use Rattle.ap_term.specs.UpToNames.{renumbered, SameUpToNames}
 use Rattle.ap_term.specs.Search.{State, Found, by_goals, answers_below, answers_to_depth, done, open_states, with_answers, turn, search, children}
-use Rattle.ap_term.proofs.Renamings.{KeepsApart, renumbered-renamed}
+use Rattle.ap_term.proofs.Renamings.{renumbered-renamed}
 use Rattle.ap_term.proofs.Solutions.{same_var}
 use Rattle.ap_laws.specs.Renaming.{Renamed, RenamedAll, RenamedPart, RenamedParts, RenamedCheck, Linked, SameState, SameTuple, Local, LocalAll, LocalPart, LocalCheck, IsBelow}
 use Rattle.ap_laws.specs.Laws.{SameFound, RenamingLaw}

@@ -11,7 +11,8 @@ use Rattle.ap_term.specs.Goals.{Part, call, group, Program, instance_part, calls
 use Rattle.ap_term.specs.Builtins.{builtin}
 use Rattle.ap_term.specs.WellFormed.{well_formed_part, numbered_check, IsClause, IsProgram}
 use Rattle.ap_term.specs.Search.{State, Way, way_if, clause_way, ways_by, ways, child, children_by, children, by_goals, answers_below, answers_to_depth, done, open_states, with_answers, turn, search}
-use Rattle.ap_term.proofs.SearchLaws.{HasGoals, AllSteps, children-steps, open-first}
+use Rattle.ap_term.specs.Laws.{HasGoals}
+use Rattle.ap_term.proofs.SearchLaws.{AllSteps, children-steps, open-first}
 use Rattle.ap_laws.specs.Plain.{Plain, state, append_trees, tuple_of, plain_goals, plain_of, as_state, AreGroups, HasFullGroups, plain_way, plain_ways, plain_child, plain_children_by, plain_children}
 use Rattle.ap_laws.specs.Trace.{Action, called, trace, trace_to, traces, answers_in, found_before, found_upto}
 use Rattle.ap_laws.proofs.Zips.{AllByRecursion-append}
