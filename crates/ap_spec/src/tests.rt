@@ -409,6 +409,13 @@ fn worked_programs_have_their_answers(rt: HostRuntime) -> Result<(), Fail> {
             true,
             &[][..],
         ),
+        // ?- X = -9223372036854775808.
+        (
+            &[V(1), I(i64::MIN), N("=", 2), Goal, A("q"), Rule(1)][..],
+            100,
+            true,
+            &[I(i64::MIN), N("t", 1)][..],
+        ),
         // ?- X is -7 // 2, Y is -7 mod 2, Z is -7 rem 2.
         (
             &[
