@@ -8,22 +8,16 @@ use Rattle.ap_reader.specs.declared.written.TheConstants.{MAX_OPEN}
 use Rattle.ap_reader.specs.declared.error.ReadErr.{ReadErr}
 use Rattle.ap_reader.specs.declared.error.ReadErr.TheVariants as err
 use Rattle.ap_reader.specs.Bracket.{most_open}
-use Rattle.ap_reader.specs.Grammar.{Tree, spelled, IsWhole}
+use Rattle.ap_reader.specs.Grammar.{Tree}
 use Rattle.ap_reader.specs.Step.{postfix}
 use Rattle.ap_reader.specs.Word.{words}
-use Rattle.ap_reader.specs.Written.{AreText, leaves, leaf_of, variables}
+use Rattle.ap_reader.specs.Written.{leaves, leaf_of, variables}
 use Rattle.ap_reader.specs.Reading.{first_line, EndsAs, Spells, term_of, Parsed, BuiltAs, ReadAs}
 use Rattle.ap_reader.proofs.Stack.{last_same}
 use Rattle.ap_reader.proofs.Complete.{one}
 
 one_front : (ts a b : List Placed) → EndsAs ts a → EndsAs ts b → a ≡ b
 one_front ts a b h k = (last_same a b h.0 k.0 (sym h.2 ∙ k.2)).0
-
-pub no_tree : (ts front : List Placed) → EndsAs ts front → ((t : Tree) → IsWhole t → spelled t ≡ words front → ⊥) → (front' : List Placed) (t : Tree) → Spells ts front' t → ⊥
-no_tree ts front h none front' t s = none t s.rules (s.spelling ∙ ap words (one_front ts front' front s.ends h))
-
-pub no_text : (ts front : List Placed) → EndsAs ts front → (AreText front → ⊥) → (front' : List Placed) (t : Tree) → Spells ts front' t → ⊥
-no_text ts front h none front' t s = none (subst AreText (one_front ts front' front s.ends h) s.text)
 
 -- what was parsed and then built is what is read
 pub read_built : (ts : List Placed) (old new : List Text) (w : WrittenTerm) (r : Result ReadTerm ReadErr) → Parsed ts (Ok w) → ((t : Tree) → w.steps.items ≡ postfix t → BuiltAs (map leaf_of w.leaves.items) t w.line w.names.items old new r) → ReadAs ts old new r

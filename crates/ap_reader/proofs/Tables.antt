@@ -1,11 +1,11 @@
 -- Tables of names that grow.
-use Rattle.std.proofs.Common.{◌≡◌, ℕ, zero, suc, ◌+◌, ◌<◌, ◌≤◌, Bool, true, false, ◌||◌, cond, List, [], ◌∷◌, ◌++◌, length, Some, slice_get, refl, sym, ap, subst, ◌∙◌, append_assoc, arith, length-append}
+use Rattle.std.proofs.Common.{◌≡◌, ℕ, zero, suc, ◌+◌, ◌≤◌, Bool, true, false, ◌||◌, cond, List, [], ◌∷◌, ◌++◌, length, Some, slice_get, refl, sym, ap, subst, ◌∙◌, append_assoc, arith, length-append}
 use Rattle.std.specs.Prelude.{bytes_eq}
 use Rattle.std.proofs.lemmas.List.{append-nil}
 use Rattle.std.proofs.lemmas.Bool.{false≢true}
 use Rattle.std.proofs.lemmas.Slice.Eq.{bytes_eq-Decides}
 use Rattle.ap_lexer.specs.Lexeme.{Text}
-use Rattle.ap_term.specs.AtomTable.{capacity, is_held, insert_name, insert_names, IsWithoutRepeats, IsAtomTable}
+use Rattle.ap_term.specs.AtomTable.{is_held, insert_name, insert_names, IsWithoutRepeats, IsAtomTable}
 use Rattle.ap_term.specs.declared.names.InternErr.{InternErr}
 use Rattle.ap_term.specs.declared.names.InternErr.TheVariants as err
 use Rattle.ap_reader.specs.Build.{place_of, Extends, FaultAt}
@@ -66,13 +66,6 @@ placed names a name h e more =
 
 pub length-extends : (a b : List Text) → Extends a b → length a ≤ length b
 length-extends a b h = omega (arith, ap length h.1, length-append a h.0)
-
--- a new name makes a table longer by one
-pub length-new : (names : List Text) (name : Text) → is_held names name ≡ false → length (insert_name names name) ≡ length names + 1
-length-new names name e = ap (λ b. length (cond b names (names ++ name ∷ []))) e ∙ length-append names (name ∷ [])
-
-pub full-table : (names : List Text) (name : Text) → is_held names name ≡ false → length names ≡ capacity → capacity < length (insert_names names (name ∷ []))
-full-table names name e h = omega (arith, length-new names name e)
 
 -- a fault at some of the names is one at all of them
 pub fault-at : (e : InternErr) (added more all first old new : List Text) → Extends first old → insert_names old (added ++ more) ≡ insert_names first all → FaultAt added old new e → FaultAt all first new e
