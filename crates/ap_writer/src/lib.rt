@@ -10,7 +10,7 @@ mod numbers;
 mod quoted;
 mod text;
 
-pub use laws::same_up_to_names_print_alike;
+pub use laws::{printed_alike_are_the_same, same_up_to_names_print_alike};
 pub use line::answer_line;
 pub use text::term_text;
 
