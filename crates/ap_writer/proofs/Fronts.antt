@@ -1,18 +1,17 @@
 -- The first mark of a text: what marks spell tells which marks they are.
-use Rattle.std.proofs.Common.{◌≡◌, ℕ, ℤ, pos, negsuc, zero, suc, ◌+◌, ◌-◌, ◌*◌, ◌/◌, ◌%◌, ◌<◌, ◌≤◌, ◌^◌, ◌==◌, ◌&&◌, ◌||◌, not, cond, nat_le, nat_lt, Bool, true, false, if◌then◌else◌, List, [], ◌∷◌, ◌++◌, codes, flat_map, length, length-append, bytes_eq, refl, ap, sym, subst, ◌∙◌, append_assoc, append-nil, arith}
-use Rattle.std.specs.Char.{is_ascii_digit, is_ascii_lowercase, is_ascii_alphanumeric}
+use Rattle.std.proofs.Common.{◌≡◌, ℕ, ℤ, pos, negsuc, zero, suc, ◌+◌, ◌%◌, ◌<◌, ◌^◌, ◌==◌, ◌&&◌, ◌||◌, not, nat_lt, Bool, true, false, if◌then◌else◌, List, [], ◌∷◌, ◌++◌, codes, flat_map, bytes_eq, refl, ap, sym, subst, ◌∙◌, append_assoc, arith}
+use Rattle.std.specs.Char.{is_ascii_digit, is_ascii_lowercase}
 use Rattle.std.specs.List.{list_all}
 use Rattle.std.specs.Fmt.{decimal, signed_decimal}
 use Rattle.std.specs.Str.Parse.{digits_value}
 use Rattle.std.proofs.lemmas.Bool.{false≢true}
 use Rattle.std.proofs.lemmas.Bool.Decides.{nat_tests, Decides-eqb}
 use Rattle.std.proofs.lemmas.Fmt.{decimal_is_IsNumeral, decimal_by_steps}
-use Rattle.std.proofs.lemmas.Grind.{common_steps}
 use Rattle.std.proofs.lemmas.List.{append_cancel_left}
 use Rattle.std.proofs.lemmas.List.Folds.{list_all-append}
 use Rattle.std.proofs.lemmas.Slice.Eq.{bytes_eq-Decides}
 use Rattle.ap_term.specs.Arithmetic.{fits}
-use Rattle.ap_writer.specs.Quoted.{is_word, is_symbol, is_name, is_symbols, begins_comment, is_bare, escaped, name_text}
+use Rattle.ap_writer.specs.Quoted.{is_word, is_symbol, is_name, is_symbols, is_bare, escaped, name_text}
 use Rattle.ap_writer.proofs.Marks.{Mark, Variable, Integer, Name, Call, OpenList, CloseList, Comma, Bar, Close, spelling, spelled}
 
 both : (a b : Bool) → (a && b) ≡ true → (a ≡ true) × (b ≡ true)
@@ -148,7 +147,7 @@ symbols-front (b ∷ bs) rest h p =
     let digit : begins_digit (bs ++ rest) ≡ false = no_digit bs rest every.1 p in
     record {
       read = rw (quote, first) (ap (longer b) (run-is is_symbol bs rest every.1 (parts-symbol rest p)));
-      begins = rw (quote, first, digit) (ap (λ t. t || (is_ascii_lowercase b || ((b == 91 && begins 93 (bs ++ rest)) || (b == 59 || b == 33)))) (minus_false (b == 45)))
+      begins = rw (quote, first, digit) (ap (λ t. t || (is_ascii_lowercase b || ((b == 91 && begins 93 (bs ++ rest)) || (b == 59 || b == 33)))) (minus_false (b == 45)));
     }
 
 words-front : (name rest : List ℕ) → is_name name ≡ true → parts rest ≡ true → IsFront name rest (name ++ rest)
@@ -160,7 +159,7 @@ words-front (b ∷ bs) rest h p =
     let symbol : is_symbol b ≡ false = (lower_symbol b lower).1 in
     record {
       read = rw (quote, symbol, lower) (ap (longer b) (run-is is_word bs rest w.1 (parts-word rest p)));
-      begins = rw (quote, symbol, lower) refl
+      begins = rw (quote, symbol, lower) refl;
     }
 
 spelled-front : (name word rest : List ℕ) → bytes_eq name word ≡ true → IsFront word rest (word ++ rest) → IsFront name rest (name ++ rest)
@@ -185,7 +184,7 @@ name-front name rest p = go (is_bare name) refl
     go true e = bare-front name rest e p
     go false e = record {
       read = ap (unquoted false) (append_assoc (flat_map escaped name) (39 ∷ []) rest) ∙ unquoted-is name rest;
-      begins = refl
+      begins = refl;
     }
 
 -- ---- numbers

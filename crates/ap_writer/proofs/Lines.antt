@@ -1,5 +1,5 @@
 -- What lines and texts with numbered variables tell.
-use Rattle.std.proofs.Common.{◌≡◌, ℕ, suc, ◌+◌, ◌<◌, ◌≤◌, ◌^◌, Bool, true, false, nat_eq, if◌then◌else◌, List, [], ◌∷◌, ◌++◌, codes, length, refl, ap, sym, subst, ◌∙◌, append_assoc, arith}
+use Rattle.std.proofs.Common.{◌≡◌, ℕ, ◌+◌, ◌<◌, ◌≤◌, ◌^◌, Bool, true, false, nat_eq, if◌then◌else◌, List, [], ◌∷◌, ◌++◌, codes, length, refl, ap, sym, ◌∙◌, append_assoc, arith}
 use Rattle.std.proofs.lemmas.List.{append_cancel_left}
 use Rattle.ap_term.specs.Tree.{Tree, Trees, var, int, atom, node, none, more, count_trees}
 use Rattle.ap_term.specs.Vars.{vars, add_all_vars}
@@ -57,7 +57,7 @@ same-equation : (atoms names : List (List ℕ)) (name : List ℕ) (t u : Tree) (
     → equation atoms name t ++ behind_first atoms names ts ≡ equation atoms name u ++ behind_first atoms names us → (t ≡ u) × (behind_first atoms names ts ≡ behind_first atoms names us)
 same-equation atoms names name t u ts us d h k e =
     let f : name ++ (codes " = " ++ (text atoms t ++ behind_first atoms names ts)) ≡ name ++ (codes " = " ++ (text atoms u ++ behind_first atoms names us)) =
-      sym (equation-split atoms name t (behind_first atoms names ts)) ∙ e ∙ equation-split atoms name u (behind_first atoms names us) in
+    sym (equation-split atoms name t (behind_first atoms names ts)) ∙ e ∙ equation-split atoms name u (behind_first atoms names us) in
     let g = append_cancel_left name (codes " = " ++ (text atoms t ++ behind_first atoms names ts)) (codes " = " ++ (text atoms u ++ behind_first atoms names us)) f in
     same_text atoms t u (behind_first atoms names ts) (behind_first atoms names us) d h k (behind-first atoms names ts) (behind-first atoms names us)
     (append_cancel_left (codes " = ") (text atoms t ++ behind_first atoms names ts) (text atoms u ++ behind_first atoms names us) g)
@@ -77,7 +77,7 @@ same-behind atoms (name ∷ names) none us d h k p q e = absurd (omega arith)
 same-behind atoms (name ∷ names) (more t ts) none d h k p q e = absurd (omega arith)
 same-behind atoms (name ∷ names) (more t ts) (more u us) d h k p q e =
     let f = same-equation atoms names name t u ts us d h.0 k.0
-      (append_cancel_left (codes ", ") (equation atoms name t ++ behind_first atoms names ts) (equation atoms name u ++ behind_first atoms names us) e) in
+    (append_cancel_left (codes ", ") (equation atoms name t ++ behind_first atoms names ts) (equation atoms name u ++ behind_first atoms names us) e) in
     ap (λ s. more s ts) f.0 ∙ ap (more u) (same-behind atoms names ts us d h.1 k.1 (omega arith) (omega arith) f.1)
 
 same-equations : (atoms names : List (List ℕ)) (ts us : Trees) → IsWithoutRepeats atoms → AreWritable atoms ts → AreWritable atoms us → count_trees ts ≡ length names → count_trees us ≡ length names
@@ -110,9 +110,10 @@ printed-count (name ∷ names) (more t ts) h = go (is_hidden name) (printed-coun
 shown-tuple : (atoms names : List (List ℕ)) (ts : Trees) → IsWritableTuple atoms names ts
     → AreWritable atoms (renumbered (printed names ts)) × (count_trees (renumbered (printed names ts)) ≡ length (printed_names names))
 shown-tuple atoms names ts h =
-    let found : List ℕ = add_all_vars (printed names ts) [] in
-    (writable-instance_all atoms (λ x. var (place found x)) (printed names ts) (λ x. numbers-below found x h.few) h.writable,
-    count-instance (λ x. var (place found x)) (printed names ts) ∙ printed-count names ts h.as_long)
+    let found : List ℕ = add_all_vars (printed names ts) [] in (
+      writable-instance_all atoms (λ x. var (place found x)) (printed names ts) (λ x. numbers-below found x h.few) h.writable,
+      count-instance (λ x. var (place found x)) (printed names ts) ∙ printed-count names ts h.as_long,
+    )
 
 pub same_line : (atoms names : List (List ℕ)) (ts us : Trees) → IsWithoutRepeats atoms → IsWritableTuple atoms names ts → IsWritableTuple atoms names us
     → answer_line atoms names ts ≡ answer_line atoms names us → SameUpToNames (printed names ts) (printed names us)

@@ -1,10 +1,10 @@
 -- A term's marks stand in an order in which they can be told apart.
-use Rattle.std.proofs.Common.{◌≡◌, ℕ, ℤ, Bool, true, false, if◌then◌else◌, List, [], ◌∷◌, ◌++◌, codes, bytes_eq, refl, ap, sym, subst, ◌∙◌, append_assoc, append-nil}
+use Rattle.std.proofs.Common.{◌≡◌, ℕ, Bool, true, false, if◌then◌else◌, List, [], ◌∷◌, ◌++◌, codes, bytes_eq, refl, ap, sym, subst, ◌∙◌, append_assoc, append-nil}
 use Rattle.ap_term.specs.Tree.{Tree, Trees, var, int, atom, node, none, more}
 use Rattle.ap_writer.specs.Text.{text, name_at}
 use Rattle.ap_writer.specs.Writable.{IsWritable, AreWritable}
 use Rattle.ap_term.specs.AtomTable.{IsWithoutRepeats}
-use Rattle.ap_writer.proofs.Marks.{Mark, Variable, Integer, Name, Call, OpenList, CloseList, Comma, Bar, Close, spelled, Marked, alone, later_marks, argument_marks, compound_marks, cell_marks, node_marks, atom_marks, marked, all_marked, spells}
+use Rattle.ap_writer.proofs.Marks.{Mark, Variable, Integer, Name, Call, CloseList, Marked, alone, later_marks, argument_marks, compound_marks, cell_marks, node_marks, atom_marks, marked, all_marked, spells}
 use Rattle.ap_writer.proofs.Unmarked.{same_marks}
 use Rattle.ap_writer.proofs.Fronts.{Parted, ends_marks, begins_element, is_behind, unique}
 
@@ -19,7 +19,7 @@ parted-alone ms h f = record {
   own = h;
   first = f;
   tail = λ rest p e. (tt, subst Parted (sym (append_assoc ms (CloseList ∷ []) rest)) (h (CloseList ∷ rest) (tt, p) refl));
-  ends = λ rest. refl
+  ends = λ rest. refl;
 }
 
 abbrev AllParted : List Marked → Type 0
@@ -46,12 +46,12 @@ parted-compound name ms h = parted-alone (Call name ∷ argument_marks ms) (λ r
 parted-cell : (m n : Marked) → IsParted m → IsParted n → IsParted (cell_marks m n)
 parted-cell m n h k =
     let both : (rest : List Mark) → Parted rest → ends_marks rest ≡ true → Parted ((m.own ++ n.tail) ++ rest) =
-      (λ rest p e. subst Parted (sym (append_assoc m.own n.tail rest)) (h.own (n.tail ++ rest) (k.tail rest p e) (k.ends rest))) in
+    (λ rest p e. subst Parted (sym (append_assoc m.own n.tail rest)) (h.own (n.tail ++ rest) (k.tail rest p e) (k.ends rest))) in
     record {
       own = λ rest p e. (ap begins_element (append_assoc m.own n.tail rest) ∙ h.first (n.tail ++ rest), both rest p e);
       first = λ rest. refl;
       tail = λ rest p e. (tt, both rest p e);
-      ends = λ rest. refl
+      ends = λ rest. refl;
     }
 
 parted-node : (name : List ℕ) (ms : List Marked) → AllParted ms → IsParted (node_marks name ms)
@@ -90,5 +90,5 @@ pub same_text : (names : List (List ℕ)) (t u : Tree) (r s : List ℕ) → IsWi
     → text names t ++ r ≡ text names u ++ s → (t ≡ u) × (r ≡ s)
 same_text names t u r s d h k p q e =
     let f = unique (marked names t).own (marked names u).own r s (parted-own names t h) (parted-own names u k) p q
-      (ap (λ l. l ++ r) (sym (spells names t).own) ∙ e ∙ ap (λ l. l ++ s) (spells names u).own) in
+    (ap (λ l. l ++ r) (sym (spells names t).own) ∙ e ∙ ap (λ l. l ++ s) (spells names u).own) in
     (same_marks names d t u h k f.0, f.1)

@@ -1,6 +1,5 @@
 -- The term that marks stand for: they are taken in one by one, with a stack of what has begun.
-use Rattle.std.proofs.Common.{◌≡◌, ℕ, ℤ, zero, suc, ◌+◌, ◌<◌, ◌&&◌, ◌||◌, not, cond, Bool, true, false, if◌then◌else◌, List, [], ◌∷◌, ◌++◌, codes, length, bytes_eq, Option, Some, None, refl, ap, sym, subst, ◌∙◌, append_assoc, arith}
-use Rattle.std.specs.List.{position_or_len}
+use Rattle.std.proofs.Common.{◌≡◌, ℕ, zero, suc, ◌+◌, ◌<◌, ◌||◌, Bool, true, false, if◌then◌else◌, List, [], ◌∷◌, ◌++◌, codes, length, bytes_eq, refl, ap, sym, subst, ◌∙◌, arith}
 use Rattle.std.proofs.lemmas.Bool.{false≢true}
 use Rattle.std.proofs.lemmas.Slice.Eq.{bytes_eq-Decides}
 use Rattle.ap_term.specs.AtomTable.{is_held, IsWithoutRepeats}
@@ -104,7 +103,7 @@ module _ (names : List (List ℕ)) where
   reads-alone : (t : Tree) (ms : List Mark) → ((s : List Frame) → after (Wants s) ms ≡ Has t s) → Reads t (alone ms)
   reads-alone t ms h = record {
     own = h;
-    tail = λ u ts s. after-append (Wants (Behind (push_tree ts u) ∷ s)) ms (CloseList ∷ []) ∙ ap (λ r. after r (CloseList ∷ [])) (h (Behind (push_tree ts u) ∷ s))
+    tail = λ u ts s. after-append (Wants (Behind (push_tree ts u) ∷ s)) ms (CloseList ∷ []) ∙ ap (λ r. after r (CloseList ∷ [])) (h (Behind (push_tree ts u) ∷ s));
   }
 
   abbrev ReadAll : Trees → List Marked → Type 0
@@ -156,7 +155,7 @@ module _ (names : List (List ℕ)) where
         after-append (Wants (Elements (push_tree ts v) ∷ s)) m.own n.tail
         ∙ ap (λ r. after r n.tail) (h.own (Elements (push_tree ts v) ∷ s))
         ∙ k.tail t (push_tree ts v) s
-        ∙ ap (λ w. Has w s) (listed-push dot (push_tree ts v) t u)
+        ∙ ap (λ w. Has w s) (listed-push dot (push_tree ts v) t u);
   }
 
   reads-node : (name : List ℕ) (us : Trees) (ms : List Marked) → ReadAll us ms → Reads (node (place_of names name) us) (node_marks name ms)

@@ -7,5 +7,5 @@ pub returns : goal.returns
 returns c = record {
   terms = λ atoms t u d h k e. (same_text atoms t u [] [] d h k refl refl (ap (λ l. l ++ []) e)).0;
   texts = same_term;
-  lines = same_line
+  lines = same_line;
 }
