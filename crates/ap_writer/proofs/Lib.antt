@@ -2,3 +2,8 @@ pub mod Numbering
 pub mod Left
 pub mod Turns
 pub mod Renamed
+pub mod Marks
+pub mod Unmarked
+pub mod Fronts
+pub mod Parted
+pub mod Lines

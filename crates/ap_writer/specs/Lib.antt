@@ -3,3 +3,4 @@ pub mod Text
 pub mod Line
 pub mod Work
 pub mod SoFar
+pub mod Writable

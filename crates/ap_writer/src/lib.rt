@@ -10,9 +10,11 @@ mod numbers;
 mod quoted;
 mod text;
 
-pub use laws::same_up_to_names_print_alike;
+pub use laws::{printed_alike_are_the_same, same_up_to_names_print_alike};
 pub use line::answer_line;
-pub use text::term_text;
+pub use numbers::Numbers;
+pub use quoted::is_symbols;
+pub use text::{name_of, term_text, write_term};
 
 #[cfg(test)]
 mod tests;

@@ -31,8 +31,8 @@ fn write_equation(
     name: &Name,
     t: &Term,
 ) -> Result<(), NoMemory>
-    ensures text { OnOk result ((found : List ℕ) → IsPrefix numbers.new.found.keys found → out.new.items ≡ out.old.items ++ equation atoms.now name.now (instance (numbered_by found) (tree_of t.now))) }
-    ensures variables { OnOk result (numbers.new.found.keys ≡ add_vars (tree_of t.now) numbers.old.found.keys) }
+    ensures text { OnOk result ((found : List ℕ) → IsPrefix numbers.new found → out.new.items ≡ out.old.items ++ equation atoms.now name.now (instance (numbered_by found) (tree_of t.now))) }
+    ensures variables { OnOk result (numbers.new ≡ add_vars (tree_of t.now) numbers.old) }
 {
     out.extend_from_slice(name.as_str().as_bytes())?;
     out.extend_from_slice(b" = ")?;

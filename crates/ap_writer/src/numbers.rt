@@ -8,16 +8,25 @@ ghost use Rattle.ap_term.specs.UpToNames.{place};
 use ap_term::NoMemory;
 use indexmap::IndexSet;
 use std::alloc::Global;
+use std::marker::Model;
 
-/// The variables that were written, in the order of their first occurrences.
+/// The variables that were written, in the order of their first occurrences. Clauses see their list.
 #[derive(Drop)]
 pub struct Numbers {
     found: IndexSet<u64>,
 }
 
+impl Model for Numbers {
+    ghost use Rattle.std.specs.Prelude.{List, ℕ};
+
+    ghost Value = { List ℕ };
+
+    ghost view = { λ a. a.found.keys };
+}
+
 impl Numbers {
     pub fn new(alloc: Global) -> Numbers
-        ensures { result.found.keys ≡ [] }
+        ensures { result ≡ [] }
     {
         Numbers {
             found: IndexSet::new(alloc),
@@ -27,8 +36,8 @@ impl Numbers {
     #[tactic(auto, using(crate::proofs::Numbering::numbers))]
     /// The variable's number from 1; a new variable gets the next one.
     pub fn number(&mut self, x: u64) -> Result<usize, NoMemory>
-        ensures found { OnOk result (self.new.found.keys ≡ add_vars (var x) self.old.found.keys) }
-        ensures number { IfOk result (λ n. n ≡ place self.new.found.keys x) }
+        ensures found { OnOk result (self.new ≡ add_vars (var x) self.old) }
+        ensures number { IfOk result (λ n. n ≡ place self.new x) }
     {
         let (i, _) = self.found.insert_full(x)?;
         // The length is far below the greatest `usize`, so the number fits.

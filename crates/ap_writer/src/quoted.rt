@@ -74,7 +74,8 @@ fn begins_comment(name: &[u8]) -> bool
     }
 }
 
-fn is_symbols(name: &[u8]) -> bool
+/// Whether a name is a run of symbol characters that needs no quotes.
+pub fn is_symbols(name: &[u8]) -> bool
     ensures { result ≡ is_symbols name.now }
 {
     match name {

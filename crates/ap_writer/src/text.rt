@@ -27,7 +27,7 @@ enum Work<'a> {
 }
 
 /// An atom's name; the empty one where the table doesn't hold the atom.
-fn name_of(atoms: &Atoms, atom: Atom) -> &[u8]
+pub fn name_of(atoms: &Atoms, atom: Atom) -> &[u8]
     ensures { result.now ≡ name_at atoms.now atom }
 {
     match atoms.get(atom) {
@@ -37,8 +37,8 @@ fn name_of(atoms: &Atoms, atom: Atom) -> &[u8]
 }
 
 fn push_variable(out: &mut Vec<u8>, numbers: &mut Numbers, x: u64) -> Result<(), NoMemory>
-    ensures variables { OnOk result (numbers.new.found.keys ≡ add_vars (var x) numbers.old.found.keys) }
-    ensures text { OnOk result ((found : List ℕ) → IsPrefix numbers.new.found.keys found → out.new.items ≡ out.old.items ++ (codes "_" ++ decimal (place found x))) }
+    ensures variables { OnOk result (numbers.new ≡ add_vars (var x) numbers.old) }
+    ensures text { OnOk result ((found : List ℕ) → IsPrefix numbers.new found → out.new.items ≡ out.old.items ++ (codes "_" ++ decimal (place found x))) }
 {
     let n = numbers.number(x)?;
     let mut buffer = itoa::Buffer::new();
@@ -102,8 +102,8 @@ fn write_plain<'a>(
     t: &'a Term,
 ) -> Result<(), NoMemory>
     requires { is_cell atoms.now (tree_of t.now) ≡ false }
-    ensures text { OnOk result ((found : List ℕ) → IsPrefix numbers.new.found.keys found → out.new.items ++ left atoms.now found stack.new.items ≡ out.old.items ++ (text_by atoms.now found (tree_of t.now) ++ left atoms.now found stack.old.items)) }
-    ensures variables { OnOk result (vars_left stack.new.items numbers.new.found.keys ≡ vars_left stack.old.items (add_vars (tree_of t.now) numbers.old.found.keys)) }
+    ensures text { OnOk result ((found : List ℕ) → IsPrefix numbers.new found → out.new.items ++ left atoms.now found stack.new.items ≡ out.old.items ++ (text_by atoms.now found (tree_of t.now) ++ left atoms.now found stack.old.items)) }
+    ensures variables { OnOk result (vars_left stack.new.items numbers.new ≡ vars_left stack.old.items (add_vars (tree_of t.now) numbers.old)) }
     ensures shorter { OnOk result (weight stack.new.items < 2 * size (tree_of t.now) + 1 + weight stack.old.items) }
 {
     match t {
@@ -151,8 +151,8 @@ fn write_one<'a>(
     atoms: &Atoms,
     work: Work<'a>,
 ) -> Result<(), NoMemory>
-    ensures text { OnOk result ((found : List ℕ) → IsPrefix numbers.new.found.keys found → out.new.items ++ left atoms.now found stack.new.items ≡ out.old.items ++ (left_of atoms.now found work.entry ++ left atoms.now found stack.old.items)) }
-    ensures variables { OnOk result (vars_left stack.new.items numbers.new.found.keys ≡ vars_left stack.old.items (vars_of work.entry numbers.old.found.keys)) }
+    ensures text { OnOk result ((found : List ℕ) → IsPrefix numbers.new found → out.new.items ++ left atoms.now found stack.new.items ≡ out.old.items ++ (left_of atoms.now found work.entry ++ left atoms.now found stack.old.items)) }
+    ensures variables { OnOk result (vars_left stack.new.items numbers.new ≡ vars_left stack.old.items (vars_of work.entry numbers.old)) }
     ensures shorter { OnOk result (weight stack.new.items < weight_of work.entry + weight stack.old.items) }
 {
     match work {
@@ -189,8 +189,8 @@ pub fn write_term(
     atoms: &Atoms,
     t: &Term,
 ) -> Result<(), NoMemory>
-    ensures text { OnOk result ((found : List ℕ) → IsPrefix numbers.new.found.keys found → out.new.items ≡ out.old.items ++ text_by atoms.now found (tree_of t.now)) }
-    ensures variables { OnOk result (numbers.new.found.keys ≡ add_vars (tree_of t.now) numbers.old.found.keys) }
+    ensures text { OnOk result ((found : List ℕ) → IsPrefix numbers.new found → out.new.items ≡ out.old.items ++ text_by atoms.now found (tree_of t.now)) }
+    ensures variables { OnOk result (numbers.new ≡ add_vars (tree_of t.now) numbers.old) }
 {
     let mut stack = Vec::new(alloc);
     stack.push(Work::Own(t))?;

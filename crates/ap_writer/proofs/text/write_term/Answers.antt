@@ -11,14 +11,14 @@ loop-work-smaller c = omega (arith, ap weight c.in-Some.ensures.items, weight-pu
 pub loop-work-preserved : goal.loop-work-preserved
 loop-work-preserved c =
     let rest = c.pop.new.self.items in
-    let all = add_vars (tree_of c.args.t.now) c.args.numbers.now.found.keys in
+    let all = add_vars (tree_of c.args.t.now) c.args.numbers.now in
     let variables =
     c.in_ok-write_one.ensures.variables
-    ∙ sym (ap (λ xs. vars_left xs c.loop-work.numbers.found.keys) c.in-Some.ensures.items ∙ vars_left-push rest c.in-Some.work c.loop-work.numbers.found.keys)
+    ∙ sym (ap (λ xs. vars_left xs c.loop-work.numbers) c.in-Some.ensures.items ∙ vars_left-push rest c.in-Some.work c.loop-work.numbers)
     ∙ c.loop-work.invariant.variables in
     record {
       text = λ found p.
-          c.in_ok-write_one.ensures.text found (vars_left-later c.write_one.new.stack.items c.write_one.new.numbers.found.keys all found variables p)
+          c.in_ok-write_one.ensures.text found (vars_left-later c.write_one.new.stack.items c.write_one.new.numbers all found variables p)
           ∙ ap (λ l. c.loop-work.out.items ++ l) (sym (ap (left c.args.atoms.now found) c.in-Some.ensures.items ∙ left-push c.args.atoms.now found rest c.in-Some.work))
           ∙ c.loop-work.invariant.text found p;
       variables = variables;
