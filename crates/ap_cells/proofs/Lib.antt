@@ -1,0 +1,5 @@
+pub mod Stands
+pub mod Rounds
+pub mod Stores
+pub mod Walks
+pub mod Built
