@@ -3,3 +3,4 @@ pub mod Rounds
 pub mod Stores
 pub mod Walks
 pub mod Built
+pub mod Leaves

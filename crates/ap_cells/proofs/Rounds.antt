@@ -63,7 +63,7 @@ or_split true b h = inl refl
 or_split false b h = inr h
 
 -- where a variable of an instance comes from
-abbrev From : (ℕ → Tree) → ℕ → (ℕ → Bool) → Type 0
+abbrev pub From : (ℕ → Tree) → ℕ → (ℕ → Bool) → Type 0
 From f j p = (y : ℕ) × (p y ≡ true) × (occurs j (f y) ≡ true)
 
 nat_eq-self : (x : ℕ) → occurs x (var x) ≡ true
@@ -74,13 +74,13 @@ or_true true = refl
 or_true false = refl
 
 mutual
-  occurs-instance : (f : ℕ → Tree) (j : ℕ) (t : Tree) → occurs j (instance f t) ≡ true → From f j (λ y. occurs y t)
+  pub occurs-instance : (f : ℕ → Tree) (j : ℕ) (t : Tree) → occurs j (instance f t) ≡ true → From f j (λ y. occurs y t)
   occurs-instance f j (var x) h = (x, nat_eq-self x, h)
   occurs-instance f j (int z) h = cc
   occurs-instance f j (atom a) h = cc
   occurs-instance f j (node a ts) h = occurs_all-instance f j ts h
 
-  occurs_all-instance : (f : ℕ → Tree) (j : ℕ) (ts : Trees) → occurs_all j (instance_all f ts) ≡ true → From f j (λ y. occurs_all y ts)
+  pub occurs_all-instance : (f : ℕ → Tree) (j : ℕ) (ts : Trees) → occurs_all j (instance_all f ts) ≡ true → From f j (λ y. occurs_all y ts)
   occurs_all-instance f j none h = cc
   occurs_all-instance f j (more t ts) h = elim (or_split (occurs j (instance f t)) (occurs_all j (instance_all f ts)) h) [
     | inl p ↦ let q = occurs-instance f j t p in (q.0, rw q.1 refl, q.2)
