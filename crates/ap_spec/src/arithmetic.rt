@@ -41,8 +41,8 @@ fn modulo(x: i64, y: i64) -> Option<i64>
     Some(rest + y)
 }
 
-/// None where 64 bits don't hold the value, and for a zero divisor.
-fn applied(operation: Operation, x: i64, y: i64) -> Option<i64>
+/// The value of two values under an operation; None where 64 bits don't hold it, and for a zero divisor.
+pub fn applied(operation: Operation, x: i64, y: i64) -> Option<i64>
     ensures { result ≡ applied operation x y }
 {
     match operation {
@@ -78,7 +78,8 @@ pub fn eval(t: &Term) -> Option<i64>
     }
 }
 
-fn compares(op: Op, x: i64, y: i64) -> bool
+/// Whether two values compare so.
+pub fn compares(op: Op, x: i64, y: i64) -> bool
     ensures { result ≡ compares op x y }
 {
     match op {

@@ -12,7 +12,7 @@ mod substitutions;
 mod tuples;
 mod unification;
 
-pub use arithmetic::eval;
+pub use arithmetic::{applied, compares, eval};
 pub use builtins::{Called, builtin};
 pub use identity::identical;
 pub use searches::{Found, answers_to_depth, search};

@@ -1,0 +1,32 @@
+use Rattle.std.proofs.Common.{◌≡◌, [], ◌∷◌, ◌++◌, length, sym, ap, ◌∙◌, subst, arith}
+use Rattle.std.proofs.lemmas.List.{length_push}
+use Rattle.ap_cells.specs.Trees.{trees, Within}
+use Rattle.ap_cells.specs.Raws.{raw_of}
+use Rattle.ap_cells.specs.Store.{Store, IsStore}
+use Rattle.ap_cells.proofs.Stores.{IsStore-push, trees-push, Keeps-push}
+use Rattle.ap_cells.proofs.cells.Cells.push.Goals as goal
+
+pub invariant_of-self : goal.invariant_of-self
+invariant_of-self c =
+    let w = subst (λ (v : Store). Within (length v.cells) (length v.cells) (raw_of c.args.cell)) (sym c.self.view_is) c.requires.within in
+    let s = ap (λ (v : Store). v.spare) c.self.view_is in
+    let l = length_push c.self.inside.cells.items c.packed.result in
+    record {
+      store = rw (c.push_reserved.ensures.items, c.packed.ensures) (IsStore-push c.self.inside.cells.items c.self.inside.trail.items (raw_of c.args.cell) c.self.invariant.store w);
+      used = rw c.push_reserved.ensures.items (omega (arith, l, s));
+      room = omega arith;
+      trail_room = omega arith;
+      few = omega arith;
+    }
+
+pub returns-clause-trees : goal.returns-clause-trees
+returns-clause-trees c =
+    let t : IsStore c.args.self.now.cells c.args.self.now.trail = subst (λ (v : Store). IsStore v.cells v.trail) c.self.view_is c.self.invariant.store in
+    let e : c.push_reserved.new.self.items ≡ c.args.self.now.cells ++ raw_of c.args.cell ∷ [] = cc (ap (λ (v : Store). v.cells) c.self.view_is, c.push_reserved.ensures.items, c.packed.ensures) in
+    ap trees e ∙ trees-push c.args.self.now.cells c.args.self.now.trail (raw_of c.args.cell) t c.requires.within
+
+pub returns-clause-keeps : goal.returns-clause-keeps
+returns-clause-keeps c =
+    let t : IsStore c.args.self.now.cells c.args.self.now.trail = subst (λ (v : Store). IsStore v.cells v.trail) c.self.view_is c.self.invariant.store in
+    let e : c.push_reserved.new.self.items ≡ c.args.self.now.cells ++ raw_of c.args.cell ∷ [] = cc (ap (λ (v : Store). v.cells) c.self.view_is, c.push_reserved.ensures.items, c.packed.ensures) in
+    Keeps-push _ _ (raw_of c.args.cell) t e (ap (λ (v : Store). v.trail) c.self.view_is)

@@ -1,0 +1,12 @@
+-- The invariant of `Cells`.
+use Rattle.std.specs.Prelude.{◌≤◌, length}
+use Rattle.std.specs.Vec.{vec_capacity}
+use Rattle.ap_cells.specs.declared.cells.Cells.TheInside.{Inside}
+use Rattle.ap_cells.specs.Store.{IsStore}
+
+pub record Kept (a : Inside) : Type 0 where
+  pub store : IsStore a.cells.items a.trail.items
+  pub used : length a.cells.items ≤ a.limit
+  pub room : a.limit ≤ vec_capacity a.cells
+  pub trail_room : a.limit ≤ vec_capacity a.trail
+  pub few : a.limit ≤ 4294967295

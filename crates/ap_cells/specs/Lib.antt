@@ -1,0 +1,7 @@
+pub mod Trees
+pub mod Raws
+pub mod Store
+pub mod Kept
+pub mod Tops
+pub mod Walks
+pub mod Built

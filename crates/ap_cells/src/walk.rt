@@ -1,0 +1,123 @@
+//! A walk over the variables of a term, from left to right, by a list of places that is kept for the next walk.
+
+ghost use Rattle.std.specs.Prelude.{◌≡◌, ℕ, ◌+◌, ◌-◌, ◌*◌, ◌^◌, ◌<◌, ◌≤◌, List, [], ◌∷◌, ◌++◌, length, IfOk, OnOk};
+ghost use Rattle.ap_term.specs.Tree.{Tree};
+ghost use Rattle.ap_cells.specs.Trees.{tree_at, trees, span};
+ghost use Rattle.ap_cells.specs.Walks.{AreRanges, IsRange, IsNext, leaves, leaves_all, left, before, weight, weight_all, weight_in};
+
+use crate::cells::Cells;
+use crate::top::Top;
+use ap_term::NoMemory;
+use std::alloc::Global;
+use std::marker::Model;
+
+/// Places one behind another.
+#[derive(Clone, Copy)]
+pub struct Range {
+    pub first: usize,
+    pub count: u32,
+}
+
+/// What is left of a walk: the last range comes first.
+#[derive(Drop)]
+pub struct Walk {
+    ranges: Vec<Range>,
+}
+
+impl Model for Walk {
+    ghost use Rattle.std.specs.Prelude.{List};
+    ghost use Rattle.ap_cells.specs.declared.walk.Range.{Range};
+
+    ghost Value = { List Range };
+
+    ghost view = { λ a. a.ranges.items };
+}
+
+impl Walk {
+    /// Takes no memory.
+    pub fn new(alloc: Global) -> Walk
+        ensures { result ≡ [] }
+    {
+        Walk {
+            ranges: Vec::new(alloc),
+        }
+    }
+
+    /// Begins a walk over the term of a place.
+    pub fn start(&mut self, cells: &Cells, place: usize) -> Result<(), NoMemory>
+        requires { place < length cells.now.cells }
+        ensures left { OnOk result (left (trees cells.now.cells) self.new ≡ leaves (tree_at (trees cells.now.cells) place)) }
+        ensures ranges { OnOk result (AreRanges (length cells.now.cells) self.new) }
+    {
+        let places = cells.len();
+        prove!(place < places);
+        self.ranges.clear();
+        self.ranges.push(Range {
+            first: place,
+            count: 1,
+        })?;
+        Ok(())
+    }
+
+    /// The next variable, by its place.
+    pub fn next(&mut self, cells: &Cells) -> Result<Option<usize>, NoMemory>
+        requires { AreRanges (length cells.now.cells) self.old }
+        ensures next { IfOk result (λ found. IsNext (left (trees cells.now.cells) self.old) found (left (trees cells.now.cells) self.new)) }
+        ensures ranges { OnOk result (AreRanges (length cells.now.cells) self.new) }
+    {
+        next_of(cells, &mut self.ranges)
+    }
+}
+
+fn next_of(cells: &Cells, ranges: &mut Vec<Range>) -> Result<Option<usize>, NoMemory>
+    requires { AreRanges (length cells.now.cells) ranges.old.items }
+    ensures next { IfOk result (λ found. IsNext (left (trees cells.now.cells) ranges.old.items) found (left (trees cells.now.cells) ranges.new.items)) }
+    ensures ranges { OnOk result (AreRanges (length cells.now.cells) ranges.new.items) }
+{
+    let places = cells.len();
+    prove!(places <= 4_294_967_295);
+    while let Some(range) = ranges.pop() {
+        if range.count > 0 {
+            leave(range, ranges)?;
+            if let Some(variable) = look(cells, range.first, ranges)? {
+                return Ok(Some(variable));
+            }
+        }
+    }
+    Ok(None)
+}
+
+/// Leaves the places after the first to be walked over.
+fn leave(range: Range, ranges: &mut Vec<Range>) -> Result<(), NoMemory>
+    requires some { 0 < range.count }
+    requires fits { range.first < 2 ^ 63 }
+    ensures left { OnOk result ((ts : List Tree) → left ts ranges.new.items ≡ leaves_all (span ts (range.first + 1) (range.count - 1)) ++ left ts ranges.old.items) }
+    ensures less { OnOk result ((ts : List Tree) → weight_in ts ranges.new.items ≤ weight_in ts ranges.old.items + (2 * weight_all (span ts (range.first + 1) (range.count - 1)) + 1)) }
+    ensures ranges { OnOk result ((n : ℕ) → IsRange n range → AreRanges n ranges.old.items → AreRanges n ranges.new.items) }
+{
+    if range.count > 1 {
+        ranges.push(Range {
+            first: range.first + 1,
+            count: range.count - 1,
+        })?;
+    }
+    Ok(())
+}
+
+/// Looks at a place: it is a variable, or its arguments are left to be walked over.
+fn look(cells: &Cells, place: usize, ranges: &mut Vec<Range>) -> Result<Option<usize>, NoMemory>
+    requires { place < length cells.now.cells }
+    ensures left { IfOk result (λ found. before found (left (trees cells.now.cells) ranges.new.items) ≡ leaves (tree_at (trees cells.now.cells) place) ++ left (trees cells.now.cells) ranges.old.items) }
+    ensures less { OnOk result (weight_in (trees cells.now.cells) ranges.new.items < weight_in (trees cells.now.cells) ranges.old.items + 2 * weight (tree_at (trees cells.now.cells) place)) }
+    ensures ranges { OnOk result (AreRanges (length cells.now.cells) ranges.old.items → AreRanges (length cells.now.cells) ranges.new.items) }
+{
+    match cells.top(place) {
+        Top::Free(variable) => Ok(Some(variable)),
+        Top::Node(_, first, count) => {
+            ranges.push(Range { first, count })?;
+            Ok(None)
+        }
+        Top::Int(_) => Ok(None),
+        Top::Atom(_) => Ok(None),
+    }
+}

@@ -1,0 +1,5 @@
+use Rattle.ap_unify.proofs.Same.{solutions}
+use Rattle.ap_unify.proofs.laws.solution_law.Goals as goal
+
+pub returns : goal.returns
+returns c = solutions

@@ -1,0 +1,258 @@
+use Rattle.std.proofs.Common.{◌≡◌, ◌+◌, ◌*◌, ◌<◌, true, length, refl, sym, ap, ◌∙◌, subst, arith}
+use Rattle.ap_term.specs.Vars.{occurs}
+use Rattle.std.proofs.lemmas.Bool.{ne_eqb}
+use Rattle.ap_cells.specs.Trees.{tree_at, trees, step, frees}
+use Rattle.ap_cells.specs.Raws.{raw_of}
+use Rattle.ap_cells.proofs.Rounds.{trees-length}
+use Rattle.ap_unify.specs.declared.unification.Run.{Run}
+use Rattle.ap_cells.specs.Walks.{weight}
+use Rattle.ap_cells.proofs.Walks.{weight-some}
+use Rattle.ap_unify.specs.Works.{weight_runs, turns, Turn}
+use Rattle.ap_unify.proofs.Works.{turn_same, turn_back, turn_node, solve_left, solve_right, solve_both}
+use Rattle.ap_unify.proofs.Weights.{less_bound, less_args, turns-lt}
+use Rattle.ap_unify.proofs.unification.solve.Goals as goal
+
+pub compared-requires : goal.compared-requires
+compared-requires c = (rw (c.at.ensures.cell (raw_of c.at.result)) (c.deref-left.ensures.end (raw_of c.at.result)), rw (c.at-2.ensures.cell (raw_of c.at-2.result)) (c.deref-right.ensures.end (raw_of c.at-2.result)))
+
+pub returns-then-left-right-clause-turned : goal.returns-then-left-right-clause-turned
+returns-then-left-right-clause-turned c =
+    let ts = trees c.args.cells.now.cells in
+    let rs = c.args.runs.now.items in
+    let n = length c.args.cells.now.cells in
+    let p = c.args.left in
+    let q = c.args.right in
+    let l = c.deref-left.result in
+    let r = c.deref-right.result in
+    let e : tree_at ts l ≡ tree_at ts p = c.deref-left.ensures.tree in
+    let f : tree_at ts r ≡ tree_at ts q = c.deref-right.ensures.tree in
+    turn_same ts rs p q (sym e ∙ ap (tree_at ts) c.if-left-right.true ∙ f)
+
+pub returns-then-left-right-clause-less : goal.returns-then-left-right-clause-less
+returns-then-left-right-clause-less c = λ b.
+    let ts = trees c.args.cells.now.cells in
+    let rs = c.args.runs.now.items in
+    let n = length c.args.cells.now.cells in
+    let p = c.args.left in
+    let q = c.args.right in
+    let l = c.deref-left.result in
+    let r = c.deref-right.result in
+    let e : tree_at ts l ≡ tree_at ts p = c.deref-left.ensures.tree in
+    let f : tree_at ts r ≡ tree_at ts q = c.deref-right.ensures.tree in
+    let a = weight-some (tree_at ts p) in
+    turns-lt (frees c.args.cells.now.cells) (weight_runs ts rs) (weight_runs ts rs + 2 * (weight (tree_at ts p) + weight (tree_at ts q))) (omega arith)
+
+pub returns-in-Equal-clause-turned : goal.returns-in-Equal-clause-turned
+returns-in-Equal-clause-turned c =
+    let ts = trees c.args.cells.now.cells in
+    let rs = c.args.runs.now.items in
+    let n = length c.args.cells.now.cells in
+    let p = c.args.left in
+    let q = c.args.right in
+    let l = c.deref-left.result in
+    let r = c.deref-right.result in
+    let e : tree_at ts l ≡ tree_at ts p = c.deref-left.ensures.tree in
+    let f : tree_at ts r ≡ tree_at ts q = c.deref-right.ensures.tree in
+    let g : tree_at ts l ≡ step ts l (raw_of c.at.result) = c.at.ensures.tree in
+    let h : tree_at ts r ≡ step ts r (raw_of c.at-2.result) = c.at-2.ensures.tree in
+    let z : length ts ≡ n = trees-length c.args.cells.now.cells in
+    turn_same ts rs p q (sym e ∙ g ∙ c.in-Equal.ensures ts l r ∙ sym h ∙ f)
+
+pub returns-in-Equal-clause-less : goal.returns-in-Equal-clause-less
+returns-in-Equal-clause-less c = λ b.
+    let ts = trees c.args.cells.now.cells in
+    let rs = c.args.runs.now.items in
+    let n = length c.args.cells.now.cells in
+    let p = c.args.left in
+    let q = c.args.right in
+    let l = c.deref-left.result in
+    let r = c.deref-right.result in
+    let e : tree_at ts l ≡ tree_at ts p = c.deref-left.ensures.tree in
+    let f : tree_at ts r ≡ tree_at ts q = c.deref-right.ensures.tree in
+    let a = weight-some (tree_at ts p) in
+    turns-lt (frees c.args.cells.now.cells) (weight_runs ts rs) (weight_runs ts rs + 2 * (weight (tree_at ts p) + weight (tree_at ts q))) (omega arith)
+
+pub returns-then-left-right-2-clause-turned : goal.returns-then-left-right-2-clause-turned
+returns-then-left-right-2-clause-turned c =
+    let ts = trees c.args.cells.now.cells in
+    let rs = c.args.runs.now.items in
+    let n = length c.args.cells.now.cells in
+    let p = c.args.left in
+    let q = c.args.right in
+    let l = c.deref-left.result in
+    let r = c.deref-right.result in
+    let e : tree_at ts l ≡ tree_at ts p = c.deref-left.ensures.tree in
+    let f : tree_at ts r ≡ tree_at ts q = c.deref-right.ensures.tree in
+    let g : tree_at ts l ≡ step ts l (raw_of c.at.result) = c.at.ensures.tree in
+    let h : tree_at ts r ≡ step ts r (raw_of c.at-2.result) = c.at-2.ensures.tree in
+    let z : length ts ≡ n = trees-length c.args.cells.now.cells in
+    let us = trees c.bind.new.self.cells in
+    turn_back ts us rs rs q p
+    (solve_both ts us rs q p r l n (raw_of c.at-2.result) (raw_of c.at.result) z c.requires.runs f e h g c.in-Both.ensures.1 c.in-Both.ensures.0 (λ k. c.if-left-right.false (sym k)) c.bind.ensures.trees)
+
+pub returns-then-left-right-2-clause-less : goal.returns-then-left-right-2-clause-less
+returns-then-left-right-2-clause-less c = λ b.
+    let ts = trees c.args.cells.now.cells in
+    let rs = c.args.runs.now.items in
+    let n = length c.args.cells.now.cells in
+    let p = c.args.left in
+    let q = c.args.right in
+    let l = c.deref-left.result in
+    let r = c.deref-right.result in
+    let e : tree_at ts l ≡ tree_at ts p = c.deref-left.ensures.tree in
+    let f : tree_at ts r ≡ tree_at ts q = c.deref-right.ensures.tree in
+    let g : tree_at ts l ≡ step ts l (raw_of c.at.result) = c.at.ensures.tree in
+    let h : tree_at ts r ≡ step ts r (raw_of c.at-2.result) = c.at-2.ensures.tree in
+    let z : length ts ≡ n = trees-length c.args.cells.now.cells in
+    let us = trees c.bind.new.self.cells in
+    let w = ap weight e in
+    less_bound (frees c.bind.new.self.cells) (frees c.args.cells.now.cells) r n (weight (tree_at ts p)) (weight (tree_at ts q)) ts us rs (tree_at ts l) true z c.requires.runs refl
+    (ap (occurs r) (g ∙ ap (step ts l) c.in-Both.ensures.0) ∙ ne_eqb r l (λ k. c.if-left-right.false (sym k)), c.bind.ensures.trees) (λ k. c.bind.ensures.fewer) (omega arith)
+
+pub returns-else-left-right-2-clause-turned : goal.returns-else-left-right-2-clause-turned
+returns-else-left-right-2-clause-turned c =
+    let ts = trees c.args.cells.now.cells in
+    let rs = c.args.runs.now.items in
+    let n = length c.args.cells.now.cells in
+    let p = c.args.left in
+    let q = c.args.right in
+    let l = c.deref-left.result in
+    let r = c.deref-right.result in
+    let e : tree_at ts l ≡ tree_at ts p = c.deref-left.ensures.tree in
+    let f : tree_at ts r ≡ tree_at ts q = c.deref-right.ensures.tree in
+    let g : tree_at ts l ≡ step ts l (raw_of c.at.result) = c.at.ensures.tree in
+    let h : tree_at ts r ≡ step ts r (raw_of c.at-2.result) = c.at-2.ensures.tree in
+    let z : length ts ≡ n = trees-length c.args.cells.now.cells in
+    let us = trees c.bind-in-Both.new.self.cells in
+    solve_both ts us rs p q l r n (raw_of c.at.result) (raw_of c.at-2.result) z c.requires.runs e f g h c.in-Both.ensures.0 c.in-Both.ensures.1 c.if-left-right.false c.bind-in-Both.ensures.trees
+
+pub returns-else-left-right-2-clause-less : goal.returns-else-left-right-2-clause-less
+returns-else-left-right-2-clause-less c = λ b.
+    let ts = trees c.args.cells.now.cells in
+    let rs = c.args.runs.now.items in
+    let n = length c.args.cells.now.cells in
+    let p = c.args.left in
+    let q = c.args.right in
+    let l = c.deref-left.result in
+    let r = c.deref-right.result in
+    let e : tree_at ts l ≡ tree_at ts p = c.deref-left.ensures.tree in
+    let f : tree_at ts r ≡ tree_at ts q = c.deref-right.ensures.tree in
+    let g : tree_at ts l ≡ step ts l (raw_of c.at.result) = c.at.ensures.tree in
+    let h : tree_at ts r ≡ step ts r (raw_of c.at-2.result) = c.at-2.ensures.tree in
+    let z : length ts ≡ n = trees-length c.args.cells.now.cells in
+    let us = trees c.bind-in-Both.new.self.cells in
+    let w = ap weight f in
+    less_bound (frees c.bind-in-Both.new.self.cells) (frees c.args.cells.now.cells) l n (weight (tree_at ts p)) (weight (tree_at ts q)) ts us rs (tree_at ts r) true z c.requires.runs refl
+    (ap (occurs l) (h ∙ ap (step ts r) c.in-Both.ensures.1) ∙ ne_eqb l r c.if-left-right.false, c.bind-in-Both.ensures.trees) (λ k. c.bind-in-Both.ensures.fewer) (omega arith)
+
+pub returns-in_ok-bound-in-Left-clause-turned : goal.returns-in_ok-bound-in-Left-clause-turned
+returns-in_ok-bound-in-Left-clause-turned c =
+    let ts = trees c.args.cells.now.cells in
+    let rs = c.args.runs.now.items in
+    let n = length c.args.cells.now.cells in
+    let p = c.args.left in
+    let q = c.args.right in
+    let l = c.deref-left.result in
+    let r = c.deref-right.result in
+    let e : tree_at ts l ≡ tree_at ts p = c.deref-left.ensures.tree in
+    let f : tree_at ts r ≡ tree_at ts q = c.deref-right.ensures.tree in
+    let g : tree_at ts l ≡ step ts l (raw_of c.at.result) = c.at.ensures.tree in
+    let h : tree_at ts r ≡ step ts r (raw_of c.at-2.result) = c.at-2.ensures.tree in
+    let z : length ts ≡ n = trees-length c.args.cells.now.cells in
+    let us = trees c.bind-in-Left.new.cells.cells in
+    solve_left ts us rs p q l r n (raw_of c.at.result) (raw_of c.at-2.result) c.in_ok-bound-in-Left.bound z c.requires.runs e f g h c.in-Left.ensures.0 c.in-Left.ensures.1 c.in_ok-bound-in-Left.ensures.bound
+
+pub returns-in_ok-bound-in-Left-clause-less : goal.returns-in_ok-bound-in-Left-clause-less
+returns-in_ok-bound-in-Left-clause-less c = λ b.
+    let ts = trees c.args.cells.now.cells in
+    let rs = c.args.runs.now.items in
+    let n = length c.args.cells.now.cells in
+    let p = c.args.left in
+    let q = c.args.right in
+    let l = c.deref-left.result in
+    let r = c.deref-right.result in
+    let e : tree_at ts l ≡ tree_at ts p = c.deref-left.ensures.tree in
+    let f : tree_at ts r ≡ tree_at ts q = c.deref-right.ensures.tree in
+    let g : tree_at ts l ≡ step ts l (raw_of c.at.result) = c.at.ensures.tree in
+    let h : tree_at ts r ≡ step ts r (raw_of c.at-2.result) = c.at-2.ensures.tree in
+    let z : length ts ≡ n = trees-length c.args.cells.now.cells in
+    let us = trees c.bind-in-Left.new.cells.cells in
+    let w = ap weight f in
+    less_bound (frees c.bind-in-Left.new.cells.cells) (frees c.args.cells.now.cells) l n (weight (tree_at ts p)) (weight (tree_at ts q)) ts us rs (tree_at ts r) c.in_ok-bound-in-Left.bound z c.requires.runs b
+    c.in_ok-bound-in-Left.ensures.bound c.in_ok-bound-in-Left.ensures.fewer (omega arith)
+
+pub returns-in_ok-bound-in-Right-clause-turned : goal.returns-in_ok-bound-in-Right-clause-turned
+returns-in_ok-bound-in-Right-clause-turned c =
+    let ts = trees c.args.cells.now.cells in
+    let rs = c.args.runs.now.items in
+    let n = length c.args.cells.now.cells in
+    let p = c.args.left in
+    let q = c.args.right in
+    let l = c.deref-left.result in
+    let r = c.deref-right.result in
+    let e : tree_at ts l ≡ tree_at ts p = c.deref-left.ensures.tree in
+    let f : tree_at ts r ≡ tree_at ts q = c.deref-right.ensures.tree in
+    let g : tree_at ts l ≡ step ts l (raw_of c.at.result) = c.at.ensures.tree in
+    let h : tree_at ts r ≡ step ts r (raw_of c.at-2.result) = c.at-2.ensures.tree in
+    let z : length ts ≡ n = trees-length c.args.cells.now.cells in
+    let us = trees c.bind-in-Right.new.cells.cells in
+    solve_right ts us rs p q l r n (raw_of c.at.result) (raw_of c.at-2.result) c.in_ok-bound-in-Right.bound z c.requires.runs e f g h c.in-Right.ensures.0 c.in-Right.ensures.1 c.in_ok-bound-in-Right.ensures.bound
+
+pub returns-in_ok-bound-in-Right-clause-less : goal.returns-in_ok-bound-in-Right-clause-less
+returns-in_ok-bound-in-Right-clause-less c = λ b.
+    let ts = trees c.args.cells.now.cells in
+    let rs = c.args.runs.now.items in
+    let n = length c.args.cells.now.cells in
+    let p = c.args.left in
+    let q = c.args.right in
+    let l = c.deref-left.result in
+    let r = c.deref-right.result in
+    let e : tree_at ts l ≡ tree_at ts p = c.deref-left.ensures.tree in
+    let f : tree_at ts r ≡ tree_at ts q = c.deref-right.ensures.tree in
+    let g : tree_at ts l ≡ step ts l (raw_of c.at.result) = c.at.ensures.tree in
+    let h : tree_at ts r ≡ step ts r (raw_of c.at-2.result) = c.at-2.ensures.tree in
+    let z : length ts ≡ n = trees-length c.args.cells.now.cells in
+    let us = trees c.bind-in-Right.new.cells.cells in
+    let w = ap weight e in
+    less_bound (frees c.bind-in-Right.new.cells.cells) (frees c.args.cells.now.cells) r n (weight (tree_at ts p)) (weight (tree_at ts q)) ts us rs (tree_at ts l) c.in_ok-bound-in-Right.bound z c.requires.runs b
+    c.in_ok-bound-in-Right.ensures.bound c.in_ok-bound-in-Right.ensures.fewer (omega arith)
+
+pub returns-in_ok-push-in-Args-clause-turned : goal.returns-in_ok-push-in-Args-clause-turned
+returns-in_ok-push-in-Args-clause-turned c =
+    let ts = trees c.args.cells.now.cells in
+    let rs = c.args.runs.now.items in
+    let n = length c.args.cells.now.cells in
+    let p = c.args.left in
+    let q = c.args.right in
+    let l = c.deref-left.result in
+    let r = c.deref-right.result in
+    let e : tree_at ts l ≡ tree_at ts p = c.deref-left.ensures.tree in
+    let f : tree_at ts r ≡ tree_at ts q = c.deref-right.ensures.tree in
+    let g : tree_at ts l ≡ step ts l (raw_of c.at.result) = c.at.ensures.tree in
+    let h : tree_at ts r ≡ step ts r (raw_of c.at-2.result) = c.at-2.ensures.tree in
+    let z : length ts ≡ n = trees-length c.args.cells.now.cells in
+    let a = c.in-Args.ensures.0 in
+    let i = c.in-Args.p in
+    let j = c.in-Args.q in
+    let m = c.in-Args.n in
+    subst (λ qs. Turn ts ts rs qs p q) (sym c.in_ok-push-in-Args.ensures.items)
+    (turn_node ts rs p q a i j m (sym e ∙ g ∙ ap (step ts l) c.in-Args.ensures.1) (sym f ∙ h ∙ ap (step ts r) c.in-Args.ensures.2))
+
+pub returns-in_ok-push-in-Args-clause-less : goal.returns-in_ok-push-in-Args-clause-less
+returns-in_ok-push-in-Args-clause-less c = λ b.
+    let ts = trees c.args.cells.now.cells in
+    let rs = c.args.runs.now.items in
+    let n = length c.args.cells.now.cells in
+    let p = c.args.left in
+    let q = c.args.right in
+    let l = c.deref-left.result in
+    let r = c.deref-right.result in
+    let e : tree_at ts l ≡ tree_at ts p = c.deref-left.ensures.tree in
+    let f : tree_at ts r ≡ tree_at ts q = c.deref-right.ensures.tree in
+    let g : tree_at ts l ≡ step ts l (raw_of c.at.result) = c.at.ensures.tree in
+    let h : tree_at ts r ≡ step ts r (raw_of c.at-2.result) = c.at-2.ensures.tree in
+    let z : length ts ≡ n = trees-length c.args.cells.now.cells in
+    let x = frees c.args.cells.now.cells in
+    let k : Run = record { left = c.in-Args.p; right = c.in-Args.q; count = c.in-Args.n } in
+    subst (λ qs. turns x (weight_runs ts qs) < turns x (weight_runs ts rs + 2 * (weight (tree_at ts p) + weight (tree_at ts q)))) (sym c.in_ok-push-in-Args.ensures.items)
+    (less_args x x ts ts rs k (weight (tree_at ts p)) (weight (tree_at ts q)) refl refl (sym (ap weight (sym e ∙ g ∙ ap (step ts l) c.in-Args.ensures.1))) (sym (ap weight (sym f ∙ h ∙ ap (step ts r) c.in-Args.ensures.2))))

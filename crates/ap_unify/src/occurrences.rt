@@ -1,0 +1,35 @@
+//! The occurs check.
+
+ghost use Rattle.std.specs.Prelude.{◌≡◌, ◌<◌, length, IfOk};
+ghost use Rattle.ap_term.specs.Vars.{occurs};
+ghost use Rattle.ap_cells.specs.Trees.{tree_at, trees};
+
+use ap_cells::{Cells, Top, Walk};
+use ap_term::NoMemory;
+
+/// Whether the variable of a place stands in the term of another.
+pub fn occurs(cells: &Cells, x: usize, place: usize, walk: &mut Walk) -> Result<bool, NoMemory>
+    requires { place < length cells.now.cells }
+    ensures { IfOk result (λ b. b ≡ occurs x (tree_at (trees cells.now.cells) place)) }
+{
+    walk.start(cells, place)?;
+    while let Some(variable) = walk.next(cells)? {
+        if variable == x {
+            return Ok(true);
+        }
+    }
+    Ok(false)
+}
+
+/// The same, without a walk where the term is a number or an atom.
+pub fn stands_in(cells: &Cells, x: usize, place: usize, walk: &mut Walk) -> Result<bool, NoMemory>
+    requires { place < length cells.now.cells }
+    ensures { IfOk result (λ b. b ≡ occurs x (tree_at (trees cells.now.cells) place)) }
+{
+    match cells.top(place) {
+        Top::Int(_) => Ok(false),
+        Top::Atom(_) => Ok(false),
+        Top::Free(variable) => Ok(variable == x),
+        Top::Node(_, _, _) => occurs(cells, x, place, walk),
+    }
+}
