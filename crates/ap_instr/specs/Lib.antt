@@ -1,0 +1,4 @@
+pub mod Builtin
+pub mod Code
+pub mod Listing
+pub mod Shown
