@@ -15,7 +15,7 @@ use Rattle.ap_instr.specs.Step.{Step, get_variable, get_value, get_constant, get
 use Rattle.ap_instr.specs.Runs.{Runs, set, read, set_x, set_y, spread, applied, lost}
 use Rattle.ap_codegen.specs.Held.{Held, nothing, known, owed, Registers, held, hold, has_room, see, is_free, is_settled, behind_call}
 use Rattle.ap_codegen.specs.Follow.{Noted, plainly, making, building, step_noted, is_known, is_owed, owed_is_known, is_new, see_new, is_constant, Target, no_target, target, is_matching, is_beside, next_target, built, next_registers, takes, may_take, owed_arguments, owes_structure, stand, is_call, follow}
-use Rattle.ap_codegen.proofs.Registers.{both_true, set_here, set_other, read_here, read_other, held_other, held_here, held_room, IsSeen, AreSeen, Agree, agree_instance, agree_all, agree_new, has_more, has_first, Knows, Pays, AllKnown, AllPaid, write_known, note_known, see_known, write_paid, note_paid, see_paid, settled_paid, behind_known, free_pays, held_see, is_x, number_of}
+use Rattle.ap_codegen.proofs.Registers.{both_true, set_here, set_other, read_here, read_other, held_other, held_here, held_room, IsSeen, AreSeen, Agree, agree_instance, agree_all, agree_new, has_more, has_first, Knows, Pays, AllKnown, AllPaid, write_known, note_known, see_known, write_paid, note_paid, see_paid, same_slot, settled_paid, behind_known, free_pays, held_see, is_x, number_of}
 
 -- ---- what a passed test says
 
@@ -318,3 +318,159 @@ module _ (is : List Noted) (goes : Goes is) (v : Slot) (ts gs : Trees) (r : Regi
           let P : Tree → Type 0 = λ t. follow is ts (next_target ts g) (next_registers ts g (takes r v t)) gs ≡ true → Under g (more t ts) (more p ps) r h x → Found r h x y (more t ts) (more p ps) gs bs in
           subst P (sym w.1) (λ f u. take-new w.0 g w.2 i j f c k u run) f u
       go false n i j m f = old g n i m f
+
+module _ (is : List Noted) (goes : Goes is) (gs : Trees) (r : Registers) (h x y : ℕ → Tree) (bs : Trees) where
+  -- the value of one register goes to another one
+  copied : (v u : Slot) → is_free (held r v) ≡ true → follow is none no_target (hold r v (held r u)) gs ≡ true → AllKnown r h x y
+      → Runs (map step_noted is) none (set_x v (read u x y) x) (set_y v (read u x y) y) bs → Found r h x y none none gs bs
+  copied v u i f k run =
+      let d = goes none gs no_target (hold r v (held r u)) h (set_x v (read u x y) x) (set_y v (read u x y) y) none bs f refl (write_known r h x y v (held r u) (read u x y) k (k u)) tt run in
+      (d.0, d.1, write_paid r d.0 x y v (held r u) (read u x y) i d.2, d.3, d.4)
+
+  -- a register takes the instance of a term
+  written : (v : Slot) (t p : Tree) → is_free (held r v) ≡ true → p ≡ instance h t → IsSeen r.seen t → follow is none no_target (hold r v (known t)) gs ≡ true → AllKnown r h x y
+      → Runs (map step_noted is) none (set_x v p x) (set_y v p y) bs → Found r h x y none none gs bs
+  written v t p i e s f k run =
+      let d = goes none gs no_target (hold r v (known t)) h (set_x v p x) (set_y v p y) none bs f refl (write_known r h x y v (known t) p k (e, s)) tt run in
+      (d.0, d.1, write_paid r d.0 x y v (known t) p i d.2, d.3, d.4)
+
+  only-get_variable : (v : Slot) (a : ℕ) → ((is_free (held r v) && is_free (held r (X a))) && follow is none no_target (hold r v (held r (X a))) gs) ≡ true → AllKnown r h x y
+      → Runs (map step_noted is) none (set_x v (x a) x) (set_y v (x a) y) bs → Found r h x y none none gs bs
+  only-get_variable v a f k run =
+      let b = both_true (is_free (held r v) && is_free (held r (X a))) (follow is none no_target (hold r v (held r (X a))) gs) f in
+      copied v (X a) (both_true (is_free (held r v)) (is_free (held r (X a))) b.0).0 b.1 k run
+
+  only-put_value : (v : Slot) (a : ℕ) → ((is_free (held r v) && is_free (held r (X a))) && follow is none no_target (hold r (X a) (held r v)) gs) ≡ true → AllKnown r h x y
+      → Runs (map step_noted is) none (set x a (read v x y)) y bs → Found r h x y none none gs bs
+  only-put_value v a f k run =
+      let b = both_true (is_free (held r v) && is_free (held r (X a))) (follow is none no_target (hold r (X a) (held r v)) gs) f in
+      copied (X a) v (both_true (is_free (held r v)) (is_free (held r (X a))) b.0).1 b.1 k run
+
+  only-put_constant : (c : Tree) (a : ℕ) → ((is_constant c && is_free (held r (X a))) && follow is none no_target (hold r (X a) (known c)) gs) ≡ true → AllKnown r h x y
+      → Runs (map step_noted is) none (set x a c) y bs → Found r h x y none none gs bs
+  only-put_constant c a f k run =
+      let b = both_true (is_constant c && is_free (held r (X a))) (follow is none no_target (hold r (X a) (known c)) gs) f in
+      let d = both_true (is_constant c) (is_free (held r (X a))) b.0 in
+      written (X a) c c d.1 (sym (constant_stays h c d.0)) (constant_seen r.seen c d.0) b.1 k run
+
+  only-get_constant : (c : Tree) (a : ℕ) → ((is_constant c && is_owed (held r (X a)) c) && follow is none no_target (hold r (X a) (known c)) gs) ≡ true → AllKnown r h x y
+      → (x a ≡ c) × Runs (map step_noted is) none x y bs → Found r h x y none none gs bs
+  only-get_constant c a f k run =
+      let b = both_true (is_constant c && is_owed (held r (X a)) c) (follow is none no_target (hold r (X a) (known c)) gs) f in
+      let d = both_true (is_constant c) (is_owed (held r (X a)) c) b.0 in
+      let e = goes none gs no_target (hold r (X a) (known c)) h x y none bs b.1 refl
+            (note_known r h x y (X a) (known c) k (run.0 ∙ sym (constant_stays h c d.0), constant_seen r.seen c d.0)) tt run.1 in
+      let paid : Pays e.0 (held r (X a)) (x a) = subst (λ q. Pays e.0 q (x a)) (sym (owed_is (held r (X a)) c d.1)) (run.0 ∙ sym (constant_stays e.0 c d.0)) in
+      (e.0, e.1, note_paid r e.0 x y (X a) (known c) paid e.2, e.3, e.4)
+
+  only-get_value : (v : Slot) (a : ℕ) → (owed_is_known (held r (X a)) (held r v) && follow is none no_target (hold r (X a) (held r v)) gs) ≡ true → AllKnown r h x y
+      → (read v x y ≡ x a) × Runs (map step_noted is) none x y bs → Found r h x y none none gs bs
+  only-get_value v a f k run =
+      let b = both_true (owed_is_known (held r (X a)) (held r v)) (follow is none no_target (hold r (X a) (held r v)) gs) f in
+      let o = owed_known_is (held r (X a)) (held r v) b.0 in
+      let kv : Knows r.seen h (known o.0) (read v x y) = subst (λ q. Knows r.seen h q (read v x y)) o.2 (k v) in
+      let ka : Knows r.seen h (held r v) (x a) = subst (λ q. Knows r.seen h (held r v) q) run.0 (k v) in
+      let e = goes none gs no_target (hold r (X a) (held r v)) h x y none bs b.1 refl (note_known r h x y (X a) (held r v) k ka) tt run.1 in
+      let paid : Pays e.0 (held r (X a)) (x a) = subst (λ q. Pays e.0 q (x a)) (sym o.1) (sym run.0 ∙ kv.0 ∙ sym (agree_instance r.seen h e.0 o.0 e.1 kv.1)) in
+      (e.0, e.1, note_paid r e.0 x y (X a) (held r v) paid e.2, e.3, e.4)
+
+  only-get_structure : (f n a : ℕ) → (owes_structure (held r (X a)) f n && follow is (owed_arguments (held r (X a)) f n) no_target (hold r (X a) nothing) gs) ≡ true → AllKnown r h x y
+      → (ps : Trees) × (count_trees ps ≡ n) × (x a ≡ node f ps) × Runs (map step_noted is) ps x y bs → Found r h x y none none gs bs
+  only-get_structure g n a f k run =
+      let ts : Trees = owed_arguments (held r (X a)) g n in
+      let b = both_true (owes_structure (held r (X a)) g n) (follow is ts no_target (hold r (X a) nothing) gs) f in
+      let o = structure_is (held r (X a)) g n b.0 in
+      let e = goes ts gs no_target (hold r (X a) nothing) h x y run.0 bs b.1 (run.1 ∙ sym o.1) (note_known r h x y (X a) nothing k tt) tt run.3 in
+      let paid : Pays e.0 (held r (X a)) (x a) = subst (λ q. Pays e.0 q (x a)) (sym o.0) (run.2 ∙ ap (node g) e.3) in
+      (e.0, e.1, note_paid r e.0 x y (X a) nothing paid e.2, refl, e.4)
+
+  only-making : (v : Slot) (a w : ℕ) → ((not (has r.seen w) && (is_free (held r v) && is_free (held r (X a)))) && follow is none no_target (hold (hold (see r w) v (known (var w))) (X a) (known (var w))) gs) ≡ true
+      → AllKnown r h x y → (t : Tree) × Runs (map step_noted is) none (set (set_x v t x) a t) (set_y v t y) bs → Found r h x y none none gs bs
+  only-making v a w f k run =
+      let r1 : Registers = hold (see r w) v (known (var w)) in
+      let b = both_true (not (has r.seen w) && (is_free (held r v) && is_free (held r (X a)))) (follow is none no_target (hold r1 (X a) (known (var w))) gs) f in
+      let d = both_true (not (has r.seen w)) (is_free (held r v) && is_free (held r (X a))) b.0 in
+      let i = both_true (is_free (held r v)) (is_free (held r (X a))) d.1 in
+      let n : has r.seen w ≡ false = is_not (has r.seen w) d.0 in
+      let t : Tree = run.0 in
+      let kw : Knows (w ∷ r.seen) (set h w t) (known (var w)) t = (sym (set_here h w t), variable_seen r.seen w) in
+      let k1 : AllKnown r1 (set h w t) (set_x v t x) (set_y v t y) = write_known (see r w) (set h w t) x y v (known (var w)) t (see_known r h x y w t n k) kw in
+      let e = goes none gs no_target (hold r1 (X a) (known (var w))) (set h w t) (set (set_x v t x) a t) (set_y v t y) none bs b.1 refl (write_known r1 (set h w t) (set_x v t x) (set_y v t y) (X a) (known (var w)) t k1 kw) tt run.1 in
+      found_before r h x y v w (known (var w)) t none none gs bs n i.0
+      (e.0, e.1, write_paid r1 e.0 (set_x v t x) (set_y v t y) (X a) (known (var w)) t (go (same_slot (X a) v) i.1) e.2, e.3, e.4)
+    where
+      go : (X a ≡ v) ⊎ (X a ≢ v) → is_free (held r (X a)) ≡ true → is_free (held (hold (see r w) v (known (var w))) (X a)) ≡ true
+      go (inl e) i = subst (λ u. is_free (held (hold (see r w) v (known (var w))) u) ≡ true) (sym e) (known_free (held_here (see r w) v (known (var w))))
+        where
+          known_free : {q : Held} → (q ≡ known (var w)) ⊎ (q ≡ nothing) → is_free q ≡ true
+          known_free (inl e) = ap is_free e
+          known_free (inr e) = ap is_free e
+      go (inr l) i = ap is_free (held_other (see r w) (X a) v (known (var w)) l) ∙ i
+
+  only-building : (g : ℕ) (ts : Trees) (a : ℕ)
+      → (is_free (held r (X a)) && follow is ts (next_target ts (target a (node g ts))) (next_registers ts (target a (node g ts)) (hold r (X a) nothing)) gs) ≡ true → AllKnown r h x y
+      → (ps : Trees) × (count_trees ps ≡ count_trees ts) × Runs (map step_noted is) ps (set x a (node g ps)) y bs → Found r h x y none none gs bs
+  only-building g ts a f k run =
+      let r1 : Registers = hold r (X a) nothing in
+      let q : Target = target a (node g ts) in
+      let x1 : ℕ → Tree = set x a (node g run.0) in
+      let b = both_true (is_free (held r (X a))) (follow is ts (next_target ts q) (next_registers ts q r1) gs) f in
+      let k1 : AllKnown r1 h x1 y = write_known r h x y (X a) nothing (node g run.0) k tt in
+      let u1 : Under q ts run.0 r1 h x1 = (g, none, refl, set_here x a (node g run.0), λ w o. absurd (false≢true o), emptied (held_here r (X a) nothing)) in
+      let d = goes ts gs (next_target ts q) (next_registers ts q r1) h x1 y run.0 bs b.1 run.1 (next_known ts q run.0 r1 h x1 y run.1 u1 k1) (next_under ts q run.0 r1 h x1 u1) run.2 in
+      (
+        d.0,
+        subst (λ seen. Agree seen h d.0) (seen_next ts q r1) d.1,
+        write_paid r d.0 x y (X a) nothing (node g run.0) b.0 (next_paid ts q run.0 r1 h d.0 x1 y u1 d.2),
+        refl,
+        d.4,
+      )
+    where
+      emptied : {q : Held} → (q ≡ nothing) ⊎ (q ≡ nothing) → is_free q ≡ true
+      emptied (inl e) = ap is_free e
+      emptied (inr e) = ap is_free e
+
+  -- a goal is called, and others follow
+  called : (p n : ℕ) (t : Tree) (r1 : Registers) (x1 : ℕ → Tree) → ((is_settled r && is_call r p n t) && follow is none no_target r1 gs) ≡ true → r1.seen ≡ r.seen → AllKnown r h x y → AllKnown r1 h x1 y
+      → (cs : Trees) × (bs ≡ more (applied p (spread x 1 n)) cs) × Runs (map step_noted is) none x1 y cs → Found r h x y none none (more t gs) bs
+  called p n t r1 x1 f s k k1 run =
+      let b = both_true (is_settled r && is_call r p n t) (follow is none no_target r1 gs) f in
+      let d = both_true (is_settled r) (is_call r p n t) b.0 in
+      let e = goes none gs no_target r1 h x1 y none run.0 b.1 refl k1 tt run.2 in
+      let a : Agree r.seen h e.0 = subst (λ seen. Agree seen h e.0) s e.1 in
+      let c = call_is r h x y p n t k d.1 in
+      (
+        e.0,
+        a,
+        settled_paid r e.0 x y d.0,
+        refl,
+        run.1 ∙ ap (λ q. more q run.0) (c.0 ∙ sym (agree_instance r.seen h e.0 t a c.1)) ∙ ap (more (instance e.0 t)) e.4,
+      )
+
+only-execute : (r : Registers) (h x y : ℕ → Tree) (p n : ℕ) (t : Tree) (bs : Trees) → (is_settled r && is_call r p n t) ≡ true → AllKnown r h x y → bs ≡ more (applied p (spread x 1 n)) none → Found r h x y none none (more t none) bs
+only-execute r h x y p n t bs f k run =
+    let d = both_true (is_settled r) (is_call r p n t) f in
+    (h, λ w o. refl, settled_paid r h x y d.0, refl, run ∙ ap (λ q. more q none) (call_is r h x y p n t k d.1).0)
+
+pub only : (is : List Noted) → Goes is
+only [] ts gs g r h x y ps bs f c k u run = absurd (false≢true f)
+only (i ∷ is) none gs g r h x y (more p ps) bs f c k u run = absurd (omega arith)
+only (i ∷ is) (more t ts) gs g r h x y none bs f c k u run = absurd (omega arith)
+only (plainly (unify_variable v) ∷ is) (more t ts) gs g r h x y (more p ps) bs f c k u run = only-unify_variable is (only is) v ts gs r h x y p ps bs t g f (omega arith) k u run
+only (plainly (unify_value v) ∷ is) (more t ts) gs g r h x y (more p ps) bs f c k u run = only-unify_value is (only is) v t ts gs g r h x y p ps bs f (omega arith) k u run
+only (plainly (unify_constant a) ∷ is) (more t ts) gs g r h x y (more p ps) bs f c k u run = only-unify_constant is (only is) a t ts gs g r h x y p ps bs f (omega arith) k u run
+only (i ∷ is) (more t ts) gs g r h x y (more p ps) bs f c k u run = absurd (false≢true f)
+only (plainly (get_variable v a) ∷ is) none gs g r h x y none bs f c k u run = only-get_variable is (only is) gs r h x y bs v a f k run
+only (plainly (get_value v a) ∷ is) none gs g r h x y none bs f c k u run = only-get_value is (only is) gs r h x y bs v a f k run
+only (plainly (get_constant a b) ∷ is) none gs g r h x y none bs f c k u run = only-get_constant is (only is) gs r h x y bs a b f k run
+only (plainly (get_structure a n b) ∷ is) none gs g r h x y none bs f c k u run = only-get_structure is (only is) gs r h x y bs a n b f k run
+only (making v a w ∷ is) none gs g r h x y none bs f c k u run = only-making is (only is) gs r h x y bs v a w f k run
+only (plainly (put_value v a) ∷ is) none gs g r h x y none bs f c k u run = only-put_value is (only is) gs r h x y bs v a f k run
+only (plainly (put_constant a b) ∷ is) none gs g r h x y none bs f c k u run = only-put_constant is (only is) gs r h x y bs a b f k run
+only (building a ts b ∷ is) none gs g r h x y none bs f c k u run = only-building is (only is) gs r h x y bs a ts b f k run
+only (plainly (call p n) ∷ is) none (more t gs) g r h x y none bs f c k u run = called is (only is) gs r h x y bs p n t (behind_call r) lost f refl k (behind_known r h x lost y k) run
+only (plainly (builtin p n) ∷ is) none (more t gs) g r h x y none bs f c k u run = called is (only is) gs r h x y bs p n t r x f refl k k run
+only (plainly (execute p n) ∷ is) none (more t none) g r h x y none bs f c k u run = only-execute r h x y p n t bs f k run
+only (plainly proceed ∷ is) none none g r h x y none bs f c k u run = (h, λ w o. refl, settled_paid r h x y f, refl, run)
+only (plainly frame ∷ is) none gs g r h x y none bs f c k u run = only is none gs no_target r h x y none bs f refl k tt run
+only (i ∷ is) none gs g r h x y none bs f c k u run = absurd (false≢true f)
