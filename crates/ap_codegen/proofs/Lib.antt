@@ -1,2 +1,3 @@
 pub mod Registers
 pub mod Only
+pub mod Each

@@ -223,7 +223,7 @@ only-unify_constant is goes a t ts gs g r h x y p ps bs f c k u run =
     let e : a ≡ t = (identical-is a t).0 d.1 in
     argument is goes t ts gs g r h x y p ps bs (run.0 ∙ sym (constant_stays h a d.0) ∙ ap (instance h) e) (subst (IsSeen r.seen) e (constant_seen r.seen a d.0)) b.1 c k u run.1
 
-beside_is : (a : ℕ) (t : Tree) (v : Slot) → is_beside (target a t) v ≡ true → X a ≢ v
+pub beside_is : (a : ℕ) (t : Tree) (v : Slot) → is_beside (target a t) v ≡ true → X a ≢ v
 beside_is a t (X n) b e = false≢true (sym (is_not (n == a) b) ∙ same_test n a (sym (ap number_of e)))
 beside_is a t (Y n) b e = false≢true (sym (ap is_x e))
 

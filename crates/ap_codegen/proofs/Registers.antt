@@ -218,7 +218,7 @@ pub settled_paid : (r : Registers) (h x y : ℕ → Tree) → is_settled r ≡ t
 settled_paid r h x y s (X n) = free_pays h (at r.x n) (x n) (settled_at r.x n (both_true (list_all is_free r.x) (list_all is_free r.y) s).0)
 settled_paid r h x y s (Y n) = free_pays h (at r.y n) (y n) (settled_at r.y n (both_true (list_all is_free r.x) (list_all is_free r.y) s).1)
 
-nothing_at : (hs : List Held) (n : ℕ) → at (nothings hs) n ≡ nothing
+pub nothing_at : (hs : List Held) (n : ℕ) → at (nothings hs) n ≡ nothing
 nothing_at [] n = refl
 nothing_at (a ∷ hs) zero = refl
 nothing_at (a ∷ hs) (suc n) = nothing_at hs n
