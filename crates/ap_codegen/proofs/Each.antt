@@ -1,5 +1,5 @@
 -- Code that is followed asks for all that an instance of its clause asks for.
-use Rattle.std.proofs.Common.{◌≡◌, ◌≢◌, ℕ, zero, suc, ◌+◌, Bool, true, false, ◌&&◌, ◌||◌, not, ◌==◌, if◌then◌else◌, List, [], ◌∷◌, map, ◌⊎◌, inl, inr, refl, ap, sym, ◌∙◌, subst, arith}
+use Rattle.std.proofs.Common.{◌≡◌, ◌≢◌, ℕ, suc, ◌+◌, Bool, true, false, ◌&&◌, ◌||◌, not, ◌==◌, if◌then◌else◌, List, [], ◌∷◌, map, ◌⊎◌, inl, inr, refl, ap, sym, ◌∙◌, subst, arith}
 use Rattle.std.proofs.lemmas.Bool.{false≢true}
 use Rattle.std.proofs.lemmas.Bool.Decides.{Decides-eqb}
 use Rattle.ap_term.specs.Tree.{Tree, Trees, var, int, atom, node, none, more, count_trees}
@@ -9,10 +9,10 @@ use Rattle.ap_term.specs.Substitution.{instance, instance_all}
 use Rattle.ap_term.proofs.Sameness.{identical-is}
 use Rattle.ap_instr.specs.declared.instruction.Slot.{Slot}
 use Rattle.ap_instr.specs.declared.instruction.Slot.TheVariants.{X, Y}
-use Rattle.ap_instr.specs.Step.{Step, get_variable, get_value, get_constant, get_structure, put_variable, put_value, put_constant, put_structure, unify_variable, unify_value, unify_constant, call, execute, builtin, proceed, frame, other}
+use Rattle.ap_instr.specs.Step.{get_variable, get_value, get_constant, get_structure, put_value, put_constant, unify_variable, unify_value, unify_constant, call, execute, builtin, proceed, frame}
 use Rattle.ap_instr.specs.Runs.{Runs, set, read, set_x, set_y, spread, applied, lost}
-use Rattle.ap_codegen.specs.Held.{Held, nothing, known, owed, Registers, at, held, hold, has_room, see, is_free, is_settled, nothings, behind_call}
-use Rattle.ap_codegen.specs.Follow.{Noted, plainly, making, building, step_noted, is_known, is_owed, owed_is_known, is_new, see_new, is_constant, Target, no_target, target, is_matching, is_beside, next_target, built, next_registers, takes, may_take, owed_arguments, owes_structure, stand, is_call, follow}
+use Rattle.ap_codegen.specs.Held.{Held, nothing, known, owed, Registers, held, hold, has_room, see, is_free, is_settled, behind_call}
+use Rattle.ap_codegen.specs.Follow.{Noted, plainly, making, building, step_noted, is_known, is_owed, owed_is_known, is_new, see_new, is_constant, Target, no_target, target, is_matching, is_beside, next_target, next_registers, takes, may_take, owed_arguments, owes_structure, stand, is_call, follow}
 use Rattle.ap_codegen.proofs.Registers.{both_true, set_here, read_here, read_other, held_other, held_here, held_see, same_slot, nothing_at}
 use Rattle.ap_codegen.proofs.Only.{known_is, owed_is, owed_known_is, constant_stays, structure_is, beside_is}
 
@@ -53,7 +53,7 @@ note_means r h x y v b k kb u = go (same_slot u v)
 see_means : (r : Registers) (h x y : ℕ → Tree) (w : ℕ) → AllMean r h x y → AllMean (see r w) h x y
 see_means r h x y w k u = subst (λ a. Means h a (read u x y)) (sym (held_see r w u)) (k u)
 
-see_new_means : (r : Registers) (h x y : ℕ → Tree) (t : Tree) → AllMean r h x y → AllMean (see_new r t) h x y
+pub see_new_means : (r : Registers) (h x y : ℕ → Tree) (t : Tree) → AllMean r h x y → AllMean (see_new r t) h x y
 see_new_means r h x y (var w) k = see_means r h x y w k
 see_new_means r h x y (int z) k = k
 see_new_means r h x y (atom a) k = k
@@ -170,8 +170,7 @@ module _ (is : List Noted) (reaches : Reaches is) (gs : Trees) (r : Registers) (
   each-get_structure g n a f k =
       let ts : Trees = owed_arguments (held r (X a)) g n in
       let b = both_true (owes_structure (held r (X a)) g n) (follow is ts no_target (hold r (X a) nothing) gs) f in
-      let o = structure_is (held r (X a)) g n b.0 in
-      (
+      let o = structure_is (held r (X a)) g n b.0 in (
         instance_all h ts,
         count_instances h ts ∙ o.1,
         subst (λ q. Means h q (x a)) o.0 (k (X a)),
@@ -190,11 +189,10 @@ module _ (is : List Noted) (reaches : Reaches is) (gs : Trees) (r : Registers) (
   each-making v a w f k =
       let t : Tree = h w in
       let r1 : Registers = hold (see r w) v (known (var w)) in
-      let b = both_true (not (has r.seen w) && (is_free (held r v) && is_free (held r (X a)))) (follow is none no_target (hold r1 (X a) (known (var w))) gs) f in
-      (
+      let b = both_true (not (has r.seen w) && (is_free (held r v) && is_free (held r (X a)))) (follow is none no_target (hold r1 (X a) (known (var w))) gs) f in (
         t,
         reaches none gs no_target (hold r1 (X a) (known (var w))) h (set (set_x v t x) a t) (set_y v t y) b.1
-        (write_means r1 h (set_x v t x) (set_y v t y) (X a) (known (var w)) t (write_means (see r w) h x y v (known (var w)) t (see_means r h x y w k) refl) refl) tt,
+            (write_means r1 h (set_x v t x) (set_y v t y) (X a) (known (var w)) t (write_means (see r w) h x y v (known (var w)) t (see_means r h x y w k) refl) refl) tt,
       )
 
   each-building : (g : ℕ) (ts : Trees) (a : ℕ)
@@ -205,8 +203,7 @@ module _ (is : List Noted) (reaches : Reaches is) (gs : Trees) (r : Registers) (
       let p : Tree = node g (instance_all h ts) in
       let r1 : Registers = hold r (X a) nothing in
       let b = both_true (is_free (held r (X a))) (follow is ts (next_target ts q) (next_registers ts q r1) gs) f in
-      let s : Stands q h (set x a p) = set_here x a p in
-      (
+      let s : Stands q h (set x a p) = set_here x a p in (
         instance_all h ts,
         count_instances h ts,
         reaches ts gs (next_target ts q) (next_registers ts q r1) h (set x a p) y b.1 (next_means ts q r1 h (set x a p) y s (write_means r h x y (X a) nothing p k tt)) (next_stands ts q h (set x a p) s),

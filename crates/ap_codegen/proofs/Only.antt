@@ -1,5 +1,5 @@
 -- Code that is followed asks for nothing but what an instance of its clause asks for.
-use Rattle.std.proofs.Common.{◌≡◌, ◌≢◌, ℕ, zero, suc, ◌+◌, ◌<◌, Bool, true, false, ◌&&◌, ◌||◌, not, ◌==◌, nat_eq, if◌then◌else◌, List, [], ◌∷◌, map, ◌⊎◌, inl, inr, refl, ap, sym, ◌∙◌, subst, arith}
+use Rattle.std.proofs.Common.{◌≡◌, ◌≢◌, ℕ, suc, ◌+◌, Bool, true, false, ◌&&◌, ◌||◌, not, ◌==◌, if◌then◌else◌, List, [], ◌∷◌, map, ◌⊎◌, inl, inr, refl, ap, sym, ◌∙◌, subst, arith}
 use Rattle.std.proofs.lemmas.Bool.{false≢true}
 use Rattle.std.proofs.lemmas.Bool.Decides.{Decides-eqb}
 use Rattle.ap_term.specs.Tree.{Tree, Trees, var, int, atom, node, none, more, count_trees}
@@ -11,11 +11,11 @@ use Rattle.ap_term.proofs.Solutions.{same_var, same_test}
 use Rattle.ap_laws.specs.Plain.{append_trees}
 use Rattle.ap_instr.specs.declared.instruction.Slot.{Slot}
 use Rattle.ap_instr.specs.declared.instruction.Slot.TheVariants.{X, Y}
-use Rattle.ap_instr.specs.Step.{Step, get_variable, get_value, get_constant, get_structure, put_variable, put_value, put_constant, put_structure, unify_variable, unify_value, unify_constant, call, execute, builtin, proceed, frame, other}
+use Rattle.ap_instr.specs.Step.{get_variable, get_value, get_constant, get_structure, put_value, put_constant, unify_variable, unify_value, unify_constant, call, execute, builtin, proceed, frame}
 use Rattle.ap_instr.specs.Runs.{Runs, set, read, set_x, set_y, spread, applied, lost}
 use Rattle.ap_codegen.specs.Held.{Held, nothing, known, owed, Registers, held, hold, has_room, see, is_free, is_settled, behind_call}
-use Rattle.ap_codegen.specs.Follow.{Noted, plainly, making, building, step_noted, is_known, is_owed, owed_is_known, is_new, see_new, is_constant, Target, no_target, target, is_matching, is_beside, next_target, built, next_registers, takes, may_take, owed_arguments, owes_structure, stand, is_call, follow}
-use Rattle.ap_codegen.proofs.Registers.{both_true, set_here, set_other, read_here, read_other, held_other, held_here, held_room, IsSeen, AreSeen, Agree, agree_instance, agree_all, agree_new, has_more, has_first, Knows, Pays, AllKnown, AllPaid, write_known, note_known, see_known, write_paid, note_paid, see_paid, same_slot, settled_paid, behind_known, free_pays, held_see, is_x, number_of}
+use Rattle.ap_codegen.specs.Follow.{Noted, plainly, making, building, step_noted, is_known, is_owed, owed_is_known, is_new, see_new, is_constant, Target, no_target, target, is_matching, is_beside, next_target, next_registers, takes, may_take, owed_arguments, owes_structure, stand, is_call, follow}
+use Rattle.ap_codegen.proofs.Registers.{both_true, set_here, read_here, read_other, held_other, held_here, held_room, IsSeen, AreSeen, Agree, agree_instance, agree_all, agree_new, has_more, has_first, Knows, Pays, AllKnown, AllPaid, write_known, note_known, see_known, write_paid, note_paid, see_paid, same_slot, settled_paid, behind_known, free_pays, held_see, is_x, number_of}
 
 -- ---- what a passed test says
 
@@ -163,8 +163,7 @@ next_known : (ts : Trees) (g : Target) (ps : Trees) (r : Registers) (h x y : ℕ
 next_known (more t ts) g ps r h x y c u k = k
 next_known none no_target ps r h x y c u k = k
 next_known none (target a t) ps r h x y c u k =
-    note_known r h x y (X a) (known t) k
-    (
+    note_known r h x y (X a) (known t) k (
       u.3 ∙ ap (λ ps. node u.0 (append_trees (instance_all h u.1) ps)) (no_trees ps c) ∙ ap (node u.0) (append_none (instance_all h u.1)) ∙ sym (ap (instance h) (u.2 ∙ ap (node u.0) (append_none u.1))),
       subst (IsSeen r.seen) (sym (u.2 ∙ ap (node u.0) (append_none u.1))) u.4,
     )
@@ -187,8 +186,8 @@ Found r h x y ts ps gs bs = (k : ℕ → Tree) × Agree r.seen h k × AllPaid r 
 abbrev pub Goes : List Noted → Type 0
 Goes is =
     (ts gs : Trees) (g : Target) (r : Registers) (h x y : ℕ → Tree) (ps bs : Trees)
-        → follow is ts g r gs ≡ true → count_trees ps ≡ count_trees ts → AllKnown r h x y → Under g ts ps r h x → Runs (map step_noted is) ps x y bs
-        → Found r h x y ts ps gs bs
+    → follow is ts g r gs ≡ true → count_trees ps ≡ count_trees ts → AllKnown r h x y → Under g ts ps r h x → Runs (map step_noted is) ps x y bs
+    → Found r h x y ts ps gs bs
 
 -- an argument that is the instance of its term
 argument : (is : List Noted) → Goes is → (t : Tree) (ts gs : Trees) (g : Target) (r : Registers) (h x y : ℕ → Tree) (p : Tree) (ps bs : Trees)
@@ -197,8 +196,7 @@ argument : (is : List Noted) → Goes is → (t : Tree) (ts gs : Trees) (g : Tar
 argument is goes t ts gs g r h x y p ps bs e s f c k u run =
     let u1 = under_shift g t ts p ps r h x e s u in
     let d = goes ts gs (next_target ts g) (next_registers ts g r) h x y ps bs f c (next_known ts g ps r h x y c u1 k) (next_under ts g ps r h x u1) run in
-    let a : Agree r.seen h d.0 = subst (λ seen. Agree seen h d.0) (seen_next ts g r) d.1 in
-    (
+    let a : Agree r.seen h d.0 = subst (λ seen. Agree seen h d.0) (seen_next ts g r) d.1 in (
       d.0,
       a,
       next_paid ts g ps r h d.0 x y u1 d.2,
@@ -232,8 +230,7 @@ under_take : (g : Target) (ts ps : Trees) (r : Registers) (h x : ℕ → Tree) (
     → Under g ts ps r h x → Under g ts ps (hold (see r w) v b) (set h w p) (set_x v p x)
 under_take no_target ts ps r h x v w b p i n u = tt
 under_take (target a t) ts ps r h x v w b p i n u =
-    let l : X a ≢ v = beside_is a t v i in
-    (
+    let l : X a ≢ v = beside_is a t v i in (
       u.0,
       u.1,
       u.2,
@@ -242,7 +239,7 @@ under_take (target a t) ts ps r h x v w b p i n u =
       ap is_free (held_other (see r w) (X a) v b l) ∙ u.5,
     )
 
-variable_seen : (seen : List ℕ) (w : ℕ) → IsSeen (w ∷ seen) (var w)
+pub variable_seen : (seen : List ℕ) (w : ℕ) → IsSeen (w ∷ seen) (var w)
 variable_seen seen w z o = subst (λ z. has (w ∷ seen) z ≡ true) (sym (same_var z w o)) (has_first seen w)
 
 -- what was found behind a new variable
@@ -256,10 +253,10 @@ found_before r h x y v w b p ts ps gs bs n i d = (
   d.4,
 )
 
-takes_new : (r : Registers) (v : Slot) (w : ℕ) → has r.seen w ≡ false → takes r v (var w) ≡ hold (see r w) v (known (var w))
+pub takes_new : (r : Registers) (v : Slot) (w : ℕ) → has r.seen w ≡ false → takes r v (var w) ≡ hold (see r w) v (known (var w))
 takes_new r v w n = ap (λ b. if not b then hold (see r w) v (known (var w)) else hold r v (owed (var w))) n
 
-takes_old : (r : Registers) (v : Slot) (t : Tree) → is_new r.seen t ≡ false → takes r v t ≡ hold r v (owed t)
+pub takes_old : (r : Registers) (v : Slot) (t : Tree) → is_new r.seen t ≡ false → takes r v t ≡ hold r v (owed t)
 takes_old r v t n = ap (λ b. if b then hold (see_new r t) v (known t) else hold r v (owed t)) n
 
 next_none : (ts : Trees) → next_target ts no_target ≡ no_target
@@ -280,7 +277,7 @@ module _ (is : List Noted) (goes : Goes is) (v : Slot) (ts gs : Trees) (r : Regi
       let k1 : AllKnown r1 (set h w p) (set_x v p x) (set_y v p y) = write_known (see r w) (set h w p) x y v (known (var w)) p (see_known r h x y w p n k) (e, variable_seen r.seen w) in
       found_before r h x y v w (known (var w)) p (more (var w) ts) (more p ps) gs bs n i
       (argument is goes (var w) ts gs g r1 (set h w p) (set_x v p x) (set_y v p y) p ps bs e (variable_seen r.seen w)
-        (subst (λ q. follow is ts (next_target ts g) (next_registers ts g q) gs ≡ true) (takes_new r v w n) f) c k1 (under_take g (more (var w) ts) (more p ps) r h x v w (known (var w)) p j n u) run)
+      (subst (λ q. follow is ts (next_target ts g) (next_registers ts g q) gs ≡ true) (takes_new r v w n) f) c k1 (under_take g (more (var w) ts) (more p ps) r h x v w (known (var w)) p j n u) run)
 
   take-old : (t : Tree) → is_new r.seen t ≡ false → is_free (held r v) ≡ true → has_room r v ≡ true
       → follow is ts (next_target ts no_target) (next_registers ts no_target (takes r v t)) gs ≡ true → count_trees ps ≡ count_trees ts → AllKnown r h x y
@@ -289,8 +286,7 @@ module _ (is : List Noted) (goes : Goes is) (v : Slot) (ts gs : Trees) (r : Regi
       let r1 : Registers = hold r v (owed t) in
       let f1 : follow is ts no_target r1 gs ≡ true = sym (ap (λ q. follow is ts no_target q gs) (ap (next_registers ts no_target) (takes_old r v t n) ∙ next_same ts r1)) ∙ sym (ap (λ g. follow is ts g (next_registers ts no_target (takes r v t)) gs) (next_none ts)) ∙ f in
       let d = goes ts gs no_target r1 h (set_x v p x) (set_y v p y) ps bs f1 c (write_known r h x y v (owed t) p k tt) tt run in
-      let paid : Pays d.0 (owed t) p = subst (λ a. Pays d.0 a p) (held_room r v (owed t) m) (subst (λ q. Pays d.0 (held r1 v) q) (read_here v p x y) (d.2 v)) in
-      (
+      let paid : Pays d.0 (owed t) p = subst (λ a. Pays d.0 a p) (held_room r v (owed t) m) (subst (λ q. Pays d.0 (held r1 v) q) (read_here v p x y) (d.2 v)) in (
         d.0,
         d.1,
         write_paid r d.0 x y v (owed t) p i d.2,
@@ -359,7 +355,7 @@ module _ (is : List Noted) (goes : Goes is) (gs : Trees) (r : Registers) (h x y 
       let b = both_true (is_constant c && is_owed (held r (X a)) c) (follow is none no_target (hold r (X a) (known c)) gs) f in
       let d = both_true (is_constant c) (is_owed (held r (X a)) c) b.0 in
       let e = goes none gs no_target (hold r (X a) (known c)) h x y none bs b.1 refl
-            (note_known r h x y (X a) (known c) k (run.0 ∙ sym (constant_stays h c d.0), constant_seen r.seen c d.0)) tt run.1 in
+      (note_known r h x y (X a) (known c) k (run.0 ∙ sym (constant_stays h c d.0), constant_seen r.seen c d.0)) tt run.1 in
       let paid : Pays e.0 (held r (X a)) (x a) = subst (λ q. Pays e.0 q (x a)) (sym (owed_is (held r (X a)) c d.1)) (run.0 ∙ sym (constant_stays e.0 c d.0)) in
       (e.0, e.1, note_paid r e.0 x y (X a) (known c) paid e.2, e.3, e.4)
 
@@ -417,8 +413,7 @@ module _ (is : List Noted) (goes : Goes is) (gs : Trees) (r : Registers) (h x y 
       let b = both_true (is_free (held r (X a))) (follow is ts (next_target ts q) (next_registers ts q r1) gs) f in
       let k1 : AllKnown r1 h x1 y = write_known r h x y (X a) nothing (node g run.0) k tt in
       let u1 : Under q ts run.0 r1 h x1 = (g, none, refl, set_here x a (node g run.0), λ w o. absurd (false≢true o), emptied (held_here r (X a) nothing)) in
-      let d = goes ts gs (next_target ts q) (next_registers ts q r1) h x1 y run.0 bs b.1 run.1 (next_known ts q run.0 r1 h x1 y run.1 u1 k1) (next_under ts q run.0 r1 h x1 u1) run.2 in
-      (
+      let d = goes ts gs (next_target ts q) (next_registers ts q r1) h x1 y run.0 bs b.1 run.1 (next_known ts q run.0 r1 h x1 y run.1 u1 k1) (next_under ts q run.0 r1 h x1 u1) run.2 in (
         d.0,
         subst (λ seen. Agree seen h d.0) (seen_next ts q r1) d.1,
         write_paid r d.0 x y (X a) nothing (node g run.0) b.0 (next_paid ts q run.0 r1 h d.0 x1 y u1 d.2),
@@ -438,8 +433,7 @@ module _ (is : List Noted) (goes : Goes is) (gs : Trees) (r : Registers) (h x y 
       let d = both_true (is_settled r) (is_call r p n t) b.0 in
       let e = goes none gs no_target r1 h x1 y none run.0 b.1 refl k1 tt run.2 in
       let a : Agree r.seen h e.0 = subst (λ seen. Agree seen h e.0) s e.1 in
-      let c = call_is r h x y p n t k d.1 in
-      (
+      let c = call_is r h x y p n t k d.1 in (
         e.0,
         a,
         settled_paid r e.0 x y d.0,

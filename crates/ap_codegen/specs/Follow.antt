@@ -9,7 +9,7 @@ use Rattle.ap_laws.specs.Plain.{plain_goals}
 use Rattle.ap_instr.specs.declared.instruction.Slot.{Slot}
 use Rattle.ap_instr.specs.declared.instruction.Slot.TheVariants.{X, Y}
 use Rattle.ap_instr.specs.Step.{Step, get_variable, get_value, get_constant, get_structure, put_variable, put_value, put_constant, put_structure, unify_variable, unify_value, unify_constant, call, execute, builtin, proceed, frame}
-use Rattle.ap_instr.specs.Runs.{applied, arguments}
+use Rattle.ap_instr.specs.Runs.{arguments}
 use Rattle.ap_codegen.specs.Held.{Held, nothing, known, owed, Registers, held, hold, has_room, see, is_free, is_settled, behind_call}
 
 -- a step with what can't be told from it: the variable that is new, the arguments of the structure that is built

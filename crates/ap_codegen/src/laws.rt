@@ -5,5 +5,4 @@ ghost use Rattle.ap_codegen.specs.Laws.{FollowLaw};
 /// Code that passes the test reads as its clause.
 pub fn follow_law()
     ensures { FollowLaw }
-{
-}
+{}

@@ -1,5 +1,5 @@
 -- A listing: for each predicate that is listed its name and arity, and its instructions, one a line.
-use Rattle.std.specs.Prelude.{ℕ, ℤ, ◌-◌, pos, List, [], ◌∷◌, ◌++◌, codes, slice_get, Option, Some, None, if◌then◌else◌, ◌==◌, ◌&&◌, flat_map}
+use Rattle.std.specs.Prelude.{ℕ, ℤ, ◌-◌, List, [], ◌∷◌, ◌++◌, codes, slice_get, Option, Some, None, if◌then◌else◌, ◌==◌, ◌&&◌, flat_map}
 use Rattle.std.specs.Str.{bytes_eq}
 use Rattle.std.specs.Fmt.{decimal, signed_decimal}
 use Rattle.ap_writer.specs.Quoted.{name_text}
