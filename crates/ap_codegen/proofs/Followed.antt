@@ -1,5 +1,5 @@
 -- Code that is followed from the clause's head to its last goal reads as the clause.
-use Rattle.std.proofs.Common.{◌≡◌, ℕ, zero, suc, ◌+◌, ◌<◌, ◌≤◌, Bool, true, false, nat_lt, if◌then◌else◌, List, [], ◌∷◌, map, length, replicate, refl, ap, sym, ◌∙◌, subst, arith}
+use Rattle.std.proofs.Common.{◌≡◌, ℕ, zero, suc, ◌+◌, ◌<◌, ◌≤◌, Bool, true, false, nat_lt, if◌then◌else◌, List, [], ◌∷◌, ◌++◌, map, length, replicate, refl, ap, sym, ◌∙◌, subst, arith}
 use Rattle.std.proofs.lemmas.Bool.{ltb-true, lt-ltb}
 use Rattle.ap_term.specs.Tree.{Tree, Trees, var, none, more, count_trees}
 use Rattle.ap_term.specs.Vars.{has}
@@ -53,7 +53,7 @@ bare_takes : (n l : ℕ) (r : Registers) (t : Tree) → IsBare n l r → IsBare 
 bare_takes n l r t s = go (is_new r.seen t)
   where
     new : (t : Tree) → IsBare (n + 1) l (hold (see_new r t) (X n) (known t))
-    new (var w) = bare_hold n l r (w ∷ r.seen) (known (var w)) s
+    new (var w) = bare_hold n l r (r.seen ++ w ∷ []) (known (var w)) s
     new t = bare_hold n l r r.seen (known t) s
 
     go : (b : Bool) → IsBare (n + 1) l (if b then hold (see_new r t) (X n) (known t) else hold r (X n) (owed t))
@@ -120,7 +120,7 @@ entered-only (more t ts) n l r h x y b m k = go (λ r h. entered-only ts (n + 1)
         let e : takes r (X n) (var w.0) ≡ r1 = takes_new r (X n) w.0 w.2 in
         let known1 : AllKnown r1 (set h w.0 (x n)) x y =
         note_known (see r w.0) (set h w.0 (x n)) x y (X n) (known (var w.0)) (see_known r h x y w.0 (x n) w.2 k) (sym (set_here h w.0 (x n)), variable_seen r.seen w.0) in
-        let bare1 : IsBare (n + 1) l r1 = bare_hold n l r (w.0 ∷ r.seen) (known (var w.0)) b in
+        let bare1 : IsBare (n + 1) l r1 = bare_hold n l r (r.seen ++ w.0 ∷ []) (known (var w.0)) b in
         let d = rest r1 (set h w.0 (x n)) bare1 (omega arith) known1 in
         let P : Registers → Type 0 = λ q.
         (k : ℕ → Tree) × Agree r.seen h k × AllKnown (entered ts (n + 1) q) k x y

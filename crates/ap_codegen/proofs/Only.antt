@@ -1,5 +1,5 @@
 -- Code that is followed asks for nothing but what an instance of its clause asks for.
-use Rattle.std.proofs.Common.{◌≡◌, ◌≢◌, ℕ, suc, ◌+◌, Bool, true, false, ◌&&◌, ◌||◌, not, ◌==◌, if◌then◌else◌, List, [], ◌∷◌, map, ◌⊎◌, inl, inr, refl, ap, sym, ◌∙◌, subst, arith}
+use Rattle.std.proofs.Common.{◌≡◌, ◌≢◌, ℕ, suc, ◌+◌, Bool, true, false, ◌&&◌, ◌||◌, not, ◌==◌, if◌then◌else◌, List, [], ◌∷◌, ◌++◌, map, ◌⊎◌, inl, inr, refl, ap, sym, ◌∙◌, subst, arith}
 use Rattle.std.proofs.lemmas.Bool.{false≢true}
 use Rattle.std.proofs.lemmas.Bool.Decides.{Decides-eqb}
 use Rattle.ap_term.specs.Tree.{Tree, Trees, var, int, atom, node, none, more, count_trees}
@@ -239,8 +239,8 @@ under_take (target a t) ts ps r h x v w b p i n u =
       ap is_free (held_other (see r w) (X a) v b l) ∙ u.5,
     )
 
-pub variable_seen : (seen : List ℕ) (w : ℕ) → IsSeen (w ∷ seen) (var w)
-variable_seen seen w z o = subst (λ z. has (w ∷ seen) z ≡ true) (sym (same_var z w o)) (has_first seen w)
+pub variable_seen : (seen : List ℕ) (w : ℕ) → IsSeen (seen ++ w ∷ []) (var w)
+variable_seen seen w z o = subst (λ z. has (seen ++ w ∷ []) z ≡ true) (sym (same_var z w o)) (has_first seen w)
 
 -- what was found behind a new variable
 found_before : (r : Registers) (h x y : ℕ → Tree) (v : Slot) (w : ℕ) (b : Held) (p : Tree) (ts ps gs bs : Trees) → has r.seen w ≡ false → is_free (held r v) ≡ true
@@ -389,7 +389,7 @@ module _ (is : List Noted) (goes : Goes is) (gs : Trees) (r : Registers) (h x y 
       let i = both_true (is_free (held r v)) (is_free (held r (X a))) d.1 in
       let n : has r.seen w ≡ false = is_not (has r.seen w) d.0 in
       let t : Tree = run.0 in
-      let kw : Knows (w ∷ r.seen) (set h w t) (known (var w)) t = (sym (set_here h w t), variable_seen r.seen w) in
+      let kw : Knows (r.seen ++ w ∷ []) (set h w t) (known (var w)) t = (sym (set_here h w t), variable_seen r.seen w) in
       let k1 : AllKnown r1 (set h w t) (set_x v t x) (set_y v t y) = write_known (see r w) (set h w t) x y v (known (var w)) t (see_known r h x y w t n k) kw in
       let e = goes none gs no_target (hold r1 (X a) (known (var w))) (set h w t) (set (set_x v t x) a t) (set_y v t y) none bs b.1 refl (write_known r1 (set h w t) (set_x v t x) (set_y v t y) (X a) (known (var w)) t k1 kw) tt run.1 in
       found_before r h x y v w (known (var w)) t none none gs bs n i.0

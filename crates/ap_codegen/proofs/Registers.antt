@@ -1,5 +1,5 @@
 -- What writing a register leaves known, and what it leaves owed.
-use Rattle.std.proofs.Common.{◌≡◌, ◌≢◌, ℕ, zero, suc, ◌<◌, Bool, true, false, ◌&&◌, ◌==◌, nat_eq, if◌then◌else◌, List, [], ◌∷◌, length, ◌⊎◌, inl, inr, refl, ap, sym, ◌∙◌, subst, arith}
+use Rattle.std.proofs.Common.{◌≡◌, ◌≢◌, ℕ, zero, suc, ◌<◌, Bool, true, false, ◌&&◌, ◌||◌, ◌==◌, nat_eq, if◌then◌else◌, List, [], ◌∷◌, ◌++◌, length, ◌⊎◌, inl, inr, refl, ap, sym, ◌∙◌, subst, arith}
 use Rattle.std.specs.List.{list_all}
 use Rattle.std.proofs.lemmas.Bool.{false≢true, ltb-true}
 use Rattle.std.proofs.lemmas.Bool.Decides.{Decides-eqb}
@@ -115,11 +115,17 @@ agree_all seen h k ts a s = instance_all_agree k h ts (λ w o. a w (s w o))
 pub agree_new : (seen : List ℕ) (h : ℕ → Tree) (w : ℕ) (t : Tree) → has seen w ≡ false → Agree seen h (set h w t)
 agree_new seen h w t n v s = set_other h w t v (λ e. false≢true (sym n ∙ ap (has seen) (sym e) ∙ s))
 
-pub has_more : (seen : List ℕ) (w v : ℕ) → has seen v ≡ true → has (w ∷ seen) v ≡ true
-has_more seen w v h = or_right (nat_eq w v) (has seen v) h
+pub has_more : (seen : List ℕ) (w v : ℕ) → has seen v ≡ true → has (seen ++ w ∷ []) v ≡ true
+has_more [] w v h = absurd (false≢true h)
+has_more (u ∷ seen) w v h = go (nat_eq u v) h (has_more seen w v)
+  where
+    go : (b : Bool) → (b || has seen v) ≡ true → (has seen v ≡ true → has (seen ++ w ∷ []) v ≡ true) → (b || has (seen ++ w ∷ []) v) ≡ true
+    go true h r = refl
+    go false h r = r h
 
-pub has_first : (seen : List ℕ) (w : ℕ) → has (w ∷ seen) w ≡ true
-has_first seen w = or_left (nat_eq w w) (has seen w) (same_test w w refl)
+pub has_first : (seen : List ℕ) (w : ℕ) → has (seen ++ w ∷ []) w ≡ true
+has_first [] w = or_left (nat_eq w w) false (same_test w w refl)
+has_first (u ∷ seen) w = or_right (nat_eq u w) (has (seen ++ w ∷ []) w) (has_first seen w)
 
 -- ---- two readings of a register: what is known of it holds, and what is owed of it holds
 
@@ -174,7 +180,7 @@ held_see r w (X n) = refl
 held_see r w (Y n) = refl
 
 -- a variable takes a value that it had none before
-see_one : (seen : List ℕ) (h : ℕ → Tree) (w : ℕ) (p : Tree) → has seen w ≡ false → (a : Held) (q : Tree) → Knows seen h a q → Knows (w ∷ seen) (set h w p) a q
+see_one : (seen : List ℕ) (h : ℕ → Tree) (w : ℕ) (p : Tree) → has seen w ≡ false → (a : Held) (q : Tree) → Knows seen h a q → Knows (seen ++ w ∷ []) (set h w p) a q
 see_one seen h w p n nothing q k = tt
 see_one seen h w p n (known t) q k = (k.0 ∙ sym (agree_instance seen h (set h w p) t (agree_new seen h w p n) k.1), λ v o. has_more seen w v (k.1 v o))
 see_one seen h w p n (owed t) q k = tt

@@ -1,5 +1,5 @@
 -- What is known of registers while a clause's code is followed.
-use Rattle.std.specs.Prelude.{ℕ, zero, suc, Bool, true, false, ◌&&◌, nat_lt, length, List, [], ◌∷◌}
+use Rattle.std.specs.Prelude.{ℕ, zero, suc, Bool, true, false, ◌&&◌, nat_lt, length, List, [], ◌∷◌, ◌++◌}
 use Rattle.std.specs.List.{list_all}
 use Rattle.ap_term.specs.Tree.{Tree}
 use Rattle.ap_instr.specs.declared.instruction.Slot.{Slot}
@@ -48,7 +48,7 @@ has_room r (X n) = nat_lt n (length r.x)
 has_room r (Y n) = nat_lt n (length r.y)
 
 abbrev pub see : Registers → ℕ → Registers
-see r v = record { x = r.x; y = r.y; seen = v ∷ r.seen }
+see r v = record { x = r.x; y = r.y; seen = r.seen ++ v ∷ [] }
 
 -- whether nothing is owed of it
 abbrev pub is_free : Held → Bool
