@@ -1,0 +1,4 @@
+pub mod Registers
+pub mod Only
+pub mod Each
+pub mod Followed

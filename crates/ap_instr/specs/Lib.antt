@@ -1,0 +1,6 @@
+pub mod Builtin
+pub mod Code
+pub mod Listing
+pub mod Shown
+pub mod Step
+pub mod Runs
