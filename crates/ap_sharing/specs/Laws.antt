@@ -1,0 +1,41 @@
+-- What the operations are worth.
+use Rattle.std.specs.Prelude.{◌≡◌, ℕ, Bool, true, false, List}
+use Rattle.ap_term.specs.Tree.{Tree}
+use Rattle.ap_term.specs.Substitution.{instance}
+use Rattle.ap_term.specs.Independence.{IsGround, SharesNoVariable}
+use Rattle.ap_sharing.specs.VarSet.{has, union}
+use Rattle.ap_sharing.specs.Sets.{IsAscending, listed, pairs, closure}
+use Rattle.ap_sharing.specs.Share.{Share, nonground, may_share, widen, norm, ground_share, unite_shares, project_share}
+use Rattle.ap_sharing.specs.Covering.{CoversShare, only, Grounds}
+
+-- sets with the same elements are one, and so are ascending lists with the same sets
+pub record CanonicalLaw : Type 0 where
+  pub one_set : (s t : ℕ) → ((x : ℕ) → has s x ≡ has t x) → s ≡ t
+  pub one_list : (ss ts : List ℕ) → IsAscending ss → IsAscending ts → ((s : ℕ) → listed s ss ≡ listed s ts) → ss ≡ ts
+
+-- the closure is the least list that has the sets and the union of each two of its own
+pub record ClosureLaw : Type 0 where
+  pub ascending : (ss : List ℕ) → IsAscending (closure ss)
+  pub has_all : (ss : List ℕ) (s : ℕ) → listed s ss ≡ true → listed s (closure ss) ≡ true
+  pub closed : (ss : List ℕ) (s t : ℕ) → listed s (closure ss) ≡ true → listed t (closure ss) ≡ true → listed (union s t) (closure ss) ≡ true
+  pub least : (ss : List ℕ) (P : ℕ → Type 0) → ((s : ℕ) → listed s ss ≡ true → P s) → ((s t : ℕ) → P s → P t → P (union s t)) → (s : ℕ) → listed s (closure ss) ≡ true → P s
+
+-- the pairs are the unions of one of the first and one of the second, and no others
+pub record PairsLaw : Type 0 where
+  pub ascending : (ss ts : List ℕ) → IsAscending (pairs ss ts)
+  pub has_all : (ss ts : List ℕ) (s t : ℕ) → listed s ss ≡ true → listed t ts ≡ true → listed (union s t) (pairs ss ts) ≡ true
+  pub no_others : (ss ts : List ℕ) (r : ℕ) → listed r (pairs ss ts) ≡ true → (s : ℕ) × (t : ℕ) × (listed s ss ≡ true) × (listed t ts ≡ true) × (union s t ≡ r)
+
+-- what is covered stays covered
+pub record CoveringLaw : Type 0 where
+  pub ground : (sh : Share) (v : ℕ) (q : ℕ → Bool) (f u : ℕ → Tree) → Grounds v q f u → CoversShare sh f → CoversShare (ground_share sh v) (λ x. instance u (f x))
+  pub unite_first : (a b : Share) (f : ℕ → Tree) → CoversShare a f → CoversShare (unite_shares a b) f
+  pub unite_second : (a b : Share) (f : ℕ → Tree) → CoversShare b f → CoversShare (unite_shares a b) f
+  pub project : (sh : Share) (keep : ℕ) (f : ℕ → Tree) → CoversShare sh f → CoversShare (project_share sh keep) (only keep f)
+  pub widen : (sh : Share) (f : ℕ → Tree) → CoversShare sh f → CoversShare (widen sh) f
+  pub norm : (sh : Share) (f : ℕ → Tree) → CoversShare sh f → CoversShare (norm sh) f
+
+-- what a Share says of the instances that it covers
+pub record SharingLaw : Type 0 where
+  pub apart : (sh : Share) (f : ℕ → Tree) (x y : ℕ) → CoversShare sh f → may_share sh x y ≡ false → SharesNoVariable (f x) (f y)
+  pub ground : (sh : Share) (f : ℕ → Tree) (x : ℕ) → CoversShare sh f → has (nonground sh) x ≡ false → IsGround (f x)
