@@ -18,7 +18,7 @@ pub record ClosureLaw : Type 0 where
   pub ascending : (ss : List ℕ) → IsAscending (closure ss)
   pub has_all : (ss : List ℕ) (s : ℕ) → listed s ss ≡ true → listed s (closure ss) ≡ true
   pub closed : (ss : List ℕ) (s t : ℕ) → listed s (closure ss) ≡ true → listed t (closure ss) ≡ true → listed (union s t) (closure ss) ≡ true
-  pub least : (ss : List ℕ) (P : ℕ → Type 0) → ((s : ℕ) → listed s ss ≡ true → P s) → ((s t : ℕ) → P s → P t → P (union s t)) → (s : ℕ) → listed s (closure ss) ≡ true → P s
+  pub least : (ss : List ℕ) (p : ℕ → Bool) → ((s : ℕ) → listed s ss ≡ true → p s ≡ true) → ((s t : ℕ) → p s ≡ true → p t ≡ true → p (union s t) ≡ true) → (s : ℕ) → listed s (closure ss) ≡ true → p s ≡ true
 
 -- the pairs are the unions of one of the first and one of the second, and no others
 pub record PairsLaw : Type 0 where

@@ -27,6 +27,7 @@ impl Model for VarSet {
     ghost inverse = { λ n. record { high = n / 2 ^ 128; low = n % 2 ^ 128 } };
 }
 
+#[tactic(auto, using(crate::proofs::Words::words))]
 impl VarSet {
     pub fn new() -> VarSet
         ensures { result ≡ empty }

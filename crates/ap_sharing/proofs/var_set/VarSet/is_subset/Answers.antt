@@ -1,0 +1,7 @@
+use Rattle.std.proofs.Common.{not, nat_eq, refl, ap, ap₂, sym, ◌∙◌}
+use Rattle.ap_sharing.specs.VarSet.{both, empty}
+use Rattle.ap_sharing.proofs.Words.{words_equal, meets_test, within_test}
+use Rattle.ap_sharing.proofs.var_set.VarSet.is_subset.Goals as goal
+
+pub returns : goal.returns
+returns c = c.eq.ensures ∙ words_equal c.both.result c.args.self ∙ ap (λ a. nat_eq a c.args.self) c.both.ensures ∙ sym (within_test c.args.self c.args.other)
