@@ -22,7 +22,7 @@ impl Model for VarSet {
 
     ghost view = { λ s. s.high * 2 ^ 128 + s.low };
 
-    ghost invariant = { λ s. s.low < 2 ^ 128 };
+    ghost invariant = { λ s. (s.high < 2 ^ 128) × (s.low < 2 ^ 128) };
 
     ghost inverse = { λ n. record { high = n / 2 ^ 128; low = n % 2 ^ 128 } };
 }
@@ -132,6 +132,7 @@ impl VarSet {
         ensures found { MatchOption result ((y : ℕ) → x ≤ y → has self y ≡ false) (λ y. (x ≤ y) × (has self y ≡ true)) }
         ensures least { MatchOption result (Unit {0}) (λ y. (z : ℕ) → x ≤ z → z < y → has self z ≡ false) }
     {
+        let _ = &self.high;
         for y in x..256 {
             if self.contains(y) {
                 return Some(y);
