@@ -1,12 +1,12 @@
 -- Lists of sets.
 use Rattle.std.proofs.Common.{◌≡◌, ℕ, suc, ◌+◌, ◌≤◌, ◌<◌, ◌⊎◌, inl, inr, Bool, true, false, not, ◌||◌, nat_eq, ltb, cond, List, [], ◌∷◌, ◌++◌, map, length, refl, ap, ap₂, sym, ◌∙◌, subst, arith}
 use Rattle.std.proofs.lemmas.Bool.{false≢true, eqb-true, ne_eqb, ltb-true, ltb-false, lt-ltb, or_cases, or_left, or_right, or_parts, or_from, false_from_ne_true, eqb-false, le-ltb}
-use Rattle.std.specs.List.{filter, flat_map, AllByRecursion}
+use Rattle.std.specs.List.{filter, flat_map, list_any, AllByRecursion}
 use Rattle.std.specs.List.Sorted.{IsStrictlySortedBy}
 use Rattle.std.specs.declared.cmp.Ordering.TheVariants.{Less, Equal, Greater}
-use Rattle.std.specs.Ordering.{nat_cmp, match_ordering}
+use Rattle.std.specs.Ordering.{nat_cmp, match_ordering, is_eq}
 use Rattle.ap_sharing.specs.VarSet.{has, empty, union}
-use Rattle.ap_sharing.specs.Sets.{In, Is, IsAscending, listed, insert_set, join_sets, sets_of, all_of, with_each, pairs, grown, grown_all, closure}
+use Rattle.ap_sharing.specs.Sets.{In, Is, IsAscending, listed, insert_set, join_sets, sets_of, all_of, with_each, pairs, grown, grown_all, closure, too_many}
 use Rattle.ap_sharing.proofs.Elements.{same_test, same_bool, clash, has-union, union_assoc, union_comm, empty-union}
 
 -- ---- membership
@@ -122,6 +122,21 @@ In-join_cases P ss (t ∷ ts) h =
     [ inl k ↦ elim (In-insert_cases P ss t k) [ inl j ↦ inr (inl j) | inr j ↦ inl j ]
     | inr k ↦ inr (inr k) ]
 
+-- ---- what a search by the order finds
+
+equal_order : (s k : ℕ) → is_eq (nat_cmp s k) ≡ nat_eq s k
+equal_order s k = go (ltb s k) refl (nat_eq s k) refl
+  where
+    go : (l : Bool) → ltb s k ≡ l → (e : Bool) → nat_eq s k ≡ e → is_eq (cond l Less (cond e Equal Greater)) ≡ e
+    go true h true i = let a = ltb-true s k h in let b = eqb-true s k i in absurd (omega arith)
+    go true h false i = refl
+    go false h true i = refl
+    go false h false i = refl
+
+pub listed-any : (s : ℕ) (ss : List ℕ) → list_any (λ k. is_eq (nat_cmp s k)) ss ≡ listed s ss
+listed-any s [] = refl
+listed-any s (t ∷ ts) = ap₂ (λ a b. a || b) (equal_order s t) (listed-any s ts)
+
 -- ---- lengths
 
 length-insert : (ss : List ℕ) (k : ℕ) → length ss ≤ length (insert_set ss k)
@@ -136,6 +151,15 @@ length-join ss (t ∷ ts) = omega (arith, length-insert ss t, length-join (inser
 pub length-grown_all : (ss ts : List ℕ) → length ss ≤ length (grown_all ss ts)
 length-grown_all ss [] = omega arith
 length-grown_all ss (t ∷ ts) = omega (arith, length-insert ss t, length-join (insert_set ss t) (with_each t ss), length-grown_all (grown ss t) ts)
+
+pub too_many-longer : (ss ts : List ℕ) → length ss ≤ length ts → too_many ss ≡ true → too_many ts ≡ true
+too_many-longer ss ts h k = let l = ltb-true 4096 (length ss) k in lt-ltb 4096 (length ts) (omega arith)
+
+pub too_many-join : (ss ts : List ℕ) → too_many ss ≡ true → too_many (join_sets ss ts) ≡ true
+too_many-join ss ts h = too_many-longer ss (join_sets ss ts) (length-join ss ts) h
+
+pub too_many-grown_all : (ss ts : List ℕ) → too_many ss ≡ true → too_many (grown_all ss ts) ≡ true
+too_many-grown_all ss ts h = too_many-longer ss (grown_all ss ts) (length-grown_all ss ts) h
 
 pub join-append : (ss ts rs : List ℕ) → join_sets ss (ts ++ rs) ≡ join_sets (join_sets ss ts) rs
 join-append ss [] rs = refl

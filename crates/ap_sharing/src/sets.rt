@@ -1,6 +1,7 @@
 //! Sets of sets of variables. A clause sees them as the list of the sets, ascending as numbers.
 
 ghost use Rattle.std.specs.Prelude.{◌≡◌, ◌==◌, true, false, not, ◌&&◌, map, IfOk, is_ok, length, [], if◌then◌else◌, Some, None};
+ghost use Rattle.std.specs.Bool.{OnTrue, OnFalse};
 ghost use Rattle.std.specs.List.{filter, list_any};
 ghost use Rattle.ap_sharing.specs.VarSet.{has, meets, within, both};
 ghost use Rattle.ap_sharing.specs.Sets.{IsAscending, listed, insert_set, join_sets, sets_of, all_of, with_each, pairs, closure, grown, too_many};
@@ -177,17 +178,20 @@ impl Sets {
         Ok(Some(unions))
     }
 
-    /// Puts in the union of s and each set of the other, and stops at the first set too many.
+    /// Puts in the union of s and each set of the other, and stops at the first set too many. Answers whether there are
+    /// no more than a Share keeps.
     fn add_unions(&mut self, s: VarSet, other: &Sets) -> Result<bool, NoMemory>
-        ensures { IfOk result (λ r. if r then (self.new ≡ join_sets self.old (with_each s other.now)) × (too_many self.new ≡ false) else (too_many (join_sets self.old (with_each s other.now)) ≡ true)) }
+        ensures all { IfOk result (λ r. OnTrue r (self.new ≡ join_sets self.old (with_each s other.now))) }
+        ensures few { IfOk result (λ r. OnTrue r (too_many self.new ≡ false)) }
+        ensures stopped { IfOk result (λ r. OnFalse r (too_many (join_sets self.old (with_each s other.now)) ≡ true)) }
     {
         for t in &other.held {
-            self.insert(s.union(*t))?;
             if self.len() > MAX_SETS {
                 return Ok(false);
             }
+            self.insert(s.union(*t))?;
         }
-        Ok(true)
+        Ok(self.len() <= MAX_SETS)
     }
 
     /// All unions of one or more of the sets, and None where these are too many. At most one set too many is built.
@@ -198,7 +202,7 @@ impl Sets {
         for s in &self.held {
             let before = closed.copy()?;
             closed.insert(*s)?;
-            if closed.len() > MAX_SETS || !closed.add_unions(*s, &before)? {
+            if !closed.add_unions(*s, &before)? {
                 return Ok(None);
             }
         }
