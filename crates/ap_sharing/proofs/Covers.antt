@@ -1,17 +1,17 @@
 -- What an operation's Share covers.
-use Rattle.std.proofs.Common.{◌≡◌, ℕ, ◌⊎◌, inl, inr, Bool, true, false, not, ◌||◌, ◌&&◌, nat_eq, cond, List, [], ◌∷◌, map, refl, ap, ap₂, sym, ◌∙◌}
-use Rattle.std.proofs.lemmas.Bool.{false≢true, eqb-true, or_left, or_right, or_parts, and_parts, and_from, false_from_ne_true, both_ways}
+use Rattle.std.proofs.Common.{◌≡◌, ℕ, ◌⊎◌, inl, inr, Bool, true, false, not, ◌&&◌, cond, List, [], ◌∷◌, map, arith, refl, ap, sym, ◌∙◌}
+use Rattle.std.proofs.lemmas.Bool.{false≢true, eqb-true, or_left, or_right, and_parts, and_from, false_from_ne_true}
 use Rattle.std.specs.List.{filter, list_any}
-use Rattle.ap_term.specs.Tree.{Tree, var, atom}
+use Rattle.ap_term.specs.Tree.{Tree, atom}
 use Rattle.ap_term.specs.Vars.{occurs}
 use Rattle.ap_term.specs.Substitution.{instance}
 use Rattle.ap_term.specs.Independence.{IsGround, SharesNoVariable}
 use Rattle.ap_sharing.specs.VarSet.{has, empty, union, both, without, meets, within}
 use Rattle.ap_sharing.specs.Sets.{In, Is, join_sets, sets_of, all_of, too_many}
-use Rattle.ap_sharing.specs.Share.{Share, Member, nonground, met, may_share, dropped, widen, limited, norm, ground_share, unite_shares, project_share}
+use Rattle.ap_sharing.specs.Share.{Share, Member, IsNormal, nonground, met, may_share, dropped, widen, limited, norm, ground_share, unite_shares, project_share}
 use Rattle.ap_sharing.specs.Covering.{CoversShare, only, Grounds}
-use Rattle.ap_sharing.proofs.Elements.{same_test, same_bool, clash, has-union, has-both, has-empty, meets-at, meets-none, within-at, without_made}
-use Rattle.ap_sharing.proofs.Lists.{Is-same, In-weaken, In-filter, In-map, In-all_of, In-join_left, In-join_right}
+use Rattle.ap_sharing.proofs.Elements.{same_test, same_bool, clash, has-union, has-both, meets-at, meets-none, within-at, without_made}
+use Rattle.ap_sharing.proofs.Lists.{Is-same, In-weaken, In-filter, In-map, In-all_of, In-join_left, In-join_right, ascending-none}
 use Rattle.ap_sharing.proofs.Trees.{occurs-back, occurs-there}
 
 pub Member-same : (sh : Share) (p q : ℕ → Bool) → ((x : ℕ) → p x ≡ q x) → Member sh p → Member sh q
@@ -57,11 +57,11 @@ pub met-has : (sh : Share) (v : ℕ) (p : ℕ → Bool) (z y : ℕ) → Member s
 met-has sh v p z y (inl h) vz pz py =
     has-union (cond (meets sh.any v) sh.any empty) (all_of (filter (λ s. meets s v) sh.sets)) y
     ∙ or_right (has (cond (meets sh.any v) sh.any empty) y) (has (all_of (filter (λ s. meets s v) sh.sets)) y)
-      (In-all_of p (filter (λ s. meets s v) sh.sets) (In-filter (λ s. Is s p) (λ s. meets s v) sh.sets (λ s k. meets-at s v z (k z ∙ pz) vz) h) y py)
+    (In-all_of p (filter (λ s. meets s v) sh.sets) (In-filter (λ s. Is s p) (λ s. meets s v) sh.sets (λ s k. meets-at s v z (k z ∙ pz) vz) h) y py)
 met-has sh v p z y (inr h) vz pz py =
     has-union (cond (meets sh.any v) sh.any empty) (all_of (filter (λ s. meets s v) sh.sets)) y
     ∙ or_left (has (cond (meets sh.any v) sh.any empty) y) (has (all_of (filter (λ s. meets s v) sh.sets)) y)
-      (ap (λ b. has (cond b sh.any empty) y) (meets-at sh.any v z (h z pz) vz) ∙ h y py)
+    (ap (λ b. has (cond b sh.any empty) y) (meets-at sh.any v z (h z pz) vz) ∙ h y py)
 
 -- ---- ground
 
@@ -71,7 +71,7 @@ Member-ground sh v p e h = Member-norm (record { sets = filter (λ s. not (meets
     go : Member sh p → Member (record { sets = filter (λ s. not (meets s v)) sh.sets; any = without sh.any v }) p
     go (inl k) =
         inl (In-filter (λ s. Is s p) (λ s. not (meets s v)) sh.sets
-          (λ s i. ap not (meets-none s v (λ x a b. clash (p x) (sym (i x) ∙ a) (e x b)))) k)
+        (λ s i. ap not (meets-none s v (λ x a b. clash (p x) (sym (i x) ∙ a) (e x b)))) k)
     go (inr k) = inr (λ x i. without_made sh.any v x (k x i) (false_from_ne_true (has v x) (λ b. clash (p x) i (e x b))))
 
 pub ground-covers : (sh : Share) (v : ℕ) (q : ℕ → Bool) (f u : ℕ → Tree) → Grounds v q f u → CoversShare sh f → CoversShare (ground_share sh v) (λ x. instance u (f x))
@@ -130,13 +130,13 @@ pub project-covers : (sh : Share) (keep : ℕ) (f : ℕ → Tree) → CoversShar
 project-covers sh keep f h u x o =
     Member-norm (record { sets = sets_of (map (λ s. both s keep) sh.sets); any = both sh.any keep }) (λ y. occurs u (only keep f y))
     (Member-same (record { sets = sets_of (map (λ s. both s keep) sh.sets); any = both sh.any keep }) (λ y. occurs u (f y) && has keep y) (λ y. occurs u (only keep f y)) (only_occurs keep f u)
-      (go (h u x (and_parts (occurs u (f x)) (has keep x) (only_occurs keep f u x ∙ o)).0)))
+    (go (h u x (and_parts (occurs u (f x)) (has keep x) (only_occurs keep f u x ∙ o)).0)))
   where
     go : Member sh (λ y. occurs u (f y)) → Member (record { sets = sets_of (map (λ s. both s keep) sh.sets); any = both sh.any keep }) (λ y. occurs u (f y) && has keep y)
     go (inl k) =
         inl (In-join_right (λ s. Is s (λ y. occurs u (f y) && has keep y)) [] (map (λ s. both s keep) sh.sets)
-          (In-map (λ s. Is s (λ y. occurs u (f y))) (λ s. Is s (λ y. occurs u (f y) && has keep y)) (λ s. both s keep) sh.sets
-            (λ s i y. has-both s keep y ∙ ap (λ b. b && has keep y) (i y)) k))
+        (In-map (λ s. Is s (λ y. occurs u (f y))) (λ s. Is s (λ y. occurs u (f y) && has keep y)) (λ s. both s keep) sh.sets
+        (λ s i y. has-both s keep y ∙ ap (λ b. b && has keep y) (i y)) k))
     go (inr k) = inr (λ y j. let p = and_parts (occurs u (f y)) (has keep y) j in has-both sh.any keep y ∙ and_from (has sh.any y) (has keep y) (k y p.0) p.1)
 
 -- ---- what a Share says
@@ -159,3 +159,6 @@ apart sh f x y h n u o =
 pub surely_ground : (sh : Share) (f : ℕ → Tree) (x : ℕ) → CoversShare sh f → has (nonground sh) x ≡ false → IsGround (f x)
 surely_ground sh f x h n u =
     false_from_ne_true (occurs u (f x)) (λ o. clash (has (nonground sh) x) (Member-nonground sh (λ z. occurs u (f z)) (h u x o) x o) n)
+
+pub normal-none : (v : ℕ) → IsNormal (record { sets = []; any = v })
+normal-none v = record { ascending = ascending-none; apart = λ s h. absurd (false≢true h); few = omega arith }

@@ -1,13 +1,13 @@
 -- Lists of sets.
-use Rattle.std.proofs.Common.{◌≡◌, ℕ, suc, ◌+◌, ◌≤◌, ◌<◌, ◌⊎◌, inl, inr, Bool, true, false, not, ◌||◌, nat_eq, ltb, cond, List, [], ◌∷◌, ◌++◌, map, length, refl, ap, ap₂, sym, ◌∙◌, subst, arith}
-use Rattle.std.proofs.lemmas.Bool.{false≢true, eqb-true, ne_eqb, ltb-true, ltb-false, lt-ltb, or_cases, or_left, or_right, or_parts, or_from, false_from_ne_true, eqb-false, le-ltb}
+use Rattle.std.proofs.Common.{◌≡◌, ℕ, suc, ◌≤◌, ◌<◌, ◌⊎◌, inl, inr, Bool, true, false, ◌||◌, nat_eq, ltb, cond, List, [], ◌∷◌, ◌++◌, map, length, refl, ap, ap₂, sym, ◌∙◌, subst, arith}
+use Rattle.std.proofs.lemmas.Bool.{false≢true, eqb-true, ne_eqb, ltb-true, ltb-false, lt-ltb, or_cases, or_left, or_right, or_from, eqb-false}
 use Rattle.std.specs.List.{filter, flat_map, list_any, AllByRecursion}
 use Rattle.std.specs.List.Sorted.{IsStrictlySortedBy}
 use Rattle.std.specs.declared.cmp.Ordering.TheVariants.{Less, Equal, Greater}
 use Rattle.std.specs.Ordering.{nat_cmp, match_ordering, is_eq}
-use Rattle.ap_sharing.specs.VarSet.{has, empty, union}
-use Rattle.ap_sharing.specs.Sets.{In, Is, IsAscending, listed, insert_set, join_sets, sets_of, all_of, with_each, pairs, grown, grown_all, closure, too_many}
-use Rattle.ap_sharing.proofs.Elements.{same_test, same_bool, clash, has-union, union_assoc, union_comm, empty-union}
+use Rattle.ap_sharing.specs.VarSet.{has, union}
+use Rattle.ap_sharing.specs.Sets.{In, Is, IsAscending, listed, insert_set, join_sets, all_of, with_each, pairs, grown, grown_all, too_many}
+use Rattle.ap_sharing.proofs.Elements.{same_test, clash, has-union}
 
 -- ---- membership
 
@@ -73,6 +73,14 @@ In-append_cases P [] ts h = inr h
 In-append_cases P (s ∷ ss) ts (inl h) = inl (inl h)
 In-append_cases P (s ∷ ss) ts (inr h) = elim (In-append_cases P ss ts h) [ inl k ↦ inl (inr k) | inr k ↦ inr k ]
 
+pub listed-filter : (p : ℕ → Bool) (s : ℕ) (ss : List ℕ) → listed s (filter p ss) ≡ true → p s ≡ true
+listed-filter p s [] h = absurd (false≢true h)
+listed-filter p s (t ∷ ts) h = go (listed-filter p s ts) (p t) refl h
+  where
+    go : (listed s (filter p ts) ≡ true → p s ≡ true) → (b : Bool) → p t ≡ b → listed s (cond b (t ∷ filter p ts) (filter p ts)) ≡ true → p s ≡ true
+    go ih true e k = elim (or_cases (nat_eq s t) (listed s (filter p ts)) k) [ inl i ↦ ap p (eqb-true s t i) ∙ e | inr i ↦ ih i ]
+    go ih false e k = ih k
+
 -- ---- a set that is put in
 
 by_cmp : (P : List ℕ → Type 0) (k x : ℕ) (ks xs ys : List ℕ) → (k < x → P ks) → (k ≡ x → P xs) → (x < k → P ys) → P (match_ordering (nat_cmp k x) ks xs ys)
@@ -118,9 +126,10 @@ In-join_right P ss (t ∷ ts) (inr h) = In-join_right P (insert_set ss t) ts h
 pub In-join_cases : (P : ℕ → Type 0) (ss ts : List ℕ) → In P (join_sets ss ts) → In P ss ⊎ In P ts
 In-join_cases P ss [] h = inl h
 In-join_cases P ss (t ∷ ts) h =
-    elim (In-join_cases P (insert_set ss t) ts h)
-    [ inl k ↦ elim (In-insert_cases P ss t k) [ inl j ↦ inr (inl j) | inr j ↦ inl j ]
-    | inr k ↦ inr (inr k) ]
+    elim (In-join_cases P (insert_set ss t) ts h) [
+      | inl k ↦ elim (In-insert_cases P ss t k) [ inl j ↦ inr (inl j) | inr j ↦ inl j ]
+      | inr k ↦ inr (inr k)
+    ]
 
 -- ---- what a search by the order finds
 
@@ -262,9 +271,10 @@ flat_there g s a (r ∷ ss) (inr h) k = In-append_right (λ z. a ≡ z) (g r) (f
 flat_back : (g : ℕ → List ℕ) (a : ℕ) (ss : List ℕ) → Elem a (flat_map g ss) → (s : ℕ) × Elem s ss × Elem a (g s)
 flat_back g a [] h = absurd h
 flat_back g a (r ∷ ss) h =
-    elim (In-append_cases (λ z. a ≡ z) (g r) (flat_map g ss) h)
-    [ inl k ↦ (r, inl refl, k)
-    | inr k ↦ (let i = flat_back g a ss k in (i.0, inr i.1, i.2)) ]
+    elim (In-append_cases (λ z. a ≡ z) (g r) (flat_map g ss) h) [
+      | inl k ↦ (r, inl refl, k)
+      | inr k ↦ (let i = flat_back g a ss k in (i.0, inr i.1, i.2))
+    ]
 
 pub Elem-pairs : (ss ts : List ℕ) (s t : ℕ) → Elem s ss → Elem t ts → Elem (union s t) (pairs ss ts)
 Elem-pairs ss ts s t h k =
@@ -273,9 +283,10 @@ Elem-pairs ss ts s t h k =
 
 pub pairs-back : (ss ts : List ℕ) (a : ℕ) → Elem a (pairs ss ts) → (s : ℕ) × (t : ℕ) × Elem s ss × Elem t ts × (union s t ≡ a)
 pairs-back ss ts a h =
-    elim (In-join_cases (λ z. a ≡ z) [] (flat_map (λ r. with_each r ts) ss) h)
-    [ inl k ↦ absurd k
-    | inr k ↦ (let i = flat_back (λ r. with_each r ts) a ss k in let j = Elem-map (union i.0) a ts i.2 in (i.0, j.0, i.1, j.1, j.2)) ]
+    elim (In-join_cases (λ z. a ≡ z) [] (flat_map (λ r. with_each r ts) ss) h) [
+      | inl k ↦ absurd k
+      | inr k ↦ (let i = flat_back (λ r. with_each r ts) a ss k in let j = Elem-map (union i.0) a ts i.2 in (i.0, j.0, i.1, j.1, j.2))
+    ]
 
 pub In-pairs : (p q : ℕ → Bool) (ss ts : List ℕ) → In (λ s. Is s p) ss → In (λ t. Is t q) ts → In (λ r. Is r (λ x. p x || q x)) (pairs ss ts)
 In-pairs p q ss ts h k =

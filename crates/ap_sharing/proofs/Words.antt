@@ -1,7 +1,6 @@
 -- Sets in two words.
-use Rattle.std.proofs.Common.{◌≡◌, ℕ, ◌+◌, ◌*◌, ◌^◌, ◌-◌, ◌/◌, ◌%◌, ◌<◌, ◌≤◌, Bool, true, false, not, ◌&&◌, nat_eq, ltb, cond, refl, ap, ap₂, sym, ◌∙◌, subst, arith, add-zero, pow-add}
+use Rattle.std.proofs.Common.{◌≡◌, ℕ, ◌+◌, ◌*◌, ◌^◌, ◌-◌, ◌/◌, ◌%◌, ◌<◌, ◌≤◌, false, not, ◌&&◌, nat_eq, refl, ap, ap₂, sym, ◌∙◌, arith, add-zero, pow-add}
 use Rattle.std.specs.Prelude.{bit_and, bit_or, bit_xor}
-use Rattle.std.specs.Int.{bit_at}
 use Rattle.std.proofs.lemmas.Nat.{or_block, and_block, xor_block, or_lt, xor_lt, and_le_l, shr_split}
 use Rattle.std.proofs.lemmas.Nat.Bits.{bit_at_cat_low, bit_at_cat_high, shr_and_one}
 use Rattle.std.proofs.Math.Pow.{pow_mono, pow-lt}
@@ -83,6 +82,6 @@ pub words_equal : (a b : ℕ) → (nat_eq (a / 2 ^ 128) (b / 2 ^ 128) && nat_eq 
 words_equal a b =
     same_bool (nat_eq (a / 2 ^ 128) (b / 2 ^ 128) && nat_eq (a % 2 ^ 128) (b % 2 ^ 128)) (nat_eq a b)
     (λ h. let p = and_parts (nat_eq (a / 2 ^ 128) (b / 2 ^ 128)) (nat_eq (a % 2 ^ 128) (b % 2 ^ 128)) h in
-      ap (nat_eq a) (sym (same_words a b (eqb-true (a / 2 ^ 128) (b / 2 ^ 128) p.0) (eqb-true (a % 2 ^ 128) (b % 2 ^ 128) p.1))) ∙ same_test a)
+    ap (nat_eq a) (sym (same_words a b (eqb-true (a / 2 ^ 128) (b / 2 ^ 128) p.0) (eqb-true (a % 2 ^ 128) (b % 2 ^ 128) p.1))) ∙ same_test a)
     (λ h. let e : a ≡ b = eqb-true a b h in
-      ap (λ z. nat_eq (z / 2 ^ 128) (b / 2 ^ 128) && nat_eq (z % 2 ^ 128) (b % 2 ^ 128)) e ∙ and_from (nat_eq (b / 2 ^ 128) (b / 2 ^ 128)) (nat_eq (b % 2 ^ 128) (b % 2 ^ 128)) (same_test (b / 2 ^ 128)) (same_test (b % 2 ^ 128)))
+    ap (λ z. nat_eq (z / 2 ^ 128) (b / 2 ^ 128) && nat_eq (z % 2 ^ 128) (b % 2 ^ 128)) e ∙ and_from (nat_eq (b / 2 ^ 128) (b / 2 ^ 128)) (nat_eq (b % 2 ^ 128) (b % 2 ^ 128)) (same_test (b / 2 ^ 128)) (same_test (b % 2 ^ 128)))

@@ -2,8 +2,8 @@
 -- Independent And-Parallelism; Muthukumar and Hermenegildo, Compile-Time Derivation of Variable Dependency Using
 -- Abstract Interpretation). A variable at run time stands for the set of the clause's variables whose instances have
 -- it. The members of a Share are its sets and every subset of `any` that isn't empty.
-use Rattle.std.specs.Prelude.{◌≡◌, ℕ, ◌≤◌, Bool, true, false, not, ◌||◌, ◌&&◌, nat_eq, ◌⊎◌, List, [], ◌∷◌, map, length, if◌then◌else◌}
-use Rattle.std.specs.List.{filter, list_any, All}
+use Rattle.std.specs.Prelude.{◌≡◌, ℕ, ◌≤◌, Bool, true, false, not, ◌||◌, ◌&&◌, ◌⊎◌, List, [], map, length, if◌then◌else◌}
+use Rattle.std.specs.List.{filter, list_any}
 use Rattle.ap_sharing.specs.VarSet.{has, empty, union, both, without, meets, within}
 use Rattle.ap_sharing.specs.Sets.{In, Is, IsAscending, listed, join_sets, sets_of, all_of, too_many}
 
@@ -48,7 +48,7 @@ norm sh = limited (dropped sh)
 
 pub record IsNormal (sh : Share) : Type 0 where
   pub ascending : IsAscending sh.sets
-  pub apart : All (λ s. within s sh.any ≡ false) sh.sets
+  pub apart : (s : ℕ) → listed s sh.sets ≡ true → within s sh.any ≡ false
   pub few : length sh.sets ≤ 4096
 
 -- ---- operations

@@ -156,9 +156,7 @@ impl Ord for VarSet {
     ghost matches_eq = { Prim.search (comparing, rules) };
 
     fn cmp(&self, other: &VarSet) -> Ordering {
-        self.high
-            .cmp(&other.high)
-            .then(self.low.cmp(&other.low))
+        self.high.cmp(&other.high).then(self.low.cmp(&other.low))
     }
 }
 

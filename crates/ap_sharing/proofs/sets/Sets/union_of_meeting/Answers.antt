@@ -13,7 +13,7 @@ loop-s-init c =
 pub loop-s-preserved : goal.loop-s-preserved
 loop-s-preserved c =
     sym (ap (λ r. union c.loop-s.all (all_of (filter (λ s. meets s c.args.v) r))) c.in-Some.ensures.steps
-      ∙ ap (λ b. union c.loop-s.all (all_of (cond b (c.in-Some.s.now ∷ filter (λ s. meets s c.args.v) c.next.new.self) (filter (λ s. meets s c.args.v) c.next.new.self)))) (sym c.intersects.ensures ∙ c.if-intersects.false))
+    ∙ ap (λ b. union c.loop-s.all (all_of (cond b (c.in-Some.s.now ∷ filter (λ s. meets s c.args.v) c.next.new.self) (filter (λ s. meets s c.args.v) c.next.new.self)))) (sym c.intersects.ensures ∙ c.if-intersects.false))
     ∙ c.loop-s.invariant
 
 pub loop-s-preserved-then-intersects : goal.loop-s-preserved-then-intersects
@@ -21,7 +21,7 @@ loop-s-preserved-then-intersects c =
     ap (λ z. union z (all_of (filter (λ s. meets s c.args.v) c.next.new.self))) c.union-all.ensures
     ∙ union_assoc c.loop-s.all c.in-Some.s.now (all_of (filter (λ s. meets s c.args.v) c.next.new.self))
     ∙ sym (ap (λ r. union c.loop-s.all (all_of (filter (λ s. meets s c.args.v) r))) c.in-Some.ensures.steps
-      ∙ ap (λ b. union c.loop-s.all (all_of (cond b (c.in-Some.s.now ∷ filter (λ s. meets s c.args.v) c.next.new.self) (filter (λ s. meets s c.args.v) c.next.new.self)))) (sym c.intersects.ensures ∙ c.if-intersects.true))
+    ∙ ap (λ b. union c.loop-s.all (all_of (cond b (c.in-Some.s.now ∷ filter (λ s. meets s c.args.v) c.next.new.self) (filter (λ s. meets s c.args.v) c.next.new.self)))) (sym c.intersects.ensures ∙ c.if-intersects.true))
     ∙ c.loop-s.invariant
 
 pub returns : goal.returns

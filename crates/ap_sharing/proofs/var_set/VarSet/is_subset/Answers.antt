@@ -1,6 +1,5 @@
-use Rattle.std.proofs.Common.{not, nat_eq, refl, ap, ap₂, sym, ◌∙◌}
-use Rattle.ap_sharing.specs.VarSet.{both, empty}
-use Rattle.ap_sharing.proofs.Words.{words_equal, meets_test, within_test}
+use Rattle.std.proofs.Common.{nat_eq, ap, sym, ◌∙◌}
+use Rattle.ap_sharing.proofs.Words.{words_equal, within_test}
 use Rattle.ap_sharing.proofs.var_set.VarSet.is_subset.Goals as goal
 
 pub returns : goal.returns
