@@ -1,17 +1,20 @@
 -- What an operation's Share covers.
-use Rattle.std.proofs.Common.{◌≡◌, ℕ, ◌⊎◌, inl, inr, Bool, true, false, not, ◌&&◌, cond, List, [], ◌∷◌, map, arith, refl, ap, sym, ◌∙◌}
-use Rattle.std.proofs.lemmas.Bool.{false≢true, eqb-true, or_left, or_right, and_parts, and_from, false_from_ne_true}
+use Rattle.std.proofs.Common.{ap₂, ◌≡◌, ℕ, ◌⊎◌, inl, inr, Bool, true, false, not, ◌&&◌, cond, List, [], ◌∷◌, map, arith, refl, ap, sym, ◌∙◌, length, nat_eq}
+use Rattle.std.proofs.lemmas.Bool.{false≢true, eqb-true, or_left, or_right, or_cases, eq-eqb, not-true, ltb-false, le-ltb, and_parts, and_from, false_from_ne_true}
 use Rattle.std.specs.List.{filter, list_any}
+use Rattle.std.specs.Ordering.{nat_cmp}
+use Rattle.std.specs.Cmp.Lexicographic.{pointwise, bytes_decides}
+use Rattle.std.proofs.lemmas.List.Kept.{IsStrictlySortedBy-filter}
 use Rattle.ap_term.specs.Tree.{Tree, atom}
 use Rattle.ap_term.specs.Vars.{occurs}
 use Rattle.ap_term.specs.Substitution.{instance}
 use Rattle.ap_term.specs.Independence.{IsGround, SharesNoVariable}
 use Rattle.ap_sharing.specs.VarSet.{has, empty, union, both, without, meets, within}
-use Rattle.ap_sharing.specs.Sets.{In, Is, join_sets, sets_of, all_of, too_many}
-use Rattle.ap_sharing.specs.Share.{Share, Member, IsNormal, nonground, met, may_share, dropped, widen, limited, norm, ground_share, unite_shares, project_share}
+use Rattle.ap_sharing.specs.Sets.{In, Is, IsAscending, listed, join_sets, sets_of, all_of, too_many}
+use Rattle.ap_sharing.specs.Share.{Share, Member, IsNormal, same_share, nonground, met, may_share, dropped, widen, limited, norm, ground_share, unite_shares, project_share}
 use Rattle.ap_sharing.specs.Covering.{CoversShare, only, Grounds}
-use Rattle.ap_sharing.proofs.Elements.{same_test, same_bool, clash, has-union, has-both, meets-at, meets-none, within-at, without_made}
-use Rattle.ap_sharing.proofs.Lists.{Is-same, In-weaken, In-filter, In-map, In-all_of, In-join_left, In-join_right, ascending-none}
+use Rattle.ap_sharing.proofs.Elements.{same_test, same_bool, clash, has-union, has-both, meets-at, meets-none, within-at, without_made, has-empty}
+use Rattle.ap_sharing.proofs.Lists.{Elem, In-elem, listed-filter, Is-same, In-weaken, In-filter, In-map, In-all_of, In-join_left, In-join_right, ascending-none}
 use Rattle.ap_sharing.proofs.Trees.{occurs-back, occurs-there}
 
 pub Member-same : (sh : Share) (p q : ℕ → Bool) → ((x : ℕ) → p x ≡ q x) → Member sh p → Member sh q
@@ -162,3 +165,64 @@ surely_ground sh f x h n u =
 
 pub normal-none : (v : ℕ) → IsNormal (record { sets = []; any = v })
 normal-none v = record { ascending = ascending-none; apart = λ s h. absurd (false≢true h); few = omega arith }
+
+pub normal-norm : (sh : Share) → IsAscending sh.sets → IsNormal (norm sh)
+normal-norm sh h = go (too_many (dropped sh).sets) refl
+  where
+    go : (b : Bool) → too_many (dropped sh).sets ≡ b → IsNormal (cond b (widen (dropped sh)) (dropped sh))
+    go true e = normal-none (nonground (dropped sh))
+    go false e = record {
+      ascending = IsStrictlySortedBy-filter nat_cmp (λ s. not (within s sh.any)) sh.sets h;
+      apart = λ s k. not-true (within s sh.any) (listed-filter (λ t. not (within t sh.any)) s sh.sets k);
+      few = ltb-false 4096 (length (dropped sh).sets) e;
+    }
+
+filter-all : (p : ℕ → Bool) (ss : List ℕ) → ((s : ℕ) → listed s ss ≡ true → p s ≡ true) → filter p ss ≡ ss
+filter-all p [] h = refl
+filter-all p (s ∷ ss) h =
+    ap (λ b. cond b (s ∷ filter p ss) (filter p ss)) (h s (or_left (nat_eq s s) (listed s ss) (same_test s)))
+    ∙ ap (λ r. s ∷ r) (filter-all p ss (λ t k. h t (or_right (nat_eq t s) (listed t ss) k)))
+
+pub norm-normal : (sh : Share) → IsNormal sh → norm sh ≡ sh
+norm-normal sh n =
+    ap (λ ss. limited (record { sets = ss; any = sh.any })) (filter-all (λ s. not (within s sh.any)) sh.sets (λ s k. ap not (n.apart s k)))
+    ∙ ap (λ b. cond b (widen sh) sh) (le-ltb 4096 (length sh.sets) n.few)
+
+pub same_share-true : (a b : Share) → same_share a b ≡ true → a ≡ b
+same_share-true a b h =
+    let p = and_parts (pointwise nat_eq a.sets b.sets) (nat_eq a.any b.any) h in
+    ap₂ (λ ss v. record { sets = ss; any = v }) ((bytes_decides a.sets b.sets).0 p.0) (eqb-true a.any b.any p.1)
+
+pub same_share-made : (a b : Share) → a ≡ b → same_share a b ≡ true
+same_share-made a b e =
+    and_from (pointwise nat_eq a.sets b.sets) (nat_eq a.any b.any) ((bytes_decides a.sets b.sets).1 (ap (λ s. s.sets) e)) (eq-eqb a.any b.any (ap (λ s. s.any) e))
+
+-- ---- what members there are
+
+In-have : (p : ℕ → Bool) (ss : List ℕ) → list_any p ss ≡ true → (s : ℕ) × Elem s ss × (p s ≡ true)
+In-have p [] h = absurd (false≢true h)
+In-have p (s ∷ ss) h =
+    elim (or_cases (p s) (list_any p ss) h) [ inl k ↦ (s, inl refl, k) | inr k ↦ (let r = In-have p ss k in (r.0, inr r.1, r.2)) ]
+
+in_some : (x : ℕ) (ss : List ℕ) → has (all_of ss) x ≡ true → (s : ℕ) × Elem s ss × (has s x ≡ true)
+in_some x [] h = absurd (clash (has empty x) h (has-empty x))
+in_some x (s ∷ ss) h =
+    elim (or_cases (has s x) (has (all_of ss) x) (sym (has-union s (all_of ss) x) ∙ h))
+    [ inl k ↦ (s, inl refl, k) | inr k ↦ (let r = in_some x ss k in (r.0, inr r.1, r.2)) ]
+
+its_member : (sh : Share) (s : ℕ) → Elem s sh.sets → Member sh (has s)
+its_member sh s h = inl (In-elem (λ r. Is r (has s)) sh.sets s h (λ x. refl))
+
+pub together : (sh : Share) (x y : ℕ) → may_share sh x y ≡ true → (p : ℕ → Bool) × Member sh p × (p x ≡ true) × (p y ≡ true)
+together sh x y h =
+    elim (or_cases (has sh.any x && has sh.any y) (list_any (λ s. has s x && has s y) sh.sets) h) [
+      | inl k ↦ (let q = and_parts (has sh.any x) (has sh.any y) k in (has sh.any, inr (λ z i. i), q.0, q.1))
+      | inr k ↦ (let r = In-have (λ s. has s x && has s y) sh.sets k in let q = and_parts (has r.0 x) (has r.0 y) r.2 in (has r.0, its_member sh r.0 r.1, q.0, q.1))
+    ]
+
+pub of_a_member : (sh : Share) (x : ℕ) → has (nonground sh) x ≡ true → (p : ℕ → Bool) × Member sh p × (p x ≡ true)
+of_a_member sh x h =
+    elim (or_cases (has sh.any x) (has (all_of sh.sets) x) (sym (has-union sh.any (all_of sh.sets) x) ∙ h)) [
+      | inl k ↦ (has sh.any, inr (λ z i. i), k)
+      | inr k ↦ (let r = in_some x sh.sets k in (has r.0, its_member sh r.0 r.1, r.2))
+    ]

@@ -7,7 +7,7 @@ use Rattle.std.specs.declared.cmp.Ordering.TheVariants.{Less, Equal, Greater}
 use Rattle.std.specs.Ordering.{nat_cmp, match_ordering, is_eq}
 use Rattle.ap_sharing.specs.VarSet.{has, union}
 use Rattle.ap_sharing.specs.Sets.{In, Is, IsAscending, listed, insert_set, join_sets, all_of, with_each, pairs, grown, grown_all, too_many}
-use Rattle.ap_sharing.proofs.Elements.{same_test, clash, has-union}
+use Rattle.ap_sharing.proofs.Elements.{same_test, clash, has-union, same_bool}
 
 -- ---- membership
 
@@ -130,6 +130,16 @@ In-join_cases P ss (t ∷ ts) h =
       | inl k ↦ elim (In-insert_cases P ss t k) [ inl j ↦ inr (inl j) | inr j ↦ inl j ]
       | inr k ↦ inr (inr k)
     ]
+
+pub listed-join : (ss ts : List ℕ) (s : ℕ) → listed s (join_sets ss ts) ≡ (listed s ss || listed s ts)
+listed-join ss ts s =
+    same_bool (listed s (join_sets ss ts)) (listed s ss || listed s ts)
+    (λ h. elim (In-join_cases (λ r. s ≡ r) ss ts (Elem-listed s (join_sets ss ts) h))
+    [ inl k ↦ or_left (listed s ss) (listed s ts) (listed-Elem s ss k) | inr k ↦ or_right (listed s ss) (listed s ts) (listed-Elem s ts k) ])
+    (λ h. elim (or_cases (listed s ss) (listed s ts) h) [
+      | inl k ↦ listed-Elem s (join_sets ss ts) (In-join_left (λ r. s ≡ r) ss ts (Elem-listed s ss k))
+      | inr k ↦ listed-Elem s (join_sets ss ts) (In-join_right (λ r. s ≡ r) ss ts (Elem-listed s ts k))
+    ])
 
 -- ---- what a search by the order finds
 

@@ -1,13 +1,11 @@
 -- Sets in two words.
-use Rattle.std.proofs.Common.{◌≡◌, ℕ, ◌+◌, ◌*◌, ◌^◌, ◌-◌, ◌/◌, ◌%◌, ◌<◌, ◌≤◌, false, not, ◌&&◌, nat_eq, refl, ap, ap₂, sym, ◌∙◌, arith, add-zero, pow-add}
+use Rattle.std.proofs.Common.{◌≡◌, ℕ, ◌+◌, ◌*◌, ◌^◌, ◌-◌, ◌/◌, ◌%◌, ◌<◌, ◌≤◌, false, not, nat_eq, refl, ap, sym, ◌∙◌, arith, add-zero, pow-add}
 use Rattle.std.specs.Prelude.{bit_and, bit_or, bit_xor}
 use Rattle.std.proofs.lemmas.Nat.{or_block, and_block, xor_block, or_lt, xor_lt, and_le_l, shr_split}
 use Rattle.std.proofs.lemmas.Nat.Bits.{bit_at_cat_low, bit_at_cat_high, shr_and_one}
 use Rattle.std.proofs.Math.Pow.{pow_mono, pow-lt}
 use Rattle.std.proofs.Math.Nat.{div-eq_of_lt, mod-eq_of_lt}
-use Rattle.std.proofs.lemmas.Bool.{eqb-true, and_parts, and_from}
 use Rattle.ap_sharing.specs.VarSet.{has, empty, just, union, both, without, meets, within}
-use Rattle.ap_sharing.proofs.Elements.{same_test, same_bool}
 
 pub union_words : (a b c d : ℕ) → b < 2 ^ 128 → d < 2 ^ 128 → union (a * 2 ^ 128 + b) (c * 2 ^ 128 + d) ≡ bit_or a c * 2 ^ 128 + bit_or b d
 unfolding union
@@ -73,15 +71,3 @@ unfolding within both
 within_test s t = refl
 
 pub ruleset words = (both_words, meets_test, within_test, union_words, without_words, has_low, has_high, or_lt, xor_lt, and_le_l)
-
-same_words : (a b : ℕ) → a / 2 ^ 128 ≡ b / 2 ^ 128 → a % 2 ^ 128 ≡ b % 2 ^ 128 → a ≡ b
-same_words a b h k = sym (shr_split a 128) ∙ ap₂ (λ q r. q * 2 ^ 128 + r) h k ∙ shr_split b 128
-
--- sets are equal where their words are
-pub words_equal : (a b : ℕ) → (nat_eq (a / 2 ^ 128) (b / 2 ^ 128) && nat_eq (a % 2 ^ 128) (b % 2 ^ 128)) ≡ nat_eq a b
-words_equal a b =
-    same_bool (nat_eq (a / 2 ^ 128) (b / 2 ^ 128) && nat_eq (a % 2 ^ 128) (b % 2 ^ 128)) (nat_eq a b)
-    (λ h. let p = and_parts (nat_eq (a / 2 ^ 128) (b / 2 ^ 128)) (nat_eq (a % 2 ^ 128) (b % 2 ^ 128)) h in
-    ap (nat_eq a) (sym (same_words a b (eqb-true (a / 2 ^ 128) (b / 2 ^ 128) p.0) (eqb-true (a % 2 ^ 128) (b % 2 ^ 128) p.1))) ∙ same_test a)
-    (λ h. let e : a ≡ b = eqb-true a b h in
-    ap (λ z. nat_eq (z / 2 ^ 128) (b / 2 ^ 128) && nat_eq (z % 2 ^ 128) (b % 2 ^ 128)) e ∙ and_from (nat_eq (b / 2 ^ 128) (b / 2 ^ 128)) (nat_eq (b % 2 ^ 128) (b % 2 ^ 128)) (same_test (b / 2 ^ 128)) (same_test (b % 2 ^ 128)))

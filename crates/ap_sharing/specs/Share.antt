@@ -2,8 +2,9 @@
 -- Independent And-Parallelism; Muthukumar and Hermenegildo, Compile-Time Derivation of Variable Dependency Using
 -- Abstract Interpretation). A variable at run time stands for the set of the clause's variables whose instances have
 -- it. The members of a Share are its sets and every subset of `any` that isn't empty.
-use Rattle.std.specs.Prelude.{◌≡◌, ℕ, ◌≤◌, Bool, true, false, not, ◌||◌, ◌&&◌, ◌⊎◌, List, [], map, length, if◌then◌else◌}
+use Rattle.std.specs.Prelude.{◌≡◌, ℕ, ◌≤◌, Bool, true, false, not, ◌||◌, ◌&&◌, ◌⊎◌, List, [], map, length, if◌then◌else◌, nat_eq}
 use Rattle.std.specs.List.{filter, list_any}
+use Rattle.std.specs.Cmp.Lexicographic.{pointwise}
 use Rattle.ap_sharing.specs.VarSet.{has, empty, union, both, without, meets, within}
 use Rattle.ap_sharing.specs.Sets.{In, Is, IsAscending, listed, join_sets, sets_of, all_of, too_many}
 
@@ -50,6 +51,10 @@ pub record IsNormal (sh : Share) : Type 0 where
   pub ascending : IsAscending sh.sets
   pub apart : (s : ℕ) → listed s sh.sets ≡ true → within s sh.any ≡ false
   pub few : length sh.sets ≤ 4096
+
+-- whether they are equal
+abbrev pub same_share : Share → Share → Bool
+same_share a b = pointwise nat_eq a.sets b.sets && nat_eq a.any b.any
 
 -- ---- operations
 

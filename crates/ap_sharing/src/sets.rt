@@ -32,6 +32,20 @@ impl Model for Sets {
     ghost invariant = { λ s. IsAscending s.held.keys };
 }
 
+impl PartialEq for Sets {
+    ghost use Rattle.std.specs.Prelude.{nat_eq};
+    ghost use Rattle.std.specs.Cmp.{nat_eq_equiv, partial_equiv_from_equiv};
+    ghost use Rattle.std.specs.Cmp.Lexicographic.{pointwise, lists_per};
+
+    ghost eq = { pointwise nat_eq };
+
+    ghost laws = { lists_per (partial_equiv_from_equiv nat_eq_equiv) };
+
+    fn eq(&self, other: &Sets) -> bool {
+        self.held == other.held
+    }
+}
+
 impl Sets {
     pub fn new(alloc: Global) -> Sets
         ensures { result ≡ [] }

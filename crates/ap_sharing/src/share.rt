@@ -31,19 +31,33 @@ impl Model for Share {
     ghost invariant = { λ a. IsNormal (record { sets = a.sets; any = a.any }) };
 }
 
+/// Shares with the same members of both kinds are equal.
+impl PartialEq for Share {
+    ghost use Rattle.std.specs.Cmp.{nat_eq_equiv, partial_equiv_from_equiv, on_per, and_per};
+    ghost use Rattle.std.specs.Cmp.Lexicographic.{lists_per};
+    ghost use Rattle.ap_sharing.specs.Share.{same_share};
+
+    ghost eq = { same_share };
+
+    ghost laws = { and_per (on_per (λ a. a.sets) (lists_per (partial_equiv_from_equiv nat_eq_equiv))) (on_per (λ a. a.any) (partial_equiv_from_equiv nat_eq_equiv)) };
+
+    fn eq(&self, other: &Share) -> bool {
+        self.sets == other.sets && self.any == other.any
+    }
+}
+
 impl Share {
     /// The Share of these members, in the one form in which it is kept.
     pub fn new(mut sets: Sets, any: VarSet) -> Share
         ensures { result ≡ norm (record { sets = sets; any = any }) }
     {
         sets.drop_within(any);
-        if sets.len() > MAX_SETS {
-            let any = any.union(sets.union_of_all());
-            sets.clear();
-            Share { sets, any }
-        } else {
-            Share { sets, any }
+        if sets.len() <= MAX_SETS {
+            return Share { sets, any };
         }
+        let any = any.union(sets.union_of_all());
+        sets.clear();
+        Share { sets, any }
     }
 
     pub fn sets(&self) -> &Sets

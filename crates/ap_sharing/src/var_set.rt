@@ -6,7 +6,7 @@ ghost use Rattle.ap_sharing.specs.VarSet.{has, empty, just, union, both, without
 use std::cmp::Ordering;
 use std::marker::Model;
 
-#[derive(Debug, Clone, Copy, PartialEq, Eq)]
+#[derive(Debug, Clone, Copy)]
 pub struct VarSet {
     high: u128,
     low: u128,
@@ -140,6 +140,25 @@ impl VarSet {
         }
         None
     }
+}
+
+impl PartialEq for VarSet {
+    ghost use Rattle.std.specs.Prelude.{nat_eq};
+    ghost use Rattle.std.specs.Cmp.{nat_eq_equiv, partial_equiv_from_equiv};
+
+    ghost eq = { nat_eq };
+
+    ghost laws = { partial_equiv_from_equiv nat_eq_equiv };
+
+    fn eq(&self, other: &VarSet) -> bool {
+        self.high == other.high && self.low == other.low
+    }
+}
+
+impl Eq for VarSet {
+    ghost use Rattle.std.specs.Cmp.{nat_eq_equiv};
+
+    ghost laws = { nat_eq_equiv };
 }
 
 impl Ord for VarSet {
