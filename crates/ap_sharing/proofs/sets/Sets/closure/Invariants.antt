@@ -1,0 +1,9 @@
+use Rattle.std.proofs.Common.{◌≡◌, false}
+use Rattle.ap_sharing.specs.Sets.{grown_all, closure, too_many}
+use Rattle.ap_sharing.proofs.sets.Sets.closure.Given as goal
+
+abbrev pub invariant-loop-s : goal.invariant-loop-s
+invariant-loop-s l = record {
+  rest : grown_all l.closed l.s-iterator ≡ closure l.self;
+  few : too_many l.closed ≡ false;
+}

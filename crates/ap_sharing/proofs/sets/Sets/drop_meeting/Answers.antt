@@ -1,0 +1,10 @@
+use Rattle.std.proofs.Common.{◌≡◌, ◌∙◌, ℕ, not, ap, rules}
+use Rattle.std.specs.List.{filter}
+use Rattle.std.proofs.lemmas.Fn.{filter_same}
+use Rattle.ap_sharing.specs.VarSet.{meets}
+use Rattle.ap_sharing.proofs.sets.Sets.drop_meeting.Goals as goal
+
+pub returns : goal.returns
+returns c =
+    let e : c.retain.new.self.keys ≡ filter {X = ℕ} (λ s. not (meets s c.args.v)) c.self.inside.held.keys = filter_same _ (λ s. not (meets s c.args.v)) _ (λ x b f k. search rules) _ _ c.retain.ensures.filtered in
+    e ∙ ap (filter (λ s. not (meets s c.args.v))) c.self.view_is
