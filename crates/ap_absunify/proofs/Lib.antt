@@ -1,0 +1,13 @@
+pub mod Vars
+pub mod TermSets
+pub mod Unifier
+pub mod Grounding
+pub mod AfterUnify
+pub mod Renamed
+pub mod AfterEqual
+pub mod Known
+pub mod AfterBuiltin
+pub mod Unite
+pub mod Parts
+pub mod Products
+pub mod Operands

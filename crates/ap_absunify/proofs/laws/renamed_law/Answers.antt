@@ -1,0 +1,5 @@
+use Rattle.ap_absunify.proofs.Renamed.{Covers-renamed}
+use Rattle.ap_absunify.proofs.laws.renamed_law.Goals as goal
+
+pub returns : goal.returns
+returns c = Covers-renamed
