@@ -1,0 +1,4 @@
+//! Reads the text of a program, and of a query, as clauses.
+#![tactic(auto)]
+
+mod form;
