@@ -19,6 +19,10 @@ form_of x = record {
   query = is_query x;
 }
 
+-- a compound that no rule singles out
+abbrev pub plain : Form
+plain = record { variable = false; checks = false; condition = false; conditional = false; body = true; head = true; clause = true; query = true }
+
 abbrev pub shape_of : Value → Shape
 shape_of (ATerm x) = shape.Term (form_of x)
 shape_of (Gathered []) = shape.NoItem

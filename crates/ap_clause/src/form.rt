@@ -1,6 +1,6 @@
 //! The form of a clause: which written terms can be clauses and queries, by their steps.
 
-ghost use Rattle.std.specs.Prelude.{◌≡◌, ℕ, ℤ, [], ◌∷◌, ◌++◌, List, IfOk, map, slice_get};
+ghost use Rattle.std.specs.Prelude.{◌≡◌, ℕ, pos, [], ◌∷◌, ◌++◌, List, IfOk, map, slice_get};
 ghost use Rattle.ap_reader.specs.Written.{Written, Node, Cons, Nil, Paren, cell, leaf_of, leaf_at, meaning};
 ghost use Rattle.ap_reader.specs.Written as written;
 ghost use Rattle.ap_reader.specs.Evaluated.{Value, Gathered, top_term, top_items, below, made, left, with_rest, cells, stacked};
@@ -60,7 +60,7 @@ fn connective_named(name: &str) -> Connective
 
 /// The form of a goal that no rule singles out.
 fn plain() -> Form
-    ensures { (f : List ℕ) (a b c : Written) (xs : written.Writtens) → result ≡ form_of (Node f (Cons a (Cons b (Cons c xs)))) }
+    ensures { result ≡ shape.plain }
 {
     Form {
         variable: false,
@@ -75,7 +75,7 @@ fn plain() -> Form
 }
 
 fn variable() -> Form
-    ensures { (n : ℕ) → result ≡ form_of (written.Variable n) }
+    ensures { result ≡ form_of (written.Variable 0) }
 {
     Form {
         variable: true,
@@ -86,7 +86,7 @@ fn variable() -> Form
 }
 
 fn integer() -> Form
-    ensures { (z : ℤ) → result ≡ form_of (written.Integer z) }
+    ensures { result ≡ form_of (written.Integer (pos 0)) }
 {
     Form {
         variable: false,

@@ -1,11 +1,12 @@
 -- Lifting: the parts of a body, and the clauses of the predicates that stand in the place of what no part can be.
-use Rattle.std.specs.Prelude.{ℕ, ◌+◌, Bool, true, false, if◌then◌else◌, min, max, List, [], ◌∷◌, ◌++◌}
+use Rattle.std.specs.Prelude.{ℕ, ◌+◌, Bool, true, false, if◌then◌else◌, min, max, List, [], ◌∷◌, ◌++◌, Option, Some, None}
 use Rattle.std.specs.List.{flat_map}
 use Rattle.ap_term.specs.declared.clauses.Check.{Check}
 use Rattle.ap_term.specs.declared.clauses.Check.TheVariants.{Ground as IsGround, Indep as AreIndep}
 use Rattle.ap_term.specs.Tree.{Tree, Trees, atom, node, none, more}
 use Rattle.ap_term.specs.Goals.{Part, call, group, Clause, Program}
 use Rattle.ap_term.specs.Search.{variables}
+use Rattle.ap_laws.specs.Plain.{append_trees, plain_goals}
 use Rattle.ap_lifting.specs.declared.bodies.Condition.{Condition}
 use Rattle.ap_lifting.specs.declared.bodies.Condition.TheVariants.{True, Ground, Indep}
 use Rattle.ap_lifting.specs.Body.{Body, goal, conjunction, disjunction, parallel, conditional}
@@ -26,16 +27,6 @@ pub record Lifted : Type 0 where
   pub next : ℕ
   pub clauses : List Clause
 
-abbrev pub append : Trees → Trees → Trees
-append none us = us
-append (more t ts) us = more t (append ts us)
-
--- the goals of parts, those in groups too
-abbrev pub goals_of : List Part → Trees
-goals_of [] = none
-goals_of (call t ∷ ps) = more t (goals_of ps)
-goals_of (group cs ts ∷ ps) = append ts (goals_of ps)
-
 -- an atom, where there are no arguments
 abbrev pub applied : ℕ → Trees → Tree
 applied a none = atom a
@@ -47,10 +38,10 @@ is_one_goal (goal t) = true
 is_one_goal (disjunction a b) = true
 is_one_goal _ = false
 
--- the last operand of & may be a group, too, which goes on
-abbrev pub goes_on : Body → Bool
-goes_on (parallel a b) = true
-goes_on b = is_one_goal b
+-- an operand of & that isn't lifted; as the last one a group goes on
+abbrev pub stays : Bool → Body → Bool
+stays is_last (parallel a b) = is_last
+stays is_last b = is_one_goal b
 
 -- the first number inside an operand, which has the number n itself where it is lifted
 abbrev pub number_inside : Bool → ℕ → ℕ
@@ -61,7 +52,7 @@ in_turn a b = record { parts = a.parts ++ b.parts; next = b.next; clauses = a.cl
 
 -- a group of the goals of its operands
 abbrev pub grouped : List Check → Lifted → Lifted → Lifted
-grouped cs a b = record { parts = group cs (append (goals_of a.parts) (goals_of b.parts)) ∷ []; next = b.next; clauses = a.clauses ++ b.clauses }
+grouped cs a b = record { parts = group cs (append_trees (plain_goals a.parts) (plain_goals b.parts)) ∷ []; next = b.next; clauses = a.clauses ++ b.clauses }
 
 -- the names of lifted predicates by their numbers; the number of the clause's variables, and its line
 module _ (names : ℕ → ℕ) (vars line : ℕ) where
@@ -92,16 +83,25 @@ module _ (names : ℕ → ℕ) (vars line : ℕ) where
   lifted (conjunction a b) cs n = let x = lifted a [] n in in_turn x (lifted b [] x.next)
   lifted (disjunction a b) cs n = let x = lifted a [] (n + 1) in either n x (lifted b [] x.next)
   lifted (parallel a b) cs n =
-      let x = raised_unless (is_one_goal a) n (lifted a [] (number_inside (is_one_goal a) n)) in
-      grouped cs x (raised_unless (goes_on b) x.next (lifted b [] (number_inside (goes_on b) x.next)))
+      let x = raised_unless (stays false a) n (lifted a [] (number_inside (stays false a) n)) in
+      grouped cs x (raised_unless (stays true b) x.next (lifted b [] (number_inside (stays true b) x.next)))
   lifted (conditional cs b) _ n = lifted b (checks_of cs) n
+
+  -- an operand of &, which may be the last one: its parts are the goal that it is in the group, or a group that goes on
+  abbrev pub operand : Bool → Body → ℕ → Lifted
+  operand is_last b n = raised_unless (stays is_last b) n (lifted b [] (number_inside (stays is_last b) n))
+
+-- of a fact nothing is lifted
+abbrev pub lifted_if : (ℕ → ℕ) → ℕ → ℕ → Option Body → ℕ → Lifted
+lifted_if names vars line None n = record { parts = []; next = n; clauses = [] }
+lifted_if names vars line (Some b) n = lifted names vars line b [] n
 
 -- a clause with its body lifted
 abbrev pub clause_of : Rule → List Part → Clause
 clause_of r parts = record { head = r.head; body = parts; vars = r.vars; line = r.line }
 
 abbrev pub lifted_rule : (ℕ → ℕ) → Rule → ℕ → Lifted
-lifted_rule names r n = lifted names r.vars r.line r.body [] n
+lifted_rule names r n = lifted_if names r.vars r.line r.body n
 
 -- clauses with their bodies lifted, from the n-th lifted predicate on, and what was lifted from them
 pub record LiftedRules : Type 0 where
