@@ -3,3 +3,5 @@ pub mod BodyView
 pub mod Rule
 pub mod BodyCode
 pub mod Lifted
+pub mod Sizes
+pub mod Lifts

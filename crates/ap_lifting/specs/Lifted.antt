@@ -47,10 +47,10 @@ is_one_goal (goal t) = true
 is_one_goal (disjunction a b) = true
 is_one_goal _ = false
 
--- the last operand of & may be a group, too, which goes on
-abbrev pub goes_on : Body → Bool
-goes_on (parallel a b) = true
-goes_on b = is_one_goal b
+-- an operand of & that isn't lifted; as the last one a group goes on
+abbrev pub stays : Bool → Body → Bool
+stays is_last (parallel a b) = is_last
+stays is_last b = is_one_goal b
 
 -- the first number inside an operand, which has the number n itself where it is lifted
 abbrev pub number_inside : Bool → ℕ → ℕ
@@ -92,9 +92,13 @@ module _ (names : ℕ → ℕ) (vars line : ℕ) where
   lifted (conjunction a b) cs n = let x = lifted a [] n in in_turn x (lifted b [] x.next)
   lifted (disjunction a b) cs n = let x = lifted a [] (n + 1) in either n x (lifted b [] x.next)
   lifted (parallel a b) cs n =
-      let x = raised_unless (is_one_goal a) n (lifted a [] (number_inside (is_one_goal a) n)) in
-      grouped cs x (raised_unless (goes_on b) x.next (lifted b [] (number_inside (goes_on b) x.next)))
+      let x = raised_unless (stays false a) n (lifted a [] (number_inside (stays false a) n)) in
+      grouped cs x (raised_unless (stays true b) x.next (lifted b [] (number_inside (stays true b) x.next)))
   lifted (conditional cs b) _ n = lifted b (checks_of cs) n
+
+  -- an operand of &, which may be the last one: its parts are the goal that it is in the group, or a group that goes on
+  abbrev pub operand : Bool → Body → ℕ → Lifted
+  operand is_last b n = raised_unless (stays is_last b) n (lifted b [] (number_inside (stays is_last b) n))
 
 -- a clause with its body lifted
 abbrev pub clause_of : Rule → List Part → Clause

@@ -5,7 +5,12 @@
 #![tactic(auto)]
 
 mod bodies;
+mod lifter;
+mod lifting;
 mod rules;
+mod sizes;
 
 pub use bodies::{Body, Condition};
+pub use lifting::{Lifted, lift_program, lift_question};
 pub use rules::Rule;
+pub use sizes::{Sizes, sizes_of};

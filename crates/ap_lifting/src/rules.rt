@@ -1,6 +1,6 @@
 //! Clauses as they are written.
 
-ghost use Rattle.std.specs.Prelude.{◌≡◌};
+ghost use Rattle.std.specs.Prelude.{◌≡◌, ◌≤◌};
 
 use crate::bodies::Body;
 use ap_term::Term;
@@ -49,5 +49,43 @@ impl Rule {
             vars,
             line,
         }
+    }
+
+    pub fn head(&self) -> &Term
+        ensures head { tree_of result.now ≡ self.now.head }
+        ensures kept { IsRule self.now }
+    {
+        &self.head
+    }
+
+    pub fn body(&self) -> &Body
+        ensures body { body_of result.now ≡ self.now.body }
+        ensures kept { IsRule self.now }
+    {
+        &self.body
+    }
+
+    /// How many variables it has, at most 255.
+    pub fn vars(&self) -> u64
+        ensures vars { result ≡ self.now.vars }
+        ensures few { result ≤ 255 }
+    {
+        self.vars
+    }
+
+    pub fn line(&self) -> u64
+        ensures { result ≡ self.now.line }
+    {
+        self.line
+    }
+
+    /// The head and the body.
+    pub fn into_parts(self) -> (Term, Body)
+        ensures head { tree_of result.0 ≡ self.head }
+        ensures body { body_of result.1 ≡ self.body }
+        ensures kept { IsRule self }
+    {
+        let Rule { head, body, .. } = self;
+        (head, body)
     }
 }
