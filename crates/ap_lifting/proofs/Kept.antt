@@ -8,12 +8,13 @@ use Rattle.ap_term.specs.Tree.{Tree, Trees, var, node, none, more, push_tree, co
 use Rattle.ap_term.specs.Goals.{Part, call, group}
 use Rattle.ap_term.specs.WellFormed.{in_range, numbered, numbered_all, callable, all_callable, numbered_check, well_formed_part, IsClause}
 use Rattle.ap_term.specs.Search.{variables}
+use Rattle.ap_laws.specs.Plain.{append_trees, plain_goals}
 use Rattle.ap_lifting.specs.declared.bodies.Condition.{Condition}
 use Rattle.ap_lifting.specs.declared.bodies.Condition.TheVariants.{True, Ground, Indep}
 use Rattle.ap_lifting.proofs.Measured.{count_trees-append, some_lifted}
 use Rattle.ap_lifting.specs.Body.{Body, goal, conjunction, disjunction, parallel, conditional, numbered_condition, well_formed}
 use Rattle.ap_lifting.specs.Rule.{Rule, IsRule}
-use Rattle.ap_lifting.specs.Lifted.{Lifted, append, goals_of, applied, stays, number_inside, check_of, checks_of, raised_unless, lifted, lifted_goal, lifted_clause}
+use Rattle.ap_lifting.specs.Lifted.{Lifted, applied, stays, number_inside, check_of, checks_of, raised_unless, lifted, lifted_goal, lifted_clause}
 
 pub and_first : (a b : Bool) → (a && b) ≡ true → a ≡ true
 and_first true b h = refl
@@ -70,16 +71,16 @@ list_all-append p [] ys h k = k
 list_all-append p (x ∷ xs) ys h k =
     and_both (p x) (list_all p (xs ++ ys)) (and_first (p x) (list_all p xs) h) (list_all-append p xs ys (and_second (p x) (list_all p xs) h) k)
 
-all_callable-append : (ts us : Trees) → all_callable ts ≡ true → all_callable us ≡ true → all_callable (append ts us) ≡ true
+all_callable-append : (ts us : Trees) → all_callable ts ≡ true → all_callable us ≡ true → all_callable (append_trees ts us) ≡ true
 all_callable-append none us h k = k
 all_callable-append (more t ts) us h k =
-    and_both (callable t) (all_callable (append ts us)) (and_first (callable t) (all_callable ts) h)
+    and_both (callable t) (all_callable (append_trees ts us)) (and_first (callable t) (all_callable ts) h)
     (all_callable-append ts us (and_second (callable t) (all_callable ts) h) k)
 
-numbered_all-append : (n : ℕ) (ts us : Trees) → numbered_all n ts ≡ true → numbered_all n us ≡ true → numbered_all n (append ts us) ≡ true
+numbered_all-append : (n : ℕ) (ts us : Trees) → numbered_all n ts ≡ true → numbered_all n us ≡ true → numbered_all n (append_trees ts us) ≡ true
 numbered_all-append n none us h k = k
 numbered_all-append n (more t ts) us h k =
-    and_both (numbered n t) (numbered_all n (append ts us)) (and_first (numbered n t) (numbered_all n ts) h)
+    and_both (numbered n t) (numbered_all n (append_trees ts us)) (and_first (numbered n t) (numbered_all n ts) h)
     (numbered_all-append n ts us (and_second (numbered n t) (numbered_all n ts) h) k)
 
 -- some goal, each can be called, and its variables are those from 1 to n
@@ -89,28 +90,28 @@ pub record AreGoals (n : ℕ) (ts : Trees) : Type 0 where
   pub numbered : numbered_all n ts ≡ true
 
 -- the goals of parts that are well formed, and not none
-goals_called : (n : ℕ) (ps : List Part) → list_all (well_formed_part n) ps ≡ true → (all_callable (goals_of ps) ≡ true) × (numbered_all n (goals_of ps) ≡ true)
+goals_called : (n : ℕ) (ps : List Part) → list_all (well_formed_part n) ps ≡ true → (all_callable (plain_goals ps) ≡ true) × (numbered_all n (plain_goals ps) ≡ true)
 goals_called n [] h = (refl, refl)
 goals_called n (call t ∷ ps) h =
     let here = and_first (callable t && numbered n t) (list_all (well_formed_part n) ps) h in
     let rest = goals_called n ps (and_second (callable t && numbered n t) (list_all (well_formed_part n) ps) h) in (
-      and_both (callable t) (all_callable (goals_of ps)) (and_first (callable t) (numbered n t) here) rest.0,
-      and_both (numbered n t) (numbered_all n (goals_of ps)) (and_second (callable t) (numbered n t) here) rest.1,
+      and_both (callable t) (all_callable (plain_goals ps)) (and_first (callable t) (numbered n t) here) rest.0,
+      and_both (numbered n t) (numbered_all n (plain_goals ps)) (and_second (callable t) (numbered n t) here) rest.1,
     )
 goals_called n (group cs ts ∷ ps) h =
     let here = and_first (well_formed_part n (group cs ts)) (list_all (well_formed_part n) ps) h in
     let rest = goals_called n ps (and_second (well_formed_part n (group cs ts)) (list_all (well_formed_part n) ps) h) in
     let inner = and_second (list_all (numbered_check n) cs) (nat_le 1 (count_trees ts) && (all_callable ts && numbered_all n ts)) here in
     let both = and_second (nat_le 1 (count_trees ts)) (all_callable ts && numbered_all n ts) inner in (
-      all_callable-append ts (goals_of ps) (and_first (all_callable ts) (numbered_all n ts) both) rest.0,
-      numbered_all-append n ts (goals_of ps) (and_second (all_callable ts) (numbered_all n ts) both) rest.1,
+      all_callable-append ts (plain_goals ps) (and_first (all_callable ts) (numbered_all n ts) both) rest.0,
+      numbered_all-append n ts (plain_goals ps) (and_second (all_callable ts) (numbered_all n ts) both) rest.1,
     )
 
 -- the same of some goals
-goals_are : (n : ℕ) (ps : List Part) → list_all (well_formed_part n) ps ≡ true → 0 < count_trees (goals_of ps) → AreGoals n (goals_of ps)
+goals_are : (n : ℕ) (ps : List Part) → list_all (well_formed_part n) ps ≡ true → 0 < count_trees (plain_goals ps) → AreGoals n (plain_goals ps)
 goals_are n ps h some = record { some = some; callable = (goals_called n ps h).0; numbered = (goals_called n ps h).1 }
 
-AreGoals-append : (n : ℕ) (ts us : Trees) → AreGoals n ts → AreGoals n us → AreGoals n (append ts us)
+AreGoals-append : (n : ℕ) (ts us : Trees) → AreGoals n ts → AreGoals n us → AreGoals n (append_trees ts us)
 AreGoals-append n ts us h k = record {
   some = omega (arith, count_trees-append ts us, h.some);
   callable = all_callable-append ts us h.callable k.callable;
@@ -159,7 +160,7 @@ module _ (names : ℕ → ℕ) (vars line : ℕ) where
   unless_kept few true n x h = h
   unless_kept few false n x h = call_kept few n
 
-  some_unless : (s : Bool) (n : ℕ) (x : Lifted) → 0 < count_trees (goals_of x.parts) → 0 < count_trees (goals_of (raised_unless names vars line s n x).parts)
+  some_unless : (s : Bool) (n : ℕ) (x : Lifted) → 0 < count_trees (plain_goals x.parts) → 0 < count_trees (plain_goals (raised_unless names vars line s n x).parts)
   some_unless true n x h = h
   some_unless false n x h = omega arith
 
@@ -179,8 +180,8 @@ module _ (names : ℕ → ℕ) (vars line : ℕ) where
       let y = lifted names vars line b [] (number_inside (stays true b) m) in
       let ps = (raised_unless names vars line (stays false a) n x).parts in
       let qs = (raised_unless names vars line (stays true b) m y).parts in
-      group_kept vars cs (append (goals_of ps) (goals_of qs)) k
-      (AreGoals-append vars (goals_of ps) (goals_of qs)
+      group_kept vars cs (append_trees (plain_goals ps) (plain_goals qs)) k
+      (AreGoals-append vars (plain_goals ps) (plain_goals qs)
       (goals_are vars ps (unless_kept few (stays false a) n x (parts_kept few a [] (number_inside (stays false a) n) (and_first (well_formed vars a) (well_formed vars b) h) refl))
       (some_unless (stays false a) n x (some_lifted names vars line a [] (number_inside (stays false a) n))))
       (goals_are vars qs (unless_kept few (stays true b) m y (parts_kept few b [] (number_inside (stays true b) m) (and_second (well_formed vars a) (well_formed vars b) h) refl))
@@ -206,11 +207,11 @@ rule_kept names r n head before ps vars line b cs ok p e f q k l is =
 
 -- ---- lists of goals
 
-pub push_tree-append : (ts : Trees) (t : Tree) → push_tree ts t ≡ append ts (more t none)
+pub push_tree-append : (ts : Trees) (t : Tree) → push_tree ts t ≡ append_trees ts (more t none)
 push_tree-append none t = refl
 push_tree-append (more u ts) t = ap (more u) (push_tree-append ts t)
 
-pub append-append : (ts us vs : Trees) → append (append ts us) vs ≡ append ts (append us vs)
+pub append-append : (ts us vs : Trees) → append_trees (append_trees ts us) vs ≡ append_trees ts (append_trees us vs)
 append-append none us vs = refl
 append-append (more t ts) us vs = ap (more t) (append-append ts us vs)
 

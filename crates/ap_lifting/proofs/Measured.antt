@@ -3,19 +3,20 @@ use Rattle.std.proofs.Common.{◌≡◌, ℕ, ◌+◌, ◌<◌, Bool, true, fals
 use Rattle.ap_term.specs.declared.clauses.Check.{Check}
 use Rattle.ap_term.specs.Tree.{Trees, none, more, count_trees}
 use Rattle.ap_term.specs.Goals.{Part, call, group, Clause}
+use Rattle.ap_laws.specs.Plain.{append_trees, plain_goals}
 use Rattle.ap_lifting.specs.declared.sizes.Measure.{Measure}
 use Rattle.ap_lifting.specs.Body.{Body, goal, conjunction, disjunction, parallel, conditional}
-use Rattle.ap_lifting.specs.Lifted.{Lifted, append, goals_of, in_turn, grouped, stays, number_inside, checks_of, either, raised_unless, lifted}
+use Rattle.ap_lifting.specs.Lifted.{Lifted, in_turn, grouped, stays, number_inside, checks_of, either, raised_unless, lifted}
 use Rattle.ap_lifting.specs.Sizes.{AreSizesOf, held_measure, count_goals, largest_group, most_goals, largest_group_in, one_after_other, measured_either, measured_raised_unless, measured_group, measured}
 
-pub count_trees-append : (ts us : Trees) → count_trees (append ts us) ≡ count_trees ts + count_trees us
+pub count_trees-append : (ts us : Trees) → count_trees (append_trees ts us) ≡ count_trees ts + count_trees us
 count_trees-append none us = omega arith
 count_trees-append (more t ts) us = omega (arith, count_trees-append ts us)
 
-count_trees-goals_of : (ps : List Part) → count_trees (goals_of ps) ≡ count_goals ps
-count_trees-goals_of [] = refl
-count_trees-goals_of (call t ∷ ps) = omega (arith, count_trees-goals_of ps)
-count_trees-goals_of (group cs ts ∷ ps) = omega (arith, count_trees-append ts (goals_of ps), count_trees-goals_of ps)
+count_trees-plain_goals : (ps : List Part) → count_trees (plain_goals ps) ≡ count_goals ps
+count_trees-plain_goals [] = refl
+count_trees-plain_goals (call t ∷ ps) = omega (arith, count_trees-plain_goals ps)
+count_trees-plain_goals (group cs ts ∷ ps) = omega (arith, count_trees-append ts (plain_goals ps), count_trees-plain_goals ps)
 
 count_goals-append : (ps qs : List Part) → count_goals (ps ++ qs) ≡ count_goals ps + count_goals qs
 count_goals-append [] qs = omega arith
@@ -56,8 +57,8 @@ in_turn_measures n x y a b h k = record {
 
 group_measures : (n : ℕ) (x y : Lifted) (a b : Measure) (cs : List Check) → Measures n x a → Measures x.next y b → Measures n (grouped cs x y) (measured_group a b)
 group_measures n x y a b cs h k =
-    let both : count_trees (append (goals_of x.parts) (goals_of y.parts)) ≡ a.goals + b.goals
-    = omega (arith, count_trees-append (goals_of x.parts) (goals_of y.parts), count_trees-goals_of x.parts, count_trees-goals_of y.parts)
+    let both : count_trees (append_trees (plain_goals x.parts) (plain_goals y.parts)) ≡ a.goals + b.goals
+    = omega (arith, count_trees-append (plain_goals x.parts) (plain_goals y.parts), count_trees-plain_goals x.parts, count_trees-plain_goals y.parts)
     in
     record {
       predicates = omega arith;
@@ -134,6 +135,6 @@ some_goals (parallel a b) = first (stays false a) (some_goals a)
 some_goals (conditional cs b) = some_goals b
 
 -- a lifted body has a goal
-pub some_lifted : (names : ℕ → ℕ) (vars line : ℕ) (b : Body) (cs : List Check) (n : ℕ) → 0 < count_trees (goals_of (lifted names vars line b cs n).parts)
+pub some_lifted : (names : ℕ → ℕ) (vars line : ℕ) (b : Body) (cs : List Check) (n : ℕ) → 0 < count_trees (plain_goals (lifted names vars line b cs n).parts)
 some_lifted names vars line b cs n =
-    omega (arith, count_trees-goals_of (lifted names vars line b cs n).parts, (lifted_measures names vars line b cs n).goals, some_goals b)
+    omega (arith, count_trees-plain_goals (lifted names vars line b cs n).parts, (lifted_measures names vars line b cs n).goals, some_goals b)

@@ -6,6 +6,7 @@ use Rattle.ap_term.specs.declared.clauses.Check.TheVariants.{Ground as IsGround,
 use Rattle.ap_term.specs.Tree.{Tree, Trees, atom, node, none, more}
 use Rattle.ap_term.specs.Goals.{Part, call, group, Clause, Program}
 use Rattle.ap_term.specs.Search.{variables}
+use Rattle.ap_laws.specs.Plain.{append_trees, plain_goals}
 use Rattle.ap_lifting.specs.declared.bodies.Condition.{Condition}
 use Rattle.ap_lifting.specs.declared.bodies.Condition.TheVariants.{True, Ground, Indep}
 use Rattle.ap_lifting.specs.Body.{Body, goal, conjunction, disjunction, parallel, conditional}
@@ -25,16 +26,6 @@ pub record Lifted : Type 0 where
   pub parts : List Part
   pub next : ℕ
   pub clauses : List Clause
-
-abbrev pub append : Trees → Trees → Trees
-append none us = us
-append (more t ts) us = more t (append ts us)
-
--- the goals of parts, those in groups too
-abbrev pub goals_of : List Part → Trees
-goals_of [] = none
-goals_of (call t ∷ ps) = more t (goals_of ps)
-goals_of (group cs ts ∷ ps) = append ts (goals_of ps)
 
 -- an atom, where there are no arguments
 abbrev pub applied : ℕ → Trees → Tree
@@ -61,7 +52,7 @@ in_turn a b = record { parts = a.parts ++ b.parts; next = b.next; clauses = a.cl
 
 -- a group of the goals of its operands
 abbrev pub grouped : List Check → Lifted → Lifted → Lifted
-grouped cs a b = record { parts = group cs (append (goals_of a.parts) (goals_of b.parts)) ∷ []; next = b.next; clauses = a.clauses ++ b.clauses }
+grouped cs a b = record { parts = group cs (append_trees (plain_goals a.parts) (plain_goals b.parts)) ∷ []; next = b.next; clauses = a.clauses ++ b.clauses }
 
 -- the names of lifted predicates by their numbers; the number of the clause's variables, and its line
 module _ (names : ℕ → ℕ) (vars line : ℕ) where

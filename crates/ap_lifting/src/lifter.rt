@@ -6,9 +6,10 @@ ghost use Rattle.ap_term.specs.Tree.{more, none};
 ghost use Rattle.ap_term.specs.TermView.{tree_of};
 ghost use Rattle.ap_term.specs.WellFormed.{well_formed_part, numbered_check};
 ghost use Rattle.ap_term.specs.Search.{variables};
+ghost use Rattle.ap_laws.specs.Plain.{append_trees, plain_goals};
 ghost use Rattle.ap_lifting.specs.Body.{disjunction, numbered_condition, well_formed};
 ghost use Rattle.ap_lifting.specs.BodyView.{body_of};
-ghost use Rattle.ap_lifting.specs.Lifted.{append, goals_of, check_of, checks_of, lifted, lifted_goal, lifted_clause, operand, raised, either};
+ghost use Rattle.ap_lifting.specs.Lifted.{check_of, checks_of, lifted, lifted_goal, lifted_clause, operand, raised, either};
 ghost use Rattle.ap_lifting.specs.Lifts.{Lifts};
 ghost use Rattle.ap_lifting.specs.Sizes.{predicates, measured_operand};
 
@@ -192,7 +193,7 @@ fn add_operand(
     requires few { origin.now.vars ≤ 255 }
     requires body { IsTrue (well_formed origin.now.vars (body_of body)) }
     requires named { out.old.next + (measured_operand is_last (body_of body)).predicates ≤ length origin.now.names.now }
-    ensures calls { OnOk result (calls.new ≡ append calls.old (goals_of (operand (slice_index origin.now.names.now) origin.now.vars origin.now.line is_last (body_of body) out.old.next).parts)) }
+    ensures calls { OnOk result (calls.new ≡ append_trees calls.old (plain_goals (operand (slice_index origin.now.names.now) origin.now.vars origin.now.line is_last (body_of body) out.old.next).parts)) }
     ensures lifts { OnOk result (Lifts (operand (slice_index origin.now.names.now) origin.now.vars origin.now.line is_last (body_of body) out.old.next) out.old out.new) }
     ensures next { OnOk result (out.new.next ≡ out.old.next + (measured_operand is_last (body_of body)).predicates) }
 {
