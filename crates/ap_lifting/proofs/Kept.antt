@@ -5,6 +5,7 @@ use Rattle.std.specs.List.{list_all}
 use Rattle.std.proofs.lemmas.Bool.Decides.{nat_tests}
 use Rattle.ap_term.specs.declared.clauses.Check.{Check}
 use Rattle.ap_term.specs.Tree.{Tree, Trees, var, node, none, more, push_tree, count_trees}
+use Rattle.ap_term.specs.Substitution.{instance_all}
 use Rattle.ap_term.specs.Goals.{Part, call, group}
 use Rattle.ap_term.specs.WellFormed.{in_range, numbered, numbered_all, callable, all_callable, numbered_check, well_formed_part, IsClause}
 use Rattle.ap_term.specs.Search.{variables}
@@ -64,6 +65,10 @@ numbered-applied : (n a : ℕ) (ts : Trees) → numbered_all n ts ≡ true → n
 numbered-applied n a none h = refl
 numbered-applied n a (more t ts) h = h
 
+pub count_trees-instance_all : (s : ℕ → Tree) (ts : Trees) → count_trees (instance_all s ts) ≡ count_trees ts
+count_trees-instance_all s none = refl
+count_trees-instance_all s (more t ts) = ap (λ n. n + 1) (count_trees-instance_all s ts)
+
 -- ---- parts
 
 list_all-append : {A : Type 0} (p : A → Bool) (xs ys : List A) → list_all p xs ≡ true → list_all p ys ≡ true → list_all p (xs ++ ys) ≡ true
@@ -90,7 +95,7 @@ pub record AreGoals (n : ℕ) (ts : Trees) : Type 0 where
   pub numbered : numbered_all n ts ≡ true
 
 -- the goals of parts that are well formed, and not none
-goals_called : (n : ℕ) (ps : List Part) → list_all (well_formed_part n) ps ≡ true → (all_callable (plain_goals ps) ≡ true) × (numbered_all n (plain_goals ps) ≡ true)
+pub goals_called : (n : ℕ) (ps : List Part) → list_all (well_formed_part n) ps ≡ true → (all_callable (plain_goals ps) ≡ true) × (numbered_all n (plain_goals ps) ≡ true)
 goals_called n [] h = (refl, refl)
 goals_called n (call t ∷ ps) h =
     let here = and_first (callable t && numbered n t) (list_all (well_formed_part n) ps) h in
@@ -140,7 +145,7 @@ checks_kept n (c ∷ cs) h =
     (checks_kept n cs (and_second (numbered_condition n c) (list_all (numbered_condition n) cs) h))
 
 module _ (names : ℕ → ℕ) (vars line : ℕ) where
-  call_kept : vars ≤ 255 → (n : ℕ) → list_all (well_formed_part vars) (call (lifted_goal names vars line n) ∷ []) ≡ true
+  pub call_kept : vars ≤ 255 → (n : ℕ) → list_all (well_formed_part vars) (call (lifted_goal names vars line n) ∷ []) ≡ true
   call_kept few n =
       and_both (callable (lifted_goal names vars line n) && numbered vars (lifted_goal names vars line n)) true
       (and_both (callable (lifted_goal names vars line n)) (numbered vars (lifted_goal names vars line n))

@@ -5,3 +5,4 @@ pub mod BodyCode
 pub mod Lifted
 pub mod Sizes
 pub mod Lifts
+pub mod LiftingLaws
