@@ -1,5 +1,6 @@
 pub mod Measured
 pub mod Kept
+pub mod Simulation
 pub mod Shown
 pub mod Binds
 pub mod LiftedCalls

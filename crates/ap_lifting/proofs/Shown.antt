@@ -49,7 +49,7 @@ items-instance f (conditional cs b) = items-instance f b
 -- ---- what stands for them
 
 module _ (names : ℕ → ℕ) (p : Program) where
-  ShowsAll-append : (is js : List Item) (ts us : Trees) → ShowsAll names p is ts → ShowsAll names p js us → ShowsAll names p (is ++ js) (append_trees ts us)
+  pub ShowsAll-append : (is js : List Item) (ts us : Trees) → ShowsAll names p is ts → ShowsAll names p js us → ShowsAll names p (is ++ js) (append_trees ts us)
   ShowsAll-append [] js none us h k = k
   ShowsAll-append (i ∷ is) js (more t ts) us h k = (h.0, ShowsAll-append is js ts us h.1 k)
   ShowsAll-append [] js (more _ _) us h k = absurd h
