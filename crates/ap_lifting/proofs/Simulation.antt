@@ -83,22 +83,21 @@ later G T n m k l h j =
 -- ---- one step
 
 -- a rule and the clause that it was lifted to
-pub record IsLiftedTo (names : ℕ → ℕ) (p : Program) (r : Rule) (c : Clause) : Type 0 where
+pub record IsLiftedTo (names : ℕ → ℕ) (count : ℕ) (p : Program) (r : Rule) (c : Clause) : Type 0 where
   pub head : c.head ≡ r.head
   pub vars : c.vars ≡ r.vars
-  pub body : Shows names p r.body (plain_goals c.body)
+  pub body : Shows names count p r.body (plain_goals c.body)
 
 -- a program that was lifted from rules
-pub record IsLiftedFrom (names : ℕ → ℕ) (rs : List Rule) (p : Program) : Type 0 where
+pub record IsLiftedFrom (names : ℕ → ℕ) (count : ℕ) (rs : List Rule) (p : Program) : Type 0 where
   pub program : IsProgram p
-  pub fresh : (i : ℕ) → COUNT ≤ names i
   pub main : List Clause
-  pub each : AllZip (IsLiftedTo names p) rs main
-  pub selected : (n : ℕ) (t : Tree) → IsOrdinary names p t → flat_map (clause_way n t) p ≡ flat_map (clause_way n t) main
+  pub each : AllZip (IsLiftedTo names count p) rs main
+  pub selected : (n : ℕ) (t : Tree) → IsOrdinary names count p t → flat_map (clause_way n t) p ≡ flat_map (clause_way n t) main
 
-module _ (names : ℕ → ℕ) (rs : List Rule) (p : Program) (from : IsLiftedFrom names rs p) where
+module _ (names : ℕ → ℕ) (count : ℕ) (rs : List Rule) (p : Program) (from : IsLiftedFrom names count rs p) where
   abbrev Shown : List Item → Trees → Type 0
-  Shown = ShowsAll names p
+  Shown = ShowsAll names count p
 
   -- the goals of some plain state stand for what is left to do, and the plain state is the other up to names
   abbrev pub Follows : Written → Plain → Type 0
@@ -111,14 +110,14 @@ module _ (names : ℕ → ℕ) (rs : List Rule) (p : Program) (from : IsLiftedFr
   way_shows None is ps v w e h = tt
   way_shows (Some s) is ps v w e h = ((refl, h, e), tt)
 
-  rule_shows : (n : ℕ) (t : Tree) (r : Rule) (c : Clause) → IsLiftedTo names p r c → AllZip WayShows (rule_way n t r) (map plain_way (clause_way n t c))
+  rule_shows : (n : ℕ) (t : Tree) (r : Rule) (c : Clause) → IsLiftedTo names count p r c → AllZip WayShows (rule_way n t r) (map plain_way (clause_way n t c))
   rule_shows n t r c h =
       subst (λ u. AllZip WayShows (rule_way n t r) (map plain_way (way_if (mgu t (instance (shift n) u)) (map (instance_part (shift n)) c.body) (c.vars + 1)))) (sym h.head)
       (way_shows (mgu t (instance (shift n) r.head)) (map (instance_item (shift n)) (items r.body)) (map (instance_part (shift n)) c.body) (r.vars + 1) (c.vars + 1) (ap (λ v. v + 1) (sym h.vars))
       (subst (Shown (map (instance_item (shift n)) (items r.body))) (sym (plain_goals-instance (shift n) c.body))
-      (all_kept names p (shift n) (items r.body) (plain_goals c.body) (items_show names p r.body (plain_goals c.body) h.body))))
+      (all_kept names count p (shift n) (items r.body) (plain_goals c.body) (items_show names count p r.body (plain_goals c.body) h.body))))
 
-  rules_show : (n : ℕ) (t : Tree) (qs : List Rule) (cs : List Clause) → AllZip (IsLiftedTo names p) qs cs → AllZip WayShows (flat_map (rule_way n t) qs) (map plain_way (flat_map (clause_way n t) cs))
+  rules_show : (n : ℕ) (t : Tree) (qs : List Rule) (cs : List Clause) → AllZip (IsLiftedTo names count p) qs cs → AllZip WayShows (flat_map (rule_way n t) qs) (map plain_way (flat_map (clause_way n t) cs))
   rules_show n t [] [] h = tt
   rules_show n t (r ∷ qs) (c ∷ cs) h =
       subst (AllZip WayShows (rule_way n t r ++ flat_map (rule_way n t) qs)) (sym (map-append plain_way (clause_way n t c) (flat_map (clause_way n t) cs)))
@@ -126,7 +125,7 @@ module _ (names : ℕ → ℕ) (rs : List Rule) (p : Program) (from : IsLiftedFr
   rules_show n t [] (_ ∷ _) h = absurd h
   rules_show n t (_ ∷ _) [] h = absurd h
 
-  ways_show : (n : ℕ) (t : Tree) → IsOrdinary names p t → (o : Option (Option Subst)) → AllZip WayShows (written_ways_by rs n t o) (map plain_way (ways_by p n t o))
+  ways_show : (n : ℕ) (t : Tree) → IsOrdinary names count p t → (o : Option (Option Subst)) → AllZip WayShows (written_ways_by rs n t o) (map plain_way (ways_by p n t o))
   ways_show n t h None = subst (λ l. AllZip WayShows (flat_map (rule_way n t) rs) (map plain_way l)) (sym (from.selected n t h)) (rules_show n t rs from.main from.each)
   ways_show n t h (Some answer) = way_shows answer [] [] 0 0 refl tt
 
@@ -136,7 +135,7 @@ module _ (names : ℕ → ℕ) (rs : List Rule) (p : Program) (from : IsLiftedFr
 
   child_shows : (is : List Item) (G T : Trees) (n k : ℕ) → Shown is G → (w : WrittenWay) (v : PlainWay) → WayShows w v → Exactly (written_child is T n k w) (plain_child G T n k v)
   child_shows is G T n k h (way s js takes) (forms.way r b v) e = (
-    subst (λ z. Shown (map (instance_item (value s)) (js ++ is)) (instance_all (value z) (append_trees b G))) e.0 (all_kept names p (value s) (js ++ is) (append_trees b G) (ShowsAll-append names p js is b G e.1 h)),
+    subst (λ z. Shown (map (instance_item (value s)) (js ++ is)) (instance_all (value z) (append_trees b G))) e.0 (all_kept names count p (value s) (js ++ is) (append_trees b G) (ShowsAll-append names count p js is b G e.1 h)),
     ap (λ z. instance_all (value z) T) e.0,
     ap (λ z. n + z) e.2,
     refl,
@@ -173,14 +172,14 @@ module _ (names : ℕ → ℕ) (rs : List Rule) (p : Program) (from : IsLiftedFr
       let H = append_trees (instance_all f (plain_goals ps)) G in
       (
         H,
-        ShowsAll-append names p js is (instance_all f (plain_goals ps)) G h g,
+        ShowsAll-append names count p js is (instance_all f (plain_goals ps)) G h g,
         SamePlain-trans p from.program (state H T n (k + 1)) (entered vars f G T n k ps) y
         (later H T n (n + (vars + 1)) (k + 1) (omega arith) (LocalAll-append_trees (λ z. z < n) (instance_all f (plain_goals ps)) G body below.0.1) below.1)
         (SamePlain-sym p from.program y (entered vars f G T n k ps) e),
       )
 
   -- the children of what is left to do and of the goals that stand for it
-  step : (i : Item) (is : List Item) (t : Tree) (G T : Trees) (n k : ℕ) → ShowsItem names p i t → Shown is G → IsPlainBelow (state (more t G) T n k)
+  step : (i : Item) (is : List Item) (t : Tree) (G T : Trees) (n k : ℕ) → ShowsItem names count p i t → Shown is G → IsPlainBelow (state (more t G) T n k)
       → (zs : List Plain) → AllZip SamePlain (plain_children (plain_ways p) (state (more t G) T n k)) zs → AllZip Follows (written_children rs i is T n k) zs
   step (calling u) is t G T n k h g below zs e =
       let same : AllZip SamePlain (plain_children (plain_ways p) (state (more u G) T n k)) zs = subst (λ v. AllZip SamePlain (plain_children (plain_ways p) (state (more v G) T n k)) zs) h.0 e in
@@ -191,9 +190,9 @@ module _ (names : ℕ → ℕ) (rs : List Rule) (p : Program) (from : IsLiftedFr
       let low : IsPlainBelow (state (more goal G) T n k) = subst (λ v. IsPlainBelow (state (more v G) T n k)) h.is below in
       let same : AllZip SamePlain (plain_children (plain_ways p) (state (more goal G) T n k)) zs = subst (λ v. AllZip SamePlain (plain_children (plain_ways p) (state (more v G) T n k)) zs) h.is e in
       let kept = subst (AllByRecursion IsClause) h.clauses (clauses_kept (names h.number) p from.program) in
-      let called = lifted_call p from.program names h.vars h.line h.number (h.body ∷ []) (from.fresh h.number) h.clauses h.args G T n k low in
+      let called = lifted_call p from.program names h.vars h.line h.number (h.body ∷ []) h.fixed h.clauses h.args G T n k low in
       one_entered (plain_children (plain_ways p) (state (more goal G) T n k)) (entered h.vars h.args G T n k h.body) (written (items b ++ is) T n (k + 1)) zs called
-      (λ y m. entered_follows is (items b) h.vars h.line h.number h.args h.body G T n k y low kept.0 (items_show names p b (instance_all h.args (plain_goals h.body)) h.inside) g m) same
+      (λ y m. entered_follows is (items b) h.vars h.line h.number h.args h.body G T n k y low kept.0 (items_show names count p b (instance_all h.args (plain_goals h.body)) h.inside) g m) same
     where
       one_entered : (ys : List Plain) (u : Plain) (x : Written) (zs : List Plain) → AllZip SamePlain ys (u ∷ []) → ((y : Plain) → SamePlain y u → Follows x y) → AllZip SamePlain ys zs → AllZip Follows (x ∷ []) zs
       one_entered (y ∷ []) u x (z ∷ []) h e k = (follows_then x y z (e y h.0) k.0, tt)
@@ -206,11 +205,11 @@ module _ (names : ℕ → ℕ) (rs : List Rule) (p : Program) (from : IsLiftedFr
       let low : IsPlainBelow (state (more goal G) T n k) = subst (λ v. IsPlainBelow (state (more v G) T n k)) h.is below in
       let same : AllZip SamePlain (plain_children (plain_ways p) (state (more goal G) T n k)) zs = subst (λ v. AllZip SamePlain (plain_children (plain_ways p) (state (more v G) T n k)) zs) h.is e in
       let kept = subst (AllByRecursion IsClause) h.clauses (clauses_kept (names h.number) p from.program) in
-      let called = lifted_call p from.program names h.vars h.line h.number (h.first ∷ h.second ∷ []) (from.fresh h.number) h.clauses h.args G T n k low in
+      let called = lifted_call p from.program names h.vars h.line h.number (h.first ∷ h.second ∷ []) h.fixed h.clauses h.args G T n k low in
       two_entered (plain_children (plain_ways p) (state (more goal G) T n k)) (entered h.vars h.args G T n k h.first) (entered h.vars h.args G T n k h.second)
       (written (items a ++ is) T n (k + 1)) (written (items b ++ is) T n (k + 1)) zs called
-      (λ y m. entered_follows is (items a) h.vars h.line h.number h.args h.first G T n k y low kept.0 (items_show names p a (instance_all h.args (plain_goals h.first)) h.in_first) g m)
-      (λ y m. entered_follows is (items b) h.vars h.line h.number h.args h.second G T n k y low kept.1.0 (items_show names p b (instance_all h.args (plain_goals h.second)) h.in_second) g m) same
+      (λ y m. entered_follows is (items a) h.vars h.line h.number h.args h.first G T n k y low kept.0 (items_show names count p a (instance_all h.args (plain_goals h.first)) h.in_first) g m)
+      (λ y m. entered_follows is (items b) h.vars h.line h.number h.args h.second G T n k y low kept.1.0 (items_show names count p b (instance_all h.args (plain_goals h.second)) h.in_second) g m) same
     where
       two_entered : (ys : List Plain) (u v : Plain) (x w : Written) (zs : List Plain) → AllZip SamePlain ys (u ∷ v ∷ []) → ((y : Plain) → SamePlain y u → Follows x y) → ((y : Plain) → SamePlain y v → Follows w y)
           → AllZip SamePlain ys zs → AllZip Follows (x ∷ w ∷ []) zs

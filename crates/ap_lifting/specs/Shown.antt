@@ -1,6 +1,7 @@
 -- Which goals of a lifted program stand for a written body.
-use Rattle.std.specs.Prelude.{◌≡◌, ℕ, Bool, true, false, List, [], ◌∷◌}
+use Rattle.std.specs.Prelude.{◌≡◌, ℕ, ◌<◌, ◌≤◌, Bool, true, false, List, [], ◌∷◌}
 use Rattle.std.specs.List.{AllZip}
+use Rattle.ap_term.specs.declared.fixed.TheConstants.{COUNT}
 use Rattle.ap_term.specs.Tree.{Tree, Trees, none, more}
 use Rattle.ap_term.specs.Substitution.{instance, instance_all}
 use Rattle.ap_term.specs.Goals.{Part, Clause, Program}
@@ -11,17 +12,19 @@ use Rattle.ap_lifting.specs.Lifted.{stays, lifted_goal, lifted_clause}
 use Rattle.ap_lifting.specs.LiftingLaws.{is_named, clauses_named}
 use Rattle.ap_lifting.specs.WrittenSearch.{Item, calling, choosing, entering}
 
-module _ (names : ℕ → ℕ) (p : Program) where
+-- `count` lifted predicates have names
+module _ (names : ℕ → ℕ) (count : ℕ) (p : Program) where
   -- a goal that calls no lifted predicate
   pub record IsOrdinary (t : Tree) : Type 0 where
     pub callable : callable t ≡ true
-    pub other : (i : ℕ) → is_named (names i) t ≡ false
+    pub other : (i : ℕ) → i < count → is_named (names i) t ≡ false
 
   -- the call of a lifted predicate of one clause, whose body stands for what S says
   pub record IsEntry (S : Trees → Type 0) (t : Tree) : Type 0 where
     pub vars : ℕ
     pub line : ℕ
     pub number : ℕ
+    pub fixed : COUNT ≤ names number
     pub args : ℕ → Tree
     pub body : List Part
     pub is : t ≡ instance args (lifted_goal names vars line number)
@@ -33,6 +36,7 @@ module _ (names : ℕ → ℕ) (p : Program) where
     pub vars : ℕ
     pub line : ℕ
     pub number : ℕ
+    pub fixed : COUNT ≤ names number
     pub args : ℕ → Tree
     pub first : List Part
     pub second : List Part
