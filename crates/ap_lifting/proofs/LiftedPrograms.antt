@@ -129,3 +129,125 @@ module _ (names : ℕ → ℕ) (count : ℕ) (apart : (i j : ℕ) → i < count 
     has_second : (lo mid hi : ℕ) (cs ds : Program) → hi ≤ count → lo ≤ mid → AllByRecursion (InNumbers names lo mid) cs → Has lo hi (cs ++ ds) → Has mid hi ds
     has_second lo mid hi cs ds m q k h i a b =
         h i (omega arith) b ∙ clauses_named-append (names i) cs ds ∙ ap (λ l. l ++ clauses_named (names i) ds) (others i lo mid (omega arith) (omega arith) (inr a) cs k)
+
+    module _ (vars line : ℕ) where
+      own_head : (n : ℕ) → is_named (names n) (lifted_goal names vars line n) ≡ true
+      own_head n = subst (λ t. is_named (names n) t ≡ true) (instance_var (lifted_goal names vars line n)) (is_named-applied (names n) (variables vars) (λ x. var x))
+
+      other_head : (n i : ℕ) → n < count → i < count → n + 1 ≤ i → is_named (names i) (lifted_goal names vars line n) ≡ false
+      other_head n i l m k =
+          another_name (names i) (names n) (lifted_goal names vars line n) (own_head n) (λ e. let same : n ≡ i = apart n i l m e in absurd (omega arith))
+
+      own_clause : (n : ℕ) (ps : List Part) (cs : Program) → clauses_named (names n) (lifted_clause names vars line n ps ∷ cs) ≡ lifted_clause names vars line n ps ∷ clauses_named (names n) cs
+      own_clause n ps cs = ap (λ v. if v then lifted_clause names vars line n ps ∷ clauses_named (names n) cs else clauses_named (names n) cs) (own_head n)
+
+      other_clause : (n i : ℕ) (ps : List Part) (cs : Program) → n < count → i < count → n + 1 ≤ i → clauses_named (names i) (lifted_clause names vars line n ps ∷ cs) ≡ clauses_named (names i) cs
+      other_clause n i ps cs l m k = ap (λ v. if v then lifted_clause names vars line n ps ∷ clauses_named (names i) cs else clauses_named (names i) cs) (other_head n i l m k)
+
+      -- behind the clause of the first predicate
+      has_rest : (n hi : ℕ) (ps : List Part) (cs : Program) → hi ≤ count → Has n hi (lifted_clause names vars line n ps ∷ cs) → Has (n + 1) hi cs
+      has_rest n hi ps cs m h i a b = h i (omega arith) b ∙ other_clause n i ps cs (omega arith) (omega arith) a
+
+      has_rest_two : (n hi : ℕ) (ps qs : List Part) (cs : Program) → hi ≤ count → Has n hi (lifted_clause names vars line n ps ∷ lifted_clause names vars line n qs ∷ cs) → Has (n + 1) hi cs
+      has_rest_two n hi ps qs cs m h i a b =
+          h i (omega arith) b ∙ other_clause n i ps (lifted_clause names vars line n qs ∷ cs) (omega arith) (omega arith) a ∙ other_clause n i qs cs (omega arith) (omega arith) a
+
+      as_itself : (b : Body) (ts : Trees) → Shows names count p b ts → Shows names count p b (instance_all (λ x. var x) ts)
+      as_itself b ts h = subst (Shows names count p b) (sym (instance_all_var ts)) h
+
+      operand_shows : (s : Bool) (b : Body) (n : ℕ) (x : Lifted) → number_inside s n ≤ x.next → (raised_unless names vars line s n x).next ≤ count
+          → AllByRecursion (InNumbers names (number_inside s n) x.next) x.clauses → Has n (raised_unless names vars line s n x).next (raised_unless names vars line s n x).clauses
+          → (Has (number_inside s n) x.next x.clauses → Shows names count p b (plain_goals x.parts)) → Operand names count p s (Shows names count p b) (plain_goals (raised_unless names vars line s n x).parts)
+      operand_shows true b n x l m k h e = e h
+      operand_shows false b n x l m k h e = record {
+        vars = vars;
+        line = line;
+        number = n;
+        fixed = fixed n (omega arith);
+        args = λ y. var y;
+        body = x.parts;
+        is = sym (instance_var (lifted_goal names vars line n));
+        clauses =
+            h n (omega arith) (omega arith) ∙ own_clause n x.parts x.clauses
+            ∙ ap (λ l. lifted_clause names vars line n x.parts ∷ l) (others n (n + 1) x.next (omega arith) (omega arith) (inl (omega arith)) x.clauses k);
+        inside = as_itself b (plain_goals x.parts) (e (has_rest n x.next x.parts x.clauses (omega arith) h));
+      }
+
+      append_trees-none : (ts : Trees) → append_trees ts none ≡ ts
+      append_trees-none none = refl
+      append_trees-none (more t ts) = ap (more t) (append_trees-none ts)
+
+      -- what a body was lifted to stands for it
+      pub shows : (b : Body) (cs : List Check) (n : ℕ) → well_formed vars b ≡ true → ((i : ℕ) → i < count → Avoids (names i) b) → (lifted names vars line b cs n).next ≤ count
+          → Has n (lifted names vars line b cs n).next (lifted names vars line b cs n).clauses → Shows names count p b (plain_goals (lifted names vars line b cs n).parts)
+      shows (goal t) cs n good free m h = (refl, record { callable = and_first (callable t) (numbered vars t) good; other = free })
+      shows (conjunction a b) cs n good free m h =
+          let x = lifted names vars line a [] n in
+          let y = lifted names vars line b [] x.next in
+          let p : n ≤ x.next = rises names vars line a [] n in
+          let q : x.next ≤ y.next = rises names vars line b [] x.next in
+          (
+            plain_goals x.parts,
+            plain_goals y.parts,
+            plain_goals-append x.parts y.parts,
+            shows a [] n (and_first (well_formed vars a) (well_formed vars b) good) (λ i l. (free i l).0) (omega arith)
+                (has_first n x.next y.next x.clauses y.clauses m q (numbers names vars line b [] x.next) h),
+            shows b [] x.next (and_second (well_formed vars a) (well_formed vars b) good) (λ i l. (free i l).1) m
+                (has_second n x.next y.next x.clauses y.clauses m p (numbers names vars line a [] n) h),
+          )
+      shows (disjunction a b) cs n good free m h =
+          let x = lifted names vars line a [] (n + 1) in
+          let y = lifted names vars line b [] x.next in
+          let p : n + 1 ≤ x.next = rises names vars line a [] (n + 1) in
+          let q : x.next ≤ y.next = rises names vars line b [] x.next in
+          let rest : Has (n + 1) y.next (x.clauses ++ y.clauses) = has_rest_two n y.next x.parts y.parts (x.clauses ++ y.clauses) m h in
+          record {
+            vars = vars;
+            line = line;
+            number = n;
+            fixed = fixed n (omega arith);
+            args = λ z. var z;
+            first = x.parts;
+            second = y.parts;
+            is = sym (instance_var (lifted_goal names vars line n));
+            clauses =
+                h n (omega arith) (omega arith) ∙ own_clause n x.parts (lifted_clause names vars line n y.parts ∷ (x.clauses ++ y.clauses))
+                ∙ ap (λ l. lifted_clause names vars line n x.parts ∷ l)
+                (own_clause n y.parts (x.clauses ++ y.clauses)
+                ∙ ap (λ l. lifted_clause names vars line n y.parts ∷ l)
+                (others n (n + 1) y.next (omega arith) m (inl (omega arith)) (x.clauses ++ y.clauses)
+                (in_turn_numbers names vars line (n + 1) x.next y.next x.clauses y.clauses p q (numbers names vars line a [] (n + 1)) (numbers names vars line b [] x.next))));
+            in_first =
+                as_itself a (plain_goals x.parts)
+                (shows a [] (n + 1) (and_first (well_formed vars a) (well_formed vars b) good) (λ i l. (free i l).0) (omega arith)
+                (has_first (n + 1) x.next y.next x.clauses y.clauses m q (numbers names vars line b [] x.next) rest));
+            in_second =
+                as_itself b (plain_goals y.parts)
+                (shows b [] x.next (and_second (well_formed vars a) (well_formed vars b) good) (λ i l. (free i l).1) m
+                (has_second (n + 1) x.next y.next x.clauses y.clauses m p (numbers names vars line a [] (n + 1)) rest));
+          }
+      shows (parallel a b) cs n good free m h =
+          let s = stays false a in
+          let x = lifted names vars line a [] (number_inside s n) in
+          let first = unless_numbers names vars line s n x (rises names vars line a [] (number_inside s n)) (numbers names vars line a [] (number_inside s n)) in
+          let u = raised_unless names vars line s n x in
+          let r = stays true b in
+          let y = lifted names vars line b [] (number_inside r u.next) in
+          let last = unless_numbers names vars line r u.next y (rises names vars line b [] (number_inside r u.next)) (numbers names vars line b [] (number_inside r u.next)) in
+          let v = raised_unless names vars line r u.next y in
+          let low : u.next ≤ v.next = last.0 in
+          let enough : u.next ≤ count = omega arith in
+          (
+            plain_goals u.parts,
+            plain_goals v.parts,
+            append_trees-none (append_trees (plain_goals u.parts) (plain_goals v.parts)),
+            operand_shows s a n x (rises names vars line a [] (number_inside s n)) enough (numbers names vars line a [] (number_inside s n)) (has_first n u.next v.next u.clauses v.clauses m low last.1 h)
+                (λ k. shows a [] (number_inside s n) (and_first (well_formed vars a) (well_formed vars b) good) (λ i l. (free i l).0) (inside_count s n x enough) k),
+            operand_shows r b u.next y (rises names vars line b [] (number_inside r u.next)) m (numbers names vars line b [] (number_inside r u.next)) (has_second n u.next v.next u.clauses v.clauses m first.0 first.1 h)
+                (λ k. shows b [] (number_inside r u.next) (and_second (well_formed vars a) (well_formed vars b) good) (λ i l. (free i l).1) (inside_count r u.next y m) k),
+          )
+        where
+          inside_count : (s : Bool) (n : ℕ) (x : Lifted) → (raised_unless names vars line s n x).next ≤ count → x.next ≤ count
+          inside_count true n x l = l
+          inside_count false n x l = l
+      shows (conditional ds b) cs n good free m h = shows b (checks_of ds) n (and_second (list_all (numbered_condition vars) ds) (well_formed vars b) good) free m h
