@@ -1,5 +1,8 @@
 pub mod Measured
 pub mod Kept
+pub mod LiftedPrograms
+pub mod Simulation
+pub mod Shown
 pub mod Binds
 pub mod LiftedCalls
 pub mod Filled

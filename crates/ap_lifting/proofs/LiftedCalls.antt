@@ -89,7 +89,7 @@ module _ (p : Program) (good : IsProgram p) (h : Tree) (vars : ℕ) (f : ℕ →
 
 -- ---- a goal's own clauses
 
-named_callable : (a : ℕ) (t : Tree) (s : ℕ → Tree) → callable t ≡ true → is_named a (instance s t) ≡ is_named a t
+pub named_callable : (a : ℕ) (t : Tree) (s : ℕ → Tree) → callable t ≡ true → is_named a (instance s t) ≡ is_named a t
 named_callable a (var x) s h = absurd (false≢true h)
 named_callable a (int z) s h = refl
 named_callable a (atom b) s h = refl
@@ -114,7 +114,7 @@ no_unifier a (atom b) (atom d) h k c = ap (λ v. option_and_then (solve (length 
 no_unifier a (node b ts) (node d us) h k c =
     ap (λ v. option_and_then (solve (length (add_vars (node d us) (add_vars (node b ts) [])))) (if v then apart_all ts us else None)) (differ a b d h k)
 
-callable-instance : (s : ℕ → Tree) (t : Tree) → callable t ≡ true → callable (instance s t) ≡ true
+pub callable-instance : (s : ℕ → Tree) (t : Tree) → callable t ≡ true → callable (instance s t) ≡ true
 callable-instance s (var x) h = absurd (false≢true h)
 callable-instance s (int z) h = absurd (false≢true h)
 callable-instance s (atom a) h = refl

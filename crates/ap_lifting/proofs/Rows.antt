@@ -1,5 +1,5 @@
 -- Rows of the definition, computed.
-use Rattle.std.proofs.Common.{◌≡◌, ℕ, ◌+◌, List, [], ◌∷◌, refl, Some}
+use Rattle.std.proofs.Common.{◌≡◌, ℕ, ◌+◌, List, [], ◌∷◌, refl}
 use Rattle.std.specs.Prelude.{pos}
 use Rattle.ap_term.specs.declared.clauses.Check.TheVariants.{Ground as IsGround, Indep as AreIndep}
 use Rattle.ap_term.specs.declared.fixed.TheConstants.{UNIFY}
@@ -16,7 +16,7 @@ names n = 900 + n
 
 -- of a clause with one variable, in the first line
 abbrev rule : Body → Rule
-rule b = record { head = node 200 (more (var 1) none); body = Some b; vars = 1; line = 1 }
+rule b = record { head = node 200 (more (var 1) none); body = b; vars = 1; line = 1 }
 
 abbrev clause : Tree → List Part → Clause
 clause h ps = record { head = h; body = ps; vars = 1; line = 1 }

@@ -1,12 +1,14 @@
 -- What lifting keeps.
-use Rattle.std.specs.Prelude.{◌≡◌, ℕ, ◌+◌, ◌≤◌, nat_eq, Bool, false, if◌then◌else◌, List, [], ◌∷◌, map}
-use Rattle.std.specs.List.{AllZip}
+use Rattle.std.specs.Prelude.{◌≡◌, ℕ, ◌+◌, ◌<◌, ◌≤◌, nat_eq, Bool, false, if◌then◌else◌, List, [], ◌∷◌, map}
+use Rattle.std.specs.List.{AllZip, AllByRecursion}
 use Rattle.ap_term.specs.declared.fixed.TheConstants.{COUNT}
 use Rattle.ap_term.specs.Tree.{Tree, Trees, var, int, atom, node, none, more}
 use Rattle.ap_term.specs.Substitution.{instance, instance_all}
 use Rattle.ap_term.specs.Goals.{Part, Clause, Program}
 use Rattle.ap_term.specs.WellFormed.{IsProgram}
 use Rattle.ap_laws.specs.Plain.{Plain, state, append_trees, plain_goals, plain_ways, plain_children, IsPlainBelow, SamePlain}
+use Rattle.ap_lifting.specs.Body.{Body, goal, conjunction, disjunction, parallel, conditional}
+use Rattle.ap_lifting.specs.Rule.{Rule}
 use Rattle.ap_lifting.specs.Lifted.{lifted_goal, lifted_clause}
 
 -- whether a goal or a head has the name
@@ -20,6 +22,21 @@ is_named a (node b ts) = nat_eq b a
 abbrev pub clauses_named : ℕ → Program → Program
 clauses_named a [] = []
 clauses_named a (c ∷ cs) = if is_named a c.head then c ∷ clauses_named a cs else clauses_named a cs
+
+-- no goal of the body has the name
+abbrev pub Avoids : ℕ → Body → Type 0
+Avoids a (goal t) = is_named a t ≡ false
+Avoids a (conjunction b c) = Avoids a b × Avoids a c
+Avoids a (disjunction b c) = Avoids a b × Avoids a c
+Avoids a (parallel b c) = Avoids a b × Avoids a c
+Avoids a (conditional cs b) = Avoids a b
+
+-- the first `count` names differ from one another, from the fixed ones, and from those of heads and goals
+pub record AreFresh (names : ℕ → ℕ) (count : ℕ) (rs : List Rule) : Type 0 where
+  pub fixed : (i : ℕ) → i < count → COUNT ≤ names i
+  pub apart : (i j : ℕ) → i < count → j < count → names i ≡ names j → i ≡ j
+  pub heads : (i : ℕ) → i < count → AllByRecursion (λ r. is_named (names i) r.head ≡ false) rs
+  pub goals : (i : ℕ) → i < count → AllByRecursion (λ r. Avoids (names i) r.body) rs
 
 -- a state whose first goal was replaced by a body, after one call
 abbrev pub entered : ℕ → (ℕ → Tree) → Trees → Trees → ℕ → ℕ → List Part → Plain

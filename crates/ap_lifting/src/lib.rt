@@ -15,4 +15,4 @@ pub use bodies::{Body, Condition};
 pub use laws::lifted_call_law;
 pub use lifting::{Lifted, lift_program, lift_question};
 pub use rules::Rule;
-pub use sizes::{Sizes, predicates_of, sizes_of};
+pub use sizes::{Sizes, sizes_of};

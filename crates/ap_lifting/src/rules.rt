@@ -11,8 +11,7 @@ use std::marker::Model;
 #[derive(Drop)]
 pub struct Rule {
     head: Term,
-    /// A fact has none.
-    body: Option<Body>,
+    body: Body,
     vars: u64,
     line: u64,
 }
@@ -26,23 +25,23 @@ impl Model for Rule {
     ghost coded = { rule_code };
 
     ghost use Rattle.ap_term.specs.TermView.{tree_of};
-    ghost use Rattle.ap_lifting.specs.BodyView.{body_if};
+    ghost use Rattle.ap_lifting.specs.BodyView.{body_of};
     ghost use Rattle.ap_lifting.specs.Rule.{IsRule};
 
-    ghost view = { λ a. record { head = tree_of a.head; body = body_if a.body; vars = a.vars; line = a.line } };
+    ghost view = { λ a. record { head = tree_of a.head; body = body_of a.body; vars = a.vars; line = a.line } };
 
-    ghost invariant = { λ a. IsRule (record { head = tree_of a.head; body = body_if a.body; vars = a.vars; line = a.line }) };
+    ghost invariant = { λ a. IsRule (record { head = tree_of a.head; body = body_of a.body; vars = a.vars; line = a.line }) };
 }
 
 impl Rule {
     ghost use Rattle.ap_term.specs.TermView.{tree_of};
-    ghost use Rattle.ap_lifting.specs.BodyView.{body_if};
+    ghost use Rattle.ap_lifting.specs.BodyView.{body_of};
     ghost use Rattle.ap_lifting.specs.Rule.{IsRule};
 
     /// A clause whose first token stands in that line of the text, from 1.
-    pub fn new(head: Term, body: Option<Body>, vars: u64, line: u64) -> Rule
-        requires { IsRule (record { head = tree_of head; body = body_if body; vars = vars; line = line }) }
-        ensures { result ≡ record { head = tree_of head; body = body_if body; vars = vars; line = line } }
+    pub fn new(head: Term, body: Body, vars: u64, line: u64) -> Rule
+        requires { IsRule (record { head = tree_of head; body = body_of body; vars = vars; line = line }) }
+        ensures { result ≡ record { head = tree_of head; body = body_of body; vars = vars; line = line } }
     {
         Rule {
             head,
@@ -59,8 +58,8 @@ impl Rule {
         &self.head
     }
 
-    pub fn body(&self) -> &Option<Body>
-        ensures body { body_if result.now ≡ self.now.body }
+    pub fn body(&self) -> &Body
+        ensures body { body_of result.now ≡ self.now.body }
         ensures kept { IsRule self.now }
     {
         &self.body
@@ -81,9 +80,9 @@ impl Rule {
     }
 
     /// The head and the body.
-    pub fn into_parts(self) -> (Term, Option<Body>)
+    pub fn into_parts(self) -> (Term, Body)
         ensures head { tree_of result.0 ≡ self.head }
-        ensures body { body_if result.1 ≡ self.body }
+        ensures body { body_of result.1 ≡ self.body }
         ensures kept { IsRule self }
     {
         let Rule { head, body, .. } = self;
