@@ -1,0 +1,5 @@
+pub mod Blocks
+pub mod Steps
+pub mod Names
+pub mod Tuples
+pub mod Moves
