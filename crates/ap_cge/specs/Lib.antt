@@ -1,0 +1,4 @@
+pub mod Printed
+pub mod PieceView
+pub mod Printing
+pub mod Stripped

@@ -1,0 +1,16 @@
+//! Annotated programs: programs whose groups carry checks, as text and without them.
+//!
+//! Stands on `ap_term`, on `ap_writer` for terms, on `ap_reader` for the table of operators, and on `ap_outside` for where
+//! lines are put. The crates above use one contract: what is put are the lines of the program, each as one piece.
+#![tactic(auto)]
+
+mod annotated;
+mod output;
+mod pieces;
+mod plain;
+
+
+pub use annotated::{Annotated, hand_written};
+pub use output::{PrintErr, print};
+pub use plain::strip;
+
