@@ -1,9 +1,9 @@
 -- The closure is the least list that has the sets and is closed under union.
-use Rattle.std.proofs.Common.{◌≡◌, ℕ, ◌⊎◌, inl, inr, Bool, ◌||◌, List, [], ◌∷◌, refl, ap, ap₂, sym, ◌∙◌, subst}
+use Rattle.std.proofs.Common.{◌≡◌, ℕ, ◌⊎◌, inl, inr, Bool, ◌||◌, List, [], ◌∷◌, refl, ap, ap₂, sym, ◌∙◌, subst, true}
 use Rattle.ap_sharing.specs.VarSet.{union}
-use Rattle.ap_sharing.specs.Sets.{In, Is, IsAscending, insert_set, with_each, grown, grown_all, closure}
-use Rattle.ap_sharing.proofs.Elements.{union_twice, union_comm, union_assoc}
-use Rattle.ap_sharing.proofs.Lists.{Elem, In-some, In-elem, In-map, Elem-map, In-put, In-stays, In-insert_cases, In-join_left, In-join_right, In-join_cases, ascending-insert, ascending-join, ascending-none, Is-union}
+use Rattle.ap_sharing.specs.Sets.{In, Is, IsAscending, insert_set, with_each, grown, grown_all, closure, listed}
+use Rattle.ap_sharing.proofs.Elements.{union_twice, union_comm, union_assoc, same_bool}
+use Rattle.ap_sharing.proofs.Lists.{Elem, In-some, In-elem, In-map, Elem-map, In-put, In-stays, In-insert_cases, In-join_left, In-join_right, In-join_cases, ascending-insert, ascending-join, ascending-none, Is-union, one_list, Elem-listed, listed-Elem}
 
 -- how a set came into the list that s made grow
 data Made (s : ℕ) (C : List ℕ) (a : ℕ) : Type 0 where
@@ -24,7 +24,7 @@ there s C a (joined t h e) =
     In-join_right (λ r. a ≡ r) (insert_set C s) (with_each s C) (In-map (λ r. t ≡ r) (λ r. a ≡ r) (union s) C (λ r i. sym e ∙ ap (union s) i) h)
 there s C a (other h) = In-join_left (λ r. a ≡ r) (insert_set C s) (with_each s C) (In-stays (λ r. a ≡ r) C s h)
 
-abbrev IsClosed : List ℕ → Type 0
+abbrev pub IsClosed : List ℕ → Type 0
 IsClosed C = (a b : ℕ) → Elem a C → Elem b C → Elem (union a b) C
 
 absorb : (s t : ℕ) → union s (union s t) ≡ union s t
@@ -33,7 +33,7 @@ absorb s t = sym (union_assoc s s t) ∙ ap (λ z. union z t) (union_twice s)
 swap_in : (a s t : ℕ) → union a (union s t) ≡ union s (union a t)
 swap_in a s t = sym (union_assoc a s t) ∙ ap (λ z. union z t) (union_comm a s) ∙ union_assoc s a t
 
-closed_grown : (s : ℕ) (C : List ℕ) → IsClosed C → IsClosed (grown C s)
+pub closed_grown : (s : ℕ) (C : List ℕ) → IsClosed C → IsClosed (grown C s)
 closed_grown s C ih a b h k = there s C (union a b) (go (how s C a h) (how s C b k))
   where
     go : Made s C a → Made s C b → Made s C (union a b)
@@ -52,8 +52,11 @@ closed_all : (C ts : List ℕ) → IsClosed C → IsClosed (grown_all C ts)
 closed_all C [] h = h
 closed_all C (t ∷ ts) h = closed_all (grown C t) ts (closed_grown t C h)
 
+pub closed_none : IsClosed []
+closed_none a b h k = absurd h
+
 pub closed : (ss : List ℕ) (a b : ℕ) → Elem a (closure ss) → Elem b (closure ss) → Elem (union a b) (closure ss)
-closed ss = closed_all [] ss (λ a b h k. absurd h)
+closed ss = closed_all [] ss closed_none
 
 In-grown : (P : ℕ → Type 0) (C : List ℕ) (s : ℕ) → In P C → In P (grown C s)
 In-grown P C s h = In-join_left P (insert_set C s) (with_each s C) (In-stays P C s h)
@@ -91,9 +94,24 @@ module _ (P : ℕ → Type 0) (step : (s t : ℕ) → P s → P t → P (union s
   pub least : (ss : List ℕ) → ((r : ℕ) → Elem r ss → P r) → (a : ℕ) → Elem a (closure ss) → P a
   least ss k a e = least_all [] ss (λ r i. absurd i) k a e
 
+pub ascending-grown : (s : ℕ) (C : List ℕ) → IsAscending C → IsAscending (grown C s)
+ascending-grown s C h = ascending-join (insert_set C s) (with_each s C) (ascending-insert C s h)
+
+-- a set that is there makes a closed list no longer
+pub grown_same : (s : ℕ) (C : List ℕ) → IsAscending C → IsClosed C → listed s C ≡ true → grown C s ≡ C
+grown_same s C a h k = one_list (grown C s) C (ascending-grown s C a) a (λ r.
+    same_bool (listed r (grown C s)) (listed r C)
+    (λ i. listed-Elem r C (back r (how s C r (Elem-listed r (grown C s) i))))
+    (λ i. listed-Elem r (grown C s) (there s C r (other (Elem-listed r C i)))))
+  where
+    back : (r : ℕ) → Made s C r → Elem r C
+    back r (itself e) = subst (λ z. Elem z C) e (Elem-listed s C k)
+    back r (joined t i e) = subst (λ z. Elem z C) e (h s t (Elem-listed s C k) i)
+    back r (other i) = i
+
 ascending_all : (C ts : List ℕ) → IsAscending C → IsAscending (grown_all C ts)
 ascending_all C [] h = h
-ascending_all C (t ∷ ts) h = ascending_all (grown C t) ts (ascending-join (insert_set C t) (with_each t C) (ascending-insert C t h))
+ascending_all C (t ∷ ts) h = ascending_all (grown C t) ts (ascending-grown t C h)
 
 pub ascending-closure : (ss : List ℕ) → IsAscending (closure ss)
 ascending-closure ss = ascending_all [] ss ascending-none

@@ -214,6 +214,10 @@ impl Sets {
     {
         let mut closed = Sets::new(alloc);
         for s in &self.held {
+            // Its unions are there too.
+            if closed.contains(*s) {
+                continue;
+            }
             let before = closed.copy()?;
             closed.insert(*s)?;
             if !closed.add_unions(*s, &before)? {
