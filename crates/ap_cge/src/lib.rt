@@ -14,3 +14,6 @@ pub use annotated::{Annotated, hand_written};
 pub use output::{PrintErr, print};
 pub use plain::strip;
 
+
+#[cfg(test)]
+mod tests;
