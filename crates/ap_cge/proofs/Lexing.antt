@@ -233,17 +233,18 @@ split_at_ascii xs ys b h u =
 
 escaped_utf8 : (before name : List ℕ) → IsUtf8 (before ++ name) → IsUtf8 (before ++ flat_map escaped name)
 escaped_utf8 before [] u = u
-escaped_utf8 before (b ∷ name) u = go (nat_lt b 128) refl
+escaped_utf8 before (b ∷ name) u = go (nat_lt b 128) refl (escaped_utf8 [] name) (escaped_utf8 (before ++ b ∷ []) name)
   where
-    go : (t : Bool) → nat_lt b 128 ≡ t → IsUtf8 (before ++ (escaped b ++ flat_map escaped name))
-    go true e =
+    go : (t : Bool) → nat_lt b 128 ≡ t → (IsUtf8 name → IsUtf8 (flat_map escaped name)) → (IsUtf8 ((before ++ b ∷ []) ++ name) → IsUtf8 ((before ++ b ∷ []) ++ flat_map escaped name))
+        → IsUtf8 (before ++ (escaped b ++ flat_map escaped name))
+    go true e alone behind =
         let low : b < 128 = grind (arith, nat_tests) in
         let parts = split_at_ascii before name b low u in
-        IsUtf8-append before (escaped b ++ flat_map escaped name) parts.0 (IsUtf8-append (escaped b) (flat_map escaped name) (escaped_ascii b low) (escaped_utf8 [] name parts.1))
-    go false e =
+        IsUtf8-append before (escaped b ++ flat_map escaped name) parts.0 (IsUtf8-append (escaped b) (flat_map escaped name) (escaped_ascii b low) (alone parts.1))
+    go false e alone behind =
         let high : 128 ≤ b = grind (arith, nat_tests) in
         subst IsUtf8 (append_assoc before (b ∷ []) (flat_map escaped name) ∙ ap (λ l. before ++ (l ++ flat_map escaped name)) (sym (escaped_high b high)))
-        (escaped_utf8 (before ++ b ∷ []) name (subst IsUtf8 (sym (append_assoc before (b ∷ []) name)) u))
+        (behind (subst IsUtf8 (sym (append_assoc before (b ∷ []) name)) u))
 
 -- a quote, the characters of a name, and a quote
 quoted_utf8 : (name : List ℕ) → IsUtf8 name → IsUtf8 (39 ∷ (flat_map escaped name ++ 39 ∷ []))

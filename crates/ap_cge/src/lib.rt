@@ -5,11 +5,13 @@
 #![tactic(auto)]
 
 mod annotated;
+mod law;
 mod output;
 mod pieces;
 mod plain;
 
 
+pub use law::printed_again_as_tokens;
 pub use annotated::{Annotated, hand_written};
 pub use output::{PrintErr, print};
 pub use plain::strip;
