@@ -76,7 +76,7 @@ integer_at d ds rest h small k =
     let long : 1 + prefix_len is_ascii_digit (ds ++ rest) ≡ suc (length ds) = omega (arith, run is_ascii_digit ds rest h k) in
     let front : take (suc (length ds)) (d ∷ (ds ++ rest)) ≡ d ∷ ds = ap (λ l. d ∷ l) (take-length-append ds rest) in
     let fits : nat_le (number (take (1 + prefix_len is_ascii_digit (ds ++ rest)) (d ∷ (ds ++ rest)))) (2 ^ 63) ≡ true =
-      ap (λ n. nat_le (number (take n (d ∷ (ds ++ rest)))) (2 ^ 63)) long ∙ ap (λ l. nat_le (number l) (2 ^ 63)) front ∙ le-leb (number (d ∷ ds)) (2 ^ 63) small in
+    ap (λ n. nat_le (number (take n (d ∷ (ds ++ rest)))) (2 ^ 63)) long ∙ ap (λ l. nat_le (number l) (2 ^ 63)) front ∙ le-leb (number (d ∷ ds)) (2 ^ 63) small in
     rw fits (ap (λ n. (kind.Token token.Integer, n)) long)
   where
     take-length-append : (xs ys : List ℕ) → take (length xs) (xs ++ ys) ≡ xs
@@ -227,9 +227,10 @@ split_at_ascii xs ys b h u =
     let all = xs ++ b ∷ ys in
     let within : length xs < length all = omega (arith, length-append xs (b ∷ ys)) in
     let low : get_or all (length xs) 0 < 128 = subst (λ c. c < 128) (sym (at-front xs ys b)) h in
-    let here : IsCharBoundary all (length xs) = (omega arith, λ inside lead. absurd (omega (arith, low, lead))) in
-    (subst IsUtf8 (take-front xs (b ∷ ys)) (IsUtf8-take all (length xs) u here),
-    subst IsUtf8 (drop-one_more xs ys b) (IsUtf8-drop all (length xs + 1) u (IsCharBoundary-after_ascii all (length xs) u within low)))
+    let here : IsCharBoundary all (length xs) = (omega arith, λ inside lead. absurd (omega (arith, low, lead))) in (
+      subst IsUtf8 (take-front xs (b ∷ ys)) (IsUtf8-take all (length xs) u here),
+      subst IsUtf8 (drop-one_more xs ys b) (IsUtf8-drop all (length xs + 1) u (IsCharBoundary-after_ascii all (length xs) u within low)),
+    )
 
 escaped_utf8 : (before name : List ℕ) → IsUtf8 (before ++ name) → IsUtf8 (before ++ flat_map escaped name)
 escaped_utf8 before [] u = u

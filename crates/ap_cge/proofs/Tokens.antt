@@ -168,15 +168,16 @@ name_read name rest u bytes apart = go (is_name name) refl (is_symbols name) ref
   where
     between : List ℕ
     between = 39 ∷ (flat_map escaped name ++ 39 ∷ [])
+
     go : (n : Bool) → is_name name ≡ n → (s : Bool) → is_symbols name ≡ s → (l : Bool) → bytes_eq name (codes "[]") ≡ l → (o : Bool) → bytes_eq name (codes ";") ≡ o → (c : Bool) → bytes_eq name (codes "!") ≡ c
         → All (λ b. b < 256) ((if n || s || l || o || c then name else 39 ∷ (flat_map escaped name ++ 39 ∷ [])) ++ rest)
         → IsReadAs (if n || s || l || o || c then name else 39 ∷ (flat_map escaped name ++ 39 ∷ []))
         (λ touches. if n then one_token token.Name name touches
-            else (if s then one_token token.Symbol name touches
-            else (if l then one_token token.OpenList (codes "[") true ++ one_token token.CloseList (codes "]") touches
-            else (if o then one_token token.Semicolon (codes ";") touches
-            else (if c then one_token token.Cut (codes "!") touches
-            else one_token token.Quoted (name_text name) touches))))) rest
+        else (if s then one_token token.Symbol name touches
+        else (if l then one_token token.OpenList (codes "[") true ++ one_token token.CloseList (codes "]") touches
+        else (if o then one_token token.Semicolon (codes ";") touches
+        else (if c then one_token token.Cut (codes "!") touches
+        else one_token token.Quoted (name_text name) touches))))) rest
     go true e s f l g o h c i b = one_read token.Name name rest refl (some_word name e) (word_again name rest e (apart-word rest apart))
     go false e true f l g o h c i b = one_read token.Symbol name rest refl (some_symbol name f) (symbols_again name rest f (apart-symbol rest apart))
     go false e false f true g o h c i b =
@@ -231,6 +232,7 @@ digits_words (d ∷ ds) h = go (is_ascii_digit d) refl h (digits_words ds)
   where
     word : is_ascii_digit d ≡ true → is_word d ≡ true
     word e = grind (arith, nat_tests)
+
     go : (t : Bool) → is_ascii_digit d ≡ t → (t && list_all is_ascii_digit ds) ≡ true → (list_all is_ascii_digit ds ≡ true → list_all is_word ds ≡ true) → (is_word d && list_all is_word ds) ≡ true
     go true e h ih = let w = word e in let v = ih h in rw (w, v) refl
     go false e h ih = absurd (false≢true h)

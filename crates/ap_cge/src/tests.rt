@@ -4,14 +4,18 @@ use crate::{Annotated, PrintErr, hand_written, print, strip};
 use ap_lexer::{pieces, tokens};
 use ap_outside::{MemSink, Refusal, SteadySink};
 use ap_reader::read_term;
-use ap_term::{Args, Atoms, Body, Check, Checks, Clause, Part, Program, Term, copy_term, is_clause};
+use ap_term::{
+    Args, Atoms, Body, Check, Checks, Clause, Part, Program, Term, copy_term, is_clause,
+};
 use std::alloc::Global;
 use std::test::Fail;
 
 fn read(alloc: Global, text: &str, atoms: &mut Atoms) -> Result<(Term, u64), Fail> {
     let found = pieces(alloc, text.as_bytes()).ok().ok_or("no memory")?;
     for piece in &found {
-        let tokens = tokens(alloc, text.as_bytes(), piece).ok().ok_or("bad token")?;
+        let tokens = tokens(alloc, text.as_bytes(), piece)
+            .ok()
+            .ok_or("bad token")?;
         let read = read_term(alloc, &tokens, atoms).ok().ok_or("no term")?;
         return Ok((read.term, read.names.len() as u64));
     }
@@ -105,16 +109,31 @@ const LINES: [(&str, &str); 30] = [
     ("[p,group([],[a,b])].", "p :- a & b.\n"),
     ("[p,group([],[a,b,c(X)])].", "p :- a & b & c(_1).\n"),
     ("[p,group([],[a])].", "p :- a.\n"),
-    ("[p(X),group([ground(X)],[a,b])].", "p(_1) :- ground(_1) => a & b.\n"),
-    ("[p(X,Y),group([indep(X,Y)],[a(X),b(Y)])].", "p(_1,_2) :- indep(_1,_2) => a(_1) & b(_2).\n"),
-    ("[p(X,Y),group([ground(X),indep(X,Y)],[a,b])].", "p(_1,_2) :- (ground(_1), indep(_1,_2)) => a & b.\n"),
+    (
+        "[p(X),group([ground(X)],[a,b])].",
+        "p(_1) :- ground(_1) => a & b.\n",
+    ),
+    (
+        "[p(X,Y),group([indep(X,Y)],[a(X),b(Y)])].",
+        "p(_1,_2) :- indep(_1,_2) => a(_1) & b(_2).\n",
+    ),
+    (
+        "[p(X,Y),group([ground(X),indep(X,Y)],[a,b])].",
+        "p(_1,_2) :- (ground(_1), indep(_1,_2)) => a & b.\n",
+    ),
     (
         "[p(X,Y,Z),group([ground(Z),ground(Y),ground(X)],[a,b])].",
         "p(_1,_2,_3) :- (ground(_3), ground(_2), ground(_1)) => a & b.\n",
     ),
-    ("[p,group([ground(X)],[a(Y),b(X)])].", "p :- ground(_1) => a(_2) & b(_1).\n"),
+    (
+        "[p,group([ground(X)],[a(Y),b(X)])].",
+        "p :- ground(_1) => a(_2) & b(_1).\n",
+    ),
     ("[p,q,group([],[a,b]),r].", "p :- q, a & b, r.\n"),
-    ("[p,group([],[a,b]),group([],[c,d])].", "p :- a & b, c & d.\n"),
+    (
+        "[p,group([],[a,b]),group([],[c,d])].",
+        "p :- a & b, c & d.\n",
+    ),
     ("[p,X = Y].", "p :- =(_1,_2).\n"),
     ("[p,X is 1 + - 2].", "p :- is(_1,+(1,-(2))).\n"),
     ("[p,X is -2].", "p :- is(_1,-2).\n"),
@@ -141,7 +160,9 @@ fn a_clause_is_a_line(rt: HostRuntime) -> Result<(), Fail> {
         let program = program_of(alloc, &[*text], &mut atoms)?;
         let annotated = hand_written(alloc, &program)?;
         let mut sink = SteadySink::new(alloc);
-        print(alloc, &annotated, &atoms, &mut sink).ok().ok_or(*text)?;
+        print(alloc, &annotated, &atoms, &mut sink)
+            .ok()
+            .ok_or(*text)?;
         assert_eq!(rt; sink.pieces().len(), 1);
         assert!(rt; sink.pieces()[0].as_slice() == line.as_bytes(), "{text}");
     }
@@ -158,7 +179,9 @@ const SEQUENCES: [&str; 3] = ["[p(X),a,b(X),c].", "[a].", "[b(X),a,a,c(Y)]."];
 
 fn lines(alloc: Global, program: Program, atoms: &Atoms) -> Result<SteadySink, Fail> {
     let mut sink = SteadySink::new(alloc);
-    print(alloc, &Annotated::new(program), atoms, &mut sink).ok().ok_or("no lines")?;
+    print(alloc, &Annotated::new(program), atoms, &mut sink)
+        .ok()
+        .ok_or("no lines")?;
     Ok(sink)
 }
 
@@ -183,7 +206,9 @@ fn a_sink_that_fails_has_the_first_lines(rt: HostRuntime) -> Result<(), Fail> {
     let result = print(alloc, &annotated, &atoms, &mut sink);
     assert!(rt; matches!(result, Err(PrintErr::Sunk)));
     assert_eq!(rt; sink.pieces().len(), 2);
-    assert!(rt; sink.pieces()[0].as_slice() == b"p(_1) :- ground(_1) => a & b(_1), c.\n".as_slice());
+    assert!(rt;
+        sink.pieces()[0].as_slice() == b"p(_1) :- ground(_1) => a & b(_1), c.\n".as_slice()
+    );
     assert!(rt; sink.pieces()[1].as_slice() == b"a".as_slice());
     Ok(())
 }
