@@ -1,2 +1,4 @@
 pub mod Stripping
 pub mod Writing
+pub mod Lexing
+pub mod Tokens

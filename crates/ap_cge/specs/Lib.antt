@@ -2,3 +2,4 @@ pub mod Printed
 pub mod PieceView
 pub mod Printing
 pub mod Stripped
+pub mod Again

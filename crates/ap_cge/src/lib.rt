@@ -5,12 +5,15 @@
 #![tactic(auto)]
 
 mod annotated;
+mod law;
 mod output;
 mod pieces;
 mod plain;
 
-
 pub use annotated::{Annotated, hand_written};
+pub use law::printed_again_as_tokens;
 pub use output::{PrintErr, print};
 pub use plain::strip;
 
+#[cfg(test)]
+mod tests;

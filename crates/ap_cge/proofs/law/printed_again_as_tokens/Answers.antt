@@ -1,0 +1,5 @@
+use Rattle.ap_cge.proofs.Tokens.{name_read, integer_read, variable_read}
+use Rattle.ap_cge.proofs.law.printed_again_as_tokens.Goals as goal
+
+pub returns : goal.returns
+returns c = record { names = name_read; integers = integer_read; variables = variable_read }
