@@ -52,7 +52,7 @@ numbered_all-push n (more u ts) t h k =
     and_both (numbered n u) (numbered_all n (push_tree ts t)) (and_first (numbered n u) (numbered_all n ts) h)
     (numbered_all-push n ts t (and_second (numbered n u) (numbered_all n ts) h) k)
 
-numbered_all-variables : (n m : ℕ) → m ≤ n → numbered_all n (variables m) ≡ true
+pub numbered_all-variables : (n m : ℕ) → m ≤ n → numbered_all n (variables m) ≡ true
 numbered_all-variables n zero h = refl
 numbered_all-variables n (suc m) h =
     numbered_all-push n (variables m) (var (suc m)) (numbered_all-variables n m (omega arith)) (grind (arith, nat_tests))
@@ -160,7 +160,7 @@ module _ (names : ℕ → ℕ) (vars line : ℕ) where
     body = h;
   }
 
-  unless_kept : vars ≤ 255 → (s : Bool) (n : ℕ) (x : Lifted) → list_all (well_formed_part vars) x.parts ≡ true
+  pub unless_kept : vars ≤ 255 → (s : Bool) (n : ℕ) (x : Lifted) → list_all (well_formed_part vars) x.parts ≡ true
       → list_all (well_formed_part vars) (raised_unless names vars line s n x).parts ≡ true
   unless_kept few true n x h = h
   unless_kept few false n x h = call_kept few n

@@ -1,5 +1,8 @@
 pub mod Measured
 pub mod Kept
+pub mod Again
+pub mod Queries
+pub mod Meaning
 pub mod LiftedPrograms
 pub mod Simulation
 pub mod Shown

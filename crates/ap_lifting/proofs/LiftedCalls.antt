@@ -1,6 +1,6 @@
 -- The call of a lifted predicate.
-use Rattle.std.proofs.Common.{◌≡◌, ℕ, zero, suc, ◌+◌, ◌<◌, ◌≤◌, Bool, true, false, ◌==◌, ◌&&◌, if◌then◌else◌, nat_eq, nat_le, length, option_and_then, List, [], ◌∷◌, ◌++◌, map, Option, Some, None, refl, ap, sym, ◌∙◌, subst, arith}
-use Rattle.std.specs.List.{AllZip, AllByRecursion, flat_map, list_all}
+use Rattle.std.proofs.Common.{◌≡◌, ℕ, ◌+◌, ◌<◌, ◌≤◌, Bool, true, false, ◌==◌, ◌&&◌, if◌then◌else◌, nat_eq, nat_le, length, option_and_then, List, [], ◌∷◌, ◌++◌, map, Option, Some, None, refl, ap, sym, ◌∙◌, subst, arith}
+use Rattle.std.specs.List.{AllZip, AllByRecursion, flat_map}
 use Rattle.std.proofs.lemmas.List.{map-append}
 use Rattle.std.proofs.lemmas.Bool.{false≢true}
 use Rattle.std.proofs.lemmas.Bool.Decides.{nat_tests}
@@ -11,16 +11,16 @@ use Rattle.ap_term.specs.Substitution.{instance, instance_all, Subst, value, shi
 use Rattle.ap_term.specs.Unification.{mgu, solve, apart_all}
 use Rattle.ap_term.specs.Unifier.{IsMostGeneral}
 use Rattle.ap_term.specs.Builtins.{builtin, relation_named, named_answer}
-use Rattle.ap_term.specs.Goals.{Part, Clause, Program, calls, instance_part}
-use Rattle.ap_term.specs.WellFormed.{IsClause, IsProgram, callable, numbered, numbered_all, well_formed_part}
-use Rattle.ap_term.specs.Search.{variables, way_if, clause_way, ways, ways_by, child}
+use Rattle.ap_term.specs.Goals.{Part, Program, calls, instance_part}
+use Rattle.ap_term.specs.WellFormed.{IsClause, IsProgram, callable, numbered}
+use Rattle.ap_term.specs.Search.{variables, way_if, clause_way, ways_by, child}
 use Rattle.ap_term.proofs.Solvable.{mgu-general}
 use Rattle.ap_term.proofs.Solutions.{same_var, same_test}
 use Rattle.ap_term.specs.Vars.{occurs, add_vars}
 use Rattle.ap_laws.specs.Renaming.{OptionAll, SameState, Local, LocalAll, LocalSubst, LocalPart, LocalParts}
-use Rattle.ap_laws.specs.Plain.{Plain, state, PlainWay, way, append_trees, plain_goals, plain_of, as_state, plain_way, plain_ways, plain_child, plain_children_by, plain_children, IsPlainBelow, SamePlain}
+use Rattle.ap_laws.specs.Plain.{state, PlainWay, way, append_trees, plain_goals, plain_of, as_state, plain_way, plain_child, plain_children_by, IsPlainBelow, SamePlain}
 use Rattle.ap_laws.proofs.Zips.{AllByRecursion-append, AllZip-append}
-use Rattle.ap_laws.proofs.Local.{Local-mgu, Local-instance, LocalAll-instance_all, LocalAll-weaken, Local-weaken, LocalParts-instance_part, LocalAll-calls}
+use Rattle.ap_laws.proofs.Local.{Local-mgu, Local-instance, LocalAll-weaken, Local-weaken, LocalParts-instance_part, LocalAll-calls}
 use Rattle.ap_laws.proofs.Ways.{LocalParts-body}
 use Rattle.ap_laws.proofs.Plain.{instance_all-append_trees}
 use Rattle.ap_laws.proofs.Graft.{state-eq, Local-at}

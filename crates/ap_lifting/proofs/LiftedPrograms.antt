@@ -1,31 +1,28 @@
 -- The goals and clauses of a lifted program stand for the bodies that were written.
-use Rattle.std.proofs.Common.{◌≡◌, ℕ, zero, suc, ◌+◌, ◌<◌, ◌≤◌, ◌⊎◌, inl, inr, Bool, true, false, ◌&&◌, nat_eq, if◌then◌else◌, List, [], ◌∷◌, ◌++◌, map, refl, ap, sym, ◌∙◌, subst, append-nil, arith}
-use Rattle.std.specs.List.{AllZip, AllByRecursion, flat_map, list_all}
+use Rattle.std.proofs.Common.{◌≡◌, ℕ, ◌+◌, ◌<◌, ◌≤◌, ◌⊎◌, inl, inr, Bool, true, false, if◌then◌else◌, List, [], ◌∷◌, ◌++◌, refl, ap, sym, ◌∙◌, subst, append-nil, arith}
+use Rattle.std.specs.List.{AllByRecursion, list_all}
 use Rattle.std.proofs.lemmas.Bool.{false≢true}
 use Rattle.ap_term.specs.declared.fixed.TheConstants.{COUNT}
 use Rattle.ap_term.specs.declared.clauses.Check.{Check}
 use Rattle.ap_term.specs.Tree.{Tree, Trees, var, int, atom, node, none, more}
-use Rattle.ap_term.specs.Substitution.{instance, instance_all}
+use Rattle.ap_term.specs.Substitution.{instance_all}
 use Rattle.ap_term.specs.Goals.{Part, Clause, Program}
-use Rattle.ap_term.specs.WellFormed.{IsClause, IsProgram, callable, numbered}
-use Rattle.ap_term.specs.Search.{variables, clause_way}
+use Rattle.ap_term.specs.WellFormed.{callable, numbered}
+use Rattle.ap_term.specs.Search.{variables}
 use Rattle.ap_term.proofs.Copies.{instance_var, instance_all_var}
-use Rattle.ap_term.proofs.Solutions.{same_var, same_test}
+use Rattle.ap_term.proofs.Solutions.{same_var}
 use Rattle.ap_laws.specs.Plain.{append_trees, plain_goals}
 use Rattle.ap_laws.proofs.Zips.{AllByRecursion-append, AllByRecursion-weaken}
 use Rattle.ap_laws.proofs.Views.{plain_goals-append}
 use Rattle.ap_lifting.specs.Body.{Body, goal, conjunction, disjunction, parallel, conditional, numbered_condition, well_formed}
-use Rattle.ap_lifting.specs.Rule.{Rule, IsRule}
-use Rattle.ap_lifting.specs.Lifted.{Lifted, stays, number_inside, in_turn, grouped, either, raised, raised_unless, lifted, lifted_goal, lifted_clause, checks_of, clause_of, lifted_rule, LiftedRules, with_rule, lifted_rules, lifted_program}
-use Rattle.ap_lifting.specs.LiftingLaws.{is_named, clauses_named, Avoids, AreFresh}
-use Rattle.ap_lifting.specs.Shown.{IsOrdinary, IsEntry, IsChoice, Alone, InTurn, Operand, Shows}
-use Rattle.ap_lifting.specs.Sizes.{predicates, predicates_in, measured}
+use Rattle.ap_lifting.specs.Lifted.{Lifted, stays, number_inside, raised_unless, lifted, lifted_goal, lifted_clause, checks_of}
+use Rattle.ap_lifting.specs.LiftingLaws.{is_named, clauses_named, Avoids}
+use Rattle.ap_lifting.specs.Shown.{Operand, Shows}
 use Rattle.ap_lifting.proofs.Kept.{and_first, and_second}
 use Rattle.ap_lifting.proofs.Measured.{lifted_measures}
-use Rattle.ap_lifting.proofs.LiftedCalls.{is_named-applied, selected}
-use Rattle.ap_lifting.proofs.Simulation.{IsLiftedTo, IsLiftedFrom}
+use Rattle.ap_lifting.proofs.LiftedCalls.{is_named-applied}
 
-clauses_named-append : (a : ℕ) (cs ds : Program) → clauses_named a (cs ++ ds) ≡ clauses_named a cs ++ clauses_named a ds
+pub clauses_named-append : (a : ℕ) (cs ds : Program) → clauses_named a (cs ++ ds) ≡ clauses_named a cs ++ clauses_named a ds
 clauses_named-append a [] ds = refl
 clauses_named-append a (c ∷ cs) ds = go (is_named a c.head) (clauses_named-append a cs ds)
   where
@@ -34,12 +31,12 @@ clauses_named-append a (c ∷ cs) ds = go (is_named a c.head) (clauses_named-app
     go true e = ap (λ l. c ∷ l) e
     go false e = e
 
-none_named : (a : ℕ) (cs : Program) → AllByRecursion (λ c. is_named a c.head ≡ false) cs → clauses_named a cs ≡ []
+pub none_named : (a : ℕ) (cs : Program) → AllByRecursion (λ c. is_named a c.head ≡ false) cs → clauses_named a cs ≡ []
 none_named a [] h = refl
 none_named a (c ∷ cs) h = ap (λ v. if v then c ∷ clauses_named a cs else clauses_named a cs) h.0 ∙ none_named a cs h.1
 
 -- a head has one name
-another_name : (a b : ℕ) (t : Tree) → is_named b t ≡ true → (b ≡ a → ⊥) → is_named a t ≡ false
+pub another_name : (a b : ℕ) (t : Tree) → is_named b t ≡ true → (b ≡ a → ⊥) → is_named a t ≡ false
 another_name a b t h d = go (is_named a t) refl
   where
     one_name : (t : Tree) → is_named b t ≡ true → is_named a t ≡ true → b ≡ a
@@ -57,7 +54,7 @@ module _ (names : ℕ → ℕ) where
   abbrev pub InNumbers : ℕ → ℕ → Clause → Type 0
   InNumbers lo hi c = (i : ℕ) × (lo ≤ i) × (i < hi) × (is_named (names i) c.head ≡ true)
 
-  wider : (lo hi l h : ℕ) → l ≤ lo → hi ≤ h → (cs : Program) → AllByRecursion (InNumbers lo hi) cs → AllByRecursion (InNumbers l h) cs
+  pub wider : (lo hi l h : ℕ) → l ≤ lo → hi ≤ h → (cs : Program) → AllByRecursion (InNumbers lo hi) cs → AllByRecursion (InNumbers l h) cs
   wider lo hi l h p q cs k = AllByRecursion-weaken (InNumbers lo hi) (InNumbers l h) (λ c m. (m.0, omega (arith, m.1), omega (arith, m.2), m.3)) cs k
 
   module _ (vars line : ℕ) where
@@ -68,12 +65,12 @@ module _ (names : ℕ → ℕ) where
     pub rises : (b : Body) (cs : List Check) (n : ℕ) → n ≤ (lifted names vars line b cs n).next
     rises b cs n = omega (arith, (lifted_measures names vars line b cs n).predicates)
 
-    unless_numbers : (s : Bool) (n : ℕ) (x : Lifted) → number_inside s n ≤ x.next → AllByRecursion (InNumbers (number_inside s n) x.next) x.clauses
+    pub unless_numbers : (s : Bool) (n : ℕ) (x : Lifted) → number_inside s n ≤ x.next → AllByRecursion (InNumbers (number_inside s n) x.next) x.clauses
         → (n ≤ (raised_unless names vars line s n x).next) × AllByRecursion (InNumbers n (raised_unless names vars line s n x).next) (raised_unless names vars line s n x).clauses
     unless_numbers true n x l h = (l, h)
     unless_numbers false n x l h = (omega arith, (here n x.next x.parts (omega arith), wider (n + 1) x.next n x.next (omega arith) (omega arith) x.clauses h))
 
-    in_turn_numbers : (n m o : ℕ) (cs ds : Program) → n ≤ m → m ≤ o → AllByRecursion (InNumbers n m) cs → AllByRecursion (InNumbers m o) ds → AllByRecursion (InNumbers n o) (cs ++ ds)
+    pub in_turn_numbers : (n m o : ℕ) (cs ds : Program) → n ≤ m → m ≤ o → AllByRecursion (InNumbers n m) cs → AllByRecursion (InNumbers m o) ds → AllByRecursion (InNumbers n o) (cs ++ ds)
     in_turn_numbers n m o cs ds p q h k = AllByRecursion-append (InNumbers n o) cs ds (wider n m n o (omega arith) q cs h) (wider m o n o p (omega arith) ds k)
 
     pub numbers : (b : Body) (cs : List Check) (n : ℕ) → AllByRecursion (InNumbers n (lifted names vars line b cs n).next) (lifted names vars line b cs n).clauses
@@ -122,11 +119,11 @@ module _ (names : ℕ → ℕ) (count : ℕ) (apart : (i j : ℕ) → i < count 
     abbrev pub Has : ℕ → ℕ → Program → Type 0
     Has lo hi cs = (i : ℕ) → lo ≤ i → i < hi → clauses_named (names i) p ≡ clauses_named (names i) cs
 
-    has_first : (lo mid hi : ℕ) (cs ds : Program) → hi ≤ count → mid ≤ hi → AllByRecursion (InNumbers names mid hi) ds → Has lo hi (cs ++ ds) → Has lo mid cs
+    pub has_first : (lo mid hi : ℕ) (cs ds : Program) → hi ≤ count → mid ≤ hi → AllByRecursion (InNumbers names mid hi) ds → Has lo hi (cs ++ ds) → Has lo mid cs
     has_first lo mid hi cs ds m q k h i a b =
         h i a (omega arith) ∙ clauses_named-append (names i) cs ds ∙ ap (λ l. clauses_named (names i) cs ++ l) (others i mid hi (omega arith) m (inl b) ds k) ∙ append-nil (clauses_named (names i) cs)
 
-    has_second : (lo mid hi : ℕ) (cs ds : Program) → hi ≤ count → lo ≤ mid → AllByRecursion (InNumbers names lo mid) cs → Has lo hi (cs ++ ds) → Has mid hi ds
+    pub has_second : (lo mid hi : ℕ) (cs ds : Program) → hi ≤ count → lo ≤ mid → AllByRecursion (InNumbers names lo mid) cs → Has lo hi (cs ++ ds) → Has mid hi ds
     has_second lo mid hi cs ds m q k h i a b =
         h i (omega arith) b ∙ clauses_named-append (names i) cs ds ∙ ap (λ l. l ++ clauses_named (names i) ds) (others i lo mid (omega arith) (omega arith) (inr a) cs k)
 

@@ -1,17 +1,14 @@
 -- What stands for a body, under instances.
 use Rattle.std.proofs.Common.{◌≡◌, ℕ, Bool, true, false, List, [], ◌∷◌, ◌++◌, map, refl, ap, sym, ◌∙◌, subst}
-use Rattle.std.proofs.lemmas.Bool.{false≢true}
 use Rattle.std.proofs.lemmas.List.{map-append}
-use Rattle.ap_term.specs.Tree.{Tree, Trees, var, int, atom, node, none, more}
+use Rattle.ap_term.specs.Tree.{Tree, Trees, none, more}
 use Rattle.ap_term.specs.Substitution.{instance, instance_all}
-use Rattle.ap_term.specs.Goals.{Part, Program}
-use Rattle.ap_term.specs.WellFormed.{callable}
+use Rattle.ap_term.specs.Goals.{Program}
 use Rattle.ap_term.proofs.Copies.{instance_twice, instance_all_twice}
 use Rattle.ap_laws.specs.Plain.{append_trees, plain_goals}
 use Rattle.ap_laws.proofs.Plain.{instance_all-append_trees}
 use Rattle.ap_lifting.specs.Body.{Body, goal, conjunction, disjunction, parallel, conditional}
 use Rattle.ap_lifting.specs.Lifted.{stays, lifted_goal}
-use Rattle.ap_lifting.specs.LiftingLaws.{is_named}
 use Rattle.ap_lifting.specs.WrittenSearch.{Item, calling, choosing, entering, operand_items, items, instance_body, instance_item}
 use Rattle.ap_lifting.specs.Shown.{IsOrdinary, IsEntry, IsChoice, Alone, InTurn, Operand, Shows, ShowsItem, ShowsAll}
 use Rattle.ap_lifting.proofs.LiftedCalls.{named_callable, callable-instance}

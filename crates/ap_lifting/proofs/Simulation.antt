@@ -1,35 +1,33 @@
 -- The search of a lifted program follows that of the program as it is written.
-use Rattle.std.proofs.Common.{◌≡◌, ℕ, zero, suc, ◌+◌, ◌<◌, ◌≤◌, Bool, true, false, List, [], ◌∷◌, ◌++◌, map, Option, Some, None, refl, ap, sym, ◌∙◌, subst, arith}
+use Rattle.std.proofs.Common.{◌≡◌, ℕ, zero, suc, ◌+◌, ◌<◌, ◌≤◌, List, [], ◌∷◌, ◌++◌, map, Option, Some, None, refl, ap, sym, ◌∙◌, subst, arith}
 use Rattle.std.specs.List.{AllZip, AllByRecursion, flat_map}
 use Rattle.std.proofs.lemmas.List.{map-append}
-use Rattle.ap_term.specs.declared.fixed.TheConstants.{COUNT}
 use Rattle.ap_term.specs.Tree.{Tree, Trees, var, int, atom, node, none, more}
 use Rattle.ap_term.specs.Substitution.{instance, instance_all, Subst, value, shift}
 use Rattle.ap_term.specs.Unification.{mgu}
 use Rattle.ap_term.specs.Builtins.{builtin}
 use Rattle.ap_term.specs.Goals.{Part, Clause, Program, calls, instance_part}
-use Rattle.ap_term.specs.WellFormed.{IsClause, IsProgram, callable, numbered}
-use Rattle.ap_term.specs.Search.{State, variables, way_if, clause_way, ways_by, children}
+use Rattle.ap_term.specs.WellFormed.{IsClause, IsProgram}
+use Rattle.ap_term.specs.Search.{way_if, clause_way, ways_by, children}
 use Rattle.ap_laws.specs.Renaming.{Renamed, RenamedAll, RenamedParts, Linked, SameState, Local, LocalAll}
 use Rattle.ap_laws.specs.Plain.{Plain, state, PlainWay, append_trees, plain_goals, plain_of, as_state, plain_way, plain_ways, plain_child, plain_children_by, plain_children, IsPlainBelow, SamePlain}
 use Rattle.ap_laws.specs.Plain as forms
-use Rattle.ap_laws.specs.Trace.{Action, trace, SameAction}
+use Rattle.ap_laws.specs.Trace.{trace, SameAction}
 use Rattle.ap_laws.proofs.Zips.{AllZip-append, AllZip-map, AllZip-flat_map}
-use Rattle.ap_laws.proofs.Local.{LocalAll-instance_all, Local-occurs}
+use Rattle.ap_laws.proofs.Local.{LocalAll-instance_all}
 use Rattle.ap_laws.proofs.Ways.{SameState-children}
 use Rattle.ap_laws.proofs.Plain.{LocalAll-append_trees}
 use Rattle.ap_laws.proofs.Graft.{state-eq, LocalAll-below, Local-at}
 use Rattle.ap_laws.proofs.SameStates.{SameState-sym, SameState-trans}
 use Rattle.ap_laws.proofs.Views.{plain_goals-instance, plain_children-plain_of, plain_of-as_state}
 use Rattle.ap_laws.proofs.TraceNames.{trace_renaming}
-use Rattle.ap_lifting.specs.Body.{Body}
 use Rattle.ap_lifting.specs.Rule.{Rule}
 use Rattle.ap_lifting.specs.Lifted.{lifted_goal, lifted_clause}
-use Rattle.ap_lifting.specs.LiftingLaws.{clauses_named, entered}
+use Rattle.ap_lifting.specs.LiftingLaws.{entered}
 use Rattle.ap_lifting.specs.WrittenSearch.{Item, calling, choosing, entering, items, instance_item, Written, written, WrittenWay, way, written_way_if, rule_way, written_ways_by, written_child, written_children, written_trace}
-use Rattle.ap_lifting.specs.Shown.{IsOrdinary, IsEntry, IsChoice, Shows, ShowsItem, ShowsAll}
-use Rattle.ap_lifting.proofs.Kept.{and_second, goals_called}
-use Rattle.ap_lifting.proofs.Binds.{InRange, Local-numbered, LocalAll-numbered, occurs-applied}
+use Rattle.ap_lifting.specs.Shown.{IsOrdinary, Shows, ShowsItem, ShowsAll}
+use Rattle.ap_lifting.proofs.Kept.{goals_called}
+use Rattle.ap_lifting.proofs.Binds.{InRange, LocalAll-numbered, occurs-applied}
 use Rattle.ap_lifting.proofs.LiftedCalls.{lifted_call, clauses_kept}
 use Rattle.ap_lifting.proofs.Shown.{ShowsAll-append, items_show, all_kept}
 
@@ -75,7 +73,7 @@ mutual
   same_all P R e (more t ts) h = (same_one P R e t h.0, same_all P R e ts h.1)
 
 -- the same goals with a later first unused variable
-later : (G T : Trees) (n m k : ℕ) → n ≤ m → LocalAll (λ x. x < n) G → LocalAll (λ x. x < n) T → SamePlain (state G T n k) (state G T m k)
+pub later : (G T : Trees) (n m k : ℕ) → n ≤ m → LocalAll (λ x. x < n) G → LocalAll (λ x. x < n) T → SamePlain (state G T n k) (state G T m k)
 later G T n m k l h j =
     let id : ℕ → ℕ = λ x. x in
     (id, id, (same_all (λ x. x < n) (Linked id id n m) (λ x o. (refl, refl, o, omega arith)) G h, same_all (λ x. x < n) (Linked id id n m) (λ x o. (refl, refl, o, omega arith)) T j, refl))
