@@ -1,13 +1,13 @@
 -- Terms of other numbers of arguments than a definition singles out.
 use Rattle.std.proofs.Common.{◌≡◌, ℕ, ◌≤◌, false, List, [], ◌∷◌, length, get_or, refl, ap, ap₂, sym, arith}
 use Rattle.ap_term.specs.declared.terms.Term.{Term}
-use Rattle.ap_term.specs.Tree.{Tree, Trees, none, more, node, atom}
+use Rattle.ap_term.specs.Tree.{Trees, none, more, node}
 use Rattle.ap_term.specs.TermView.{tree_of, trees_of}
 use Rattle.ap_lifting.specs.Body.{goal}
-use Rattle.std.specs.Prelude.{None, true}
+use Rattle.std.specs.Prelude.{None}
 use Rattle.std.proofs.lemmas.Bool.{false≢true}
 use Rattle.ap_clause.specs.Arity.{is_one, is_pair}
-use Rattle.ap_clause.specs.Clause.{Halves, conditions_in, body_in, clause_halves, query_halves, question}
+use Rattle.ap_clause.specs.Clause.{conditions_in, body_in, clause_halves, query_halves, question}
 
 pub conditions_in-many : (f : ℕ) (ts : List Term) → 3 ≤ length ts → conditions_in (node f (trees_of ts)) ≡ []
 conditions_in-many f [] h = refl

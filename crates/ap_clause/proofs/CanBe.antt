@@ -1,5 +1,5 @@
 -- A term that fits, isn't too wide and has no name from outside can be a clause.
-use Rattle.std.proofs.Common.{◌≡◌, ℕ, zero, suc, ◌+◌, ◌≤◌, ◌<◌, Bool, true, false, ◌&&◌, cond, List, [], ◌∷◌, ◌++◌, length, take, drop, Option, Some, None, slice_get, refl, sym, ap, subst, ◌∙◌, arith, add-one}
+use Rattle.std.proofs.Common.{◌≡◌, ℕ, ◌+◌, ◌<◌, Bool, true, false, ◌&&◌, cond, List, [], ◌∷◌, ◌++◌, length, drop, Option, Some, None, slice_get, refl, sym, ap, ◌∙◌, arith, add-one}
 use Rattle.std.specs.Prelude.{bytes_eq, codes, nat_le, ◌==◌, not}
 use Rattle.std.specs.List.{list_all}
 use Rattle.std.proofs.lemmas.Bool.{false≢true}
@@ -9,7 +9,7 @@ use Rattle.std.proofs.lemmas.Slice.Eq.{bytes_eq-Decides}
 use Rattle.ap_lexer.specs.Lexeme.{Text}
 use Rattle.ap_term.specs.declared.fixed.TheConstants.{NECK, QUERY, COMMA, SEMICOLON, PARALLEL, CONDITION, COUNT}
 use Rattle.ap_term.specs.AtomTable.{fixed_names, IsAtomTable}
-use Rattle.ap_term.specs.Tree.{Tree, Trees, var, int, atom, node, none, more, count_trees}
+use Rattle.ap_term.specs.Tree.{Tree, atom, none, more, count_trees}
 use Rattle.ap_term.specs.WellFormed.{in_range, numbered, numbered_all, callable}
 use Rattle.ap_term.proofs.NameTable.{table-long}
 use Rattle.ap_reader.specs.Written.{Written, Variable, Integer, Atom, Node, Paren, Writtens, Nil, Cons}
@@ -17,19 +17,18 @@ use Rattle.ap_reader.specs.Build.{place_of, term_in, terms_in}
 use Rattle.ap_reader.proofs.Tables.{placed}
 use Rattle.ap_lifting.specs.declared.bodies.Condition.{Condition}
 use Rattle.ap_lifting.specs.Body.{Body, well_formed, numbered_condition}
-use Rattle.ap_lifting.specs.Rule.{IsRule, well_formed_if}
+use Rattle.ap_lifting.specs.Rule.{well_formed_if}
 use Rattle.ap_clause.specs.declared.form.Connective.{Connective}
 use Rattle.ap_clause.specs.declared.form.Connective.TheVariants.{And, Or, Par, If, Other}
-use Rattle.ap_clause.specs.declared.limit.TheConstants.{MAX_VARIABLES}
 use Rattle.ap_clause.specs.declared.source.Source.{Source}
 use Rattle.ap_clause.specs.declared.source.Source.TheVariants as source
 use Rattle.ap_clause.specs.Form.{connective, is_variable, are_both_checks, are_checks, is_condition, is_conditional, is_body_named, is_body, is_head_named, is_head, is_clause, is_query}
-use Rattle.ap_clause.specs.Clause.{connective_at, variable_in, conditions_in, joined_by, body_in, Halves, clause_halves, query_halves, halves, rule_of}
-use Rattle.ap_clause.specs.Outside.{outside_head, outside_body, outside_rest, or_else, first_outside}
+use Rattle.ap_clause.specs.Clause.{connective_at, variable_in, conditions_in, joined_by, body_in, Halves, clause_halves, query_halves}
+use Rattle.ap_clause.specs.Outside.{outside_head, outside_body, or_else, first_outside}
 use Rattle.ap_clause.specs.Limit.{is_narrow, are_narrow}
 use Rattle.ap_clause.specs.Reads.{fits}
 use Rattle.ap_clause.specs.Verdict.{CanBeRule}
-use Rattle.ap_clause.proofs.Proper.{IsProper, AreProper, both_true, variable_in_range, numbered-proper, numbered_all-proper}
+use Rattle.ap_clause.proofs.Proper.{IsProper, both_true, variable_in_range, numbered-proper}
 
 -- ---- tests
 
@@ -70,6 +69,7 @@ name-is ns f name k h below at = same_test (bytes_eq f name) (place_of ns f == k
   where
     there : bytes_eq f name ≡ true → (place_of ns f == k) ≡ true
     there e = eq_test (place_of ns f) k (ap (place_of ns) ((bytes_eq-Decides f name).0 e) ∙ sym (placed ns k name h at []))
+
     back : (place_of ns f == k) ≡ true → bytes_eq f name ≡ true
     back e =
         let same = test_eq (place_of ns f) k e in

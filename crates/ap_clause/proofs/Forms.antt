@@ -1,5 +1,5 @@
 -- The form of lists and of leaves.
-use Rattle.std.proofs.Common.{◌≡◌, ℕ, zero, suc, List, [], ◌∷◌, ◌++◌, refl}
+use Rattle.std.proofs.Common.{◌≡◌, List, [], ◌∷◌, ◌++◌, refl}
 use Rattle.ap_reader.specs.Written.{Written, Node, Cons, Nil, cell}
 use Rattle.ap_reader.specs.Evaluated.{Gathered, with_rest, cells}
 use Rattle.ap_lexer.specs.Lexeme.{Text}

@@ -1,11 +1,9 @@
 -- Numbers that 64 bits hold or not, against limits that they hold.
-use Rattle.std.proofs.Common.{◌≡◌, ℕ, ◌+◌, ◌-◌, ◌^◌, ◌<◌, ◌≤◌, Bool, true, false, cond, min, max, length, Option, Some, None, refl, sym, ap, subst, ◌∙◌, arith}
+use Rattle.std.proofs.Common.{◌≡◌, ℕ, ◌+◌, ◌-◌, ◌^◌, ◌<◌, ◌≤◌, Bool, true, false, max, length, Option, Some, None, refl, sym, ap, ◌∙◌, arith}
 use Rattle.std.specs.Prelude.{nat_lt, not}
 use Rattle.ap_term.specs.Tree.{Tree}
-use Rattle.std.proofs.lemmas.Bool.{false≢true}
 use Rattle.std.proofs.lemmas.Bool.Decides.{nat_tests}
 use Rattle.ap_lifting.specs.Rule.{Rule}
-use Rattle.ap_lifting.specs.Lifted.{lifted_rule}
 use Rattle.ap_lifting.specs.declared.sizes.Sizes.{Sizes}
 use Rattle.ap_lifting.specs.Sizes.{held, AreSizesOf, count_goals, largest_group, most_goals, largest_group_in}
 use Rattle.ap_clause.specs.declared.refusal.What.{What}
@@ -35,6 +33,7 @@ within m n h e k l = of (below m h k)
   where
     below : (m h : ℕ) → nat_lt m h ≡ false → h ≤ m
     below m h k = grind (arith, nat_tests)
+
     of : h ≤ m → h ≡ n
     of q = omega arith
 

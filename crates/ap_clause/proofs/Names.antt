@@ -1,15 +1,14 @@
 -- Names that go behind the others.
-use Rattle.std.proofs.Common.{◌≡◌, ℕ, zero, suc, ◌+◌, ◌≤◌, ◌<◌, Bool, true, false, ◌||◌, cond, List, [], ◌∷◌, ◌++◌, map, length, take, Option, Some, None, slice_get, refl, sym, ap, subst, ◌∙◌, append_assoc, arith, length-append}
+use Rattle.std.proofs.Common.{◌≡◌, ℕ, zero, suc, ◌+◌, Bool, true, false, ◌||◌, cond, List, [], ◌∷◌, ◌++◌, map, length, take, Option, Some, None, slice_get, refl, sym, ap, subst, ◌∙◌, append_assoc, arith, length-append}
 use Rattle.std.specs.Prelude.{bytes_eq, is_some, option_copied}
 use Rattle.std.specs.Borrow.{Bor}
 use Rattle.std.proofs.lemmas.Bool.{false≢true}
-use Rattle.std.proofs.lemmas.List.{append-nil}
 use Rattle.std.proofs.lemmas.Slice.Eq.{bytes_eq-Decides}
 use Rattle.ap_lexer.specs.Lexeme.{Text}
 use Rattle.ap_term.specs.AtomTable.{is_held, insert_name}
 use Rattle.ap_reader.specs.Build.{Extends}
-use Rattle.ap_reader.proofs.Tables.{extends-self, extends-name, extends-trans}
-use Rattle.ap_clause.specs.Fresh.{IsNext, AreNext, lift_name, with_lifted, atoms_from}
+use Rattle.ap_reader.proofs.Tables.{extends-self, extends-name}
+use Rattle.ap_clause.specs.Fresh.{lift_name, with_lifted, atoms_from}
 
 pub take-front : (a b : List Text) → take (length a) (a ++ b) ≡ a
 take-front [] b = refl
@@ -54,6 +53,7 @@ was_held old new name x a e h k = of (is_held old name) refl
   where
     clash : None ≡ Some x → ⊥
     clash q = cc
+
     of : (b : Bool) → is_held old name ≡ b → is_held old name ≡ true
     of true q = q
     of false q =
@@ -65,6 +65,7 @@ was_new old new name a e h k = of (is_held old name) refl
   where
     clash : None ≡ Some name → ⊥
     clash q = cc
+
     of : (b : Bool) → is_held old name ≡ b → is_held old name ≡ false
     of false q = q
     of true q = absurd (clash (sym k ∙ ap (λ b. slice_get (cond b old (old ++ name ∷ [])) a) (sym q) ∙ ap (λ l. slice_get l a) (sym e) ∙ h))

@@ -1,6 +1,6 @@
 -- Each text has exactly one result.
-use Rattle.std.proofs.Common.{◌≡◌, ℕ, ◌+◌, ◌≤◌, ◌<◌, Bool, true, false, List, [], ◌∷◌, ◌++◌, map, length, Option, Some, None, refl, sym, ap, subst, ◌∙◌, inl, inr, arith}
-use Rattle.std.specs.Prelude.{nat_lt, ◌⊎◌}
+use Rattle.std.proofs.Common.{◌≡◌, ℕ, ◌+◌, ◌<◌, Bool, true, false, List, [], ◌∷◌, ◌++◌, length, Option, Some, None, refl, sym, ap, subst, ◌∙◌, arith}
+use Rattle.std.specs.Prelude.{nat_lt}
 use Rattle.ap_lexer.specs.Lexeme.{Text}
 use Rattle.ap_lexer.specs.declared.cut.Piece.{Piece}
 use Rattle.ap_lexer.specs.Piece.{pieces}
@@ -8,9 +8,8 @@ use Rattle.ap_lexer.specs.Token.{Placed, tokens}
 use Rattle.ap_term.specs.Goals.{Program, Query}
 use Rattle.ap_reader.specs.declared.written.TheConstants.{MAX_OPEN}
 use Rattle.ap_reader.specs.Bracket.{most_open}
-use Rattle.ap_reader.specs.Grammar.{Tree, spelled, IsWhole}
 use Rattle.ap_reader.specs.Word.{words}
-use Rattle.ap_reader.specs.Reading.{first_line, EndsAs, Spells}
+use Rattle.ap_reader.specs.Reading.{first_line, EndsAs}
 use Rattle.ap_reader.proofs.Stack.{last_same}
 use Rattle.ap_reader.proofs.Complete.{one}
 use Rattle.ap_lifting.specs.Rule.{Rule}
@@ -20,7 +19,6 @@ use Rattle.ap_clause.specs.declared.source.Source.{Source}
 use Rattle.ap_clause.specs.declared.source.Source.TheVariants as source
 use Rattle.ap_clause.specs.Fresh.{IsNext, AreNext, lift_name, with_lifted, names_by}
 use Rattle.ap_clause.specs.Reads.{Position, Taken, Verdict, Refused, Took, Sentence, IsSentence, judged, JudgesOpen, JudgesBy, Judges, Outcome, Stopped, Whole, Goes, Reads, start, beside, lifted_query, AcceptsProgram, RefusesProgram, AcceptsQuery, RefusesQuery}
-use Rattle.ap_term.specs.AtomTable.{is_held}
 use Rattle.std.proofs.lemmas.Bool.{false≢true}
 
 front_one : (ts a b : List Placed) → EndsAs ts a → EndsAs ts b → a ≡ b
@@ -63,6 +61,7 @@ next_one table from j k x y = same (λ h. clash (y.least j x.from_there h) x.new
   where
     clash : {b : Bool} → b ≡ true → b ≡ false → ⊥
     clash h q = absurd (false≢true (sym q ∙ h))
+
     same : (j < k → ⊥) → (k < j → ⊥) → j ≡ k
     same f g = omega (arith, f, g)
 

@@ -1,5 +1,5 @@
 -- Terms whose variables are numbered up to some number, and each of whose compounds has an argument.
-use Rattle.std.proofs.Common.{◌≡◌, ℕ, zero, suc, ◌+◌, ◌≤◌, ◌<◌, Bool, true, false, ◌&&◌, cond, List, [], ◌∷◌, ◌++◌, length, Option, Some, None, slice_get, refl, sym, ap, ◌∙◌, arith, length-append}
+use Rattle.std.proofs.Common.{◌≡◌, ℕ, zero, suc, ◌+◌, ◌≤◌, ◌<◌, Bool, true, false, ◌&&◌, cond, List, [], ◌∷◌, length, Option, Some, None, slice_get, refl, ap, ◌∙◌, arith, length-append}
 use Rattle.std.specs.Prelude.{bytes_eq, codes}
 use Rattle.std.proofs.lemmas.Bool.Decides.{nat_tests}
 use Rattle.ap_lexer.specs.declared.kind.TokenKind.{TokenKind}
@@ -35,6 +35,7 @@ place_bounds at (x ∷ xs) name m e = of (bytes_eq x name) (place_bounds (at + 1
   where
     some : Some at ≡ Some m → at ≡ m
     some k = cc
+
     of : (b : Bool) → (place_in (at + 1) xs name ≡ Some m → (at + 1 ≤ m) × (m < (at + 1) + length xs)) → cond b (Some at) (place_in (at + 1) xs name) ≡ Some m → (at ≤ m) × (m < at + length (x ∷ xs))
     of true f k = let same = some k in (omega arith, omega arith)
     of false f k = let rest = f k in (omega arith, omega arith)
@@ -44,6 +45,7 @@ known_bounds seen name m e = of (bytes_eq name (codes "_")) e
   where
     none : None ≡ Some m → ⊥
     none k = cc
+
     of : (b : Bool) → cond b None (place_in 1 seen name) ≡ Some m → (1 ≤ m) × (m ≤ length seen)
     of true k = absurd (none k)
     of false k = let found = place_bounds 1 seen name m k in (omega arith, omega arith)

@@ -1,5 +1,5 @@
 -- Pieces, one after another.
-use Rattle.std.proofs.Common.{◌≡◌, ℕ, ◌+◌, ◌≤◌, ◌<◌, List, [], ◌∷◌, ◌++◌, drop, length, get_or, Option, Some, None, Result, Ok, Err, refl, sym, ap, subst, ◌∙◌, inl, inr, arith, add-one}
+use Rattle.std.proofs.Common.{◌≡◌, ℕ, ◌+◌, ◌≤◌, ◌<◌, List, [], ◌∷◌, ◌++◌, drop, length, get_or, refl, sym, ap, subst, ◌∙◌, inl, inr, arith, add-one}
 use Rattle.std.specs.Prelude.{◌⊎◌}
 use Rattle.std.specs.List.{Contains}
 use Rattle.std.proofs.Math.ListN.{drop_of_length-le}
@@ -8,7 +8,6 @@ use Rattle.std.proofs.lemmas.List.Elements.{Contains-get_or}
 use Rattle.ap_lexer.specs.Lexeme.{Text}
 use Rattle.ap_lexer.specs.declared.cut.Piece.{Piece}
 use Rattle.ap_lexer.specs.Piece.{pieces}
-use Rattle.ap_term.specs.AtomTable.{capacity}
 use Rattle.ap_lifting.specs.Rule.{Rule}
 use Rattle.ap_lifting.specs.Sizes.{predicates_if, predicates_in}
 use Rattle.ap_clause.specs.declared.judge.Counts.{Counts}
@@ -16,8 +15,8 @@ use Rattle.ap_clause.specs.declared.judge.Read.{Read}
 use Rattle.ap_clause.specs.declared.refusal.Refusal.{Refusal}
 use Rattle.ap_clause.specs.declared.refusal.Refusal.TheVariants as refusal
 use Rattle.ap_clause.specs.declared.source.Source.TheVariants as source
-use Rattle.ap_clause.specs.Reads.{Position, Verdict, Refused, Took, Judges, Outcome, Stopped, Whole, Reads, start}
-use Rattle.ap_clause.specs.Verdict.{position, taken_of, Gives, GivesAll, IsCounted, AreCounted}
+use Rattle.ap_clause.specs.Reads.{Position, Refused, Took, Judges, Outcome, Stopped, Whole, Reads, start}
+use Rattle.ap_clause.specs.Verdict.{position, taken_of, IsCounted, AreCounted}
 
 predicates_in-push : (rs : List Rule) (r : Rule) → predicates_in (rs ++ r ∷ []) ≡ predicates_in rs + predicates_if r.body
 predicates_in-push [] r = omega arith

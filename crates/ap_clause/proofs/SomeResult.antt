@@ -1,7 +1,6 @@
 -- Each text has a result.
-use Rattle.std.proofs.Common.{◌≡◌, ℕ, zero, suc, ◌+◌, ◌-◌, ◌*◌, ◌^◌, ◌≤◌, ◌<◌, Bool, true, false, ◌||◌, cond, List, [], ◌∷◌, ◌++◌, map, length, Option, Some, None, refl, sym, ap, subst, ◌∙◌, inl, inr, arith, length-append}
+use Rattle.std.proofs.Common.{◌≡◌, ℕ, zero, suc, ◌+◌, ◌-◌, ◌*◌, ◌^◌, ◌≤◌, ◌<◌, Bool, true, false, ◌||◌, cond, List, [], ◌∷◌, ◌++◌, length, Option, Some, None, refl, sym, ap, subst, ◌∙◌, inl, inr, arith, length-append}
 use Rattle.std.specs.Prelude.{nat_lt, ◌⊎◌, bytes_eq, codes}
-use Rattle.std.specs.Fmt.{decimal}
 use Rattle.std.specs.Str.{IsUtf8, is_utf8}
 use Rattle.std.proofs.lemmas.Bool.{false≢true}
 use Rattle.std.proofs.lemmas.Bool.Decides.{nat_tests}
@@ -17,24 +16,21 @@ use Rattle.ap_lexer.specs.Token.{Placed, tokens}
 use Rattle.ap_term.specs.AtomTable.{is_held, capacity, IsAtomTable}
 use Rattle.ap_term.specs.Goals.{Program, Query}
 use Rattle.ap_reader.specs.declared.written.TheConstants.{MAX_OPEN}
-use Rattle.ap_reader.specs.declared.depth.TheConstants.{MAX_DEPTH}
 use Rattle.ap_reader.specs.Bracket.{most_open}
 use Rattle.ap_reader.specs.Grammar.{Tree, spelled, IsWhole}
 use Rattle.ap_reader.specs.Machine.{parsed}
 use Rattle.ap_reader.specs.Word.{words}
 use Rattle.ap_reader.specs.Written.{IsTextBy, AreText}
-use Rattle.ap_reader.specs.Depth.{depth}
-use Rattle.ap_reader.specs.Reading.{first_line, EndsAs, Spells, term_of}
+use Rattle.ap_reader.specs.Reading.{first_line, EndsAs}
 use Rattle.ap_reader.proofs.Stack.{last_same}
 use Rattle.ap_reader.proofs.Complete.{complete}
 use Rattle.ap_reader.proofs.Sound.{sound}
 use Rattle.ap_lifting.specs.Rule.{Rule}
-use Rattle.ap_clause.specs.declared.refusal.What.{What}
 use Rattle.ap_clause.specs.declared.refusal.Refusal.{Refusal}
 use Rattle.ap_clause.specs.declared.source.Source.{Source}
 use Rattle.ap_clause.specs.declared.source.Source.TheVariants as source
-use Rattle.ap_clause.specs.Fresh.{IsNext, AreNext, lift_name, with_lifted, names_by}
-use Rattle.ap_clause.specs.Reads.{Position, Taken, Verdict, Refused, Took, Sentence, IsSentence, fits, refused_if, refused_outside, refused_past, judged, JudgesOpen, JudgesBy, Judges, Outcome, Stopped, Whole, Goes, Reads, start, beside, AcceptsProgram, RefusesProgram, AcceptsQuery, RefusesQuery}
+use Rattle.ap_clause.specs.Fresh.{IsNext, AreNext, lift_name}
+use Rattle.ap_clause.specs.Reads.{Position, Verdict, Refused, Took, Sentence, IsSentence, judged, JudgesOpen, JudgesBy, Judges, Outcome, Stopped, Whole, Goes, Reads, start, beside, AcceptsProgram, RefusesProgram, AcceptsQuery, RefusesQuery}
 use Rattle.ap_clause.proofs.Taken.{judges_taken}
 
 -- ---- what tokens spell, if anything
@@ -60,6 +56,7 @@ front_or_none ts = of (last_or_none ts)
     by : (front : List Placed) (last : Placed) → ts ≡ front ++ last ∷ [] → ((last.kind ≡ token.End) ⊎ (last.kind ≡ token.End → ⊥)) → ((front : List Placed) × EndsAs ts front) ⊎ ((front : List Placed) → EndsAs ts front → ⊥)
     by front last e (inl k) = inl (front, (last, k, e))
     by front last e (inr n) = inr (λ f h. n (ap (λ t. t.kind) (last_same front f last h.0 (sym e ∙ h.2)).1 ∙ h.1))
+
     of : ((ts ≡ []) ⊎ ((front : List Placed) × ((last : Placed) × (ts ≡ front ++ last ∷ [])))) → ((front : List Placed) × EndsAs ts front) ⊎ ((front : List Placed) → EndsAs ts front → ⊥)
     of (inl e) = inr (λ f h. no_end f h.0 ts e h.2)
     of (inr h) = by h.0 h.1.0 h.1.1 (ends_or_not h.1.0.kind)
@@ -98,6 +95,7 @@ tree_or_none ts = of (parsed (words ts)) refl
   where
     clash : (t : Tree) → None ≡ Some t → ⊥
     clash t k = cc
+
     of : (u : Option Tree) → parsed (words ts) ≡ u → ((t : Tree) × IsTreeOf ts t) ⊎ ((t : Tree) → IsTreeOf ts t → ⊥)
     of (Some t) e = inl (t, sound (words ts) t e)
     of None e = inr (λ t h. clash t (sym e ∙ ap parsed (sym h.1) ∙ complete t h.0))
@@ -107,10 +105,12 @@ sentence_some ts = of (front_or_none ts)
   where
     same_front : (f g : List Placed) → EndsAs ts f → EndsAs ts g → f ≡ g
     same_front f g h k = (last_same f g h.0 k.0 (sym h.2 ∙ k.2)).0
+
     by : (f : List Placed) → EndsAs ts f → (AreText f ⊎ (AreText f → ⊥)) → (((t : Tree) × IsTreeOf f t) ⊎ ((t : Tree) → IsTreeOf f t → ⊥)) → (s : Option Sentence) × IsSentence ts s
     by f e (inl text) (inl h) = (Some (record { front = f; tree = h.0 }), record { ends = e; text = text; rules = h.1.0; spelling = h.1.1 })
     by f e (inl text) (inr n) = (None, λ g t h. n t (h.rules, h.spelling ∙ ap words (same_front g f h.ends e)))
     by f e (inr n) rest = (None, λ g t h. n (subst AreText (same_front g f h.ends e) h.text))
+
     of : (((front : List Placed) × EndsAs ts front) ⊎ ((front : List Placed) → EndsAs ts front → ⊥)) → (s : Option Sentence) × IsSentence ts s
     of (inl h) = by h.0 h.1 (text_or_not h.0) (tree_or_none h.0)
     of (inr n) = (None, λ f t h. n f h.ends)
@@ -184,6 +184,7 @@ held-removed name q (x ∷ xs) differs h = of (bytes_eq name x) refl (held-remov
     later : (b : Bool) → (is_held xs q ≡ true → is_held (removed name xs) q ≡ true) → (b || is_held xs q) ≡ true → (b || is_held (removed name xs) q) ≡ true
     later true rest k = refl
     later false rest k = rest k
+
     of : (b : Bool) → bytes_eq name x ≡ b → (is_held xs q ≡ true → is_held (removed name xs) q ≡ true) → is_held (cond b xs (x ∷ removed name xs)) q ≡ true
     of true e rest = or_true (bytes_eq q x) (is_held xs q) (ap (bytes_eq q) (sym ((bytes_eq-Decides name x).0 e)) ∙ differs) h
     of false e rest = later (bytes_eq q x) rest h
@@ -213,6 +214,7 @@ free (suc n) table from e h = of (is_held table (lift_name from)) refl (λ q. fr
     still : (k : ℕ) → from + 1 ≤ k → k ≤ (from + 1) + n → is_held (removed (lift_name from) table) (lift_name k) ≡ false → (b : Bool) → is_held table (lift_name k) ≡ b → is_held table (lift_name k) ≡ false
     still k lo hi f true q = absurd (false≢true (sym f ∙ held-removed (lift_name from) (lift_name k) table (differs k from (omega arith) (omega arith) (λ p. omega arith)) q))
     still k lo hi f false q = q
+
     of : (b : Bool) → is_held table (lift_name from) ≡ b → (is_held table (lift_name from) ≡ true → Free (removed (lift_name from) table) (from + 1) n) → Free table from (suc n)
     of false q rest = (from, omega arith, omega arith, q)
     of true q rest = let r = rest q in (r.0, omega (arith, r.1), omega (arith, r.2), still r.0 r.1 r.2 r.3 (is_held table (lift_name r.0)) refl)
@@ -224,6 +226,7 @@ next_some (suc d) table from k e h = of (is_held table (lift_name from)) refl (n
   where
     at : (i : ℕ) → is_held table (lift_name from) ≡ true → from ≡ i → is_held table (lift_name i) ≡ true
     at i q p = subst (λ n. is_held table (lift_name n) ≡ true) p q
+
     least : (j : ℕ) → is_held table (lift_name from) ≡ true → IsNext table (from + 1) j → (i : ℕ) → from ≤ i → i < j → (b : Bool) → nat_lt from i ≡ b → is_held table (lift_name i) ≡ true
     least j q r i lo hi true t = r.least i (above from i t) hi
       where
@@ -233,6 +236,7 @@ next_some (suc d) table from k e h = of (is_held table (lift_name from)) refl (n
       where
         equal : (m n : ℕ) → m ≤ n → nat_lt m n ≡ false → m ≡ n
         equal m n l s = grind (arith, nat_tests)
+
     of : (b : Bool) → is_held table (lift_name from) ≡ b → ((j : ℕ) × IsNext table (from + 1) j × (j ≤ k)) → (j : ℕ) × IsNext table from j × (j ≤ k)
     of false q rest = (from, record { from_there = omega arith; new = q; least = λ i lo hi. absurd (omega arith) }, omega arith)
     of true q rest = (rest.0, record { from_there = omega (arith, rest.1.from_there); new = rest.1.new; least = λ i lo hi. least rest.0 q rest.1 i lo hi (nat_lt from i) refl }, rest.2)
@@ -259,6 +263,7 @@ some_result text table ok = let found = reads_some text (pieces text) (start tab
         let room = reads_room text (pieces text) (start table) [] rules p (omega (arith, ok.room)) h in
         let ks = are_next_some p.counts.lifted p.table 1 room (omega (arith, room)) in
         (_, (_, (rules, p, ks.0, h, ks.1, ks.2, refl, refl)))
+
     of : (out : Outcome) → Reads text (pieces text) (start table) [] out → ((program : Program) × ((new : List Text) × AcceptsProgram text table program new)) ⊎ ((r : Refusal) × RefusesProgram text table r)
     of (Stopped r) h = inr (r, h)
     of (Whole rules p) h = inl (whole rules p h)

@@ -1,5 +1,5 @@
 -- What is known of a clause that was taken.
-use Rattle.std.proofs.Common.{◌≡◌, ℕ, ◌+◌, ◌≤◌, Bool, true, false, cond, List, length, Option, Some, None, refl, sym, ap, subst, ◌∙◌, arith}
+use Rattle.std.proofs.Common.{◌≡◌, ℕ, ◌+◌, ◌≤◌, Bool, true, false, cond, List, length, Option, Some, None, refl, sym, subst, ◌∙◌, arith}
 use Rattle.std.specs.Prelude.{nat_lt, not, ◌==◌}
 use Rattle.std.proofs.lemmas.Bool.Decides.{nat_tests}
 use Rattle.ap_lexer.specs.Lexeme.{Text}
@@ -7,20 +7,19 @@ use Rattle.ap_lexer.specs.declared.cut.Piece.{Piece}
 use Rattle.ap_lexer.specs.Token.{Placed, tokens}
 use Rattle.ap_term.specs.declared.fixed.TheConstants.{QUERY}
 use Rattle.ap_term.specs.AtomTable.{capacity}
-use Rattle.ap_term.specs.Tree.{Tree, Trees, var, int, atom, node, none, more}
+use Rattle.ap_term.specs.Tree.{Tree, var, int, atom, node, none, more}
 use Rattle.ap_reader.specs.declared.written.TheConstants.{MAX_OPEN}
 use Rattle.ap_reader.specs.declared.depth.TheConstants.{MAX_DEPTH}
 use Rattle.ap_reader.specs.Bracket.{most_open}
 use Rattle.ap_reader.specs.Depth.{depth}
-use Rattle.ap_reader.specs.Written.{variables}
 use Rattle.ap_reader.specs.Build.{term_in}
 use Rattle.ap_reader.specs.Reading.{first_line, term_of}
 use Rattle.ap_clause.specs.declared.refusal.What.{What}
 use Rattle.ap_clause.specs.declared.refusal.Refusal.{Refusal}
 use Rattle.ap_clause.specs.declared.source.Source.{Source}
 use Rattle.ap_clause.specs.declared.source.Source.TheVariants as source
-use Rattle.ap_clause.specs.Clause.{Halves, question, query_halves, halves, body_in}
-use Rattle.ap_clause.specs.Reads.{Position, Taken, Verdict, Refused, Took, Sentence, fits, table_after, refused_if, refused_outside, refused_past, judged_term, judged, JudgesOpen, JudgesBy, Judges}
+use Rattle.ap_clause.specs.Clause.{question, query_halves, halves}
+use Rattle.ap_clause.specs.Reads.{Position, Taken, Verdict, Refused, Took, Sentence, fits, table_after, refused_if, refused_outside, refused_past, judged, JudgesOpen, JudgesBy, Judges}
 
 took_if : (b : Bool) (r : Refusal) (v : Verdict) (t : Taken) → refused_if b r v ≡ Took t → (b ≡ false) × (v ≡ Took t)
 took_if true r v t h = absurd (clash h)

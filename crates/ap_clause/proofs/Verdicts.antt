@@ -1,6 +1,6 @@
 -- Verdicts on what the tokens of a piece spell.
-use Rattle.std.proofs.Common.{◌≡◌, ℕ, ◌+◌, ◌≤◌, ◌<◌, Bool, true, false, List, [], ◌++◌, map, length, Option, Some, None, Result, Ok, Err, refl, sym, ap, subst, ◌∙◌, inl, inr, arith}
-use Rattle.std.specs.Prelude.{nat_lt, not, ◌⊎◌}
+use Rattle.std.proofs.Common.{◌≡◌, ℕ, ◌+◌, ◌≤◌, ◌<◌, Bool, true, false, List, [], map, length, Some, None, Result, Ok, Err, sym, ap, subst, ◌∙◌, inl, inr, arith}
+use Rattle.std.specs.Prelude.{nat_lt, not}
 use Rattle.std.proofs.lemmas.Bool.Decides.{nat_tests}
 use Rattle.ap_lexer.specs.Lexeme.{Text}
 use Rattle.ap_lexer.specs.declared.cut.Piece.{Piece}
@@ -31,7 +31,7 @@ use Rattle.ap_clause.specs.Shape.{form_of}
 use Rattle.ap_clause.specs.Clause.{halves, rule_of}
 use Rattle.ap_clause.specs.Outside.{first_outside}
 use Rattle.ap_clause.specs.Limit.{passed}
-use Rattle.ap_clause.specs.Reads.{Verdict, Refused, Took, Sentence, fits, table_after, refused_if, refused_outside, refused_past, judged_term, judged_sentence, Position, JudgesOpen, JudgesBy, Judges}
+use Rattle.ap_clause.specs.Reads.{Verdict, Refused, Took, Sentence, fits, refused_if, refused_outside, refused_past, judged_term, judged_sentence, Position, JudgesOpen, JudgesBy, Judges}
 use Rattle.ap_clause.specs.Verdict.{CanBeRule, position, Gives}
 use Rattle.ap_clause.proofs.Proper.{spelled_proper}
 use Rattle.ap_clause.proofs.CanBe.{can_be_rule}

@@ -1,5 +1,5 @@
 -- Walks over the arguments of a term: the arguments before the last, and then the last.
-use Rattle.std.proofs.Common.{◌≡◌, ℕ, Bool, true, false, ◌&&◌, refl, ap, ◌∙◌}
+use Rattle.std.proofs.Common.{◌≡◌, Bool, true, false, ◌&&◌, refl, ap, ◌∙◌}
 use Rattle.ap_term.specs.Tree.{Tree, Trees, none, more, push_tree}
 use Rattle.ap_term.proofs.TermLists.{size_all-push, item_smaller, trees_of-drop_more}
 use Rattle.ap_clause.specs.Limit.{is_narrow, are_narrow}

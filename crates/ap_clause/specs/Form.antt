@@ -1,7 +1,7 @@
 -- Which terms are clauses of a program, and which are queries.
 use Rattle.std.specs.Prelude.{Bool, true, false, ◌&&◌, not, if◌then◌else◌, codes, bytes_eq}
 use Rattle.ap_lexer.specs.Lexeme.{Text}
-use Rattle.ap_reader.specs.Written.{Written, Variable, Integer, Atom, Node, Paren, Writtens, Nil, Cons}
+use Rattle.ap_reader.specs.Written.{Written, Variable, Integer, Atom, Node, Paren, Nil, Cons}
 use Rattle.ap_clause.specs.declared.form.Connective.{Connective}
 use Rattle.ap_clause.specs.declared.form.Connective.TheVariants.{And, Or, Par, If, Other}
 

@@ -2,7 +2,6 @@
 use Rattle.std.specs.Prelude.{◌≡◌, ◌⊎◌, List}
 use Rattle.ap_lexer.specs.Lexeme.{Text}
 use Rattle.ap_lexer.specs.declared.cut.Piece.{Piece}
-use Rattle.ap_term.specs.AtomTable.{IsAtomTable}
 use Rattle.ap_term.specs.Goals.{Program, Query}
 use Rattle.ap_clause.specs.declared.refusal.Refusal.{Refusal}
 use Rattle.ap_clause.specs.Reads.{AcceptsProgram, RefusesProgram, AcceptsQuery, RefusesQuery}

@@ -1,5 +1,5 @@
 -- How large a clause may be with what is lifted from it.
-use Rattle.std.specs.Prelude.{ℕ, ◌+◌, Bool, true, false, ◌&&◌, not, nat_le, nat_lt, max, if◌then◌else◌, Option, Some, None, length}
+use Rattle.std.specs.Prelude.{ℕ, ◌+◌, Bool, true, false, ◌&&◌, not, nat_le, nat_lt, max, Option, Some, None, length}
 use Rattle.ap_term.specs.Tree.{Tree, Trees, var, int, atom, node, none, more, count_trees}
 use Rattle.ap_lifting.specs.Rule.{Rule}
 use Rattle.ap_lifting.specs.Lifted.{Lifted, lifted_rule}

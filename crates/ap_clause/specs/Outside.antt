@@ -1,8 +1,8 @@
 -- Names that no goal and no head may have.
-use Rattle.std.specs.Prelude.{ℕ, Bool, true, false, ◌&&◌, ◌||◌, ◌==◌, nat_le, nat_lt, is_some, if◌then◌else◌, Option, Some, None}
+use Rattle.std.specs.Prelude.{ℕ, Bool, true, false, ◌&&◌, ◌||◌, ◌==◌, nat_le, nat_lt, is_some, Option, Some, None}
 use Rattle.ap_term.specs.declared.fixed.TheConstants.{TRUE, FAIL, CALL, FIRST_REFUSED, COUNT}
 use Rattle.ap_term.specs.Builtins.{relation_named}
-use Rattle.ap_term.specs.Tree.{Tree, Trees, var, int, atom, node, none, more, count_trees}
+use Rattle.ap_term.specs.Tree.{Tree, var, int, atom, node, count_trees}
 use Rattle.ap_lifting.specs.Body.{Body, goal, conjunction, disjunction, parallel, conditional}
 use Rattle.ap_clause.specs.Clause.{Halves}
 use Rattle.ap_clause.specs.declared.source.Source.{Source}

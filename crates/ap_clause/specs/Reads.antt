@@ -20,7 +20,7 @@ use Rattle.ap_lifting.specs.Rule.{Rule}
 use Rattle.ap_lifting.specs.Lifted.{Lifted, clause_of, lifted_rule, lifted_program}
 use Rattle.ap_lifting.specs.Sizes.{predicates_if}
 use Rattle.ap_clause.specs.Form.{is_clause, is_query}
-use Rattle.ap_clause.specs.Clause.{Halves, halves, rule_of}
+use Rattle.ap_clause.specs.Clause.{halves, rule_of}
 use Rattle.ap_clause.specs.Outside.{first_outside}
 use Rattle.ap_clause.specs.Limit.{passed, clauses_after}
 use Rattle.ap_clause.specs.Fresh.{AreNext, with_lifted, names_by}

@@ -1,5 +1,5 @@
 -- What the code keeps of written terms to judge their form.
-use Rattle.std.specs.Prelude.{Bool, true, false, List, [], ◌∷◌}
+use Rattle.std.specs.Prelude.{true, false, [], ◌∷◌}
 use Rattle.ap_reader.specs.Written.{Written, Variable}
 use Rattle.ap_reader.specs.Evaluated.{Value, ATerm, Gathered}
 use Rattle.ap_clause.specs.declared.form.Form.{Form}

@@ -201,7 +201,11 @@ fn query_halves(alloc: Global, t: &Term) -> Result<(Term, Option<Body>), NoMemor
 }
 
 /// The head and the body that a term is.
-pub(crate) fn halves(alloc: Global, source: Source, t: &Term) -> Result<(Term, Option<Body>), NoMemory>
+pub(crate) fn halves(
+    alloc: Global,
+    source: Source,
+    t: &Term,
+) -> Result<(Term, Option<Body>), NoMemory>
     ensures { IfOk result (λ h. (tree_of h.0, body_if h.1) ≡ spec.halves source (tree_of t.now)) }
 {
     match source {

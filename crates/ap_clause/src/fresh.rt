@@ -50,7 +50,11 @@ fn next_name(alloc: Global, from: u64, atoms: &mut Atoms) -> Result<(u64, Atom),
 }
 
 /// The atoms of so many lifted predicates; their names go behind the others.
-pub(crate) fn fresh_names(alloc: Global, count: u64, atoms: &mut Atoms) -> Result<Vec<Atom>, NoMemory>
+pub(crate) fn fresh_names(
+    alloc: Global,
+    count: u64,
+    atoms: &mut Atoms,
+) -> Result<Vec<Atom>, NoMemory>
     requires { length atoms.old + count ≤ capacity }
     ensures { Named count atoms.old atoms.new result }
 {

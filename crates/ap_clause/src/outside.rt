@@ -22,11 +22,7 @@ fn outside_goal(t: &Term) -> Option<Atom>
         Term::Var(_) => Some(Atom::at(fixed::CALL)),
         Term::Int(_) => None,
         Term::Atom(name) | Term::Node(name, _) => {
-            if is_refused(*name) {
-                Some(*name)
-            } else {
-                None
-            }
+            if is_refused(*name) { Some(*name) } else { None }
         }
     }
 }
@@ -36,7 +32,10 @@ fn outside_head(t: &Term) -> Option<Atom>
 {
     let (name, is_builtin) = match t {
         Term::Var(_) | Term::Int(_) => return None,
-        Term::Atom(name) => (*name, name.number() == fixed::TRUE || name.number() == fixed::FAIL),
+        Term::Atom(name) => (
+            *name,
+            name.number() == fixed::TRUE || name.number() == fixed::FAIL,
+        ),
         Term::Node(name, args) => (*name, args.len() == 2 && Relation::named(*name).is_some()),
     };
     if is_refused(name) || is_builtin {

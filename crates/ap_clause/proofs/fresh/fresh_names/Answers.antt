@@ -1,4 +1,4 @@
-use Rattle.std.proofs.Common.{◌≡◌, ℕ, ◌+◌, ◌≤◌, [], ◌∷◌, ◌++◌, length, sym, ap, subst, ◌∙◌, append_assoc, arith, length-append}
+use Rattle.std.proofs.Common.{◌≡◌, ◌+◌, [], ◌∷◌, ◌++◌, length, sym, ap, subst, ◌∙◌, append_assoc, arith, length-append}
 use Rattle.std.proofs.lemmas.List.{append-nil}
 use Rattle.ap_clause.specs.Fresh.{AreNext, lift_name, atoms_from}
 use Rattle.ap_clause.proofs.Names.{with_lifted-push, atoms_from-push, length-with_lifted}
@@ -17,8 +17,8 @@ loop-alloc-preserved c =
     let grown : length c.push.new.self.items ≡ length c.loop-alloc.names.items + 1 = omega (arith, ap length c.in_ok-push.ensures.items, length-append c.loop-alloc.names.items (c.in_ok-number.name ∷ [])) in (
       ks ++ k ∷ [],
       λ rest are.
-      subst (AreNext old 1) (sym (append_assoc ks (k ∷ []) rest))
-      (inv.1 (k ∷ rest) (found.0, subst (λ n. AreNext (now ++ lift_name k ∷ []) n rest) next (subst (λ l. AreNext l c.saturating_add-from.result rest) found.3 are))),
+          subst (AreNext old 1) (sym (append_assoc ks (k ∷ []) rest))
+          (inv.1 (k ∷ rest) (found.0, subst (λ n. AreNext (now ++ lift_name k ∷ []) n rest) next (subst (λ l. AreNext l c.saturating_add-from.result rest) found.3 are))),
       omega (arith, inv.2, grown, length-append ks (k ∷ [])),
       found.3 ∙ ap (λ l. l ++ lift_name k ∷ []) inv.3 ∙ with_lifted-push old ks k,
       c.in_ok-push.ensures.items ∙ ap (λ l. l ++ c.in_ok-number.name ∷ []) inv.4 ∙ ap (λ n. atoms_from (length old) ks ++ n ∷ []) place ∙ sym (atoms_from-push (length old) ks k),

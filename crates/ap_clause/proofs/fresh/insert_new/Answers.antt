@@ -1,5 +1,5 @@
-use Rattle.std.proofs.Common.{◌≡◌, Option, None, Some, sym, ap, ◌∙◌, subst}
-use Rattle.std.specs.Prelude.{is_ok, is_some, option_copied, slice_get}
+use Rattle.std.proofs.Common.{◌≡◌, sym, ap, ◌∙◌, subst}
+use Rattle.std.specs.Prelude.{is_ok, slice_get}
 use Rattle.std.proofs.Common.{true}
 use Rattle.ap_term.specs.AtomTable.{insert_name}
 use Rattle.ap_reader.specs.Build.{Extends}

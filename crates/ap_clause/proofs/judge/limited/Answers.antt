@@ -1,10 +1,10 @@
-use Rattle.std.proofs.Common.{◌≡◌, ℕ, ◌+◌, ◌∙◌, ap, subst, sym, arith}
+use Rattle.std.proofs.Common.{◌≡◌, ◌+◌, ◌∙◌, ap, subst, sym}
 use Rattle.ap_term.specs.TermView.{tree_of}
 use Rattle.ap_lifting.specs.BodyView.{body_if}
 use Rattle.ap_lifting.specs.Rule.{Rule}
 use Rattle.ap_lifting.specs.Sizes.{held, AreSizesOf}
 use Rattle.ap_clause.specs.Clause.{rule_of}
-use Rattle.ap_clause.specs.Limit.{own_clauses, outcome, passed_sizes}
+use Rattle.ap_clause.specs.Limit.{own_clauses, outcome}
 use Rattle.ap_clause.proofs.Limits.{limited_passed, limited_exact}
 use Rattle.ap_clause.proofs.judge.limited.Goals as goal
 
@@ -25,7 +25,7 @@ returns-in-None c =
     let own : c.saturating_add-own.result ≡ held (own_clauses c.args.source + s.clauses) = c.saturating_add-own.ensures ∙ ap (λ n. held (n + s.clauses)) c.own_clauses.ensures in
     let none = sym c.in-None.is ∙ c.passed_lifted.ensures in (
       limited_passed c.args.source (tree_of c.args.term.now) r c.args.before s c.saturating_add-own.result c.saturating_add-clauses.result _
-      c.if-vars-gt-MAX_VARIABLES.false (sym c.is_narrow.ensures ∙ c.if-not-is_narrow.false) sizes own c.saturating_add-clauses.ensures none,
+          c.if-vars-gt-MAX_VARIABLES.false (sym c.is_narrow.ensures ∙ c.if-not-is_narrow.false) sizes own c.saturating_add-clauses.ensures none,
       c.new-rule.ensures,
       limited_exact c.args.source r c.args.before s c.saturating_add-own.result c.saturating_add-clauses.result sizes own c.saturating_add-clauses.ensures (sym none),
     )

@@ -1,4 +1,4 @@
-use Rattle.std.proofs.Common.{◌≡◌, length, ap, sym, ◌∙◌, arith}
+use Rattle.std.proofs.Common.{length, ap, ◌∙◌, arith}
 use Rattle.std.specs.Prelude.{slice_index}
 use Rattle.ap_lifting.specs.Lifted.{lifted_program}
 use Rattle.ap_clause.specs.Verdict.{position}
@@ -17,9 +17,12 @@ returns-in-Ok-lift_program-clause-accepts c =
     let named = c.in-Ok-fresh_names.ensures in
     let all = c.in-Ok-take_all.all in
     let p = position c.take_all.new.atoms all.1 in (
-      all.0.items, p, named.0,
+      all.0.items,
+      p,
+      named.0,
       from_pieces c.args.text.now c.deref.result.now c.args.atoms.now all.0.items p (c.deref.ensures.value ∙ c.in-Ok.ensures.pieces) c.in-Ok-take_all.ensures.verdict,
-      named.1, named.2,
+      named.1,
+      named.2,
       c.in-Ok-lift_program.ensures ∙ ap (λ l. lifted_program (slice_index l) all.0.items) (c.deref-2.ensures.value ∙ named.4),
       named.3,
     )

@@ -1,10 +1,10 @@
-use Rattle.std.proofs.Common.{◌≡◌, length, ap, sym, subst, ◌∙◌, arith}
+use Rattle.std.proofs.Common.{length, ap, subst, ◌∙◌, arith}
 use Rattle.std.specs.Prelude.{slice_index}
 use Rattle.ap_clause.specs.declared.source.Source.TheVariants as source
-use Rattle.ap_clause.specs.Reads.{lifted_query, Judges, Took, beside}
+use Rattle.ap_clause.specs.Reads.{lifted_query, Judges, Took}
 use Rattle.ap_clause.specs.Verdict.{taken_of, position}
 use Rattle.ap_clause.proofs.Names.{length-atoms_from}
-use Rattle.ap_clause.proofs.Taken.{IsTaken, judges_taken, query_taken}
+use Rattle.ap_clause.proofs.Taken.{judges_taken, query_taken}
 use Rattle.ap_clause.proofs.read.read_query.Goals as goal
 
 pub question-requires-clause-named : goal.question-requires-clause-named

@@ -1,7 +1,7 @@
-use Rattle.std.proofs.Common.{◌≡◌, ℕ, ◌+◌, ◌++◌, false, None, [], ◌∷◌, drop, get_or, ap, sym, subst, ◌∙◌}
+use Rattle.std.proofs.Common.{◌+◌, false, None, [], drop, get_or, sym, subst}
 use Rattle.ap_lexer.specs.declared.cut.Piece.{Piece}
 use Rattle.ap_reader.proofs.Tables.{extends-trans}
-use Rattle.ap_clause.specs.Reads.{Outcome, Reads, start}
+use Rattle.ap_clause.specs.Reads.{Reads, start}
 use Rattle.ap_clause.specs.Verdict.{position, AreCounted}
 use Rattle.ap_clause.proofs.Reading.{at_piece, one_more, stops, counted_more}
 use Rattle.ap_clause.proofs.read.take_all.Goals as goal
@@ -23,10 +23,10 @@ loop-piece-preserved c =
     let items = c.in-Ok-push.ensures.items in
     record {
       reads = λ out h.
-      inv.reads out
-      (one_more c.args.text.now c.args.pieces.now i (get_or c.args.pieces.now i none) c.loop-piece.atoms c.take_piece.new.atoms c.loop-piece.counts c.loop-piece.rules.items c.in-Ok.read
-      (at_piece c.args.pieces.now i none c.loop-piece-test.true) c.in-Ok.ensures.verdict out
-      (subst (λ rs. Reads c.args.text.now (drop (i + 1) c.args.pieces.now) (position c.take_piece.new.atoms c.in-Ok.read.counts) rs out) items h));
+          inv.reads out
+          (one_more c.args.text.now c.args.pieces.now i (get_or c.args.pieces.now i none) c.loop-piece.atoms c.take_piece.new.atoms c.loop-piece.counts c.loop-piece.rules.items c.in-Ok.read
+          (at_piece c.args.pieces.now i none c.loop-piece-test.true) c.in-Ok.ensures.verdict out
+          (subst (λ rs. Reads c.args.text.now (drop (i + 1) c.args.pieces.now) (position c.take_piece.new.atoms c.in-Ok.read.counts) rs out) items h));
       counted =
           subst (λ rs. AreCounted rs c.in-Ok.read.counts c.take_piece.new.atoms) (sym items)
           (counted_more c.loop-piece.rules.items c.loop-piece.counts c.in-Ok.read c.loop-piece.atoms c.take_piece.new.atoms inv.counted c.in-Ok.ensures.counted);

@@ -1,4 +1,4 @@
-use Rattle.std.proofs.Common.{◌≡◌, List, [], drop}
+use Rattle.std.proofs.Common.{[], drop}
 use Rattle.ap_reader.specs.Build.{Extends}
 use Rattle.ap_clause.specs.Reads.{Outcome, Reads, start}
 use Rattle.ap_clause.specs.Verdict.{position, AreCounted}

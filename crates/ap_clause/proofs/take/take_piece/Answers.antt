@@ -1,4 +1,4 @@
-use Rattle.std.proofs.Common.{◌≡◌, ◌∙◌, ap, map, sym}
+use Rattle.std.proofs.Common.{◌∙◌, ap, map}
 use Rattle.ap_lexer.specs.Token.{view}
 use Rattle.ap_clause.specs.Reads.{Judges}
 use Rattle.ap_clause.specs.Verdict.{position}
