@@ -89,7 +89,7 @@ fn variables(alloc: Global, n: u64) -> Result<Args, NoMemory>
 }
 
 /// The state in which a query begins.
-fn start(alloc: Global, query: &Query) -> Result<State, NoMemory>
+pub fn start(alloc: Global, query: &Query) -> Result<State, NoMemory>
     ensures state { IfOk result (λ s. state_of s ≡ start query.now) }
     ensures kept { IsQuery query.now }
 {
