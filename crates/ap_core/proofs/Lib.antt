@@ -1,4 +1,6 @@
 pub mod Options
+pub mod Views
+pub mod Fitting
 pub mod Apart
 pub mod Fine
 pub mod Erasing

@@ -4,3 +4,5 @@ pub mod Conditions
 pub mod Relation
 pub mod Erased
 pub mod Reached
+pub mod Fitting
+pub mod VerdictView

@@ -5,7 +5,9 @@
 //! relation of `specs/Relation.antt` has no case for it, else the state is the one that it gives.
 #![tactic(auto)]
 
+mod conditions;
 mod events;
+mod grafts;
 mod laws;
 mod tasks;
 

@@ -16,7 +16,7 @@ pub use arithmetic::eval;
 pub use builtins::{Called, builtin};
 pub use identity::identical;
 pub use searches::{Found, answers_to_depth, search, start};
-pub use states::{State, States, children};
+pub use states::{Behind, State, States, add_calls, children, first_goal};
 pub use substitutions::Subst;
 pub use tuples::Tuples;
 pub use unification::unify;

@@ -96,13 +96,13 @@ impl States {
 
 /// The goals behind the first one: calls of the group that it stands in, and then the other parts.
 #[derive(Drop)]
-struct Behind<'a> {
-    calls: &'a [Term],
-    parts: &'a [Part],
+pub struct Behind<'a> {
+    pub calls: &'a [Term],
+    pub parts: &'a [Part],
 }
 
 /// The first goal, the groups that come first being read as conjunctions, and the goals behind it.
-fn first_goal(parts: &[Part]) -> Option<(&Term, Behind)>
+pub fn first_goal(parts: &[Part]) -> Option<(&Term, Behind)>
     ensures { MatchOption result (opened (map part_of parts.now) ≡ []) (λ p. opened (map part_of parts.now) ≡ call (tree_of p.0.now) ∷ behind_of p.1) }
 {
     let mut left = parts;
@@ -141,7 +141,8 @@ pub struct Rules<'a> {
     pub query: Option<&'a Query>,
 }
 
-fn add_calls<B: Bindings>(
+/// Adds the instances of terms as calls.
+pub fn add_calls<B: Bindings>(
     alloc: Global,
     bindings: &B,
     terms: &[Term],
