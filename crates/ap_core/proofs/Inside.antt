@@ -29,7 +29,7 @@ use Rattle.ap_core.specs.Erased.{erased, erased_alternatives, erased_slots, eras
 use Rattle.ap_core.proofs.Options.{Some-only_if, Some-if, Some-mapped, Star, here, onward, Star-one, Star-map}
 use Rattle.ap_core.proofs.Fine.{IsGiven, Stands, AreWaiting, Fine, FineHeldTask, FineOpen, FineBegun, FineLater}
 use Rattle.ap_core.proofs.Erasing.{left_edge-FineOpen, left_edge-FineLater, total_cost-edge, IsSlotSpent-FineOpen, IsSlotSpent-FineLater, FineOpen-AreWaiting}
-use Rattle.ap_core.proofs.Own.{Made, Made-own, not_done}
+use Rattle.ap_core.proofs.OwnEvents.{Made, Made-own, not_done}
 
 -- ---- a spent budget
 

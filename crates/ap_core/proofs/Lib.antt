@@ -4,6 +4,10 @@ pub mod Fitting
 pub mod Apart
 pub mod Fine
 pub mod Erasing
-pub mod Own
+pub mod OwnEvents
 pub mod Inside
 pub mod Reached
+pub mod SlotLoops
+pub mod Alternatives
+pub mod Levels
+pub mod SlotEvents

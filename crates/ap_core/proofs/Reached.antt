@@ -3,9 +3,9 @@ use Rattle.std.proofs.Common.{◌≡◌, ℕ, ◌+◌, ◌<◌, ◌⊎◌, Bool,
 use Rattle.std.proofs.lemmas.Bool.{false≢true}
 use Rattle.std.proofs.lemmas.List.{map-append}
 use Rattle.ap_term.specs.Tree.{Tree, Trees, node}
-use Rattle.ap_term.specs.Goals.{Program}
+use Rattle.ap_term.specs.Goals.{Program, joined}
 use Rattle.ap_term.specs.WellFormed.{IsProgram}
-use Rattle.ap_term.specs.Search.{State, search}
+use Rattle.ap_term.specs.Search.{State, start, search}
 use Rattle.ap_term.specs.Blocks.{Begins, IsAll}
 use Rattle.ap_laws.specs.Renaming.{IsBelow}
 use Rattle.ap_laws.specs.Plain.{Plain, Ways, tuple_of, plain_of, plain_goals, plain_ways, HasFullGroups}
@@ -18,6 +18,7 @@ use Rattle.ap_laws.proofs.Invariant.{TaskInvariant}
 use Rattle.ap_laws.proofs.Runs.{IsOf-query, Rejoins-base}
 use Rattle.ap_laws.proofs.Plain.{Renames-plain_ways, Locals-plain_ways, LocalAll-plain_goals}
 use Rattle.ap_laws.proofs.Rejoining.{rejoin, emitted_lines}
+use Rattle.ap_laws.proofs.Conjunctions.{query}
 use Rattle.ap_core.specs.declared.events.Kind.{Kind}
 use Rattle.ap_core.specs.declared.events.Kind.TheVariants as kinds
 use Rattle.ap_core.specs.Tasks.{Answer, Task, task, exhausted, alternative, state}
@@ -25,11 +26,11 @@ use Rattle.ap_core.specs.Conditions.{is_exhausted, spent_by}
 use Rattle.ap_core.specs.Relation.{only_if, mapped, plain_answer, own, answer, has_spent, in_task, Core, with_root, emitting, spending, at_root, along, after}
 use Rattle.ap_core.specs.Erased.{erased}
 use Rattle.ap_core.specs.Reached as reached
-use Rattle.ap_core.specs.Reached.{beginning, Happening, after_all, ReachedLaw}
+use Rattle.ap_core.specs.Reached.{beginning, Happening, after_all, ReachedLaw, IsEmitted}
 use Rattle.ap_core.proofs.Options.{Some-only_if, Some-if, Some-mapped, Star, here, onward}
 use Rattle.ap_core.proofs.Fine.{IsGiven, Fine, FineHeldTask}
 use Rattle.ap_core.proofs.Erasing.{FineFirst-FineBehind, IsExhausted-erased}
-use Rattle.ap_core.proofs.Own.{Made, Made-own}
+use Rattle.ap_core.proofs.OwnEvents.{Made, Made-own}
 use Rattle.ap_core.proofs.Inside.{Answers, Answers-answer, IsSpent-has_spent, Made-in_task}
 
 Fine-FineHeldTask : (t : Task) → FineHeldTask t → Fine t
@@ -161,3 +162,8 @@ reached_by_events p good q below full rest events c h =
       subst (λ z. IsRejoined p q z (flat_task (erased c.root)) (left (erased c.root))) i.same r.0,
       r.1,
     )
+
+pub emitted_by_events : (c : Core) → IsEmitted c.emitted c
+emitted_by_events c program asked good question rest events h =
+    let q = query asked question in
+    let r = reached_by_events (joined program asked) (q.2 program good) (start asked) q.0 q.1 rest events c h in (r.0, r.1, r.2)

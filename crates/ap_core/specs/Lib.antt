@@ -6,3 +6,6 @@ pub mod Erased
 pub mod Reached
 pub mod Fitting
 pub mod VerdictView
+pub mod Outcome
+pub mod Rounds
+pub mod CoreView

@@ -68,3 +68,11 @@ task_view = fold-Task tasks.Alternative tasks.Progress Place tasks.Task alternat
 
 abbrev pub slots_view : List Slot → tasks.Slots
 slots_view xs = slots_of (map slot_view xs)
+
+abbrev pub choice_view : Option Alternative → Option tasks.Alternative
+choice_view None = None
+choice_view (Some a) = Some (alternative_view a)
+
+-- the first alternative, and the stack behind it
+abbrev pub alternatives_view : Option Alternative → List Alternative → tasks.Alternatives
+alternatives_view first behind = alternatives_of (choice_view first) (map alternative_view behind)

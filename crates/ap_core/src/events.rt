@@ -1,5 +1,7 @@
 //! Events, and why one is refused.
 
+use ap_term::NoMemory;
+use std::alloc::{AllocError, AllocFailed};
 use std::marker::Model;
 use thiserror::Error;
 
@@ -66,4 +68,37 @@ pub enum StepErr {
     Illegal,
     #[error("memory ran out")]
     NoMemory,
+}
+
+impl From<NoMemory> for StepErr {
+    ghost use Rattle.std.specs.Prelude.{◌≡◌};
+    ghost use Rattle.ap_core.specs.declared.events.StepErr.TheVariants.{NoMemory};
+
+    ghost from_gives = { λ _ e. e ≡ NoMemory };
+
+    fn from(_error: NoMemory) -> StepErr {
+        StepErr::NoMemory
+    }
+}
+
+impl From<AllocError> for StepErr {
+    ghost use Rattle.std.specs.Prelude.{◌≡◌};
+    ghost use Rattle.ap_core.specs.declared.events.StepErr.TheVariants.{NoMemory};
+
+    ghost from_gives = { λ _ e. e ≡ NoMemory };
+
+    fn from(_error: AllocError) -> StepErr {
+        StepErr::NoMemory
+    }
+}
+
+impl<T: Drop> From<AllocFailed<T>> for StepErr {
+    ghost use Rattle.std.specs.Prelude.{◌≡◌};
+    ghost use Rattle.ap_core.specs.declared.events.StepErr.TheVariants.{NoMemory};
+
+    ghost from_gives = { λ _ e. e ≡ NoMemory };
+
+    fn from(_error: AllocFailed<T>) -> StepErr {
+        StepErr::NoMemory
+    }
 }

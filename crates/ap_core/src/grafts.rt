@@ -128,7 +128,7 @@ pub fn sum(a: u64, b: u64) -> Result<u64, NoMemory>
 
 /// Terms of their own with the same trees.
 #[tactic(auto, using(ap_term::proofs::Copies::instance_all_var))]
-fn copy_terms(alloc: Global, terms: &[Term]) -> Result<Args, NoMemory>
+pub fn copy_terms(alloc: Global, terms: &[Term]) -> Result<Args, NoMemory>
     ensures { IfOk result (λ us. us ≡ trees_of terms.now) }
 {
     let copies = instances(alloc, &Same, terms)?;

@@ -9,8 +9,18 @@ mod conditions;
 mod events;
 mod grafts;
 mod laws;
+mod machine;
+mod own;
+mod paths;
+mod rounds;
+mod slots;
 mod tasks;
 
+pub use conditions::Verdict;
 pub use events::{Event, Kind, Path, StepErr};
 pub use laws::reached_law;
+pub use machine::Core;
 pub use tasks::{Alternative, Answer, Busy, Idle, Progress, Round, Slot, Task};
+
+#[cfg(test)]
+mod tests;

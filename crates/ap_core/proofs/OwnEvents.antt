@@ -25,9 +25,9 @@ use Rattle.ap_core.specs.declared.events.Kind.{Kind}
 use Rattle.ap_core.specs.declared.events.Kind.TheVariants as kinds
 use Rattle.ap_core.specs.Tasks.{Task, task, Alternatives, exhausted, alternative, state, frame, Slots}
 use Rattle.ap_core.specs.Conditions.{is_done, are_apart, check_holds, is_open, some_failed, all_answered, leftmost_spent, some_runs, some_has_more, some_is_again, left_edge, total_cost, Verdict, wait, joins, breaks, spends, charged, verdict}
-use Rattle.ap_core.specs.Relation.{only_if, states, inferred, ready, forked_by, forked, with_answers, joined_by, joined, after_failure, broken_by, broken, redo_from, redo, all_readied, restarted, own}
+use Rattle.ap_core.specs.Relation.{only_if, states, inferred, ready, fork_goals, forked, with_answers, joined_by, joined, after_failure, broken_by, broken, redo_from, redo, all_readied, restarted, own}
 use Rattle.ap_core.specs.Erased.{erased, erased_alternatives, erased_slots, round_of}
-use Rattle.ap_core.proofs.Options.{Some-only_if, Some-if, Star, here, onward, Star-one}
+use Rattle.ap_core.proofs.Options.{Some-only_if, Some-if, Some-mapped, Star, here, onward, Star-one}
 use Rattle.ap_core.proofs.Fine.{IsGiven, Fine, FineFirst, FineBehind, FineOpen, FineLater, FineShut}
 use Rattle.ap_core.proofs.Erasing.{erased-states, FineBehind-states, FineFirst-FineBehind, erased-ready, FineOpen-ready, erased-all_readied, FineOpen-all_readied, FineLater-all_readied, with_answers-joined_state, IsFull-all_answered, total_cost-edge, left_edge-FineOpen, left_edge-FineLater, HasFailed-some_failed, HasFailedLater-some_failed, FineShut-FineOpen, FineShut-FineLater, HasNoAlternative-some_has_more, NextRedo-redo_from, FineLater-redo_from}
 use Rattle.ap_core.proofs.Apart.{AreApart-are_apart}
@@ -124,20 +124,22 @@ module _ (p : Program) (good : IsProgram p) where
   fork : (t u : Task) → forked t ≡ Some u → Fine t → Made t u
   fork (task r c exhausted) u h f = absurd (cc)
   fork (task r c (alternative (frame s rd w) l)) u h f = absurd (cc)
-  fork (task r c (alternative (state s) l)) u h f = go s.goals refl h
+  fork (task r c (alternative (state s) l)) u h f =
+      let q = Some-mapped (λ gs. task r c (alternative (frame s First (ready gs)) l)) (fork_goals s.goals) u h in
+      made_along (task r c (alternative (state s) l)) (task r c (alternative (frame s First (ready q.0)) l)) u q.1.1 (go s.goals refl q.0 q.1.0)
     where
-      go : (ps : List Part) → s.goals ≡ ps → forked_by ps r c s l ≡ Some u → Made (task r c (alternative (state s) l)) u
-      go [] e h = absurd (cc)
-      go (call g ∷ ps) e h = absurd (cc)
-      go (group cs gs ∷ ps) e h =
-          let q = Some-only_if (list_all check_holds cs && are_apart gs) (task r c (alternative (frame s First (ready gs)) l)) u h in
-          let k = and_both (list_all check_holds cs) (are_apart gs) q.0 in
-          made_along (task r c (alternative (state s) l)) (task r c (alternative (frame s First (ready gs)) l)) u q.1 (record {
+      go : (ps : List Part) → s.goals ≡ ps → (gs : Trees) → fork_goals ps ≡ Some gs → Made (task r c (alternative (state s) l)) (task r c (alternative (frame s First (ready gs)) l))
+      go [] e gs h = absurd (cc)
+      go (call g ∷ ps) e gs h = absurd (cc)
+      go (group cs hs ∷ ps) e gs h =
+          let q = Some-only_if (list_all check_holds cs && are_apart hs) hs gs h in
+          let k = and_both (list_all check_holds cs) (are_apart hs) q.0 in
+          made_along (task r c (alternative (state s) l)) (task r c (alternative (frame s First (ready hs)) l)) (task r c (alternative (frame s First (ready gs)) l)) (ap (λ xs. task r c (alternative (frame s First (ready xs)) l)) q.1) (record {
             steps =
-                Star-one (Step A) (erased (task r c (alternative (state s) l))) (erased (task r c (alternative (frame s First (ready gs)) l)))
-                (subst (λ w. Step A (laws.task c (laws.plain (plain_of s) (erased_alternatives l))) (laws.task c (laws.frame (plain_of s) laws.first w (erased_alternatives l)))) (sym (erased-ready gs))
-                ((grouped.events p good).1 s cs gs ps e (AreApart-are_apart gs k.1) c (erased_alternatives l)));
-            fine = ((f.0, FineOpen-ready r gs), f.1);
+                Star-one (Step A) (erased (task r c (alternative (state s) l))) (erased (task r c (alternative (frame s First (ready hs)) l)))
+                (subst (λ w. Step A (laws.task c (laws.plain (plain_of s) (erased_alternatives l))) (laws.task c (laws.frame (plain_of s) laws.first w (erased_alternatives l)))) (sym (erased-ready hs))
+                ((grouped.events p good).1 s cs hs ps e (AreApart-are_apart hs k.1) c (erased_alternatives l)));
+            fine = ((f.0, FineOpen-ready r hs), f.1);
             given = λ b e. e;
           })
 
