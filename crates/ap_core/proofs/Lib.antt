@@ -1,0 +1,13 @@
+pub mod Options
+pub mod Views
+pub mod Fitting
+pub mod Apart
+pub mod Fine
+pub mod Erasing
+pub mod OwnEvents
+pub mod Inside
+pub mod Reached
+pub mod SlotLoops
+pub mod Alternatives
+pub mod Levels
+pub mod SlotEvents
