@@ -1,0 +1,25 @@
+# Completion of andprolog's command line for bash: source this file, or put it into bash-completion's folder.
+_andprolog() {
+  local word=${COMP_WORDS[COMP_CWORD]} before=${COMP_WORDS[COMP_CWORD - 1]} options=() option seen
+  COMPREPLY=()
+  if [ "$COMP_CWORD" -eq 1 ]; then
+    mapfile -t COMPREPLY < <(compgen -W 'run' -- "$word")
+    return
+  fi
+  [ "${COMP_WORDS[1]}" = run ] || return
+  case $before in
+    --budget) mapfile -t COMPREPLY < <(compgen -W '10000000' -- "$word"); return ;;
+    --answers) mapfile -t COMPREPLY < <(compgen -W '1000000' -- "$word"); return ;;
+  esac
+  if [[ $word == -* ]]; then
+    for option in --budget --answers; do
+      seen=0
+      for before in "${COMP_WORDS[@]}"; do [ "$before" = "$option" ] && seen=1; done
+      [ "$seen" = 1 ] || options+=("$option")
+    done
+    mapfile -t COMPREPLY < <(compgen -W "${options[*]}" -- "$word")
+    return
+  fi
+  mapfile -t COMPREPLY < <(compgen -f -X '!*.pl' -- "$word"; compgen -d -- "$word")
+}
+complete -o filenames -F _andprolog andprolog
