@@ -1,4 +1,4 @@
-use Rattle.std.proofs.Common.{◌≡◌, ap, ap₂, sym, ◌∙◌, subst, cond, true, false, Some, None}
+use Rattle.std.proofs.Common.{◌≡◌, ap, ap₂, sym, ◌∙◌, subst, cond, true, Some, None}
 use Rattle.std.proofs.lemmas.Bool.{OnFalse_at, OnTrue_at}
 use Rattle.ap_sharing.specs.Sets.{IsAscending, join_sets, with_each, grown, grown_all, closure, too_many}
 use Rattle.ap_sharing.proofs.Lists.{too_many-grown_all, ascending-none}
