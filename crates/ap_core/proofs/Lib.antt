@@ -11,3 +11,4 @@ pub mod SlotLoops
 pub mod Alternatives
 pub mod Levels
 pub mod SlotEvents
+pub mod ForkConditions

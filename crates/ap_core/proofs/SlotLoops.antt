@@ -215,8 +215,11 @@ set_same zero (x ∷ xs) d v h e = ap (λ z. slot z.0 z.1 (slots_view xs)) e
 set_same (suc i) (x ∷ xs) d v h e = ap (slot (slot_view x).0 (slot_view x).1) (set_same i xs d v (omega arith) e)
 
 pub ruleset below_rows = in_slot-below
+
 pub ruleset along_rows = (in_slots_set, in_slots_none, in_slots_zero, in_slots_past, set_same)
+
 pub ruleset readied_rows = (mixed_more, mixed_readied_all)
+
 -- the place that a walk finds which has come to the slots w, the first of them being number i, and has found p
 abbrev pub pending : ℕ → ℕ → Slots → ℕ
 pending i p w = if some_has_more w then place_to_redo w + i else p
@@ -250,5 +253,7 @@ pub place_end : (xs : List Slot) (i p : ℕ) → length xs ≤ i → place_to_re
 place_end xs i p h k = sym (k ∙ ap (λ ys. pending i p (slots_view ys)) (drop_of_length-le xs h))
 
 pub ruleset place_rows = (place_first, place_step, place_end)
+
 pub ruleset settled_rows = (mixed_more, mixed_settled_all)
+
 pub ruleset redo_rows = (redone_at, redo_from-none, set_same)

@@ -9,3 +9,4 @@ pub mod VerdictView
 pub mod Outcome
 pub mod Rounds
 pub mod CoreView
+pub mod ForkLaw

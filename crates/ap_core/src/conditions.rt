@@ -77,7 +77,10 @@ pub fn some_failed(slots: &[Slot]) -> bool
 fn has_answer(x: &Slot) -> bool
     ensures { result ≡ has_answer (slot_view x.now).1 }
 {
-    matches!(&x.progress, Progress::Answered { .. } | Progress::Again { .. })
+    matches!(
+        &x.progress,
+        Progress::Answered { .. } | Progress::Again { .. }
+    )
 }
 
 #[tactic(auto, using(crate::proofs::Views::slot_rows))]

@@ -14,7 +14,8 @@ ghost use Rattle.ap_core.specs.TaskView.{answer_of, slots_view};
 use crate::tasks::{Answer, Progress, Slot};
 use ap_spec::{Behind, State, add_calls, first_goal};
 use ap_term::{
-    Args, Bindings, Body, NoMemory, Part, Same, Term, add_copies, add_instances, copy_term, instances,
+    Args, Bindings, Body, NoMemory, Part, Same, Term, add_copies, add_instances, copy_term,
+    instances,
 };
 use std::alloc::Global;
 

@@ -18,7 +18,7 @@ mod tasks;
 
 pub use conditions::Verdict;
 pub use events::{Event, Kind, Path, StepErr};
-pub use laws::reached_law;
+pub use laws::{fork_law, reached_law};
 pub use machine::Core;
 pub use tasks::{Alternative, Answer, Busy, Idle, Progress, Round, Slot, Task};
 

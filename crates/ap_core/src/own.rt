@@ -173,11 +173,13 @@ fn put_before_frame(s: State, first: &mut Option<Alternative>, behind: &mut Vec<
 pub fn join(alloc: Global, t: &mut Task) -> Result<(), StepErr>
     ensures { MatchResult result (λ _. joined (task_view t.old) ≡ Some (task_view t.new)) (λ e. IsRefusal e (joined (task_view t.old)) (task_view t.old) (task_view t.new)) }
 {
-    let Some(Alternative::Frame {
-        forked,
-        round,
-        slots,
-    }) = &t.first
+    let Some(
+        Alternative::Frame {
+            forked,
+            round,
+            slots,
+        },
+    ) = &t.first
     else {
         return Err(StepErr::Illegal);
     };
@@ -271,12 +273,7 @@ pub fn restart(t: &mut Task) -> Result<(), StepErr>
 }
 
 /// An event of a task.
-pub fn own(
-    alloc: Global,
-    program: &Program,
-    kind: Kind,
-    t: &mut Task,
-) -> Result<(), StepErr>
+pub fn own(alloc: Global, program: &Program, kind: Kind, t: &mut Task) -> Result<(), StepErr>
     ensures { MatchResult result (λ _. own program.now kind (task_view t.old) ≡ Some (task_view t.new)) (λ e. IsRefusal e (own program.now kind (task_view t.old)) (task_view t.old) (task_view t.new)) }
 {
     match kind {
@@ -286,11 +283,8 @@ pub fn own(
         Kind::Break => break_frame(t),
         Kind::Redo => redo(t),
         Kind::Restart => restart(t),
-        Kind::Start
-        | Kind::Answer
-        | Kind::Fail
-        | Kind::Spend
-        | Kind::Stop
-        | Kind::Stopped => Err(StepErr::Illegal),
+        Kind::Start | Kind::Answer | Kind::Fail | Kind::Spend | Kind::Stop | Kind::Stopped => Err(
+            StepErr::Illegal,
+        ),
     }
 }

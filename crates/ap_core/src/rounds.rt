@@ -140,7 +140,10 @@ fn restart_slot(rest: u64, x: &mut Slot) -> Result<(), NoMemory>
     ensures made { OnOk result (slot_view x.new ≡ restarted_place rest (slot_view x.old)) }
     ensures kept { OnErr result (slot_view x.new ≡ slot_view x.old) }
 {
-    match run_on(rest, mem::replace(&mut x.progress, Progress::Unbegun(Idle::Ready))) {
+    match run_on(
+        rest,
+        mem::replace(&mut x.progress, Progress::Unbegun(Idle::Ready)),
+    ) {
         Ok(progress) => {
             x.progress = progress;
             Ok(())

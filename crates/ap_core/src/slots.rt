@@ -210,7 +210,11 @@ fn stop_goal(standing: &mut Busy) -> bool
 fn made(is_legal: bool) -> Result<(), StepErr>
     ensures { MatchResult result (λ _. is_legal ≡ true) (λ e. (e ≡ Illegal) × (is_legal ≡ false)) }
 {
-    if is_legal { Ok(()) } else { Err(StepErr::Illegal) }
+    if is_legal {
+        Ok(())
+    } else {
+        Err(StepErr::Illegal)
+    }
 }
 
 /// The goal has no alternative left.

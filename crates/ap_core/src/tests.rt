@@ -1,7 +1,9 @@
 //! Schedules of small programs, built as values, against sequential search.
 
 use crate::*;
-use Kind::{Answer, Break, Fail as Fails, Fork, Infer, Join, Redo, Restart, Spend, Start, Stop, Stopped};
+use Kind::{
+    Answer, Break, Fail as Fails, Fork, Infer, Join, Redo, Restart, Spend, Start, Stop, Stopped,
+};
 use ap_spec::search;
 use ap_term::{
     Args, Atom, Body, Checks, Clause, Name, Part, Program, Query, Term, fixed, is_clause,
@@ -11,7 +13,9 @@ use std::process::Abort;
 use std::test::Fail;
 
 const A: u32 = 5001;
+
 const B: u32 = 5002;
+
 const Q: u32 = 5003;
 
 /// A goal of one variable.
@@ -76,12 +80,7 @@ fn both(rt: &impl Abort, alloc: Global) -> Result<Query, Fail> {
 }
 
 /// q(X, Y) :- a(X) & b(Y), and facts of both names.
-fn program(
-    rt: &impl Abort,
-    alloc: Global,
-    left: &[i64],
-    right: &[i64],
-) -> Result<Program, Fail> {
+fn program(rt: &impl Abort, alloc: Global, left: &[i64], right: &[i64]) -> Result<Program, Fail> {
     let mut all = Program::new(alloc);
     all.push(pair(rt, alloc, A, B)?)?;
     add_facts(rt, alloc, A, left, &mut all)?;
@@ -127,65 +126,65 @@ fn follow(
     Ok(())
 }
 
+fn first_answer(rt: &impl Abort, alloc: Global, core: &mut Core) -> Result<(), Fail> {
+    let rows: &[(Kind, &[usize], bool)] = &[
+        (Infer, &[], true),
+        (Fork, &[], true),
+        (Start, &[2], true),
+        (Start, &[2], false),
+        (Start, &[1], true),
+        (Infer, &[2], true),
+        (Answer, &[2], true),
+        (Join, &[], false),
+        (Infer, &[1], true),
+        (Answer, &[1], true),
+        (Join, &[], true),
+        (Answer, &[], true),
+    ];
+    follow(rt, alloc, core, rows)?;
+    compare(rt, core.emitted(), &[(1, 1)]);
+    Ok(())
+}
+
+fn second_answer(rt: &impl Abort, alloc: Global, core: &mut Core) -> Result<(), Fail> {
+    let rows: &[(Kind, &[usize], bool)] = &[
+        (Redo, &[], true),
+        (Answer, &[2], true),
+        (Join, &[], true),
+        (Answer, &[], true),
+    ];
+    follow(rt, alloc, core, rows)?;
+    compare(rt, core.emitted(), &[(1, 1), (1, 2)]);
+    Ok(())
+}
+
+fn third_answer(rt: &impl Abort, alloc: Global, core: &mut Core) -> Result<(), Fail> {
+    let rows: &[(Kind, &[usize], bool)] = &[
+        (Redo, &[], true),
+        (Answer, &[1], true),
+        (Join, &[], false),
+        (Start, &[2], false),
+        (Restart, &[], true),
+        (Start, &[2], true),
+        (Infer, &[2], true),
+        (Answer, &[2], true),
+        (Join, &[], true),
+        (Answer, &[], true),
+    ];
+    follow(rt, alloc, core, rows)?;
+    compare(rt, core.emitted(), &[(1, 1), (1, 2), (2, 1)]);
+    Ok(())
+}
+
 #[test]
 fn two_goals_answer_and_are_redone(rt: HostRuntime) -> Result<(), Fail> {
     let alloc = rt.alloc();
-    let mut core = Core::new(
-        alloc,
-        program(&rt, alloc, &[1, 2], &[1, 2])?,
-        both(&rt, alloc)?,
-        100,
-    )?;
-    follow(
-        &rt,
-        alloc,
-        &mut core,
-        &[
-            (Infer, &[], true),
-            (Fork, &[], true),
-            (Start, &[2], true),
-            (Start, &[2], false),
-            (Start, &[1], true),
-            (Infer, &[2], true),
-            (Answer, &[2], true),
-            (Join, &[], false),
-            (Infer, &[1], true),
-            (Answer, &[1], true),
-            (Join, &[], true),
-            (Answer, &[], true),
-        ],
-    )?;
-    compare(&rt, core.emitted(), &[(1, 1)]);
-    follow(
-        &rt,
-        alloc,
-        &mut core,
-        &[
-            (Redo, &[], true),
-            (Answer, &[2], true),
-            (Join, &[], true),
-            (Answer, &[], true),
-        ],
-    )?;
-    compare(&rt, core.emitted(), &[(1, 1), (1, 2)]);
-    follow(
-        &rt,
-        alloc,
-        &mut core,
-        &[
-            (Redo, &[], true),
-            (Answer, &[1], true),
-            (Join, &[], false),
-            (Start, &[2], false),
-            (Restart, &[], true),
-            (Start, &[2], true),
-            (Infer, &[2], true),
-            (Answer, &[2], true),
-            (Join, &[], true),
-            (Answer, &[], true),
-        ],
-    )?;
-    compare(&rt, core.emitted(), &[(1, 1), (1, 2), (2, 1)]);
+    let all = program(&rt, alloc, &[1, 2], &[1, 2])?;
+    let query = both(&rt, alloc)?;
+    let mut core = Core::new(alloc, all, query, 100)?;
+    first_answer(&rt, alloc, &mut core)?;
+    second_answer(&rt, alloc, &mut core)?;
+    third_answer(&rt, alloc, &mut core)?;
     Ok(())
 }
 
@@ -211,8 +210,36 @@ fn replayed(
     Ok(core)
 }
 
-/// Tries every kind on every path after the first events of a schedule; what was emitted stays the front of the
-/// sequential answers, and after an illegal event the schedule goes on as before.
+const KINDS: [Kind; 12] = [
+    Infer, Fork, Start, Answer, Fails, Spend, Stop, Stopped, Join, Break, Redo, Restart,
+];
+
+const PATHS: [&[usize]; 7] = [&[], &[0], &[1], &[2], &[3], &[1, 1], &[2, 1]];
+
+/// Tries an event behind the first ones of a schedule. What was emitted stays the front of the sequential answers, and
+/// after an illegal event the schedule goes on as before.
+fn try_event(
+    rt: &impl Abort,
+    alloc: Global,
+    mut core: Core,
+    event: Row,
+    later: &[Row],
+    wanted: &[(i64, i64)],
+) -> Result<(), Fail> {
+    let before = core.emitted().len();
+    let legal = make(alloc, &mut core, event.0, event.1)?;
+    let after = core.emitted().len();
+    assert!(rt; legal || after == before);
+    compare(rt, core.emitted(), wanted.get(..after).unwrap_or(&[]));
+    if !legal {
+        for (kind, path) in later {
+            assert!(rt; make(alloc, &mut core, *kind, path)?);
+        }
+    }
+    Ok(())
+}
+
+/// Tries every kind on every path after the first events of a schedule.
 fn try_all(
     rt: &impl Abort,
     alloc: Global,
@@ -222,129 +249,108 @@ fn try_all(
     at: usize,
     wanted: &[(i64, i64)],
 ) -> Result<(), Fail> {
-    for kind in [
-        Infer, Fork, Start, Answer, Fails, Spend, Stop, Stopped, Join, Break, Redo, Restart,
-    ] {
-        for path in [&[][..], &[0], &[1], &[2], &[3], &[1, 1], &[2, 1]] {
-            let done = rows.get(..at).unwrap_or(rows);
-            let mut core = replayed(rt, alloc, facts, budget, done)?;
-            let before = core.emitted().len();
-            let legal = make(alloc, &mut core, kind, path)?;
-            let after = core.emitted().len();
-            assert!(rt; after == before || (legal && after == before + 1));
-            compare(rt, core.emitted(), wanted.get(..after).unwrap_or(&[]));
-            if !legal {
-                for (kind, path) in rows.get(at..).unwrap_or(&[]) {
-                    assert!(rt; make(alloc, &mut core, *kind, path)?);
-                }
-            }
+    let done = rows.get(..at).unwrap_or(rows);
+    let later = rows.get(at..).unwrap_or(&[]);
+    for kind in KINDS {
+        for path in PATHS {
+            let core = replayed(rt, alloc, facts, budget, done)?;
+            try_event(rt, alloc, core, (kind, path), later, wanted)?;
         }
     }
     Ok(())
 }
 
-#[test]
-fn every_event_of_a_schedule_keeps_the_order(rt: HostRuntime) -> Result<(), Fail> {
-    let alloc = rt.alloc();
-    for (left, right, budget, rows, wanted) in [
-        // both orders of two goals, a goal given back, each redone in turn
-        (
-            &[1, 2][..],
-            &[1, 2][..],
-            100,
-            &[
-                (Infer, &[][..]),
-                (Fork, &[]),
-                (Start, &[2]),
-                (Infer, &[2]),
-                (Stopped, &[2]),
-                (Start, &[1]),
-                (Start, &[2]),
-                (Infer, &[1]),
-                (Stop, &[2]),
-                (Infer, &[2]),
-                (Answer, &[2]),
-                (Answer, &[1]),
-                (Join, &[]),
-                (Answer, &[]),
-                (Redo, &[]),
-                (Answer, &[2]),
-                (Join, &[]),
-                (Answer, &[]),
-                (Redo, &[]),
-                (Answer, &[1]),
-                (Restart, &[]),
-                (Start, &[2]),
-                (Infer, &[2]),
-                (Answer, &[2]),
-                (Join, &[]),
-                (Answer, &[]),
-            ][..],
-            &[(1, 1), (1, 2), (2, 1), (2, 2)][..],
-        ),
-        // the right goal fails while the left one runs
-        (
-            &[1, 2],
-            &[],
-            100,
-            &[
-                (Infer, &[]),
-                (Fork, &[]),
-                (Start, &[1]),
-                (Start, &[2]),
-                (Infer, &[2]),
-                (Fails, &[2]),
-                (Infer, &[1]),
-                (Stop, &[1]),
-                (Stopped, &[1]),
-                (Break, &[]),
-                (Fails, &[]),
-            ],
-            &[],
-        ),
-        // the left goal has no call left
-        (
-            &[1],
-            &[1],
-            1,
-            &[
-                (Infer, &[]),
-                (Fork, &[]),
-                (Start, &[1]),
-                (Spend, &[1]),
-                (Spend, &[]),
-            ],
-            &[],
-        ),
-        // the charges of both goals are above the rest
-        (
-            &[1],
-            &[1],
-            2,
-            &[
-                (Infer, &[]),
-                (Fork, &[]),
-                (Start, &[1]),
-                (Start, &[2]),
-                (Infer, &[1]),
-                (Infer, &[2]),
-                (Answer, &[1]),
-                (Answer, &[2]),
-                (Spend, &[]),
-            ],
-            &[(1, 1)],
-        ),
-    ] {
-        let found = search(
-            alloc,
-            &program(&rt, alloc, left, right)?,
-            &both(&rt, alloc)?,
-            100,
-        )?;
-        compare(&rt, found.answers.as_slice(), wanted);
-        for at in 0..rows.len() + 1 {
-            try_all(&rt, alloc, (left, right), budget, rows, at, wanted)?;
-        }
+/// Tries every event at each place of a schedule of a(left) & b(right), against the sequential answers.
+fn try_schedule(
+    rt: &impl Abort,
+    alloc: Global,
+    facts: (&[i64], &[i64]),
+    budget: u64,
+    rows: &[Row],
+    wanted: &[(i64, i64)],
+) -> Result<(), Fail> {
+    let all = program(rt, alloc, facts.0, facts.1)?;
+    let query = both(rt, alloc)?;
+    let found = search(alloc, &all, &query, 100)?;
+    compare(rt, found.answers.as_slice(), wanted);
+    for at in 0..rows.len() + 1 {
+        try_all(rt, alloc, facts, budget, rows, at, wanted)?;
     }
     Ok(())
+}
+
+#[test]
+fn goals_in_any_order_keep_the_order(rt: HostRuntime) -> Result<(), Fail> {
+    let rows: &[Row] = &[
+        (Infer, &[]),
+        (Fork, &[]),
+        (Start, &[2]),
+        (Infer, &[2]),
+        (Stopped, &[2]),
+        (Start, &[1]),
+        (Start, &[2]),
+        (Infer, &[1]),
+        (Stop, &[2]),
+        (Infer, &[2]),
+        (Answer, &[2]),
+        (Answer, &[1]),
+        (Join, &[]),
+        (Answer, &[]),
+        (Redo, &[]),
+        (Answer, &[2]),
+        (Join, &[]),
+        (Answer, &[]),
+        (Redo, &[]),
+        (Answer, &[1]),
+        (Restart, &[]),
+        (Start, &[2]),
+    ];
+    let wanted = &[(1, 1), (1, 2), (2, 1), (2, 2)];
+    try_schedule(&rt, rt.alloc(), (&[1, 2], &[1, 2]), 100, rows, wanted)
+}
+
+#[test]
+fn a_failed_goal_ends_its_frame(rt: HostRuntime) -> Result<(), Fail> {
+    let rows: &[Row] = &[
+        (Infer, &[]),
+        (Fork, &[]),
+        (Start, &[1]),
+        (Start, &[2]),
+        (Infer, &[2]),
+        (Fails, &[2]),
+        (Infer, &[1]),
+        (Stop, &[1]),
+        (Stopped, &[1]),
+        (Break, &[]),
+        (Fails, &[]),
+    ];
+    try_schedule(&rt, rt.alloc(), (&[1, 2], &[]), 100, rows, &[])
+}
+
+#[test]
+fn a_goal_without_calls_spends_the_budget(rt: HostRuntime) -> Result<(), Fail> {
+    let rows: &[Row] = &[
+        (Infer, &[]),
+        (Fork, &[]),
+        (Start, &[1]),
+        (Spend, &[1]),
+        (Spend, &[]),
+    ];
+    try_schedule(&rt, rt.alloc(), (&[1], &[1]), 1, rows, &[(1, 1)])
+}
+
+#[test]
+fn a_charge_above_the_rest_spends_the_budget(rt: HostRuntime) -> Result<(), Fail> {
+    let rows: &[Row] = &[
+        (Infer, &[]),
+        (Fork, &[]),
+        (Start, &[1]),
+        (Start, &[2]),
+        (Infer, &[1]),
+        (Infer, &[2]),
+        (Answer, &[1]),
+        (Answer, &[2]),
+        (Spend, &[]),
+    ];
+    try_schedule(&rt, rt.alloc(), (&[1], &[1]), 2, rows, &[(1, 1)])
 }
