@@ -44,8 +44,7 @@ module _ (names own : ℕ → ℕ) (k : ℕ) (vars line : ℕ) where
       → IsAgain (raised_unless own vars line s n x) (raised_unless names vars line s m y)
   unless_again true n m x y e agree l h = h
   unless_again false n m x y e agree l h =
-      let name = agree n (omega arith) (omega arith) in
-      (
+      let name = agree n (omega arith) (omega arith) in (
         ap (λ t. call t ∷ []) (goal_again n m e name),
         h.1,
         ap (λ c. c ∷ y.clauses) (clause_again n m x.parts y.parts e name h.0) ∙ ap (λ cs. lifted_clause own vars line n x.parts ∷ cs) h.2,
@@ -80,8 +79,7 @@ module _ (names own : ℕ → ℕ) (k : ℕ) (vars line : ℕ) where
       let name = h n (omega arith) (omega arith) in
       let first = again a [] (n + 1) (λ i l r. h i (omega arith) (omega arith)) (m + 1) (omega arith) in
       let second = again b [] x.next (λ i l r. h i (omega arith) r) u.next first.1 in
-      let v = lifted names vars line b [] u.next in
-      (
+      let v = lifted names vars line b [] u.next in (
         ap (λ t. call t ∷ []) (goal_again n m e name),
         second.1,
         ap (λ c. c ∷ lifted_clause names vars line m v.parts ∷ (u.clauses ++ v.clauses)) (clause_again n m x.parts u.parts e name first.0)
@@ -105,10 +103,9 @@ module _ (names own : ℕ → ℕ) (k : ℕ) (vars line : ℕ) where
       let h2 : Agree xs.next ys.next = λ i l o. h i (omega arith) o in
       let first = unless_again s n m x u e h1 (rises own vars line a [] (number_inside s n)) (again a [] (number_inside s n) (agree_inside s n x h1) (number_inside s m) (inside_again s n m e)) in
       let second
-          = unless_again r xs.next us.next y v first.1 h2 (rises own vars line b [] (number_inside r xs.next))
-          (again b [] (number_inside r xs.next) (agree_inside r xs.next y h2) (number_inside r us.next) (inside_again r xs.next us.next first.1))
-      in
-      (
+      = unless_again r xs.next us.next y v first.1 h2 (rises own vars line b [] (number_inside r xs.next))
+      (again b [] (number_inside r xs.next) (agree_inside r xs.next y h2) (number_inside r us.next) (inside_again r xs.next us.next first.1))
+      in (
         ap (λ l. group cs (append_trees (plain_goals l) (plain_goals vs.parts)) ∷ []) first.0 ∙ ap (λ l. group cs (append_trees (plain_goals xs.parts) (plain_goals l)) ∷ []) second.0,
         second.1,
         ap (λ l. l ++ vs.clauses) first.2 ∙ ap (λ l. xs.clauses ++ l) second.2,

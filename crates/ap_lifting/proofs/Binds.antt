@@ -111,8 +111,8 @@ module _ (f : ℕ → Tree) (n : ℕ) where
       → IsMostGeneral (instance f h) (instance (shift n) h) (Some (binds v))
   binds-unifier v h range old all = (
     instance-Local (λ x. x < n) (value (binds v)) (λ x. var x) (λ x l. value-free v x (omega arith)) (instance f h) old
-    ∙ instance_var (instance f h)
-    ∙ sym (instance_twice (shift n) (value (binds v)) h ∙ instance-Local (InRange v) (λ x. instance (value (binds v)) (shift n x)) f (λ x l. value-bound v x l.0 l.1) h range),
+        ∙ instance_var (instance f h)
+        ∙ sym (instance_twice (shift n) (value (binds v)) h ∙ instance-Local (InRange v) (λ x. instance (value (binds v)) (shift n x)) f (λ x l. value-bound v x l.0 l.1) h range),
     λ F e. binds-general F v
-    (λ x l m. instance-at (λ y. instance F (f y)) (λ y. instance F (shift n y)) h (sym (instance_twice f F h) ∙ e ∙ instance_twice (shift n) F h) x (all x l m)),
+        (λ x l m. instance-at (λ y. instance F (f y)) (λ y. instance F (shift n y)) h (sym (instance_twice f F h) ∙ e ∙ instance_twice (shift n) F h) x (all x l m)),
   )

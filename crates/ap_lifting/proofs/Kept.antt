@@ -1,6 +1,6 @@
 -- What is lifted from a well formed clause is well formed.
 use Rattle.std.proofs.Common.{◌≡◌, ℕ, zero, suc, ◌+◌, ◌<◌, ◌≤◌, Bool, true, false, ◌&&◌, nat_le, min, max, List, [], ◌∷◌, ◌++◌, refl, ap, sym, ◌∙◌, subst, arith}
-use Rattle.std.specs.Prelude.{IsTrue}
+use Rattle.std.specs.Prelude.{IsTrue, ◌↔◌}
 use Rattle.std.specs.List.{list_all}
 use Rattle.std.proofs.lemmas.Bool.Decides.{nat_tests}
 use Rattle.ap_term.specs.declared.clauses.Check.{Check}
@@ -222,3 +222,16 @@ append-append (more t ts) us vs = ap (more t) (append-append ts us vs)
 
 -- what the proofs of the code that lifts cite
 pub ruleset lifting = (push_tree-append, append-append, checks_kept)
+
+-- ---- the test of a goal
+
+goal_test : (b : Bool) (t : Tree) (n : ℕ) (v : Bool) → (callable t && numbered n t) ≡ v → n ≤ 255 → (IsTrue b → IsClause (record { head = t; body = []; vars = n; line = 1 })) → (IsClause (record { head = t; body = []; vars = n; line = 1 }) → IsTrue b) → b ≡ v
+goal_test true t n true e few h k = refl
+goal_test false t n false e few h k = refl
+goal_test true t n false e few h k = sym (h refl).head ∙ e
+goal_test false t n true e few h k = k (record { few = few; head = e; body = refl })
+
+pub is_goal_test : (b : Bool) (t : Tree) (n : ℕ) (ps : List Part) → ps ≡ [] → n ≤ 255 → (IsTrue b ↔ IsClause (record { head = t; body = ps; vars = n; line = 1 })) → b ≡ (callable t && numbered n t)
+is_goal_test b t n ps e few h =
+    goal_test b t n (callable t && numbered n t) refl few (λ x. subst (λ qs. IsClause (record { head = t; body = qs; vars = n; line = 1 })) e (h.0 x))
+    (λ c. h.1 (subst (λ qs. IsClause (record { head = t; body = qs; vars = n; line = 1 })) (sym e) c))

@@ -79,10 +79,10 @@ module _ (p : Program) (good : IsProgram p) (h : Tree) (vars : ℕ) (f : ℕ →
           let body = map (instance_part (shift n)) ps in
           let S = as_state (state (more g G) T n k) in
           let same : SameState (child S (calls G) (record { binds = s; body = body; takes = vars + 1 })) (child S (calls G) (record { binds = binds f n vars; body = body; takes = vars + 1 }))
-              = SameState-unifiers S (calls G) body (vars + 1) g (instance (shift n) h) s (binds f n vars) most unifier bound
-              (LocalSubst-binds f n P vars (λ x l m. (Local-weaken Q P wider (f x) (Local-at Q f h below.0.0 x (all x l m)), new x m)))
-              (AllByRecursion-append (LocalPart P) body (calls G) (LocalParts-instance_part (λ x. x ≤ vars) P (shift n) new ps parts) (LocalAll-calls P G (LocalAll-weaken Q P wider G below.0.1)))
-              (LocalAll-weaken Q P wider T below.1)
+          = SameState-unifiers S (calls G) body (vars + 1) g (instance (shift n) h) s (binds f n vars) most unifier bound
+          (LocalSubst-binds f n P vars (λ x l m. (Local-weaken Q P wider (f x) (Local-at Q f h below.0.0 x (all x l m)), new x m)))
+          (AllByRecursion-append (LocalPart P) body (calls G) (LocalParts-instance_part (λ x. x ≤ vars) P (shift n) new ps parts) (LocalAll-calls P G (LocalAll-weaken Q P wider G below.0.1)))
+          (LocalAll-weaken Q P wider T below.1)
           in
           let plain = (trace_renaming p good).0 _ _ same in
           (subst (λ u. SamePlain u (entered vars f G T n k ps)) (child_is s body) (subst (SamePlain (plain_of (child S (calls G) (record { binds = s; body = body; takes = vars + 1 })))) (child_is (binds f n vars) body ∙ entered_is ps local) plain), tt)

@@ -83,8 +83,7 @@ module _ (names : ℕ → ℕ) where
         let x = lifted names vars line a [] (n + 1) in
         let y = lifted names vars line b [] x.next in
         let p : n + 1 ≤ x.next = rises a [] (n + 1) in
-        let q : x.next ≤ y.next = rises b [] x.next in
-        (
+        let q : x.next ≤ y.next = rises b [] x.next in (
           here n y.next x.parts (omega arith),
           (here n y.next y.parts (omega arith), wider (n + 1) y.next n y.next (omega arith) (omega arith) (x.clauses ++ y.clauses) (in_turn_numbers (n + 1) x.next y.next x.clauses y.clauses p q (numbers a [] (n + 1)) (numbers b [] x.next))),
         )
@@ -182,8 +181,7 @@ module _ (names : ℕ → ℕ) (count : ℕ) (apart : (i j : ℕ) → i < count 
           let x = lifted names vars line a [] n in
           let y = lifted names vars line b [] x.next in
           let p : n ≤ x.next = rises names vars line a [] n in
-          let q : x.next ≤ y.next = rises names vars line b [] x.next in
-          (
+          let q : x.next ≤ y.next = rises names vars line b [] x.next in (
             plain_goals x.parts,
             plain_goals y.parts,
             plain_goals-append x.parts y.parts,
@@ -233,8 +231,7 @@ module _ (names : ℕ → ℕ) (count : ℕ) (apart : (i j : ℕ) → i < count 
           let last = unless_numbers names vars line r u.next y (rises names vars line b [] (number_inside r u.next)) (numbers names vars line b [] (number_inside r u.next)) in
           let v = raised_unless names vars line r u.next y in
           let low : u.next ≤ v.next = last.0 in
-          let enough : u.next ≤ count = omega arith in
-          (
+          let enough : u.next ≤ count = omega arith in (
             plain_goals u.parts,
             plain_goals v.parts,
             append_trees-none (append_trees (plain_goals u.parts) (plain_goals v.parts)),

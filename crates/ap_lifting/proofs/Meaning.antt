@@ -106,8 +106,7 @@ module _ (names : ℕ → ℕ) (count : ℕ) (p : Program) (apart : (i j : ℕ) 
       let low : n ≤ x.next = omega (arith, next) in
       let up : x.next ≤ hi = omega (arith, next) in
       let same : x.next + predicates_in rs ≡ hi = omega (arith, next) in
-      let behind : AllByRecursion (InNumbers names x.next hi) L = subst (λ k. AllByRecursion (InNumbers names x.next k) L) same (rules_numbers names rs x.next) in
-      (
+      let behind : AllByRecursion (InNumbers names x.next hi) L = subst (λ k. AllByRecursion (InNumbers names x.next k) L) same (rules_numbers names rs x.next) in (
         record {
           head = refl;
           vars = refl;
@@ -138,9 +137,9 @@ module _ (names : ℕ → ℕ) (count : ℕ) (rs : List Rule) (p : Program) (goo
       let found = name_found t h.callable in
       let a = found.0 in
       let none_lifted : clauses_named a L ≡ []
-          = none_named a L
-          (AllByRecursion-weaken (InNumbers names 0 (0 + predicates_in rs)) (λ c. is_named a c.head ≡ false)
-          (λ c k. another_name a (names k.0) c.head k.3 (λ e. false≢true (sym (h.other k.0 (omega (arith, k.2))) ∙ ap (λ b. is_named b t) e ∙ found.1))) L (rules_numbers names rs 0))
+      = none_named a L
+      (AllByRecursion-weaken (InNumbers names 0 (0 + predicates_in rs)) (λ c. is_named a c.head ≡ false)
+      (λ c k. another_name a (names k.0) c.head k.3 (λ e. false≢true (sym (h.other k.0 (omega (arith, k.2))) ∙ ap (λ b. is_named b t) e ∙ found.1))) L (rules_numbers names rs 0))
       in
       selected n a t found.1 p good
       ∙ ap (flat_map (clause_way n t)) (same a ∙ clauses_named-append a M L ∙ ap (λ l. clauses_named a M ++ l) none_lifted ∙ append-nil (clauses_named a M))

@@ -170,20 +170,19 @@ module _ (ps : List Rule) (q : Rule) (names : ℕ → ℕ) (count : ℕ) (query 
       let more = one_more names ps q 0 N (omega arith) in
       shows names count fresh.apart p fresh.fixed q.vars q.line q.body [] N first_ok.1.body (λ i l. last_of (λ r. Avoids (names i) r.body) ps (fresh.goals i l)) (omega (arith, hi, enough))
       (λ i a b.
-        has_second names count fresh.apart p fresh.fixed 0 N (0 + predicates_in rs) L x.clauses (omega arith) (omega (arith, sum_is)) (subst (λ k. AllByRecursion (InNumbers names 0 k) L) zero (rules_numbers names ps 0))
-        (λ j s t. has_all names count rs p good ok fresh enough same j s t ∙ ap (clauses_named (names j)) more.1) i a (omega (arith, b, hi)))
+      has_second names count fresh.apart p fresh.fixed 0 N (0 + predicates_in rs) L x.clauses (omega arith) (omega (arith, sum_is)) (subst (λ k. AllByRecursion (InNumbers names 0 k) L) zero (rules_numbers names ps 0))
+      (λ j s t. has_all names count rs p good ok fresh enough same j s t ∙ ap (clauses_named (names j)) more.1) i a (omega (arith, b, hi)))
 
   start_follows : Follows names count rs p from (written_start q) (plain_of (start query))
   start_follows =
       let v = q.vars in
       let goals : LocalAll (λ y. y < v + 1) (plain_goals x.parts)
-          = LocalAll-weaken (InRange v) (λ y. y < v + 1) (λ y l. omega (arith, l.1)) (plain_goals x.parts)
-          (LocalAll-numbered v (plain_goals x.parts) (goals_called v x.parts (rule_clause names q (predicates_in ps) first_ok.1).body).1)
+      = LocalAll-weaken (InRange v) (λ y. y < v + 1) (λ y l. omega (arith, l.1)) (plain_goals x.parts)
+      (LocalAll-numbered v (plain_goals x.parts) (goals_called v x.parts (rule_clause names q (predicates_in ps) first_ok.1).body).1)
       in
       let tuple : LocalAll (λ y. y < v + 1) (variables v)
-          = LocalAll-weaken (InRange v) (λ y. y < v + 1) (λ y l. omega (arith, l.1)) (variables v) (LocalAll-numbered v (variables v) (numbered_all-variables v v (omega arith)))
-      in
-      (
+      = LocalAll-weaken (InRange v) (λ y. y < v + 1) (λ y l. omega (arith, l.1)) (variables v) (LocalAll-numbered v (variables v) (numbered_all-variables v v (omega arith)))
+      in (
         plain_goals x.parts,
         items_show names count p q.body (plain_goals x.parts) question_shows,
         subst (λ d. SamePlain (state (plain_goals x.parts) (variables v) (v + 1) 0) (state (plain_goals d.body) (variables d.vars) (d.vars + 1) 0)) (sym asked)

@@ -34,9 +34,9 @@ items-instance f (conjunction a b) =
 items-instance f (disjunction a b) = refl
 items-instance f (parallel a b) =
     let one : (l : Bool) (c : Body) → items (instance_body f c) ≡ map (instance_item f) (items c)
-        → operand_items (stays l (instance_body f c)) (instance_body f c) (items (instance_body f c)) ≡ map (instance_item f) (operand_items (stays l c) c (items c))
-        = λ l c e. ap (λ s. operand_items s (instance_body f c) (items (instance_body f c))) (stays-instance l f c)
-        ∙ ap (operand_items (stays l c) (instance_body f c)) e ∙ operand_items-instance f (stays l c) c (items c)
+    → operand_items (stays l (instance_body f c)) (instance_body f c) (items (instance_body f c)) ≡ map (instance_item f) (operand_items (stays l c) c (items c))
+    = λ l c e. ap (λ s. operand_items s (instance_body f c) (items (instance_body f c))) (stays-instance l f c)
+    ∙ ap (operand_items (stays l c) (instance_body f c)) e ∙ operand_items-instance f (stays l c) c (items c)
     in
     ap (λ l. l ++ operand_items (stays true (instance_body f b)) (instance_body f b) (items (instance_body f b))) (one false a (items-instance f a))
     ∙ ap (λ l. map (instance_item f) (operand_items (stays false a) a (items a)) ++ l) (one true b (items-instance f b))

@@ -55,7 +55,7 @@ module _ (p : Program) (good : IsProgram p) where
   SamePlain-children : (s t : Plain) → SamePlain s t → AllZip SamePlain (plain_children (plain_ways p) s) (plain_children (plain_ways p) t)
   SamePlain-children s t h =
       let there : (u : Plain) → map plain_of (children p (as_state u)) ≡ plain_children (plain_ways p) u
-          = λ u. plain_children-plain_of p (as_state u) ∙ ap (plain_children (plain_ways p)) (plain_of-as_state u)
+      = λ u. plain_children-plain_of p (as_state u) ∙ ap (plain_children (plain_ways p)) (plain_of-as_state u)
       in
       subst (λ l. AllZip SamePlain l (plain_children (plain_ways p) t)) (there s)
       (subst (AllZip SamePlain (map plain_of (children p (as_state s)))) (there t)
@@ -167,13 +167,12 @@ module _ (names : ℕ → ℕ) (count : ℕ) (rs : List Rule) (p : Program) (fro
       let goal = lifted_goal names vars line i in
       let at : (x : ℕ) → InRange vars x → Local (λ z. z < n) (f x) = λ x l. Local-at (λ z. z < n) f goal below.0.0 x (occurs-applied (names i) vars x l.0 l.1) in
       let body : LocalAll (λ z. z < n) (instance_all f (plain_goals ps)) = LocalAll-instance_all (InRange vars) (λ z. z < n) f at (plain_goals ps) (LocalAll-numbered vars (plain_goals ps) (goals_called vars ps kept.body).1) in
-      let H = append_trees (instance_all f (plain_goals ps)) G in
-      (
+      let H = append_trees (instance_all f (plain_goals ps)) G in (
         H,
         ShowsAll-append names count p js is (instance_all f (plain_goals ps)) G h g,
         SamePlain-trans p from.program (state H T n (k + 1)) (entered vars f G T n k ps) y
-        (later H T n (n + (vars + 1)) (k + 1) (omega arith) (LocalAll-append_trees (λ z. z < n) (instance_all f (plain_goals ps)) G body below.0.1) below.1)
-        (SamePlain-sym p from.program y (entered vars f G T n k ps) e),
+            (later H T n (n + (vars + 1)) (k + 1) (omega arith) (LocalAll-append_trees (λ z. z < n) (instance_all f (plain_goals ps)) G body below.0.1) below.1)
+            (SamePlain-sym p from.program y (entered vars f G T n k ps) e),
       )
 
   -- the children of what is left to do and of the goals that stand for it

@@ -14,5 +14,8 @@ mod sizes;
 pub use bodies::{Body, Condition};
 pub use laws::{lifted_call_law, meaning_law};
 pub use lifting::{Lifted, lift_program, lift_question};
-pub use rules::Rule;
+pub use rules::{Rule, is_rule};
 pub use sizes::{Sizes, sizes_of};
+
+#[cfg(test)]
+mod tests;
