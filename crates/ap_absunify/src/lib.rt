@@ -16,3 +16,4 @@ pub use equations::after_equal;
 pub use states::{State, ground, made};
 pub use term_sets::{add_var_sets, var_set};
 pub use unifications::{after_unify, is_free};
+

@@ -1,0 +1,6 @@
+pub mod CallPatterns
+pub mod AfterCall
+pub mod Entering
+pub mod Rows
+pub mod Marks
+pub mod Arguments

@@ -1,0 +1,6 @@
+pub mod Places
+pub mod Entering
+pub mod AfterCall
+pub mod Entry
+pub mod Table
+pub mod Laws

@@ -1,0 +1,38 @@
+-- Tables: one call and one success pattern for each predicate.
+use Rattle.std.specs.Prelude.{ℕ, Bool, ◌==◌, ◌&&◌, if◌then◌else◌, List, [], ◌∷◌, Option, Some, None}
+use Rattle.ap_term.specs.Tree.{Tree, var, int, atom, node, count_trees}
+use Rattle.ap_absunify.specs.declared.states.State.{State}
+use Rattle.ap_absunify.specs.declared.states.State.TheVariants.{Unreachable}
+use Rattle.ap_patterns.specs.declared.tables.Predicate.{Predicate}
+use Rattle.ap_patterns.specs.declared.tables.Row.{Row}
+
+-- the predicate of a goal or of a head
+abbrev pub predicate_of : Tree → Option Predicate
+predicate_of (var x) = None
+predicate_of (int z) = None
+predicate_of (atom a) = Some (record { name = a; arity = 0 })
+predicate_of (node a ts) = Some (record { name = a; arity = count_trees ts })
+
+abbrev pub same_predicate : Predicate → Predicate → Bool
+same_predicate p q = (p.name == q.name) && (p.arity == q.arity)
+
+-- the first row of a predicate
+abbrev pub row_of : List Row → Predicate → Option Row
+row_of [] p = None
+row_of (r ∷ rs) p = if same_predicate r.predicate p then Some r else row_of rs p
+
+abbrev pub call_of : Option Row → State
+call_of None = Unreachable
+call_of (Some r) = r.call
+
+abbrev pub success_of : Option Row → State
+success_of None = Unreachable
+success_of (Some r) = r.success
+
+-- the call pattern of a predicate: no call is reached where it has no row
+abbrev pub calls : List Row → Predicate → State
+calls rs p = call_of (row_of rs p)
+
+-- the success pattern of a predicate: no answer is reached where it has no row
+abbrev pub successes : List Row → Predicate → State
+successes rs p = success_of (row_of rs p)

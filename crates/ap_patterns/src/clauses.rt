@@ -1,0 +1,109 @@
+//! Entering a clause.
+
+ghost use Rattle.std.specs.Prelude.{◌≡◌, ◌≤◌, ◌+◌, IfOk, IsTrue, length, map};
+ghost use Rattle.ap_term.specs.Tree.{count_trees};
+ghost use Rattle.ap_term.specs.TermView.{tree_of, trees_of};
+ghost use Rattle.ap_term.specs.WellFormed.{numbered, numbered_all};
+ghost use Rattle.ap_absunify.specs.AfterEqual.{after_all};
+ghost use Rattle.ap_sharing.specs.Sets.{sets_of};
+ghost use Rattle.ap_patterns.specs.Places.{arguments};
+ghost use Rattle.ap_patterns.specs.Entering.{own, with_own, beside, beside_own, head_equations, enter};
+
+use crate::calls::Pattern;
+use crate::places::{arguments, only_if};
+use ap_absunify::{State, after_unify, made};
+use ap_freeness::Free;
+use ap_sharing::{Sets, Share, VarSet};
+use ap_term::{NoMemory, Term};
+use std::alloc::Global;
+
+/// The variables from 1 to n.
+fn own(n: u64) -> VarSet
+    requires { n ≤ 255 }
+    ensures { result ≡ own n }
+{
+    let mut vars = VarSet::new();
+    for x in 0..n {
+        vars.insert(x + 1);
+    }
+    vars
+}
+
+/// Puts in each of the variables from 1 to n alone.
+fn add_own(n: u64, sets: &mut Sets) -> Result<(), NoMemory>
+    requires { n ≤ 255 }
+    ensures { IfOk result (λ _. sets.new ≡ with_own n sets.old) }
+{
+    for x in 0..n {
+        sets.insert(VarSet::just(x + 1))?;
+    }
+    Ok(())
+}
+
+/// Of k places each place i of s as the variable n + i.
+fn beside(n: u64, k: u64, s: VarSet) -> VarSet
+    requires { n + k ≤ 255 }
+    ensures { result ≡ beside n k s }
+{
+    let mut vars = VarSet::new();
+    for i in 0..k {
+        let variable = VarSet::just(n + i + 1);
+        vars = vars.union(only_if(s.contains(i + 1), variable));
+    }
+    vars
+}
+
+/// A pattern of k places beside n variables that are free and share nothing.
+fn beside_own(alloc: Global, n: u64, k: u64, pattern: &Pattern) -> Result<State, NoMemory>
+    requires { n + k ≤ 255 }
+    ensures { IfOk result (λ r. r ≡ beside_own n k pattern.now) }
+{
+    match pattern {
+        State::Unreachable => Ok(State::Unreachable),
+        State::Reachable { share, free } => {
+            let mut sets = sets_beside(alloc, n, k, share.sets())?;
+            add_own(n, &mut sets)?;
+            let share = Share::new(sets, beside(n, k, share.any()));
+            let vars = own(n).union(beside(n, k, free.vars()));
+            Ok(made(share, Free::new(vars)))
+        }
+    }
+}
+
+/// The sets with each place of k as a variable beside n.
+fn sets_beside(alloc: Global, n: u64, k: u64, sets: &Sets) -> Result<Sets, NoMemory>
+    requires { n + k ≤ 255 }
+    ensures { IfOk result (λ r. r ≡ sets_of (map (beside n k) sets.now)) }
+{
+    let mut moved = Sets::new(alloc);
+    for s in sets.iter() {
+        moved.insert(beside(n, k, *s))?;
+    }
+    Ok(moved)
+}
+
+/// The state after each place, as a variable beside n, was unified with its argument of the head.
+fn after_head(alloc: Global, n: u64, head: &[Term], s: State) -> Result<State, NoMemory>
+    requires few { n + length head.now ≤ 255 }
+    requires variables { IsTrue (numbered_all 255 (trees_of head.now)) }
+    ensures { IfOk result (λ r. r ≡ after_all s (head_equations (n + 1) (trees_of head.now))) }
+{
+    let mut state = s;
+    for i in 0..head.len() {
+        state = after_unify(alloc, state, n + i as u64 + 1, &head[i])?;
+    }
+    Ok(state)
+}
+
+/// The state in which a clause of n variables is entered.
+#[tactic(auto, using(crate::proofs::Arguments::rules_of_goals))]
+pub fn enter(alloc: Global, n: u64, head: &Term, pattern: &Pattern) -> Result<State, NoMemory>
+    requires few { n + count_trees (arguments (tree_of head.now)) ≤ 255 }
+    requires variables { IsTrue (numbered n (tree_of head.now)) }
+    ensures { IfOk result (λ r. r ≡ enter n (tree_of head.now) pattern.now) }
+{
+    let args = arguments(head);
+    let beside = beside_own(alloc, n, args.len() as u64, pattern)?;
+    let unified = after_head(alloc, n, args, beside)?;
+    unified.project(alloc, &own(n))
+}
