@@ -188,7 +188,7 @@ escaped_high b h =
     let s : (b == 9) ≡ false = grind (arith, nat_tests) in
     rw (p, q, r, s) refl
 
-one_ascii : (b : ℕ) → b < 128 → IsUtf8 (b ∷ [])
+pub one_ascii : (b : ℕ) → b < 128 → IsUtf8 (b ∷ [])
 one_ascii b h = IsUtf8-from_ascii (b ∷ []) ascii
   where
     ascii : IsAscii (b ∷ [])
