@@ -1,5 +1,5 @@
 -- A printed name or number before a rest is read as its tokens.
-use Rattle.std.proofs.Common.{◌≡◌, ℕ, zero, suc, ℤ, pos, negsuc, ◌+◌, ◌-◌, ◌*◌, ◌/◌, ◌%◌, ◌<◌, ◌≤◌, ◌^◌, ◌==◌, ◌&&◌, ◌||◌, not, Bool, true, false, if◌then◌else◌, List, [], ◌∷◌, ◌++◌, codes, flat_map, length, length-append, take, drop, bytes_eq, refl, ap, sym, subst, ◌∙◌, append_assoc, arith}
+use Rattle.std.proofs.Common.{◌≡◌, ℕ, suc, ℤ, pos, negsuc, ◌+◌, ◌-◌, ◌*◌, ◌%◌, ◌<◌, ◌≤◌, ◌^◌, ◌==◌, ◌&&◌, ◌||◌, not, Bool, true, false, if◌then◌else◌, List, [], ◌∷◌, ◌++◌, codes, flat_map, length, length-append, take, drop, bytes_eq, refl, ap, sym, subst, ◌∙◌, append_assoc, arith}
 use Rattle.std.specs.Prelude.{All, nat_lt}
 use Rattle.std.specs.Char.{is_ascii_digit}
 use Rattle.std.specs.List.{list_all}
@@ -17,7 +17,7 @@ use Rattle.ap_lexer.specs.declared.kind.LexemeKind.TheVariants as kind
 use Rattle.ap_lexer.specs.Lexeme.{Text, Lexeme, number, number_from, lexeme, lexemes}
 use Rattle.ap_lexer.specs.Law.{Spelled, spelled, spelled_by, begins_token}
 use Rattle.ap_lexer.proofs.Lexemes.{lexemes-cons}
-use Rattle.ap_writer.specs.Quoted.{is_word, is_symbol, is_name, is_symbols, is_bare, escaped, name_text}
+use Rattle.ap_writer.specs.Quoted.{is_word, is_symbol, is_name, is_symbols, escaped, name_text}
 use Rattle.ap_cge.specs.Again.{is_apart, one_token, name_tokens, integer_tokens, variable_tokens, IsReadAs}
 use Rattle.ap_cge.proofs.Lexing.{stops, word_again, variable_again, integer_again, symbols_again, quoted_again}
 

@@ -1,5 +1,5 @@
 -- The tokens that a printed term is read as.
-use Rattle.std.specs.Prelude.{◌≡◌, ℕ, Bool, true, List, [], ◌∷◌, ◌++◌, codes, bytes_eq, if◌then◌else◌}
+use Rattle.std.specs.Prelude.{ℕ, Bool, true, List, [], ◌∷◌, ◌++◌, codes, bytes_eq, if◌then◌else◌}
 use Rattle.ap_lexer.specs.declared.kind.TokenKind.TheVariants as token
 use Rattle.ap_lexer.specs.Law.{Spelled}
 use Rattle.ap_term.specs.Tree.{Tree, Trees, var, int, atom, node, none, more}
