@@ -1,17 +1,15 @@
 -- A printed name or number is read as one token.
-use Rattle.std.proofs.Common.{◌≡◌, ℕ, zero, suc, ◌+◌, ◌-◌, ◌<◌, ◌≤◌, ◌^◌, ◌==◌, ◌&&◌, ◌||◌, not, cond, nat_le, le-leb, Bool, true, false, if◌then◌else◌, List, [], ◌∷◌, ◌++◌, codes, flat_map, map, length, length-append, take, drop, get_or, Some, bytes_eq, refl, ap, sym, subst, ◌∙◌, append_assoc, append-nil, arith}
+use Rattle.std.proofs.Common.{◌≡◌, ℕ, zero, suc, ◌+◌, ◌<◌, ◌≤◌, ◌^◌, ◌==◌, ◌&&◌, ◌||◌, not, cond, nat_le, le-leb, Bool, true, false, if◌then◌else◌, List, [], ◌∷◌, ◌++◌, codes, flat_map, map, length, length-append, take, drop, get_or, bytes_eq, refl, ap, sym, subst, ◌∙◌, append_assoc, arith}
 use Rattle.std.specs.Prelude.{slice_index, nat_lt, All}
 use Rattle.std.specs.Char.{is_ascii_digit, is_ascii_lowercase, is_ascii_uppercase}
 use Rattle.std.specs.List.{list_all, prefix_len, AllByRecursion}
 use Rattle.std.specs.Str.{IsUtf8, IsAscii, IsCharBoundary}
-use Rattle.std.specs.Str.Lossy.{utf8_valid_len}
 use Rattle.std.proofs.lemmas.Bool.{false≢true}
-use Rattle.std.proofs.lemmas.Bool.Decides.{nat_tests, Decides-eqb}
-use Rattle.std.proofs.lemmas.Str.{IsUtf8-append, IsUtf8-take, IsUtf8-drop, IsUtf8-nil, IsUtf8-from_ascii, IsCharBoundary-after_ascii}
-use Rattle.std.proofs.lemmas.List.{take-append-le}
+use Rattle.std.proofs.lemmas.Bool.Decides.{nat_tests}
+use Rattle.std.proofs.lemmas.Str.{IsUtf8-append, IsUtf8-take, IsUtf8-drop, IsUtf8-from_ascii, IsCharBoundary-after_ascii}
 use Rattle.ap_lexer.specs.declared.kind.TokenKind.TheVariants as token
 use Rattle.ap_lexer.specs.declared.kind.LexemeKind.TheVariants as kind
-use Rattle.ap_lexer.specs.Lexeme.{is_layout, is_symbol, is_word, past, ends, number, integer, symbols, plain, lexeme}
+use Rattle.ap_lexer.specs.Lexeme.{is_layout, is_symbol, is_word, ends, number, integer, symbols, lexeme}
 use Rattle.ap_lexer.specs.Row.{Item, Plain, Escape, IsItem, item_text, begins}
 use Rattle.ap_lexer.proofs.Again.{again}
 use Rattle.ap_lexer.proofs.Valid.{valid_least}
@@ -188,7 +186,7 @@ escaped_high b h =
     let s : (b == 9) ≡ false = grind (arith, nat_tests) in
     rw (p, q, r, s) refl
 
-one_ascii : (b : ℕ) → b < 128 → IsUtf8 (b ∷ [])
+pub one_ascii : (b : ℕ) → b < 128 → IsUtf8 (b ∷ [])
 one_ascii b h = IsUtf8-from_ascii (b ∷ []) ascii
   where
     ascii : IsAscii (b ∷ [])

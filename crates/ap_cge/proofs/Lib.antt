@@ -2,3 +2,4 @@ pub mod Stripping
 pub mod Writing
 pub mod Lexing
 pub mod Tokens
+pub mod Terms

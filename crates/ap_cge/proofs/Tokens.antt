@@ -1,5 +1,5 @@
 -- A printed name or number before a rest is read as its tokens.
-use Rattle.std.proofs.Common.{◌≡◌, ℕ, zero, suc, ℤ, pos, negsuc, ◌+◌, ◌-◌, ◌*◌, ◌/◌, ◌%◌, ◌<◌, ◌≤◌, ◌^◌, ◌==◌, ◌&&◌, ◌||◌, not, Bool, true, false, if◌then◌else◌, List, [], ◌∷◌, ◌++◌, codes, flat_map, length, length-append, take, drop, bytes_eq, refl, ap, sym, subst, ◌∙◌, append_assoc, arith}
+use Rattle.std.proofs.Common.{◌≡◌, ℕ, suc, ℤ, pos, negsuc, ◌+◌, ◌-◌, ◌*◌, ◌%◌, ◌<◌, ◌≤◌, ◌^◌, ◌==◌, ◌&&◌, ◌||◌, not, Bool, true, false, if◌then◌else◌, List, [], ◌∷◌, ◌++◌, codes, flat_map, length, length-append, take, drop, bytes_eq, refl, ap, sym, subst, ◌∙◌, append_assoc, arith}
 use Rattle.std.specs.Prelude.{All, nat_lt}
 use Rattle.std.specs.Char.{is_ascii_digit}
 use Rattle.std.specs.List.{list_all}
@@ -17,7 +17,7 @@ use Rattle.ap_lexer.specs.declared.kind.LexemeKind.TheVariants as kind
 use Rattle.ap_lexer.specs.Lexeme.{Text, Lexeme, number, number_from, lexeme, lexemes}
 use Rattle.ap_lexer.specs.Law.{Spelled, spelled, spelled_by, begins_token}
 use Rattle.ap_lexer.proofs.Lexemes.{lexemes-cons}
-use Rattle.ap_writer.specs.Quoted.{is_word, is_symbol, is_name, is_symbols, is_bare, escaped, name_text}
+use Rattle.ap_writer.specs.Quoted.{is_word, is_symbol, is_name, is_symbols, escaped, name_text}
 use Rattle.ap_cge.specs.Again.{is_apart, one_token, name_tokens, integer_tokens, variable_tokens, IsReadAs}
 use Rattle.ap_cge.proofs.Lexing.{stops, word_again, variable_again, integer_again, symbols_again, quoted_again}
 
@@ -93,7 +93,7 @@ apart-digit (b ∷ rest) h = no_word_digit b (not_left (is_word b) (is_symbol b 
 
 -- ---- one token
 
-begins_front : (row : TokenKind) (tok rest : List ℕ) → 0 < length tok → lexeme (tok ++ rest) ≡ (kind.Token row, length tok) → begins_token (lexemes (tok ++ rest)) ≡ true
+pub begins_front : (row : TokenKind) (tok rest : List ℕ) → 0 < length tok → lexeme (tok ++ rest) ≡ (kind.Token row, length tok) → begins_token (lexemes (tok ++ rest)) ≡ true
 begins_front row tok rest some is =
     let text = tok ++ rest in
     let F : Lexeme → Bool = λ x. begins_token (x ∷ lexemes (drop x.1 text)) in
@@ -101,7 +101,7 @@ begins_front row tok rest some is =
     ap begins_token (lexemes-cons text (omega (arith, length-append tok rest)) one) ∙ ap F is
 
 -- all rows but the end token's
-abbrev is_inner : TokenKind → Bool
+abbrev pub is_inner : TokenKind → Bool
 is_inner token.End = false
 is_inner _ = true
 
@@ -121,7 +121,7 @@ by-row token.Close text n touches more h = refl
 by-row token.OpenList text n touches more h = refl
 by-row token.CloseList text n touches more h = refl
 
-one_read : (row : TokenKind) (tok rest : List ℕ) → is_inner row ≡ true → 0 < length tok → lexeme (tok ++ rest) ≡ (kind.Token row, length tok) → IsReadAs tok (one_token row tok) rest
+pub one_read : (row : TokenKind) (tok rest : List ℕ) → is_inner row ≡ true → 0 < length tok → lexeme (tok ++ rest) ≡ (kind.Token row, length tok) → IsReadAs tok (one_token row tok) rest
 one_read row tok rest inner some is =
     at_front row tok rest some is
     ∙ by-row row (tok ++ rest) (length tok) (begins_token (lexemes rest)) (spelled rest (lexemes rest)) inner
@@ -147,11 +147,11 @@ some_symbol : (name : List ℕ) → is_symbols name ≡ true → 0 < length name
 some_symbol [] h = absurd (false≢true h)
 some_symbol (b ∷ bs) h = omega arith
 
-open_list : (rest : List ℕ) → lexeme (91 ∷ rest) ≡ (kind.Token token.OpenList, 1)
+pub open_list : (rest : List ℕ) → lexeme (91 ∷ rest) ≡ (kind.Token token.OpenList, 1)
 unfolding lexeme
 open_list rest = refl
 
-close_list : (rest : List ℕ) → lexeme (93 ∷ rest) ≡ (kind.Token token.CloseList, 1)
+pub close_list : (rest : List ℕ) → lexeme (93 ∷ rest) ≡ (kind.Token token.CloseList, 1)
 unfolding lexeme
 close_list rest = refl
 
@@ -193,6 +193,25 @@ name_read name rest u bytes apart = go (is_name name) refl (is_symbols name) ref
         subst (λ t. IsReadAs (39 ∷ (flat_map escaped name ++ 39 ∷ [])) (one_token token.Quoted t) rest) (sym quoted)
         (one_read token.Quoted (39 ∷ (flat_map escaped name ++ 39 ∷ [])) rest refl (omega arith) (quoted_again name rest u (apart-quote rest apart) b))
 
+-- a name begins with a token
+pub name_begins : (name rest : List ℕ) → IsUtf8 name → All (λ b. b < 256) (name_text name ++ rest) → is_apart rest ≡ true → begins_token (lexemes (name_text name ++ rest)) ≡ true
+name_begins name rest u bytes apart =
+    go (is_name name) refl (is_symbols name) refl (bytes_eq name (codes "[]")) refl (bytes_eq name (codes ";")) refl (bytes_eq name (codes "!")) refl bytes
+  where
+    go : (n : Bool) → is_name name ≡ n → (s : Bool) → is_symbols name ≡ s → (l : Bool) → bytes_eq name (codes "[]") ≡ l → (o : Bool) → bytes_eq name (codes ";") ≡ o → (c : Bool) → bytes_eq name (codes "!") ≡ c
+        → All (λ b. b < 256) ((if n || s || l || o || c then name else 39 ∷ (flat_map escaped name ++ 39 ∷ [])) ++ rest)
+        → begins_token (lexemes ((if n || s || l || o || c then name else 39 ∷ (flat_map escaped name ++ 39 ∷ [])) ++ rest)) ≡ true
+    go true e s f l g o h c i b = begins_front token.Name name rest (some_word name e) (word_again name rest e (apart-word rest apart))
+    go false e true f l g o h c i b = begins_front token.Symbol name rest (some_symbol name f) (symbols_again name rest f (apart-symbol rest apart))
+    go false e false f true g o h c i b =
+        subst (λ t. begins_token (lexemes (t ++ rest)) ≡ true) (sym ((bytes_eq-Decides name (codes "[]")).0 g)) (begins_front token.OpenList (codes "[") (codes "]" ++ rest) (omega arith) (open_list (codes "]" ++ rest)))
+    go false e false f false g true h c i b =
+        subst (λ t. begins_token (lexemes (t ++ rest)) ≡ true) (sym ((bytes_eq-Decides name (codes ";")).0 h)) (begins_front token.Semicolon (codes ";") rest (omega arith) (semicolon rest))
+    go false e false f false g false h true i b =
+        subst (λ t. begins_token (lexemes (t ++ rest)) ≡ true) (sym ((bytes_eq-Decides name (codes "!")).0 i)) (begins_front token.Cut (codes "!") rest (omega arith) (cut rest))
+    go false e false f false g false h false i b =
+        begins_front token.Quoted (39 ∷ (flat_map escaped name ++ 39 ∷ [])) rest (omega arith) (quoted_again name rest u (apart-quote rest apart) b)
+
 -- ---- numbers
 
 digits_lexeme : (ds rest : List ℕ) → 0 < length ds → list_all is_ascii_digit ds ≡ true → number ds ≤ 2 ^ 63 → is_apart rest ≡ true → lexeme (ds ++ rest) ≡ (kind.Token token.Integer, length ds)
@@ -226,6 +245,16 @@ integer_read (negsuc n) rest h apart =
     (symbols_again (codes "-") (decimal (suc n) ++ rest) refl (digits-symbol (decimal (suc n)) rest ds.some ds.digits))
     (begins_front token.Integer (decimal (suc n)) rest ds.some is) (one_read token.Integer (decimal (suc n)) rest refl ds.some is)
 
+pub integer_begins : (z : ℤ) (rest : List ℕ) → fits z ≡ true → is_apart rest ≡ true → begins_token (lexemes (signed_decimal z ++ rest)) ≡ true
+integer_begins (pos n) rest h apart =
+    let small : n < 2 ^ 63 = below n h in
+    let ds = numeral n (omega arith) in
+    begins_front token.Integer (decimal n) rest ds.some (digits_lexeme (decimal n) rest ds.some ds.digits (omega (arith, ds.value)) apart)
+integer_begins (negsuc n) rest h apart =
+    let small : n < 2 ^ 63 = below n h in
+    let ds = numeral (suc n) (omega arith) in
+    begins_front token.Symbol (codes "-") (decimal (suc n) ++ rest) (omega arith) (symbols_again (codes "-") (decimal (suc n) ++ rest) refl (digits-symbol (decimal (suc n)) rest ds.some ds.digits))
+
 digits_words : (ds : List ℕ) → list_all is_ascii_digit ds ≡ true → list_all is_word ds ≡ true
 digits_words [] h = refl
 digits_words (d ∷ ds) h = go (is_ascii_digit d) refl h (digits_words ds)
@@ -241,3 +270,8 @@ pub variable_read : (n : ℕ) (rest : List ℕ) → n < 2 ^ 64 → is_apart rest
 variable_read n rest small apart =
     let ds = numeral n small in
     one_read token.Variable (codes "_" ++ decimal n) rest refl (omega arith) (variable_again (decimal n) rest (digits_words (decimal n) ds.digits) (apart-word rest apart))
+
+pub variable_begins : (n : ℕ) (rest : List ℕ) → n < 2 ^ 64 → is_apart rest ≡ true → begins_token (lexemes ((codes "_" ++ decimal n) ++ rest)) ≡ true
+variable_begins n rest small apart =
+    let ds = numeral n small in
+    begins_front token.Variable (codes "_" ++ decimal n) rest (omega arith) (variable_again (decimal n) rest (digits_words (decimal n) ds.digits) (apart-word rest apart))

@@ -3,3 +3,4 @@ pub mod PieceView
 pub mod Printing
 pub mod Stripped
 pub mod Again
+pub mod TermTokens

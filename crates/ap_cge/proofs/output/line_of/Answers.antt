@@ -1,4 +1,4 @@
-use Rattle.std.proofs.Common.{◌≡◌, ◌∙◌, ap, map}
+use Rattle.std.proofs.Common.{◌∙◌, ap, map}
 use Rattle.ap_cge.specs.PieceView.{piece_of}
 use Rattle.ap_cge.proofs.Writing.{line-is}
 use Rattle.ap_cge.proofs.output.line_of.Goals as goal

@@ -1,4 +1,4 @@
-use Rattle.std.proofs.Common.{◌≡◌, ◌++◌, ◌∙◌, ap, map, arith}
+use Rattle.std.proofs.Common.{arith}
 use Rattle.std.proofs.lemmas.Grind.{common_steps}
 use Rattle.ap_cge.specs.PieceView.{piece_of}
 use Rattle.ap_cge.proofs.Writing.{variables-more, text-more, prefix-before}

@@ -1,6 +1,5 @@
-use Rattle.std.proofs.Common.{◌≡◌, ◌++◌, codes, arith}
+use Rattle.std.proofs.Common.{arith}
 use Rattle.std.proofs.lemmas.Grind.{common_steps}
-use Rattle.ap_cge.specs.Printed.{part_pieces}
 use Rattle.ap_cge.proofs.Writing.{body_from}
 use Rattle.ap_cge.proofs.pieces.put_body.Goals as goal
 

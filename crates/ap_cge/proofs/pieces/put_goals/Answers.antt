@@ -1,4 +1,4 @@
-use Rattle.std.proofs.Common.{◌≡◌, ◌++◌, codes, arith}
+use Rattle.std.proofs.Common.{codes, arith}
 use Rattle.std.proofs.lemmas.Grind.{common_steps}
 use Rattle.ap_cge.specs.Printed.{goal_pieces}
 use Rattle.ap_cge.proofs.Writing.{goals_from}

@@ -1,4 +1,4 @@
-use Rattle.std.proofs.Common.{◌≡◌, ◌++◌, ◌∙◌, sym, ap}
+use Rattle.std.proofs.Common.{◌++◌, ◌∙◌, sym, ap}
 use Rattle.ap_term.specs.Goals.{calls}
 use Rattle.ap_term.specs.GoalView.{part_of}
 use Rattle.ap_cge.specs.Stripped.{stripped_part}

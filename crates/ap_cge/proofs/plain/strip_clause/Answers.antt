@@ -1,8 +1,6 @@
-use Rattle.std.proofs.Common.{◌≡◌, ◌∙◌, sym, subst, map, ap}
+use Rattle.std.proofs.Common.{◌∙◌, sym, subst}
 use Rattle.ap_term.specs.TermView.{tree_of}
-use Rattle.ap_term.specs.GoalView.{part_of}
 use Rattle.ap_term.specs.WellFormed.{IsClause}
-use Rattle.ap_cge.specs.Stripped.{stripped_clause}
 use Rattle.ap_cge.proofs.Stripping.{same_clause, stripped-body, stripped-formed}
 use Rattle.ap_cge.proofs.plain.strip_clause.Goals as goal
 
