@@ -2,10 +2,10 @@ pub mod Sources
 pub mod Booleans
 pub mod Widths
 pub mod Blocks
-pub mod Readings
 pub mod Outputs
 pub mod Printing
 pub mod Pieces
 pub mod Layers
 pub mod Numbers
 pub mod Commands
+pub mod Complete

@@ -15,7 +15,7 @@ use Rattle.ap_top.specs.Output.{line_of, end_line, is_spent, IsQueryBlock, Piece
 use Rattle.ap_top.specs.Refusals.{refusal_line}
 use Rattle.ap_top.specs.Status.{tally, both}
 use Rattle.ap_top.specs.declared.status.Tally.{Tally}
-use Rattle.ap_top.proofs.Readings.{reads_query}
+use Rattle.ap_clause.proofs.SomeResult.{some_query}
 
 or_assoc : (a b c : Bool) → ((a || b) || c) ≡ (a || (b || c))
 or_assoc true b c = refl
@@ -41,11 +41,11 @@ module _ (budget limit : ℕ) (program : Program) (table : List (List ℕ)) wher
   module _ (text : Text) where
     -- every piece comes to something
     some_end : (piece : Piece) → (lines : List (List ℕ)) × (t : Tally) × PieceEnds budget limit program table text piece t lines
-    some_end piece = go (reads_query text piece program table)
+    some_end piece = go (some_query text piece program table)
       where
-        go : ((query : Query) × (names : List (List ℕ)) × AcceptsQuery text piece program table query names) ⊎ ((r : Refusal) × RefusesQuery text piece program table r)
+        go : ((query : Query) × ((names : List (List ℕ)) × AcceptsQuery text piece program table query names)) ⊎ ((r : Refusal) × RefusesQuery text piece program table r)
             → (lines : List (List ℕ)) × (t : Tally) × PieceEnds budget limit program table text piece t lines
-        go (inl a) = let b = some_block a.1 a.0 in (b.0, tally b.1 false, PieceEnds.answered a.0 a.1 b.1 (tally b.1 false) b.0 a.2 b.2 refl)
+        go (inl a) = let b = some_block a.1.0 a.0 in (b.0, tally b.1 false, PieceEnds.answered a.0 a.1.0 b.1 (tally b.1 false) b.0 a.1.1 b.2 refl)
         go (inr r) = (refusal_line table r.0 ∷ [], tally false true, PieceEnds.refused r.0 (tally false true) (refusal_line table r.0 ∷ []) r.1 refl refl)
 
     -- and so do pieces

@@ -1,7 +1,7 @@
 -- Which lines go with which status: from the source's bytes up to the command line. `SourceRose` and `FilesRose` say
 -- that the count of faults of that object rose in the run.
 use Rattle.std.specs.Prelude.{◌≡◌, true, false, ◌<◌, ◌≤◌, ℕ, List, [], ◌∷◌, ◌++◌, length, Option, None, Some, codes, ⊤, ◌⊎◌}
-use Rattle.ap_outside.specs.Files.{HasContent}
+use Rattle.ap_outside.specs.Files.{HasContent, content_of}
 use Rattle.ap_outside.specs.Halting.{AnyOf}
 use Rattle.ap_outside.specs.Pieces.{FrontOf, CutOf}
 use Rattle.ap_term.specs.AtomTable.{fixed_names}
@@ -14,7 +14,7 @@ use Rattle.ap_top.specs.Words.{Asked, IsCommand}
 use Rattle.ap_top.specs.Status.{status_of}
 use Rattle.ap_top.specs.declared.status.Tally.{Tally}
 use Rattle.ap_top.specs.declared.status.Status.{Status}
-use Rattle.ap_top.specs.declared.status.Status.TheVariants.{Usage, FileFault, ProgramRefused, SinkFault, SourceFault, NoMemory, QueriesTooLong}
+use Rattle.ap_top.specs.declared.status.Status.TheVariants.{Done, BudgetSpent, QueryRefused, Usage, FileFault, ProgramRefused, SinkFault, SourceFault, NoMemory, QueriesTooLong}
 
 -- these are the bytes, where bytes are told
 abbrev pub IsTold : Option (List ℕ) → List ℕ → Type 0
@@ -72,3 +72,28 @@ pub data Whole (E : Status → List (List ℕ) → Type 0) : Status → List (Li
   no_memory : (lines : List (List ℕ)) → GaveUp E lines → Whole E NoMemory lines
   sink : (pieces : List (List ℕ)) → CutOf (AnyOf E) pieces → Whole E SinkFault pieces
   sink_at_no_memory : (pieces : List (List ℕ)) → CutOf (GaveUp E) pieces → Whole E SinkFault pieces
+
+-- the files tell that the file of that name has these bytes
+abbrev pub IsFile : Option (List (List ℕ × List ℕ)) → List ℕ → List ℕ → Type 0
+IsFile None name bytes = ⊥
+IsFile (Some entries) name bytes = content_of entries name ≡ Some bytes
+
+-- where nothing outside failed, a command line that names a program ends so
+abbrev pub IsAnswering : Status → Type 0
+IsAnswering Done = ⊤
+IsAnswering BudgetSpent = ⊤
+IsAnswering QueryRefused = ⊤
+IsAnswering QueriesTooLong = ⊤
+IsAnswering NoMemory = ⊤
+IsAnswering _ = ⊥
+
+-- a command line names a program, as the files tell
+pub record NamesProgram (words : List (List ℕ)) (entries : Option (List (List ℕ × List ℕ))) : Type 0 where
+  pub what : Asked
+  pub bytes : List ℕ
+  pub program : Program
+  pub table : List (List ℕ)
+  pub command : IsCommand words what
+  pub file : IsFile entries what.file bytes
+  pub short : length bytes ≤ 16777216
+  pub accepted : AcceptsProgram bytes fixed_names program table

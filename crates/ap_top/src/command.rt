@@ -7,7 +7,7 @@ ghost use Rattle.ap_outside.specs.Halting.{Finishes, SinkCount};
 ghost use Rattle.ap_term.specs.AtomTable.{fixed_names};
 ghost use Rattle.ap_top.specs.Output.{IsOutput, judged};
 ghost use Rattle.ap_top.specs.Words.{asked_of};
-ghost use Rattle.ap_top.specs.Ends.{SaysNoMemory, SourceEnds, TextEnds, FileEnds, RunEnds, Whole};
+ghost use Rattle.ap_top.specs.Ends.{IsAnswering, NamesProgram, SaysNoMemory, SourceEnds, TextEnds, FileEnds, RunEnds, Whole};
 ghost use Rattle.ap_top.specs.Counts.{EndsSource, RunEndsSource, SourceCount, FilesCount, RunSinkCount, RunSourceCount, RunFilesCount};
 
 use crate::answers::Bounds;
@@ -209,6 +209,11 @@ pub fn run<R, F: Files, S: Source, K: Sink, G: Gate>(
     ensures sink { RunSinkCount (K.faults out.old) (K.faults out.new) result }
     ensures source { RunSourceCount (S.faults queries.old) (S.faults queries.new) result }
     ensures files { RunFilesCount (F.faults files.old) (F.faults files.new) result }
+
+    // Where the words name a program and nothing outside failed, the queries are answered, or they have too many
+    // bytes, or memory was wanting.
+    ensures complete { NamesProgram (map (λ w. w.now) words.now) (F.entries files.old) → (Rises (F.faults files.old) (F.faults files.new) → ⊥) → (Rises (S.faults queries.old) (S.faults queries.new) → ⊥)
+        → (Rises (K.faults out.old) (K.faults out.new) → ⊥) → IsAnswering result }
 {
     match run_words(alloc, words, files, queries, out) {
         Ok(status) => status,
