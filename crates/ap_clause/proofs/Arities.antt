@@ -1,0 +1,57 @@
+-- Terms of other numbers of arguments than a definition singles out.
+use Rattle.std.proofs.Common.{◌≡◌, ℕ, ◌≤◌, false, List, [], ◌∷◌, length, get_or, refl, ap, ap₂, sym, arith}
+use Rattle.ap_term.specs.declared.terms.Term.{Term}
+use Rattle.ap_term.specs.Tree.{Trees, none, more, node}
+use Rattle.ap_term.specs.TermView.{tree_of, trees_of}
+use Rattle.ap_lifting.specs.Body.{goal}
+use Rattle.std.specs.Prelude.{None}
+use Rattle.std.proofs.lemmas.Bool.{false≢true}
+use Rattle.ap_clause.specs.Arity.{is_one, is_pair}
+use Rattle.ap_clause.specs.Clause.{conditions_in, body_in, clause_halves, query_halves, question}
+
+pub conditions_in-many : (f : ℕ) (ts : List Term) → 3 ≤ length ts → conditions_in (node f (trees_of ts)) ≡ []
+conditions_in-many f [] h = refl
+conditions_in-many f (t ∷ []) h = absurd (omega arith)
+conditions_in-many f (t ∷ (u ∷ [])) h = absurd (omega arith)
+conditions_in-many f (t ∷ (u ∷ (v ∷ ts))) h = refl
+
+pub one_other : (ts : List Term) → (length ts ≡ 1 → ⊥) → is_one (trees_of ts) ≡ false
+one_other [] h = refl
+one_other (t ∷ []) h = absurd (h refl)
+one_other (t ∷ (u ∷ ts)) h = refl
+
+pub pair_other : (ts : List Term) → (length ts ≡ 2 → ⊥) → is_pair (trees_of ts) ≡ false
+pair_other [] h = refl
+pair_other (t ∷ []) h = refl
+pair_other (t ∷ (u ∷ [])) h = absurd (h refl)
+pair_other (t ∷ (u ∷ (v ∷ ts))) h = refl
+
+pub trees_of-one : (ts : List Term) (t : Term) → length ts ≡ 1 → t ≡ get_or ts 0 t → trees_of ts ≡ more (tree_of t) none
+trees_of-one [] t h e = absurd (omega arith)
+trees_of-one (x ∷ []) t h e = ap (λ v. more (tree_of v) none) (sym e)
+trees_of-one (x ∷ (y ∷ ts)) t h e = absurd (omega arith)
+
+pub trees_of-two : (ts : List Term) (t u : Term) → length ts ≡ 2 → t ≡ get_or ts 0 t → u ≡ get_or ts 1 u → trees_of ts ≡ more (tree_of t) (more (tree_of u) none)
+trees_of-two [] t u h e k = absurd (omega arith)
+trees_of-two (x ∷ []) t u h e k = absurd (omega arith)
+trees_of-two (x ∷ (y ∷ [])) t u h e k = ap₂ (λ v w. more (tree_of v) (more (tree_of w) none)) (sym e) (sym k)
+trees_of-two (x ∷ (y ∷ (z ∷ ts))) t u h e k = absurd (omega arith)
+
+pub ruleset arities = (one_other, pair_other, trees_of-one, trees_of-two)
+
+pub body_in-other : (f : ℕ) (ts : Trees) → is_pair ts ≡ false → body_in (node f ts) ≡ goal (node f ts)
+body_in-other f none h = refl
+body_in-other f (more t none) h = refl
+body_in-other f (more t (more u none)) h = absurd (false≢true (sym h))
+body_in-other f (more t (more u (more v ts))) h = refl
+
+pub clause_halves-other : (f : ℕ) (ts : Trees) → is_pair ts ≡ false → clause_halves (node f ts) ≡ (node f ts, None)
+clause_halves-other f none h = refl
+clause_halves-other f (more t none) h = refl
+clause_halves-other f (more t (more u none)) h = absurd (false≢true (sym h))
+clause_halves-other f (more t (more u (more v ts))) h = refl
+
+pub query_halves-other : (f : ℕ) (ts : Trees) → is_one ts ≡ false → query_halves (node f ts) ≡ question (node f ts)
+query_halves-other f none h = refl
+query_halves-other f (more t none) h = absurd (false≢true (sym h))
+query_halves-other f (more t (more u ts)) h = refl

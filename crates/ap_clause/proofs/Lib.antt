@@ -1,0 +1,12 @@
+pub mod Walks
+pub mod Forms
+pub mod Arities
+pub mod Names
+pub mod Limits
+pub mod Proper
+pub mod CanBe
+pub mod Verdicts
+pub mod Taken
+pub mod Reading
+pub mod OneResult
+pub mod SomeResult

@@ -1,0 +1,11 @@
+pub mod Form
+pub mod Shape
+pub mod Arity
+pub mod Clause
+pub mod Outside
+pub mod Limit
+pub mod Fresh
+pub mod FreshCode
+pub mod Reads
+pub mod Verdict
+pub mod Law

@@ -1,0 +1,18 @@
+//! Each text has exactly one result.
+
+ghost use Rattle.std.specs.Prelude.{List};
+ghost use Rattle.ap_lexer.specs.Lexeme.{Text};
+ghost use Rattle.ap_lexer.specs.declared.cut.Piece.{Piece};
+ghost use Rattle.ap_term.specs.AtomTable.{IsAtomTable};
+ghost use Rattle.ap_term.specs.Goals.{Program};
+ghost use Rattle.ap_clause.specs.Law.{HasOneProgram, HasOneQuery};
+
+/// A text is one program, or it is refused for one reason.
+pub fn one_program()
+    ensures { (text : Text) (table : List Text) → IsAtomTable table → HasOneProgram text table }
+{}
+
+/// A piece of a text is one query beside a program, or it is refused for one reason.
+pub fn one_query()
+    ensures { (text : Text) (piece : Piece) (program : Program) (table : List Text) → HasOneQuery text piece program table }
+{}

@@ -1,0 +1,117 @@
+//! The verdict on a piece of a text.
+
+ghost use Rattle.std.specs.Prelude.{◌≡◌, ℕ, ◌+◌, ◌≤◌, List, length, IfOk, Contains, map};
+ghost use Rattle.ap_lexer.specs.Token.{Placed};
+ghost use Rattle.ap_lexer.specs.Piece.{pieces as pieces_of};
+ghost use Rattle.ap_term.specs.AtomTable.{capacity};
+ghost use Rattle.ap_term.specs.TermView.{tree_of};
+ghost use Rattle.ap_reader.specs.Grammar.{Tree};
+ghost use Rattle.ap_reader.specs.Step.{postfix};
+ghost use Rattle.ap_reader.specs.Written.{Written, leaf_of, meaning};
+ghost use Rattle.ap_reader.specs.Reading.{StandsFor};
+ghost use Rattle.ap_reader.specs.Build.{Extends};
+ghost use Rattle.ap_clause.specs.Shape.{form_of};
+ghost use Rattle.ap_clause.specs.Reads as spec;
+ghost use Rattle.ap_clause.specs.Verdict.{CanBeRule, Gives, position, IsCounted};
+
+use crate::form::{Form, form_by};
+use crate::judge::{Counts, Read, judge};
+use crate::refusal::Refusal;
+use crate::source::Source;
+use ap_lexer::{LexErr, Piece, tokens};
+use ap_reader::{ReadErr, ReadTerm, WrittenTerm, parse};
+use ap_term::{Atoms, NoMemory};
+use std::alloc::Global;
+
+fn fits(source: Source, form: Form) -> bool
+    ensures { (x : Written) → form ≡ form_of x → result ≡ spec.fits source x }
+{
+    match source {
+        Source::Program => form.clause,
+        Source::Query => form.query,
+    }
+}
+
+fn form_of_written(alloc: Global, written: &WrittenTerm) -> Result<Form, NoMemory>
+    ensures { IfOk result (λ f. (t : Tree) → written.now.steps.items ≡ postfix t → f ≡ form_of (meaning (map leaf_of written.now.leaves.items) t)) }
+{
+    form_by(alloc, &written.leaves, &written.steps)
+}
+
+/// The verdict on a term that was built, behind so many lifted predicates and clauses.
+fn take_built(
+    alloc: Global,
+    source: Source,
+    read: ReadTerm,
+    line: u64,
+    before: Counts,
+    atoms: &Atoms,
+) -> Result<Read, Refusal>
+    requires { CanBeRule source (tree_of read.term) (length read.names.items) line }
+    ensures verdict { Gives (λ v. v ≡ spec.judged_term source before atoms.now read.names.items line (tree_of read.term)) atoms.now result }
+    ensures counted { IfOk result (λ r. IsCounted before r atoms.now) }
+{
+    let ReadTerm { term, names } = read;
+    judge(alloc, source, &term, names, line, before, atoms)
+}
+
+/// The verdict on the term that a piece's tokens spell.
+fn take(
+    alloc: Global,
+    source: Source,
+    written: WrittenTerm,
+    before: Counts,
+    atoms: &mut Atoms,
+) -> Result<Read, Refusal>
+    requires { (front : List Placed) × ((t : Tree) × StandsFor front t written) }
+    ensures verdict { (front : List Placed) (t : Tree) → StandsFor front t written.entry → Gives (λ v. v ≡ spec.judged_sentence source (position atoms.old before) written.entry.line (record { front = front; tree = t })) atoms.new result }
+    ensures counted { IfOk result (λ r. IsCounted before r atoms.new) }
+    ensures grows { Extends atoms.old atoms.new }
+{
+    let line = written.line;
+    let Ok(form) = form_of_written(alloc, &written) else {
+        return Err(Refusal::NoMemory);
+    };
+    if !fits(source, form) {
+        return Err(Refusal::NotAClause { line });
+    }
+    match written.into_term(alloc, atoms) {
+        Ok(read) => {
+            let _kept = atoms.mark();
+            take_built(alloc, source, read, line, before, atoms)
+        }
+        Err(ReadErr::NotAClause { line }) => Err(Refusal::NotAClause { line }),
+        Err(ReadErr::TooDeep { line }) => Err(Refusal::TooDeep { line }),
+        Err(ReadErr::TooManyAtoms { line }) => Err(Refusal::TooManyAtoms { line }),
+        Err(ReadErr::NoMemory) => Err(Refusal::NoMemory),
+    }
+}
+
+/// The verdict on a piece of a text, behind so many lifted predicates and clauses. The table may have some of its names
+/// after an error.
+pub(crate) fn take_piece(
+    alloc: Global,
+    source: Source,
+    text: &[u8],
+    piece: &Piece,
+    before: Counts,
+    atoms: &mut Atoms,
+) -> Result<Read, Refusal>
+    requires { Contains (pieces_of text.now) piece.now }
+    ensures verdict { Gives (λ v. spec.Judges source text.now (position atoms.old before) piece.now v) atoms.new result }
+    ensures counted { IfOk result (λ r. IsCounted before r atoms.new) }
+    ensures grows { Extends atoms.old atoms.new }
+{
+    let tokens = match tokens(alloc, text, piece) {
+        Ok(tokens) => tokens,
+        Err(LexErr::BadToken { line }) => return Err(Refusal::BadToken { line }),
+        Err(LexErr::NoMemory) => return Err(Refusal::NoMemory),
+    };
+    match parse(alloc, &tokens) {
+        Ok(written) => take(alloc, source, written, before, atoms),
+        Err(ReadErr::NotAClause { line }) => Err(Refusal::NotAClause { line }),
+        Err(ReadErr::TooDeep { line }) => Err(Refusal::TooDeep { line }),
+        Err(ReadErr::TooManyAtoms { line }) => Err(Refusal::TooManyAtoms { line }),
+        Err(ReadErr::NoMemory) => Err(Refusal::NoMemory),
+    }
+}
