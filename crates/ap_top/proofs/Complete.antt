@@ -65,13 +65,13 @@ module _ (source : Option (List ℕ)) (SourceRose : Type 0) (calm : SourceRose �
         let same : what ≡ names.what = one_command words what names.what is names.command in
         file_answers names.what entries names.bytes names.program names.table names.file names.short names.accepted s ls (subst (λ w. FileEnds w entries source FilesRose SourceRose s ls) same ends)
 
-pub sink_rose : {T : Type 0} (before now : ℕ) (e : Halt) → e ≡ halt.Sink → SinkCount {T = T} before now (Err e) → Rises before now
-sink_rose before now halt.Sink is count = count
-sink_rose before now halt.NoMemory is count = cc
+pub sink_rose : (T : Type 0) (before now : ℕ) (e : Halt) → e ≡ halt.Sink → SinkCount {T = T} before now (Err e) → Rises before now
+sink_rose T before now halt.Sink is count = count
+sink_rose T before now halt.NoMemory is count = cc
 
-pub memory_stays : {T : Type 0} (before now : ℕ) (e : Halt) → e ≡ halt.NoMemory → SinkCount {T = T} before now (Err e) → now ≡ before
-memory_stays before now halt.NoMemory is count = count
-memory_stays before now halt.Sink is count = cc
+pub memory_stays : (T : Type 0) (before now : ℕ) (e : Halt) → e ≡ halt.NoMemory → SinkCount {T = T} before now (Err e) → now ≡ before
+memory_stays T before now halt.NoMemory is count = count
+memory_stays T before now halt.Sink is count = cc
 
 pub given_up : (before now : ℕ) (s : Status) → (Rises before now → ⊥) → (s ≡ status.NoMemory) ⊎ (s ≡ status.SinkFault) → RunSinkCount before now s → IsAnswering s
 given_up before now s calm (inl is) count = subst IsAnswering (sym is) tt

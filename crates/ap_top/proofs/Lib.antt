@@ -9,3 +9,4 @@ pub mod Layers
 pub mod Numbers
 pub mod Commands
 pub mod Complete
+pub mod Grown

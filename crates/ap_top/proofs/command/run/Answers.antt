@@ -46,10 +46,10 @@ returns-in-Ok-clause-complete g c =
     λ names quiet calm still. run_answers (g.S.Source.left c.args.queries.now) Rose calm Fault quiet (map (λ w. w.now) c.args.words.now) (g.F.Files.entries c.args.files.now) names c.in-Ok.status c.in-Ok.ensures.lines.0 c.in-Ok.ensures.lines.2
 
 pub returns-in-Err-Sink-clause-complete : goal.returns-in-Err-Sink-clause-complete
-returns-in-Err-Sink-clause-complete g c = λ names quiet calm still. absurd (still (sink_rose {T = Status} _ _ c.in-Err-Sink.field-0 c.in-Err-Sink.field-0-is c.in-Err-Sink.ensures.sink))
+returns-in-Err-Sink-clause-complete g c = λ names quiet calm still. absurd (still (sink_rose Status _ _ c.in-Err-Sink.field-0 c.in-Err-Sink.field-0-is c.in-Err-Sink.ensures.sink))
 
 pub returns-in-Err-NoMemory-clause-complete : goal.returns-in-Err-NoMemory-clause-complete
 returns-in-Err-NoMemory-clause-complete g c =
-    let before = memory_stays {T = Status} _ _ c.in-Err-NoMemory.field-0 c.in-Err-NoMemory.field-0-is c.in-Err-NoMemory.ensures.sink in
+    let before = memory_stays Status _ _ c.in-Err-NoMemory.field-0 c.in-Err-NoMemory.field-0-is c.in-Err-NoMemory.ensures.sink in
     λ names quiet calm still. given_up (g.K.Sink.faults c.args.out.now) (g.K.Sink.faults c.give_up.new.out) c.give_up.result still c.give_up.ensures.only
         (subst (λ n. RunSinkCount n (g.K.Sink.faults c.give_up.new.out) c.give_up.result) before c.give_up.ensures.count)

@@ -6,11 +6,12 @@ use Rattle.ap_clause.specs.declared.refusal.Refusal.TheVariants as refusal
 use Rattle.ap_top.specs.Output.{IsQueryBlock, PieceEnds}
 use Rattle.ap_top.specs.Refusals.{refusal_line}
 use Rattle.ap_top.specs.Status.{tally}
+use Rattle.ap_top.proofs.Grown.{grown}
 use Rattle.ap_top.proofs.Pieces.{refused, block_ends, some_block_ends, refusal_ends, some_refusal_ends, cut_back, cut_within}
 use Rattle.ap_top.proofs.queries.print_piece.Goals as goal
 
 pub cut_to-requires : goal.cut_to-requires
-cut_to-requires g c = cut_within c.args.atoms.now c.query.new.atoms c.mark-mark.result c.in-Ok.ensures.grown c.mark-mark.ensures.mark
+cut_to-requires g c = cut_within c.args.atoms.now c.query.new.atoms c.mark-mark.result (grown c.args.text.now c.args.piece.now c.args.program.now c.args.atoms.now c.in-Ok.query c.query.new.atoms c.in-Ok.ensures.accepts) c.mark-mark.ensures.mark
 
 pub returns-in_err-spent-in-Ok-clause-lines : goal.returns-in_err-spent-in-Ok-clause-lines
 returns-in_err-spent-in-Ok-clause-lines g c =
@@ -50,7 +51,7 @@ returns-in_ok-spent-in-Ok-clause-lines g c =
     (block_ends b n program c.args.atoms.now c.args.text.now c.args.piece.now c.in-Ok.query c.query.new.atoms c.in-Ok.ensures.accepts spent) c.in_ok-spent-in-Ok.ensures.lines
 
 pub returns-in_ok-spent-in-Ok-clause-table : goal.returns-in_ok-spent-in-Ok-clause-table
-returns-in_ok-spent-in-Ok-clause-table g c = c.cut_to.ensures ∙ cut_back c.args.atoms.now c.query.new.atoms c.mark-mark.result c.in-Ok.ensures.grown c.mark-mark.ensures.mark
+returns-in_ok-spent-in-Ok-clause-table g c = c.cut_to.ensures ∙ cut_back c.args.atoms.now c.query.new.atoms c.mark-mark.result (grown c.args.text.now c.args.piece.now c.args.program.now c.args.atoms.now c.in-Ok.query c.query.new.atoms c.in-Ok.ensures.accepts) c.mark-mark.ensures.mark
 
 pub returns-in_ok-print_refusal-in-Err : goal.returns-in_ok-print_refusal-in-Err
 returns-in_ok-print_refusal-in-Err g c =
