@@ -1,92 +1,108 @@
 -- From what a layer of the run has put to what the layer above it has put.
-use Rattle.std.proofs.Common.{◌≡◌, ◌≢◌, ◌&&◌, map, ◌⊎◌, inl, inr, ℕ, ◌+◌, ◌<◌, ◌≤◌, true, false, List, [], ◌∷◌, ◌++◌, length, length-append, Option, None, Some, option_map, Result, Ok, Err, sym, ◌∙◌, ap, subst, refl, arith, codes, append_assoc, append-nil}
+use Rattle.std.proofs.Common.{◌≡◌, ◌≢◌, ◌⊎◌, inl, inr, ℕ, ◌+◌, ◌<◌, ◌≤◌, Bool, true, false, List, [], ◌∷◌, ◌++◌, length, length-append, Option, None, Some, option_map, Result, Ok, Err, sym, ◌∙◌, ap, subst, refl, arith, codes, append_assoc, append-nil, All, Contains}
 use Rattle.std.proofs.lemmas.Grind.{common_steps}
+use Rattle.std.proofs.lemmas.List.Elements.{All-filter}
 use Rattle.std.specs.Io.KnownBytes.{Consumes, IsAtEnd}
-use Rattle.std.specs.List.{list_all, count_by}
-use Rattle.ap_outside.specs.Pieces.{Puts, FrontOf, CutOf}
+use Rattle.std.specs.List.{filter}
+use Rattle.ap_outside.specs.Pieces.{Puts, PrefixOf, FrontOf, CutOf}
 use Rattle.ap_outside.specs.Files.{HasContent}
 use Rattle.ap_outside.specs.Halting.{AnyOf, Finishes}
 use Rattle.ap_outside.specs.declared.halting.Halt.{Halt}
 use Rattle.ap_outside.specs.declared.halting.Halt.TheVariants as halt
-use Rattle.ap_outside.proofs.Puts.{puts_then}
+use Rattle.ap_outside.proofs.Puts.{adds_nothing, puts_then}
+use Rattle.ap_outside.proofs.Halts.{halts_after, passes_on}
+use Rattle.ap_lexer.specs.Lexeme.{Text}
+use Rattle.ap_lexer.specs.Piece.{pieces}
+use Rattle.ap_lexer.specs.declared.cut.Piece.{Piece}
+use Rattle.ap_term.specs.AtomTable.{fixed_names}
 use Rattle.ap_term.specs.Goals.{Program}
-use Rattle.ap_top.specs.SmallForm.{GoalText, goal_of, is_goal, is_layout, is_line_feed, begins, ReadsFrom, ReadsAsFacts, ReadsAsQueries}
-use Rattle.ap_top.specs.Meaning.{program_of, table_of}
-use Rattle.ap_top.specs.Ends.{QueriesEnd, SourceEnds, TextEnds, FileEnds, RunEnds, Whole, SaysNoMemory, IsTold, file_of}
+use Rattle.ap_clause.specs.Reads.{RefusesProgram}
+use Rattle.ap_clause.specs.declared.refusal.Refusal.{Refusal}
+use Rattle.ap_top.specs.Words.{Asked, asked_of, IsCommand}
+use Rattle.ap_top.specs.declared.words.Command.{Command}
+use Rattle.ap_top.specs.Output.{IsOutput, judged}
+use Rattle.ap_top.specs.Refusals.{refusal_line}
+use Rattle.ap_top.specs.Status.{status_of, tally}
+use Rattle.ap_top.specs.Ends.{SourceEnds, TextEnds, FileEnds, RunEnds, Whole, SaysNoMemory, IsTold, IsTaken}
 use Rattle.ap_top.specs.Counts.{FilesCount, RunSinkCount}
-use Rattle.ap_top.specs.declared.small_form.Goal.{Goal}
+use Rattle.ap_top.specs.declared.status.Tally.{Tally}
 use Rattle.ap_top.specs.declared.status.Status.{Status}
 use Rattle.ap_top.specs.declared.status.Status.TheVariants as status
-use Rattle.ap_top.proofs.Spellings.{no_two}
-use Rattle.ap_top.proofs.Reading.{reads_black}
-
--- each goal of a reading is one
-pub goals_are : (line : ℕ) (opening : List ℕ) (goals : List GoalText) (text : List ℕ) → ReadsFrom line opening goals text → list_all is_goal goals ≡ true
-goals_are line opening [] text h = refl
-goals_are line opening (goal ∷ goals) text h = ap (λ b. b && list_all is_goal goals) h.2.goal_is ∙ goals_are (line + count_by is_line_feed h.0) opening goals h.1 h.3
-
--- what a reader answers decides what the text reads as
-pub reads_none : {A X : Type 0} (R : A → Type 0) (f : X → A) (r : Option X) → r ≡ None → ((a : A) → R a → option_map f r ≡ Some a) → (a : A) → R a → ⊥
-reads_none R f r e only a h = let none : None ≡ Some a = ap (option_map f) (sym e) ∙ only a h in cc
-
-pub facts_few : (xs ys : List Goal) (text : List ℕ) → xs ≡ ys → ReadsAsFacts (map goal_of ys) text → length xs ≤ 65535
-facts_few xs ys text e h =
-    let few = h.few in
-    let count : length (map goal_of ys) ≡ length ys = grind (arith, common_steps) in
-    let same : length xs ≡ length ys = ap length e in
-    omega (arith, few, count, same)
-
-pub source_same : (a b : Option (List (List ℕ))) (p q : Program) (t u : List (List ℕ)) (source : Option (List ℕ)) (Rose : Type 0) (r : Result Status Halt) → p ≡ q → t ≡ u
-    → Finishes a b (SourceEnds p t source Rose) r → Finishes a b (SourceEnds q u source Rose) r
-source_same a b p q t u source Rose r e f h = subst (λ x. Finishes a b (SourceEnds q x source Rose) r) f (subst (λ x. Finishes a b (SourceEnds x t source Rose) r) e h)
 
 pub told_whole : (a b : Option (List ℕ)) (bytes : List ℕ) → Consumes a b bytes → IsAtEnd b → IsTold a bytes
 told_whole None b bytes f e = tt
 told_whole (Some u) None bytes f e = absurd f
 told_whole (Some u) (Some v) bytes f e = f ∙ ap (λ w. bytes ++ w) e ∙ append-nil bytes
 
-module _ (program : Program) (table : List (List ℕ)) where
-  pub queries_refused : (input : List ℕ) → ((queries : List GoalText) → ReadsAsQueries queries input → ⊥) →
-      (s : Status) (ls : List (List ℕ)) → (s ≡ status.QueryRefused) × (ls ≡ codes "refused: form\n" ∷ []) → QueriesEnd program table input s ls
-  queries_refused input none s ls h = subst (λ t. QueriesEnd program table input t ls) (sym h.0) (QueriesEnd.refused ls none h.1)
+pub taken_first : (a b : Option (List ℕ)) (bytes : List ℕ) → Consumes a b bytes → IsTaken a bytes
+taken_first None b bytes f = tt
+taken_first (Some u) None bytes f = absurd f
+taken_first (Some u) (Some v) bytes f = (v, f)
 
-  pub source_fault : (source : Option (List ℕ)) (Rose : Type 0) → Rose → (s : Status) (ls : List (List ℕ)) → (s ≡ status.SourceFault) × (ls ≡ codes "fault: source\n" ∷ []) → SourceEnds program table source Rose s ls
-  source_fault source Rose rose s ls h = subst (λ t. SourceEnds program table source Rose t ls) (sym h.0) (SourceEnds.fault ls rose h.1)
-
+module _ (what : Asked) (program : Program) (table : List (List ℕ)) where
   pub source_too_long : (a b : Option (List ℕ)) (bytes : List ℕ) (Rose : Type 0) → Consumes a b bytes → 16777216 < length bytes →
-      (s : Status) (ls : List (List ℕ)) → (s ≡ status.QueriesTooLong) × (ls ≡ codes "refused: queries too long\n" ∷ []) → SourceEnds program table a Rose s ls
-  source_too_long None b bytes Rose f long s ls h = subst (λ t. SourceEnds program table None Rose t ls) (sym h.0) (SourceEnds.too_long bytes ls tt long h.1)
+      (s : Status) (ls : List (List ℕ)) → (s ≡ status.QueriesTooLong) × (ls ≡ codes "refused: queries too long\n" ∷ []) → SourceEnds what program table a Rose s ls
+  source_too_long None b bytes Rose f long s ls h = subst (λ t. SourceEnds what program table None Rose t ls) (sym h.0) (SourceEnds.too_long bytes ls tt long h.1)
   source_too_long (Some u) None bytes Rose f long s ls h = absurd f
   source_too_long (Some u) (Some v) bytes Rose f long s ls h =
       let size : length u ≡ length bytes + length v = ap length f ∙ length-append bytes v in
-      subst (λ t. SourceEnds program table (Some u) Rose t ls) (sym h.0) (SourceEnds.too_long u ls refl (omega (arith, size, long)) h.1)
+      subst (λ t. SourceEnds what program table (Some u) Rose t ls) (sym h.0) (SourceEnds.too_long u ls refl (omega (arith, size, long)) h.1)
 
-pub text_refused : (bytes : List ℕ) (source : Option (List ℕ)) (Rose : Type 0) → ((facts : List GoalText) → ReadsAsFacts facts bytes → ⊥) →
-    (s : Status) (ls : List (List ℕ)) → (s ≡ status.ProgramRefused) × (ls ≡ codes "refused: form\n" ∷ []) → TextEnds bytes source Rose s ls
-text_refused bytes source Rose none s ls h = subst (λ t. TextEnds bytes source Rose t ls) (sym h.0) (TextEnds.refused ls none h.1)
+-- what is judged of a text are pieces of it
+all_own : (xs : List Piece) → All (Contains xs) xs
+all_own xs = λ k d lt. (k, lt, grind (arith, common_steps))
 
-module _ (name : List ℕ) (entries : Option (List (List ℕ × List ℕ))) (source : Option (List ℕ)) (FilesRose SourceRose : Type 0) where
-  pub file_fault : FilesRose → (s : Status) (ls : List (List ℕ)) → (s ≡ status.FileFault) × (ls ≡ codes "fault: file\n" ∷ []) → FileEnds name entries source FilesRose SourceRose s ls
-  file_fault rose s ls h = subst (λ t. FileEnds name entries source FilesRose SourceRose t ls) (sym h.0) (FileEnds.fault ls rose h.1)
+pub judged_own : (whole : Bool) (text : Text) → All (Contains (pieces text)) (judged whole text)
+judged_own true text = all_own (pieces text)
+judged_own false text = All-filter (λ p. p.ended) (Contains (pieces text)) (pieces text) (all_own (pieces text))
 
--- a text that begins with layout is no text of facts
-no_facts : (facts : List GoalText) → ReadsAsFacts facts (32 ∷ []) → ⊥
-no_facts facts h = let black : begins is_layout (32 ∷ []) ≡ false = reads_black 1 [] facts (32 ∷ []) refl h.reads in no_two true refl black
+-- a call that goes on behind lines that have P
+pub finishes_after : {T : Type 0} (P : List (List ℕ) → Type 0) (E F : T → List (List ℕ) → Type 0) → ((t : T) (ps qs : List (List ℕ)) → P ps → E t qs → F t (ps ++ qs)) →
+    ((ps : List (List ℕ)) → P ps → FrontOf (AnyOf F) ps) → (a b c : Option (List (List ℕ))) (r : Result T Halt) → Puts a b P → Finishes b c E r → Finishes a c F r
+finishes_after P E F goes stops a b c (Ok t) puts more = puts_then a b c P (E t) (F t) (goes t) puts more
+finishes_after P E F goes stops a b c (Err e) puts more =
+    halts_after P E F (λ ps qs p any. ([], (any.0, subst (F any.0) (sym (append-nil (ps ++ qs))) (goes any.0 ps qs p any.1)))) stops a b c e puts more
 
-too_long : (bytes : List ℕ) → 16777216 < length bytes → (facts : List GoalText) → ReadsAsFacts facts bytes → ⊥
-too_long bytes long facts h = let short = h.short in absurd (omega (arith, long, short))
+module _ (what : Asked) (program : Program) (table : List (List ℕ)) (source : Option (List ℕ)) (Rose : Type 0) (taken : List ℕ) (rose : Rose) (told : IsTaken source taken) (short : length taken ≤ 16777216) where
+  fault_behind : (t : Tally) (s : Status) (ps qs : List (List ℕ)) → IsOutput what.budget what.answers program table taken (judged false taken) t ps → (s ≡ status.SourceFault) × (qs ≡ codes "fault: source\n" ∷ [])
+      → SourceEnds what program table source Rose s (ps ++ qs)
+  fault_behind t s ps qs out h = subst (λ u. SourceEnds what program table source Rose u (ps ++ qs)) (sym h.0) (SourceEnds.fault taken t ps (ps ++ qs) rose told short out (ap (λ ls. ps ++ ls) h.1))
 
-pub file_too_long : (name : List ℕ) (entries : Option (List (List ℕ × List ℕ))) (source : Option (List ℕ)) (FilesRose SourceRose : Type 0) → HasContent entries name (λ bytes. 16777216 < length bytes) →
-    (s : Status) (ls : List (List ℕ)) → (s ≡ status.ProgramRefused) × (ls ≡ codes "refused: form\n" ∷ []) → FileEnds name entries source FilesRose SourceRose s ls
-file_too_long name None source FilesRose SourceRose has s ls h = FileEnds.read (32 ∷ []) s ls tt (text_refused (32 ∷ []) source SourceRose no_facts s ls h)
-file_too_long name (Some entries) source FilesRose SourceRose has s ls h = FileEnds.read has.0 s ls (has.0, has.1, refl) (text_refused has.0 source SourceRose (too_long has.0 has.2) s ls h)
+  fault_front : (t : Tally) (ps : List (List ℕ)) → IsOutput what.budget what.answers program table taken (judged false taken) t ps → PrefixOf (AnyOf (SourceEnds what program table source Rose)) ps
+  fault_front t ps out = (codes "fault: source\n" ∷ [], (status.SourceFault, fault_behind t status.SourceFault ps (codes "fault: source\n" ∷ []) out (refl, refl)))
 
-pub file_read : (name : List ℕ) (entries : Option (List (List ℕ × List ℕ))) (source : Option (List ℕ)) (FilesRose SourceRose : Type 0) (bytes : List ℕ) → HasContent entries name (λ content. bytes ≡ content) →
-    (s : Status) (ls : List (List ℕ)) → TextEnds bytes source SourceRose s ls → FileEnds name entries source FilesRose SourceRose s ls
-file_read name None source FilesRose SourceRose bytes has s ls h = FileEnds.read bytes s ls tt h
-file_read name (Some entries) source FilesRose SourceRose bytes has s ls h = FileEnds.read bytes s ls (has.0, has.1, sym has.2) h
+  -- what was taken before a fault broke off
+  pub taken_halts : (a b : Option (List (List ℕ))) (r : Result Tally Halt) (q : Result Status Halt) (e : Halt) → r ≡ Err e → q ≡ Err e →
+      Finishes a b (IsOutput what.budget what.answers program table taken (judged false taken)) r → Finishes a b (SourceEnds what program table source Rose) q
+  taken_halts a b r q e was same put =
+      passes_on {T = Tally} {U = Status} (λ ps. ps ≡ []) (IsOutput what.budget what.answers program table taken (judged false taken)) (SourceEnds what program table source Rose)
+      (λ ps qs none any. let on = fault_front any.0 qs any.1 in (on.0, subst (λ ls. AnyOf (SourceEnds what program table source Rose) ((ls ++ qs) ++ on.0)) (sym none) on.1))
+      (λ ps none. inl none) a a b r q e was same ([], adds_nothing a, refl) put
 
-pub usage : (words : List (List ℕ)) (entries : Option (List (List ℕ × List ℕ))) (source : Option (List ℕ)) (FilesRose SourceRose : Type 0) → file_of words ≡ None →
+  pub source_fault : (a b c : Option (List (List ℕ))) (t : Tally) (r : Result Status Halt) → Puts a b (IsOutput what.budget what.answers program table taken (judged false taken) t) →
+      Finishes b c (λ s put. (s ≡ status.SourceFault) × (put ≡ codes "fault: source\n" ∷ [])) r → Finishes a c (SourceEnds what program table source Rose) r
+  source_fault a b c t r puts more =
+      finishes_after (IsOutput what.budget what.answers program table taken (judged false taken) t) (λ s put. (s ≡ status.SourceFault) × (put ≡ codes "fault: source\n" ∷ [])) (SourceEnds what program table source Rose)
+      (λ s ps qs out h. fault_behind t s ps qs out h) (λ ps out. inr (fault_front t ps out)) a b c r puts more
+
+module _ (what : Asked) (bytes : List ℕ) (source : Option (List ℕ)) (Rose : Type 0) (names : List (List ℕ)) (r : Refusal) (same : names ≡ fixed_names) (h : RefusesProgram bytes fixed_names r) where
+  pub text_refused : (ls : List (List ℕ)) → ls ≡ refusal_line names r ∷ [] → TextEnds what bytes source Rose status.ProgramRefused ls
+  text_refused ls is = TextEnds.refused r ls h (is ∙ ap (λ t. refusal_line t r ∷ []) same)
+
+module _ (what : Asked) (entries : Option (List (List ℕ × List ℕ))) (source : Option (List ℕ)) (FilesRose SourceRose : Type 0) where
+  pub file_fault : FilesRose → (s : Status) (ls : List (List ℕ)) → (s ≡ status.FileFault) × (ls ≡ codes "fault: file\n" ∷ []) → FileEnds what entries source FilesRose SourceRose s ls
+  file_fault rose s ls h = subst (λ t. FileEnds what entries source FilesRose SourceRose t ls) (sym h.0) (FileEnds.fault ls rose h.1)
+
+  pub file_too_long : HasContent entries what.file (λ bytes. 16777216 < length bytes) → (s : Status) (ls : List (List ℕ)) → (s ≡ status.ProgramRefused) × (ls ≡ codes "refused: too long\n" ∷ [])
+      → FileEnds what entries source FilesRose SourceRose s ls
+  file_too_long has s ls h = subst (λ t. FileEnds what entries source FilesRose SourceRose t ls) (sym h.0) (FileEnds.too_long ls has h.1)
+
+pub file_read : (what : Asked) (entries : Option (List (List ℕ × List ℕ))) (source : Option (List ℕ)) (FilesRose SourceRose : Type 0) (bytes : List ℕ) → HasContent entries what.file (λ content. bytes ≡ content) →
+    length bytes ≤ 16777216 → (s : Status) (ls : List (List ℕ)) → TextEnds what bytes source SourceRose s ls → FileEnds what entries source FilesRose SourceRose s ls
+file_read what None source FilesRose SourceRose bytes has short s ls h = FileEnds.read bytes s ls tt short h
+file_read what (Some entries) source FilesRose SourceRose bytes has short s ls h = FileEnds.read bytes s ls (has.0, has.1, sym has.2) short h
+
+pub usage : (words : List (List ℕ)) (entries : Option (List (List ℕ × List ℕ))) (source : Option (List ℕ)) (FilesRose SourceRose : Type 0) → ((what : Asked) → IsCommand words what → ⊥) →
     (s : Status) (ls : List (List ℕ)) → (s ≡ status.Usage) × (ls ≡ codes "usage: andprolog run FILE | show FILE | code FILE | load SEED SIZE\n" ∷ []) → RunEnds words entries source FilesRose SourceRose s ls
 usage words entries source FilesRose SourceRose none s ls h = subst (λ t. RunEnds words entries source FilesRose SourceRose t ls) (sym h.0) (RunEnds.usage ls none h.1)
 
@@ -95,42 +111,43 @@ usage words entries source FilesRose SourceRose none s ls h = subst (λ t. RunEn
 abbrev IsOther : Status → Type 0
 IsOther s = (s ≢ status.FileFault) × (s ≢ status.SinkFault)
 
-queries_status : (program : Program) (table : List (List ℕ)) (input : List ℕ) (s : Status) (ls : List (List ℕ)) → QueriesEnd program table input s ls → IsOther s
-queries_status program table input _ ls (QueriesEnd.answers queries true s _ r o e) = (λ f. let g : status.BudgetSpent ≡ status.FileFault = sym e ∙ f in cc, λ f. let g : status.BudgetSpent ≡ status.SinkFault = sym e ∙ f in cc)
-queries_status program table input _ ls (QueriesEnd.answers queries false s _ r o e) = (λ f. let g : status.Done ≡ status.FileFault = sym e ∙ f in cc, λ f. let g : status.Done ≡ status.SinkFault = sym e ∙ f in cc)
-queries_status program table input _ ls (QueriesEnd.refused _ n e) = (λ f. cc, λ f. cc)
+tally_status : (spent refused : Bool) (s : Status) → s ≡ status_of (tally spent refused) → IsOther s
+tally_status spent true _ e = (λ f. let g : status.QueryRefused ≡ status.FileFault = sym e ∙ f in cc, λ f. let g : status.QueryRefused ≡ status.SinkFault = sym e ∙ f in cc)
+tally_status true false _ e = (λ f. let g : status.BudgetSpent ≡ status.FileFault = sym e ∙ f in cc, λ f. let g : status.BudgetSpent ≡ status.SinkFault = sym e ∙ f in cc)
+tally_status false false _ e = (λ f. let g : status.Done ≡ status.FileFault = sym e ∙ f in cc, λ f. let g : status.Done ≡ status.SinkFault = sym e ∙ f in cc)
 
-source_status : (program : Program) (table : List (List ℕ)) (source : Option (List ℕ)) (Rose : Type 0) (s : Status) (ls : List (List ℕ)) → SourceEnds program table source Rose s ls → IsOther s
-source_status program table source Rose _ ls (SourceEnds.fault _ r e) = (λ f. cc, λ f. cc)
-source_status program table source Rose _ ls (SourceEnds.too_long i _ t l e) = (λ f. cc, λ f. cc)
-source_status program table source Rose _ ls (SourceEnds.read i s _ t l q) = queries_status program table i s ls q
+source_status : (what : Asked) (program : Program) (table : List (List ℕ)) (source : Option (List ℕ)) (Rose : Type 0) (s : Status) (ls : List (List ℕ)) → SourceEnds what program table source Rose s ls → IsOther s
+source_status what program table source Rose _ ls (SourceEnds.fault i t b _ r k l o e) = (λ f. cc, λ f. cc)
+source_status what program table source Rose _ ls (SourceEnds.too_long i _ t l e) = (λ f. cc, λ f. cc)
+source_status what program table source Rose _ ls (SourceEnds.read i t s _ told l o e) = tally_status t.spent t.refused s e
 
-text_status : (bytes : List ℕ) (source : Option (List ℕ)) (Rose : Type 0) (s : Status) (ls : List (List ℕ)) → TextEnds bytes source Rose s ls → IsOther s
-text_status bytes source Rose _ ls (TextEnds.refused _ n e) = (λ f. cc, λ f. cc)
-text_status bytes source Rose _ ls (TextEnds.accepted facts s _ r p) = source_status (program_of facts) (table_of facts) source Rose s ls p
+text_status : (what : Asked) (bytes : List ℕ) (source : Option (List ℕ)) (Rose : Type 0) (s : Status) (ls : List (List ℕ)) → TextEnds what bytes source Rose s ls → IsOther s
+text_status what bytes source Rose _ ls (TextEnds.refused r _ n e) = (λ f. cc, λ f. cc)
+text_status what bytes source Rose _ ls (TextEnds.accepted program table s _ r p) = source_status what program table source Rose s ls p
 
-file_status : (name : List ℕ) (entries : Option (List (List ℕ × List ℕ))) (source : Option (List ℕ)) (FilesRose SourceRose : Type 0) (s : Status) (ls : List (List ℕ)) → FileEnds name entries source FilesRose SourceRose s ls → s ≢ status.SinkFault
-file_status name entries source FilesRose SourceRose _ ls (FileEnds.fault _ r e) = λ f. cc
-file_status name entries source FilesRose SourceRose _ ls (FileEnds.read bytes s _ c t) = (text_status bytes source SourceRose s ls t).1
+file_status : (what : Asked) (entries : Option (List (List ℕ × List ℕ))) (source : Option (List ℕ)) (FilesRose SourceRose : Type 0) (s : Status) (ls : List (List ℕ)) → FileEnds what entries source FilesRose SourceRose s ls → s ≢ status.SinkFault
+file_status what entries source FilesRose SourceRose _ ls (FileEnds.fault _ r e) = λ f. cc
+file_status what entries source FilesRose SourceRose _ ls (FileEnds.too_long _ r e) = λ f. cc
+file_status what entries source FilesRose SourceRose _ ls (FileEnds.read bytes s _ c l t) = (text_status what bytes source SourceRose s ls t).1
 
 run_status : (words : List (List ℕ)) (entries : Option (List (List ℕ × List ℕ))) (source : Option (List ℕ)) (FilesRose SourceRose : Type 0) (s : Status) (ls : List (List ℕ)) → RunEnds words entries source FilesRose SourceRose s ls → s ≢ status.SinkFault
 run_status words entries source FilesRose SourceRose _ ls (RunEnds.usage _ n e) = λ f. cc
-run_status words entries source FilesRose SourceRose _ ls (RunEnds.named name s _ n f) = file_status name entries source FilesRose SourceRose s ls f
+run_status words entries source FilesRose SourceRose _ ls (RunEnds.named what s _ n f) = file_status what entries source FilesRose SourceRose s ls f
 
 -- over the bytes of a file that was read, the files' count stays
-pub files_kept : (a b : Option (List (List ℕ))) (bytes : List ℕ) (source : Option (List ℕ)) (Rose : Type 0) (before now : ℕ) (r : Result Status Halt) → now ≡ before → Finishes a b (TextEnds bytes source Rose) r → FilesCount before now r
-files_kept a b bytes source Rose before now (Err e) same puts = omega (arith, same)
-files_kept a b bytes source Rose before now (Ok status.FileFault) same puts = absurd ((text_status bytes source Rose status.FileFault puts.0 puts.2).0 refl)
-files_kept a b bytes source Rose before now (Ok status.Done) same puts = same
-files_kept a b bytes source Rose before now (Ok status.BudgetSpent) same puts = same
-files_kept a b bytes source Rose before now (Ok status.Usage) same puts = same
-files_kept a b bytes source Rose before now (Ok status.ProgramRefused) same puts = same
-files_kept a b bytes source Rose before now (Ok status.QueryRefused) same puts = same
-files_kept a b bytes source Rose before now (Ok status.SinkFault) same puts = same
-files_kept a b bytes source Rose before now (Ok status.SourceFault) same puts = same
-files_kept a b bytes source Rose before now (Ok status.NoMemory) same puts = same
-files_kept a b bytes source Rose before now (Ok status.QueriesTooLong) same puts = same
-files_kept a b bytes source Rose before now (Ok status.EntryRefused) same puts = same
+pub files_kept : (a b : Option (List (List ℕ))) (what : Asked) (bytes : List ℕ) (source : Option (List ℕ)) (Rose : Type 0) (before now : ℕ) (r : Result Status Halt) → now ≡ before → Finishes a b (TextEnds what bytes source Rose) r → FilesCount before now r
+files_kept a b what bytes source Rose before now (Err e) same puts = omega (arith, same)
+files_kept a b what bytes source Rose before now (Ok status.FileFault) same puts = absurd ((text_status what bytes source Rose status.FileFault puts.0 puts.2).0 refl)
+files_kept a b what bytes source Rose before now (Ok status.Done) same puts = same
+files_kept a b what bytes source Rose before now (Ok status.BudgetSpent) same puts = same
+files_kept a b what bytes source Rose before now (Ok status.Usage) same puts = same
+files_kept a b what bytes source Rose before now (Ok status.ProgramRefused) same puts = same
+files_kept a b what bytes source Rose before now (Ok status.QueryRefused) same puts = same
+files_kept a b what bytes source Rose before now (Ok status.SinkFault) same puts = same
+files_kept a b what bytes source Rose before now (Ok status.SourceFault) same puts = same
+files_kept a b what bytes source Rose before now (Ok status.NoMemory) same puts = same
+files_kept a b what bytes source Rose before now (Ok status.QueriesTooLong) same puts = same
+files_kept a b what bytes source Rose before now (Ok status.EntryRefused) same puts = same
 
 -- no run that ends by itself has the status of a sink's fault, so the sink's count stayed
 pub sink_kept : (a b : Option (List (List ℕ))) (words : List (List ℕ)) (entries : Option (List (List ℕ × List ℕ))) (source : Option (List ℕ)) (FilesRose SourceRose : Type 0) (before now : ℕ) (s : Status) → now ≡ before →
@@ -177,3 +194,10 @@ end_given_up a b c E s front memory sink (inl is) =
     subst (λ t. Puts a c (Whole E t)) (sym is) (puts_then a b c (FrontOf (AnyOf E)) SaysNoMemory (Whole E status.NoMemory) (gave_up E) front (memory is))
 end_given_up a b c E s front memory sink (inr is) =
     subst (λ t. Puts a c (Whole E t)) (sym is) (puts_then a b c (FrontOf (AnyOf E)) (CutOf SaysNoMemory) (Whole E status.SinkFault) (gave_up_cut E) front (sink is))
+
+-- words that are read as no command line are none
+pub unread : (words : List (List ℕ)) (r : Option Command) → r ≡ None → ((what : Asked) → IsCommand words what → option_map asked_of r ≡ Some what) → (what : Asked) → IsCommand words what → ⊥
+unread words r e only what is = let none : None ≡ Some what = ap (option_map asked_of) (sym e) ∙ only what is in cc
+
+pub judged_ended : (whole : Bool) (text : Text) (ps : List Piece) → whole ≡ false → ps ≡ filter (λ p. p.ended) (pieces text) → ps ≡ judged whole text
+judged_ended whole text ps e h = h ∙ ap (λ b. judged b text) (sym e)

@@ -1,9 +1,12 @@
 pub mod Sources
-pub mod Tokens
-pub mod Spellings
-pub mod Reading
-pub mod Names
+pub mod Booleans
 pub mod Widths
 pub mod Blocks
+pub mod Outputs
 pub mod Printing
+pub mod Pieces
 pub mod Layers
+pub mod Numbers
+pub mod Commands
+pub mod Complete
+pub mod Grown

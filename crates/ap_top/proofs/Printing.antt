@@ -35,8 +35,3 @@ module _ (budget limit : ℕ) (program : Program) (table : List (List ℕ)) (que
       passes_on {T = Unit {0}} {U = Bool} (λ ps. ps ≡ answers) (λ _ put. put ≡ line ∷ []) (IsQueryBlock budget limit program table query)
       (λ ps qs p any. ([], (is_spent end, (answers, end, append-nil (ps ++ qs) ∙ ap (λ xs. xs ++ qs) p ∙ ap (λ xs. answers ++ xs) (any.1 ∙ ap (λ x. x ∷ []) is), refl, block))))
       (λ ps p. inr (line ∷ [], (is_spent end, whole ps (line ∷ []) line (is_spent end) is refl p refl))) a b c r q e was same before put
-
-pub block_same : (budget limit : ℕ) (program : Program) (table others : List (List ℕ)) (query other : Query) (spent : Bool) (lines : List (List ℕ)) → table ≡ others → query ≡ other
-    → IsQueryBlock budget limit program table query spent lines → IsQueryBlock budget limit program others other spent lines
-block_same budget limit program table others query other spent lines e f h =
-    subst (λ q. IsQueryBlock budget limit program others q spent lines) f (subst (λ t. IsQueryBlock budget limit program t query spent lines) e h)

@@ -11,7 +11,7 @@ use Rattle.ap_term.specs.Substitution.{instance_all, value}
 use Rattle.ap_term.specs.Goals.{Part, call, group, Program, Query, opened}
 use Rattle.ap_term.specs.Search.{State, Way, Found, child, children, children_by, ways, variables, start, done, open_states, by_goals, search, turn, with_answers}
 use Rattle.ap_top.specs.Widths.{are_wide}
-use Rattle.ap_top.proofs.Spellings.{both}
+use Rattle.ap_top.proofs.Booleans.{both}
 
 count_push : (ts : Trees) (t : Tree) → count_trees (push_tree ts t) ≡ count_trees ts + 1
 count_push none t = refl

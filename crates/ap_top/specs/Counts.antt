@@ -1,5 +1,6 @@
 -- Which status shows that a count of faults rose, and which leaves it.
-use Rattle.std.specs.Prelude.{◌≡◌, ℕ, ◌≤◌, Result, Ok, Err}
+use Rattle.std.specs.Prelude.{◌≡◌, ℕ, ◌≤◌, Result, Ok, Err, Option, List, ⊤}
+use Rattle.std.specs.Io.KnownBytes.{IsAtEnd}
 use Rattle.ap_outside.specs.Faults.{Rises}
 use Rattle.ap_outside.specs.declared.halting.Halt.{Halt}
 use Rattle.ap_top.specs.declared.status.Status.{Status}
@@ -32,3 +33,14 @@ RunFilesCount before now status.FileFault = Rises before now
 RunFilesCount before now status.SinkFault = before ≤ now
 RunFilesCount before now status.NoMemory = before ≤ now
 RunFilesCount before now _ = now ≡ before
+
+-- a source that was read to its end has nothing left
+abbrev pub RunEndsSource : Option (List ℕ) → Status → Type 0
+RunEndsSource left status.Done = IsAtEnd left
+RunEndsSource left status.BudgetSpent = IsAtEnd left
+RunEndsSource left status.QueryRefused = IsAtEnd left
+RunEndsSource left _ = ⊤
+
+abbrev pub EndsSource : Option (List ℕ) → Result Status Halt → Type 0
+EndsSource left (Ok s) = RunEndsSource left s
+EndsSource left (Err _) = ⊤

@@ -1,67 +1,61 @@
--- Which lines go with which status: from the queries' bytes up to the command line. `SourceRose` and `FilesRose` say
+-- Which lines go with which status: from the source's bytes up to the command line. `SourceRose` and `FilesRose` say
 -- that the count of faults of that object rose in the run.
-use Rattle.std.specs.Prelude.{◌≡◌, ◌<◌, ◌≤◌, ℕ, Bool, ◌&&◌, not, List, [], ◌∷◌, ◌++◌, length, slice_index, Option, None, Some, bytes_eq, codes, ◌==◌, if◌then◌else◌, ⊤, ◌⊎◌}
-use Rattle.ap_outside.specs.Files.{HasContent}
+use Rattle.std.specs.Prelude.{◌≡◌, true, false, ◌<◌, ◌≤◌, ℕ, List, [], ◌∷◌, ◌++◌, length, Option, None, Some, codes, ⊤, ◌⊎◌}
+use Rattle.ap_outside.specs.Files.{HasContent, content_of}
 use Rattle.ap_outside.specs.Halting.{AnyOf}
 use Rattle.ap_outside.specs.Pieces.{FrontOf, CutOf}
-use Rattle.ap_top.specs.SmallForm.{GoalText, ReadsAsFacts, ReadsAsQueries}
+use Rattle.ap_term.specs.AtomTable.{fixed_names}
 use Rattle.ap_term.specs.Goals.{Program}
-use Rattle.ap_top.specs.Meaning.{table_of, program_of}
-use Rattle.ap_top.specs.Output.{IsOutput}
+use Rattle.ap_clause.specs.Reads.{AcceptsProgram, RefusesProgram}
+use Rattle.ap_clause.specs.declared.refusal.Refusal.{Refusal}
+use Rattle.ap_top.specs.Output.{IsOutput, judged}
+use Rattle.ap_top.specs.Refusals.{refusal_line}
+use Rattle.ap_top.specs.Words.{Asked, IsCommand}
+use Rattle.ap_top.specs.Status.{status_of}
+use Rattle.ap_top.specs.declared.status.Tally.{Tally}
 use Rattle.ap_top.specs.declared.status.Status.{Status}
-use Rattle.ap_top.specs.declared.status.Status.TheVariants.{Done, BudgetSpent, Usage, FileFault, ProgramRefused, QueryRefused, SinkFault, SourceFault, NoMemory, QueriesTooLong}
-
--- the status of a run whose queries were all answered
-abbrev pub answered : Bool → Status
-answered spent = if spent then BudgetSpent else Done
-
--- all bytes of a source, over an accepted program and its table of names
-pub data QueriesEnd (program : Program) (table : List (List ℕ)) (input : List ℕ) : Status → List (List ℕ) → Type 0 where
-  answers : (queries : List GoalText) (spent : Bool) (status : Status) (lines : List (List ℕ)) → ReadsAsQueries queries input → IsOutput program table queries spent lines
-      → status ≡ answered spent → QueriesEnd program table input status lines
-  refused : (lines : List (List ℕ)) → ((queries : List GoalText) → ReadsAsQueries queries input → ⊥) → lines ≡ codes "refused: form\n" ∷ []
-      → QueriesEnd program table input QueryRefused lines
+use Rattle.ap_top.specs.declared.status.Status.TheVariants.{Done, BudgetSpent, QueryRefused, Usage, FileFault, ProgramRefused, SinkFault, SourceFault, NoMemory, QueriesTooLong}
 
 -- these are the bytes, where bytes are told
 abbrev pub IsTold : Option (List ℕ) → List ℕ → Type 0
 IsTold None bytes = ⊤
 IsTold (Some told) bytes = told ≡ bytes
 
--- a source, over an accepted program and its table of names
-pub data SourceEnds (program : Program) (table : List (List ℕ)) (source : Option (List ℕ)) (SourceRose : Type 0) : Status → List (List ℕ) → Type 0 where
-  fault : (lines : List (List ℕ)) → SourceRose → lines ≡ codes "fault: source\n" ∷ [] → SourceEnds program table source SourceRose SourceFault lines
+-- these are the first of the bytes, where bytes are told
+abbrev pub IsTaken : Option (List ℕ) → List ℕ → Type 0
+IsTaken None bytes = ⊤
+IsTaken (Some told) bytes = (rest : List ℕ) × (told ≡ bytes ++ rest)
+
+-- A source, over an accepted program and its table of names: what was taken before a fault is answered as far as its
+-- pieces had ended.
+pub data SourceEnds (what : Asked) (program : Program) (table : List (List ℕ)) (source : Option (List ℕ)) (SourceRose : Type 0) : Status → List (List ℕ) → Type 0 where
+  fault : (taken : List ℕ) (t : Tally) (blocks lines : List (List ℕ)) → SourceRose → IsTaken source taken → length taken ≤ 16777216
+      → IsOutput what.budget what.answers program table taken (judged false taken) t blocks → lines ≡ blocks ++ codes "fault: source\n" ∷ []
+      → SourceEnds what program table source SourceRose SourceFault lines
   too_long : (input : List ℕ) (lines : List (List ℕ)) → IsTold source input → 16777216 < length input → lines ≡ codes "refused: queries too long\n" ∷ []
-      → SourceEnds program table source SourceRose QueriesTooLong lines
-  read : (input : List ℕ) (status : Status) (lines : List (List ℕ)) → IsTold source input → length input ≤ 16777216 → QueriesEnd program table input status lines
-      → SourceEnds program table source SourceRose status lines
+      → SourceEnds what program table source SourceRose QueriesTooLong lines
+  read : (input : List ℕ) (t : Tally) (status : Status) (lines : List (List ℕ)) → IsTold source input → length input ≤ 16777216
+      → IsOutput what.budget what.answers program table input (judged true input) t lines → status ≡ status_of t → SourceEnds what program table source SourceRose status lines
 
 -- the bytes of a file
-pub data TextEnds (bytes : List ℕ) (source : Option (List ℕ)) (SourceRose : Type 0) : Status → List (List ℕ) → Type 0 where
-  refused : (lines : List (List ℕ)) → ((facts : List GoalText) → ReadsAsFacts facts bytes → ⊥) → lines ≡ codes "refused: form\n" ∷ []
-      → TextEnds bytes source SourceRose ProgramRefused lines
-  accepted : (facts : List GoalText) (status : Status) (lines : List (List ℕ)) → ReadsAsFacts facts bytes → SourceEnds (program_of facts) (table_of facts) source SourceRose status lines
-      → TextEnds bytes source SourceRose status lines
+pub data TextEnds (what : Asked) (bytes : List ℕ) (source : Option (List ℕ)) (SourceRose : Type 0) : Status → List (List ℕ) → Type 0 where
+  refused : (r : Refusal) (lines : List (List ℕ)) → RefusesProgram bytes fixed_names r → lines ≡ refusal_line fixed_names r ∷ [] → TextEnds what bytes source SourceRose ProgramRefused lines
+  accepted : (program : Program) (table : List (List ℕ)) (status : Status) (lines : List (List ℕ)) → AcceptsProgram bytes fixed_names program table
+      → SourceEnds what program table source SourceRose status lines → TextEnds what bytes source SourceRose status lines
 
--- a file's name
-pub data FileEnds (name : List ℕ) (entries : Option (List (List ℕ × List ℕ))) (source : Option (List ℕ)) (FilesRose SourceRose : Type 0) : Status → List (List ℕ) → Type 0 where
-  fault : (lines : List (List ℕ)) → FilesRose → lines ≡ codes "fault: file\n" ∷ [] → FileEnds name entries source FilesRose SourceRose FileFault lines
-  read : (bytes : List ℕ) (status : Status) (lines : List (List ℕ)) → HasContent entries name (λ content. content ≡ bytes) → TextEnds bytes source SourceRose status lines
-      → FileEnds name entries source FilesRose SourceRose status lines
-
--- a word that may stand for a file: not empty, and no option
-abbrev pub is_plain : List ℕ → Bool
-is_plain word = not (length word == 0) && not (slice_index word 0 == 45)
-
--- the file that a command line names: the program's name, `run`, a plain word
-abbrev pub file_of : List (List ℕ) → Option (List ℕ)
-file_of (program ∷ command ∷ name ∷ []) = if bytes_eq command (codes "run") && is_plain name then Some name else None
-file_of words = None
+-- the file that was asked for
+pub data FileEnds (what : Asked) (entries : Option (List (List ℕ × List ℕ))) (source : Option (List ℕ)) (FilesRose SourceRose : Type 0) : Status → List (List ℕ) → Type 0 where
+  fault : (lines : List (List ℕ)) → FilesRose → lines ≡ codes "fault: file\n" ∷ [] → FileEnds what entries source FilesRose SourceRose FileFault lines
+  too_long : (lines : List (List ℕ)) → HasContent entries what.file (λ content. 16777216 < length content) → lines ≡ codes "refused: too long\n" ∷ []
+      → FileEnds what entries source FilesRose SourceRose ProgramRefused lines
+  read : (bytes : List ℕ) (status : Status) (lines : List (List ℕ)) → HasContent entries what.file (λ content. content ≡ bytes) → length bytes ≤ 16777216
+      → TextEnds what bytes source SourceRose status lines → FileEnds what entries source FilesRose SourceRose status lines
 
 -- a command line
 pub data RunEnds (words : List (List ℕ)) (entries : Option (List (List ℕ × List ℕ))) (source : Option (List ℕ)) (FilesRose SourceRose : Type 0) : Status → List (List ℕ) → Type 0 where
-  usage : (lines : List (List ℕ)) → file_of words ≡ None → lines ≡ codes "usage: andprolog run FILE | show FILE | code FILE | load SEED SIZE\n" ∷ []
+  usage : (lines : List (List ℕ)) → ((what : Asked) → IsCommand words what → ⊥) → lines ≡ codes "usage: andprolog run FILE | show FILE | code FILE | load SEED SIZE\n" ∷ []
       → RunEnds words entries source FilesRose SourceRose Usage lines
-  named : (name : List ℕ) (status : Status) (lines : List (List ℕ)) → file_of words ≡ Some name → FileEnds name entries source FilesRose SourceRose status lines
+  named : (what : Asked) (status : Status) (lines : List (List ℕ)) → IsCommand words what → FileEnds what entries source FilesRose SourceRose status lines
       → RunEnds words entries source FilesRose SourceRose status lines
 
 -- the line that says that memory was wanting, or nothing, where memory was wanting for that too
@@ -78,3 +72,28 @@ pub data Whole (E : Status → List (List ℕ) → Type 0) : Status → List (Li
   no_memory : (lines : List (List ℕ)) → GaveUp E lines → Whole E NoMemory lines
   sink : (pieces : List (List ℕ)) → CutOf (AnyOf E) pieces → Whole E SinkFault pieces
   sink_at_no_memory : (pieces : List (List ℕ)) → CutOf (GaveUp E) pieces → Whole E SinkFault pieces
+
+-- the files tell that the file of that name has these bytes
+abbrev pub IsFile : Option (List (List ℕ × List ℕ)) → List ℕ → List ℕ → Type 0
+IsFile None name bytes = ⊥
+IsFile (Some entries) name bytes = content_of entries name ≡ Some bytes
+
+-- where nothing outside failed, a command line that names a program ends so
+abbrev pub IsAnswering : Status → Type 0
+IsAnswering Done = ⊤
+IsAnswering BudgetSpent = ⊤
+IsAnswering QueryRefused = ⊤
+IsAnswering QueriesTooLong = ⊤
+IsAnswering NoMemory = ⊤
+IsAnswering _ = ⊥
+
+-- a command line names a program, as the files tell
+pub record NamesProgram (words : List (List ℕ)) (entries : Option (List (List ℕ × List ℕ))) : Type 0 where
+  pub what : Asked
+  pub bytes : List ℕ
+  pub program : Program
+  pub table : List (List ℕ)
+  pub command : IsCommand words what
+  pub file : IsFile entries what.file bytes
+  pub short : length bytes ≤ 16777216
+  pub accepted : AcceptsProgram bytes fixed_names program table

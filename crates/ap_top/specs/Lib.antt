@@ -1,7 +1,8 @@
 pub mod Status
 pub mod Counts
-pub mod SmallForm
-pub mod Meaning
+pub mod Words
+pub mod Parted
+pub mod Refusals
 pub mod Output
 pub mod EndView
 pub mod Widths

@@ -1,12 +1,19 @@
--- What is printed for queries.
-use Rattle.std.specs.Prelude.{◌≡◌, ℕ, Bool, true, false, ◌||◌, List, [], ◌∷◌, ◌++◌, codes}
+-- What is printed for the pieces of a source.
+use Rattle.std.specs.Prelude.{◌≡◌, ℕ, Bool, true, false, List, [], ◌∷◌, ◌++◌, codes, if◌then◌else◌}
+use Rattle.std.specs.List.{filter}
+use Rattle.ap_lexer.specs.Lexeme.{Text}
+use Rattle.ap_lexer.specs.Piece.{pieces}
+use Rattle.ap_lexer.specs.declared.cut.Piece.{Piece}
 use Rattle.ap_term.specs.Tree.{Trees}
 use Rattle.ap_term.specs.Goals.{Program, Query, joined}
 use Rattle.ap_term.specs.Search.{start}
 use Rattle.ap_term.specs.Blocks.{End, no_more, budget_spent, stopped, IsBlock}
+use Rattle.ap_clause.specs.Reads.{AcceptsQuery, RefusesQuery}
+use Rattle.ap_clause.specs.declared.refusal.Refusal.{Refusal}
 use Rattle.ap_writer.specs.Line.{answer_line}
-use Rattle.ap_top.specs.SmallForm.{GoalText}
-use Rattle.ap_top.specs.Meaning.{with_names, query_of}
+use Rattle.ap_top.specs.Refusals.{refusal_line}
+use Rattle.ap_top.specs.Status.{tally, both}
+use Rattle.ap_top.specs.declared.status.Tally.{Tally}
 
 -- the line of an answer, with its line feed
 abbrev pub line_of : List (List ℕ) → Query → Trees → List ℕ
@@ -22,26 +29,28 @@ is_spent no_more = false
 is_spent budget_spent = true
 is_spent stopped = false
 
-module _ (budget limit : ℕ) where
-  -- A block of a query, by a budget of calls and a limit of answers: answer lines that are a block of its search, then
-  -- the line that ends it. `spent` tells whether that says so of the budget.
-  abbrev pub IsQueryBlock : Program → List (List ℕ) → Query → Bool → List (List ℕ) → Type 0
-  IsQueryBlock program table query spent lines =
-      (answers : List (List ℕ)) × (end : End) × (lines ≡ answers ++ end_line end ∷ []) × (spent ≡ is_spent end)
-      × IsBlock (line_of table query) (joined program query) (start query) budget limit answers end
+-- A block of a query, by a budget of calls and a limit of answers: answer lines that are a block of its search, then
+-- the line that ends it. `spent` tells whether that says so of the budget.
+abbrev pub IsQueryBlock : ℕ → ℕ → Program → List (List ℕ) → Query → Bool → List (List ℕ) → Type 0
+IsQueryBlock budget limit program table query spent lines =
+    (answers : List (List ℕ)) × (end : End) × (lines ≡ answers ++ end_line end ∷ []) × (spent ≡ is_spent end)
+    × IsBlock (line_of table query) (joined program query) (start query) budget limit answers end
 
-  -- the same of a goal's text beside a program and its table
-  abbrev pub IsGoalBlock : Program → List (List ℕ) → GoalText → Bool → List (List ℕ) → Type 0
-  IsGoalBlock program table goal spent lines =
-      IsQueryBlock program (with_names table (goal ∷ [])) (query_of (with_names table (goal ∷ [])) goal) spent lines
+-- What is printed for a piece of a text, beside a program and its table of names: where it reads as a query, a block of
+-- it, and else the line of the refusal.
+pub data PieceEnds (budget limit : ℕ) (program : Program) (table : List (List ℕ)) (text : Text) (piece : Piece) : Tally → List (List ℕ) → Type 0 where
+  answered : (query : Query) (names : List (List ℕ)) (spent : Bool) (t : Tally) (lines : List (List ℕ)) → AcceptsQuery text piece program table query names
+      → IsQueryBlock budget limit program names query spent lines → t ≡ tally spent false → PieceEnds budget limit program table text piece t lines
+  refused : (r : Refusal) (t : Tally) (lines : List (List ℕ)) → RefusesQuery text piece program table r → lines ≡ refusal_line table r ∷ [] → t ≡ tally false true
+      → PieceEnds budget limit program table text piece t lines
 
-  -- a block for each query, in order; `spent` tells whether a budget was spent
-  abbrev pub AreBlocks : Program → List (List ℕ) → List GoalText → Bool → List (List ℕ) → Type 0
-  AreBlocks program table [] spent lines = (lines ≡ []) × (spent ≡ false)
-  AreBlocks program table (goal ∷ goals) spent lines =
-      (block rest : List (List ℕ)) × (here behind : Bool) × (lines ≡ block ++ rest) × (spent ≡ (here || behind))
-      × IsGoalBlock program table goal here block × AreBlocks program table goals behind rest
+-- the same for pieces, in order
+abbrev pub IsOutput : ℕ → ℕ → Program → List (List ℕ) → Text → List Piece → Tally → List (List ℕ) → Type 0
+IsOutput budget limit program table text [] t lines = (lines ≡ []) × (t ≡ tally false false)
+IsOutput budget limit program table text (piece ∷ pieces) t lines =
+    (block rest : List (List ℕ)) × (here behind : Tally) × (lines ≡ block ++ rest) × (t ≡ both here behind)
+    × PieceEnds budget limit program table text piece here block × IsOutput budget limit program table text pieces behind rest
 
--- what is printed for queries beside a program and its table: at most 10,000,000 calls and 1,000,000 answers a query
-abbrev pub IsOutput : Program → List (List ℕ) → List GoalText → Bool → List (List ℕ) → Type 0
-IsOutput program table queries spent lines = AreBlocks 10000000 1000000 program table queries spent lines
+-- the pieces of a text that are judged: all of a whole one, and of one that broke off those that had ended
+abbrev pub judged : Bool → Text → List Piece
+judged whole text = if whole then pieces text else filter (λ p. p.ended) (pieces text)

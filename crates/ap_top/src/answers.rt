@@ -1,17 +1,12 @@
-//! Printing the blocks of queries. Each line is one put.
+//! Printing the block of a query. Each line is one put.
 
-ghost use Rattle.std.specs.Prelude.{◌≡◌, ℕ, List, [], ◌∷◌, ◌≤◌, ◌+◌, ◌<◌, ◌^◌, map, length, true, false, IfOk, OnOk, take};
-ghost use Rattle.std.specs.List.{list_all};
+ghost use Rattle.std.specs.Prelude.{◌≡◌, ℕ, List, ◌≤◌, ◌^◌, map, length, true, IfOk};
 ghost use Rattle.ap_outside.specs.Halting.{Finishes, Prints, SinkCount};
-ghost use Rattle.ap_term.specs.AtomTable.{capacity, IsAtomTable};
 ghost use Rattle.ap_term.specs.Tree.{Trees, count_trees};
-ghost use Rattle.ap_top.specs.SmallForm.{goal_of, is_goal};
-ghost use Rattle.ap_top.specs.Output.{line_of, end_line, is_spent, IsQueryBlock, IsGoalBlock, AreBlocks};
+ghost use Rattle.ap_top.specs.Output.{line_of, end_line, is_spent, IsQueryBlock};
 ghost use Rattle.ap_top.specs.Widths.{are_wide};
 ghost use Rattle.ap_top.specs.EndView.{end_of, end_by};
 
-use crate::goals::query;
-use crate::small_form::Goal;
 use ap_outside::{Halt, Sink, put_line};
 use ap_spec::search;
 use ap_term::{Args, Atoms, NoMemory, Program, Query};
@@ -102,8 +97,8 @@ fn print_answers<K: Sink>(
     Ok(())
 }
 
-// Prints the block of a query. Whether its budget was spent.
-fn print_query<K: Sink>(
+/// Prints the block of a query. Whether its budget was spent.
+pub fn print_query<K: Sink>(
     alloc: Global,
     program: &Program,
     query: &Query,
@@ -125,51 +120,4 @@ fn print_query<K: Sink>(
     let end = End::behind(count, bounds.answers, found.ended);
     put_line(end.line(), out)?;
     Ok(end.is_spent())
-}
-
-// Prints the block of a goal's query. The table is cut back after it.
-fn print_goal<K: Sink>(
-    alloc: Global,
-    program: &Program,
-    goal: &Goal,
-    bounds: Bounds,
-    atoms: &mut Atoms,
-    out: &mut K,
-) -> Result<bool, Halt>
-    requires budget { bounds.budget ≤ 2 ^ 54 }
-    requires goal { is_goal (goal_of goal.now) ≡ true }
-    requires room { length atoms.old + 10 ≤ capacity }
-    ensures lines { Finishes (K.pieces out.old) (K.pieces out.new) (IsGoalBlock bounds.budget bounds.answers program.now atoms.old (goal_of goal.now)) result }
-    ensures count { SinkCount (K.faults out.old) (K.faults out.new) result }
-    ensures table { OnOk result (atoms.new ≡ atoms.old) }
-{
-    let mark = atoms.mark();
-    let Ok(query) = query(alloc, goal, atoms) else {
-        return Err(Halt::NoMemory);
-    };
-    let spent = print_query(alloc, program, &query, bounds, atoms, out)?;
-    atoms.cut_to(mark);
-    Ok(spent)
-}
-
-/// Prints a block for each query, in order. Whether a budget was spent.
-pub fn print_goals<K: Sink>(
-    alloc: Global,
-    program: &Program,
-    goals: &[Goal],
-    bounds: Bounds,
-    atoms: &mut Atoms,
-    out: &mut K,
-) -> Result<bool, Halt>
-    requires budget { bounds.budget ≤ 2 ^ 54 }
-    requires goals { list_all is_goal (map goal_of goals.now) ≡ true }
-    requires room { length atoms.old + 10 ≤ capacity }
-    ensures lines { Finishes (K.pieces out.old) (K.pieces out.new) (AreBlocks bounds.budget bounds.answers program.now atoms.old (map goal_of goals.now)) result }
-    ensures count { SinkCount (K.faults out.old) (K.faults out.new) result }
-{
-    let mut spent = false;
-    for goal in goals {
-        spent |= print_goal(alloc, program, goal, bounds, atoms, out)?;
-    }
-    Ok(spent)
 }

@@ -1,6 +1,6 @@
 // How a run ends.
-ghost use Rattle.std.specs.Prelude.{◌≡◌};
-ghost use Rattle.ap_top.specs.Status.{number_of};
+ghost use Rattle.std.specs.Prelude.{◌≡◌, ◌||◌};
+ghost use Rattle.ap_top.specs.Status.{number_of, status_of, both};
 
 /// The status of a run.
 #[derive(Clone, Copy, Debug, PartialEq, Eq)]
@@ -46,6 +46,40 @@ impl Status {
             Status::NoMemory => 8,
             Status::QueriesTooLong => 9,
             Status::EntryRefused => 10,
+        }
+    }
+}
+
+/// What the queries of a source came to.
+#[derive(Clone, Copy, Debug, PartialEq, Eq)]
+pub struct Tally {
+    /// Whether the budget of one was spent.
+    pub spent: bool,
+    /// Whether one was refused.
+    pub refused: bool,
+}
+
+impl Tally {
+    /// Of queries of which some came to this and the others to that.
+    pub fn and(self, other: Tally) -> Tally
+        ensures { result ≡ both self other }
+    {
+        Tally {
+            spent: self.spent | other.spent,
+            refused: self.refused | other.refused,
+        }
+    }
+
+    /// The status of a run whose source was read to its end.
+    pub fn status(self) -> Status
+        ensures { result ≡ status_of self }
+    {
+        if self.refused {
+            Status::QueryRefused
+        } else if self.spent {
+            Status::BudgetSpent
+        } else {
+            Status::Done
         }
     }
 }

@@ -42,82 +42,199 @@ const RUN: &[&str] = &["andprolog", "run", "f.pl"];
 
 const USAGE: &[&str] = &["usage: andprolog run FILE | show FILE | code FILE | load SEED SIZE\n"];
 
-const REFUSED: &[&str] = &["refused: form\n"];
-
 #[test]
 fn programs_answer_queries(rt: HostRuntime) -> Result<(), Fail> {
-    let cases: &[(&str, &[&[u8]], &[&str], Status)] = &[
+    let alloc = rt.alloc();
+    let cases: &[(&str, &[&str], &str, &[&str], Status)] = &[
         (
             "p(1). p(2).",
-            &[b"?- p(", b"X).\n"],
+            &[],
+            "?- p(X).",
             &["X = 1\n", "X = 2\n", "no more.\n"],
             Status::Done,
         ),
         (
+            "",
+            &[],
+            "?- true.",
+            &["true\n", "no more.\n"],
+            Status::Done,
+        ),
+        (
+            "q(X,Y) :- a(X) & a(Y). a(1). a(2).",
+            &[],
+            "?- q(X,Y).",
+            &["X = 1, Y = 1\n", "X = 1, Y = 2\n", "X = 2, Y = 1\n", "X = 2, Y = 2\n", "no more.\n"],
+            Status::Done,
+        ),
+        (
+            "q(X,Y) :- a(X) & a(Y). a(1). a(2).",
+            &[],
+            "?- X = Y, q(X,Y).",
+            &["X = 1, Y = 1\n", "X = 2, Y = 2\n", "no more.\n"],
+            Status::Done,
+        ),
+        (
+            "r(X) :- l & f, X = 0. r(1). l :- l. f :- fail.",
+            &["--budget", "100"],
+            "?- r(X).",
+            &["budget spent.\n"],
+            Status::BudgetSpent,
+        ),
+        (
+            "",
+            &[],
+            "?- X = f(X).",
+            &["no more.\n"],
+            Status::Done,
+        ),
+        (
+            "n(z). n(s(X)) :- n(X).",
+            &["--budget", "3"],
+            "?- n(X).",
+            &["X = z\n", "X = s(z)\n", "X = s(s(z))\n", "budget spent.\n"],
+            Status::BudgetSpent,
+        ),
+        (
             "p(1). p(1).",
-            &[b"?- p(X)."],
+            &[],
+            "?- p(X).",
             &["X = 1\n", "X = 1\n", "no more.\n"],
             Status::Done,
         ),
-        ("p(1). p(2).", &[], &[], Status::Done),
-        ("", &[b"?- p(X)."], &["no more.\n"], Status::Done),
         (
-            "e(a,b).\t\r\n e(f,f).",
-            &[b"?- e(X,X).?"],
-            REFUSED,
-            Status::QueryRefused,
-        ),
-        (
-            "e(a,b).\t\r\n e(f,f).",
-            &[b"?- e(X,X). \n?- e(a,b).\n"],
-            &["X = f\n", "no more.\n", "true\n", "no more.\n"],
+            "e(X,Y) :- X = f(Y).",
+            &[],
+            "?- e(A,B). ?- e(_A,B).",
+            &["A = f(_1), B = _1\n", "no more.\n", "B = _1\n", "no more.\n"],
             Status::Done,
         ),
         (
-            "p(9223372036854775807,007).",
-            &[b"?- p(X,Y)."],
-            &["X = 9223372036854775807, Y = 7\n", "no more.\n"],
+            "p :- !.",
+            &[],
+            "?- p.",
+            &["refused: line 1: outside !\n"],
+            Status::ProgramRefused,
+        ),
+        (
+            "t :- f & l. l :- l. f :- fail.",
+            &["--budget", "3"],
+            "?- t.",
+            &["no more.\n"],
             Status::Done,
         ),
         (
-            "p(9223372036854775808).",
-            &[b"?- p(X)."],
-            REFUSED,
+            "t :- f & l. l :- l. f :- fail.",
+            &["--budget", "2"],
+            "?- t.",
+            &["budget spent.\n"],
+            Status::BudgetSpent,
+        ),
+        (
+            "q(X,Y) :- a(X) & a(Y). a(1). a(2).",
+            &["--answers", "2"],
+            "?- q(X,Y).",
+            &["X = 1, Y = 1\n", "X = 1, Y = 2\n", "stopped.\n"],
+            Status::Done,
+        ),
+        (
+            "p(1).\np(2",
+            &[],
+            "?- p(1).",
+            &["refused: line 2: not a clause\n"],
             Status::ProgramRefused,
         ),
         (
-            "p(1).p(2).",
-            &[b"?- p(X)."],
-            REFUSED,
-            Status::ProgramRefused,
-        ),
-        (" ", &[b"?- p(X)."], REFUSED, Status::ProgramRefused),
-        ("p(is).", &[b"?- p(X)."], REFUSED, Status::ProgramRefused),
-        (
-            "p(1,2,3,4,5,6,7,8,9).",
-            &[b"?- p(X)."],
-            REFUSED,
-            Status::ProgramRefused,
-        ),
-        (
-            "p(1).",
-            &[b"?- p(1).\n?- p(.\n?- p(2)."],
-            REFUSED,
+            "p(1). p(2).",
+            &[],
+            "?- p(1).\n?- p(.\n?- p(2).",
+            &["true\n", "no more.\n", "refused: line 2: not a clause\n", "true\n", "no more.\n"],
             Status::QueryRefused,
         ),
-        ("p(1).", &[b"?-p(1)."], REFUSED, Status::QueryRefused),
+        (
+            "",
+            &[],
+            "?- X is 1 // 0.",
+            &["no more.\n"],
+            Status::Done,
+        ),
+        (
+            "p(X, f(X)).",
+            &[],
+            "?- p(A, A).",
+            &["no more.\n"],
+            Status::Done,
+        ),
+        (
+            "p(1). p(2).",
+            &[],
+            "",
+            &[],
+            Status::Done,
+        ),
+        (
+            "",
+            &[],
+            "?- X is 9223372036854775807 + 0. ?- X is 9223372036854775807 + 1.",
+            &["X = 9223372036854775807\n", "no more.\n", "no more.\n"],
+            Status::Done,
+        ),
+        (
+            "",
+            &[],
+            "?- X = -9223372036854775808. ?- X = 9223372036854775808.",
+            &["X = -9223372036854775808\n", "no more.\n", "refused: line 1: not a clause\n"],
+            Status::QueryRefused,
+        ),
+        (
+            "p :- a & a & a & a & a & a & a & a & a & a & a & a & a & a & a & a & a & a & a & a & a & a & a & a & a & a & a & a & a & a & a & a & a.",
+            &[],
+            "?- p.",
+            &["refused: line 1: too large group\n"],
+            Status::ProgramRefused,
+        ),
+        (
+            "p :- a & a & a & a & a & a & a & a & a & a & a & a & a & a & a & a & a & a & a & a & a & a & a & a & a & a & a & a & a & a & a & a.",
+            &[],
+            "?- p.",
+            &["no more.\n"],
+            Status::Done,
+        ),
+        (
+            "",
+            &[],
+            "?- X = (a, b & c, d).",
+            &["X = ','(a,','(&(b,c),d))\n", "no more.\n"],
+            Status::Done,
+        ),
+        (
+            "",
+            &[],
+            "?- X = -1, Y = - 1, Z = 7 - -2.",
+            &["X = -1, Y = -(1), Z = -(7,-2)\n", "no more.\n"],
+            Status::Done,
+        ),
+        (
+            "",
+            &[],
+            "?- X is -7 // 2, Y is -7 mod 2, Z is -7 rem 2.",
+            &["X = -3, Y = 1, Z = -1\n", "no more.\n"],
+            Status::Done,
+        ),
     ];
-    for (file, source, put, status) in cases {
+    for (file, options, source, put, status) in cases {
+        let mut words = RUN.to_vec(alloc)?;
+        words.extend_from_slice(options)?;
         let case = Case {
-            words: RUN,
+            words: &words,
             file: file.as_bytes(),
-            source,
+            source: &[source.as_bytes()],
             failing: &[],
             refusals: &[],
             put,
             status: *status,
         };
-        check(&rt, rt.alloc(), &case)?;
+        check(&rt, alloc, &case)?;
     }
     Ok(())
 }
@@ -155,7 +272,41 @@ fn other_words_and_faults_have_their_status(rt: HostRuntime) -> Result<(), Fail>
             &["fault: file\n"],
             Status::FileFault,
         ),
-        (RUN, &[2], &[], &["fault: source\n"], Status::SourceFault),
+        (
+            RUN,
+            &[2],
+            &[],
+            &["X = 1\n", "X = 2\n", "no more.\n", "fault: source\n"],
+            Status::SourceFault,
+        ),
+        (
+            &["andprolog", "run", "--answers", "1", "f.pl", "--budget", "9"],
+            &[],
+            &[],
+            &["X = 1\n", "stopped.\n", "true\n", "stopped.\n"],
+            Status::Done,
+        ),
+        (
+            &["andprolog", "run", "f.pl", "--budget", "0"],
+            &[],
+            &[],
+            USAGE,
+            Status::Usage,
+        ),
+        (
+            &["andprolog", "run", "f.pl", "--budget", "1000000000001"],
+            &[],
+            &[],
+            USAGE,
+            Status::Usage,
+        ),
+        (
+            &["andprolog", "run", "f.pl", "--answers", "2", "--answers", "2"],
+            &[],
+            &[],
+            USAGE,
+            Status::Usage,
+        ),
         (
             RUN,
             &[],
@@ -168,7 +319,7 @@ fn other_words_and_faults_have_their_status(rt: HostRuntime) -> Result<(), Fail>
         let case = Case {
             words,
             file: b"p(1). p(2).",
-            source: &[b"?- p(X).\n", b"?- p(1).\n"],
+            source: &[b"?- p(X).\n?- p(", b"1).\n"],
             failing,
             refusals,
             put,
@@ -187,11 +338,15 @@ fn padded(alloc: Global, text: &[u8], len: u64) -> Result<Vec<u8>, Fail> {
 }
 
 #[test]
-fn texts_are_too_long_just_past_the_limit(rt: HostRuntime) -> Result<(), Fail> {
+fn texts_past_the_limit_are_too_long(rt: HostRuntime) -> Result<(), Fail> {
     let alloc = rt.alloc();
     let cases: &[(u64, u64, &[&str], Status)] = &[
-        (LIMIT, LIMIT, &["true\n", "no more.\n"], Status::Done),
-        (LIMIT + 1, 9, REFUSED, Status::ProgramRefused),
+        (
+            LIMIT + 1,
+            9,
+            &["refused: too long\n"],
+            Status::ProgramRefused,
+        ),
         (
             9,
             LIMIT + 1,
@@ -206,32 +361,6 @@ fn texts_are_too_long_just_past_the_limit(rt: HostRuntime) -> Result<(), Fail> {
             words: RUN,
             file: &file,
             source: &[source.as_slice()],
-            failing: &[],
-            refusals: &[],
-            put,
-            status: *status,
-        };
-        check(&rt, alloc, &case)?;
-    }
-    Ok(())
-}
-
-#[test]
-fn facts_are_too_many_just_past_the_limit(rt: HostRuntime) -> Result<(), Fail> {
-    let alloc = rt.alloc();
-    let cases: &[(u32, &[&str], Status)] = &[
-        (65_535, &["no more.\n"], Status::Done),
-        (65_536, REFUSED, Status::ProgramRefused),
-    ];
-    for (count, put, status) in cases {
-        let mut file = Vec::new(alloc);
-        for _ in 0..*count {
-            file.extend_from_slice(b"p(1).\n")?;
-        }
-        let case = Case {
-            words: RUN,
-            file: &file,
-            source: &[b"?- p(2)."],
             failing: &[],
             refusals: &[],
             put,

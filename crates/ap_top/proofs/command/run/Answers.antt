@@ -1,10 +1,13 @@
-use Rattle.std.proofs.Common.{map}
+use Rattle.std.proofs.Common.{map, subst}
 use Rattle.ap_outside.specs.Faults.{Rises}
 use Rattle.ap_outside.specs.Pieces.{CutOf}
 use Rattle.ap_outside.specs.Halting.{AnyOf}
 use Rattle.ap_outside.proofs.Puts.{puts_map}
 use Rattle.ap_top.specs.Ends.{RunEnds, Whole}
 use Rattle.ap_top.specs.declared.status.Status.TheVariants as status
+use Rattle.ap_top.specs.Counts.{RunSinkCount}
+use Rattle.ap_top.specs.declared.status.Status.{Status}
+use Rattle.ap_top.proofs.Complete.{run_answers, sink_rose, memory_stays, given_up}
 use Rattle.ap_top.proofs.Layers.{sink_kept, sink_lines, memory_lines, end_given_up}
 use Rattle.ap_top.proofs.command.run.Goals as goal
 
@@ -35,3 +38,18 @@ returns-in-Err-NoMemory-clause-lines g c =
     let E = RunEnds (map (λ w. w.now) c.args.words.now) (g.F.Files.entries c.args.files.now) (g.S.Source.left c.args.queries.now) Fault Rose in
     end_given_up _ _ _ E c.give_up.result (memory_lines _ _ E c.in-Err-NoMemory.field-0 c.in-Err-NoMemory.field-0-is c.in-Err-NoMemory.ensures.lines)
     c.give_up.ensures.memory c.give_up.ensures.sink c.give_up.ensures.only
+
+pub returns-in-Ok-clause-complete : goal.returns-in-Ok-clause-complete
+returns-in-Ok-clause-complete g c =
+    let Fault = Rises (g.F.Files.faults c.args.files.now) (g.F.Files.faults c.run_words.new.files) in
+    let Rose = Rises (g.S.Source.faults c.args.queries.now) (g.S.Source.faults c.run_words.new.queries) in
+    λ names quiet calm still. run_answers (g.S.Source.left c.args.queries.now) Rose calm Fault quiet (map (λ w. w.now) c.args.words.now) (g.F.Files.entries c.args.files.now) names c.in-Ok.status c.in-Ok.ensures.lines.0 c.in-Ok.ensures.lines.2
+
+pub returns-in-Err-Sink-clause-complete : goal.returns-in-Err-Sink-clause-complete
+returns-in-Err-Sink-clause-complete g c = λ names quiet calm still. absurd (still (sink_rose Status _ _ c.in-Err-Sink.field-0 c.in-Err-Sink.field-0-is c.in-Err-Sink.ensures.sink))
+
+pub returns-in-Err-NoMemory-clause-complete : goal.returns-in-Err-NoMemory-clause-complete
+returns-in-Err-NoMemory-clause-complete g c =
+    let before = memory_stays Status _ _ c.in-Err-NoMemory.field-0 c.in-Err-NoMemory.field-0-is c.in-Err-NoMemory.ensures.sink in
+    λ names quiet calm still. given_up (g.K.Sink.faults c.args.out.now) (g.K.Sink.faults c.give_up.new.out) c.give_up.result still c.give_up.ensures.only
+        (subst (λ n. RunSinkCount n (g.K.Sink.faults c.give_up.new.out) c.give_up.result) before c.give_up.ensures.count)

@@ -1,44 +1,50 @@
-use Rattle.std.proofs.Common.{◌≡◌, rules}
+use Rattle.std.proofs.Common.{◌≡◌, ◌≤◌, length, rules}
 use Rattle.ap_outside.specs.Faults.{Rises}
 use Rattle.ap_outside.specs.Files.{HasContent}
 use Rattle.ap_outside.proofs.Halts.{finishes_map, halts_at_once}
+use Rattle.ap_top.specs.Words.{asked_of}
 use Rattle.ap_top.specs.Ends.{FileEnds, TextEnds}
 use Rattle.ap_top.proofs.Layers.{file_fault, file_too_long, file_read, files_kept}
 use Rattle.ap_top.proofs.command.run_file.Goals as goal
 
 pub returns-in-Err-Failed-clause-lines : goal.returns-in-Err-Failed-clause-lines
 returns-in-Err-Failed-clause-lines g c =
+    let what = asked_of c.args.command.now in
     let entries = g.F.Files.entries c.args.files.now in
     let left = g.S.Source.left c.args.queries.now in
     let Fault = Rises (g.F.Files.faults c.args.files.now) (g.F.Files.faults c.read.new.self) in
     let Rose = Rises (g.S.Source.faults c.args.queries.now) (g.S.Source.faults c.args.queries.now) in
-    finishes_map _ _ _ (FileEnds c.args.name.now entries left Fault Rose) _ (file_fault c.args.name.now entries left Fault Rose (c.in-Err-Failed.ensures.cause (cc))) c.close.ensures.lines
+    finishes_map _ _ _ (FileEnds what entries left Fault Rose) _ (file_fault what entries left Fault Rose (c.in-Err-Failed.ensures.cause (cc))) c.close.ensures.lines
 
 pub returns-in-Err-NoMemory-clause-lines : goal.returns-in-Err-NoMemory-clause-lines
 returns-in-Err-NoMemory-clause-lines g c =
     let Fault = Rises (g.F.Files.faults c.args.files.now) (g.F.Files.faults c.read.new.self) in
     let Rose = Rises (g.S.Source.faults c.args.queries.now) (g.S.Source.faults c.args.queries.now) in
-    halts_at_once (g.K.Sink.pieces c.args.out.now) (FileEnds c.args.name.now (g.F.Files.entries c.args.files.now) (g.S.Source.left c.args.queries.now) Fault Rose)
+    halts_at_once (g.K.Sink.pieces c.args.out.now) (FileEnds (asked_of c.args.command.now) (g.F.Files.entries c.args.files.now) (g.S.Source.left c.args.queries.now) Fault Rose)
 
 pub returns-in-Ok-TooLong-clause-lines : goal.returns-in-Ok-TooLong-clause-lines
 returns-in-Ok-TooLong-clause-lines g c =
+    let what = asked_of c.args.command.now in
     let entries = g.F.Files.entries c.args.files.now in
     let left = g.S.Source.left c.args.queries.now in
     let Fault = Rises (g.F.Files.faults c.args.files.now) (g.F.Files.faults c.read.new.self) in
     let Rose = Rises (g.S.Source.faults c.args.queries.now) (g.S.Source.faults c.args.queries.now) in
-    finishes_map _ _ _ (FileEnds c.args.name.now entries left Fault Rose) _ (file_too_long c.args.name.now entries left Fault Rose (c.in-Ok-TooLong.ensures.too_long (cc))) c.close-in-Ok-TooLong.ensures.lines
+    finishes_map _ _ _ (FileEnds what entries left Fault Rose) _ (file_too_long what entries left Fault Rose (c.in-Ok-TooLong.ensures.too_long (cc))) c.close-in-Ok-TooLong.ensures.lines
 
 pub returns-clause-lines : goal.returns-clause-lines
 returns-clause-lines g c =
+    let what = asked_of c.args.command.now in
     let entries = g.F.Files.entries c.args.files.now in
     let left = g.S.Source.left c.args.queries.now in
     let Fault = Rises (g.F.Files.faults c.args.files.now) (g.F.Files.faults c.read.new.self) in
     let Rose = Rises (g.S.Source.faults c.args.queries.now) (g.S.Source.faults c.run_text.new.queries) in
     let whole = c.in-Ok-Whole.ensures.whole (cc) in
-    let has : HasContent entries c.args.name.now (λ content. c.deref.result.now ≡ content) = rw c.deref.ensures.value whole in
-    finishes_map _ _ (TextEnds c.deref.result.now left Rose) (FileEnds c.args.name.now entries left Fault Rose) _ (file_read c.args.name.now entries left Fault Rose c.deref.result.now has) c.run_text.ensures.lines
+    let fits = c.in-Ok-Whole.ensures.fits (cc) in
+    let has : HasContent entries what.file (λ content. c.deref.result.now ≡ content) = rw c.deref.ensures.value whole in
+    let short : length c.deref.result.now ≤ 16777216 = rw c.deref.ensures.value fits in
+    finishes_map _ _ (TextEnds what c.deref.result.now left Rose) (FileEnds what entries left Fault Rose) _ (file_read what entries left Fault Rose c.deref.result.now has short) c.run_text.ensures.lines
 
 pub returns-clause-files : goal.returns-clause-files
 returns-clause-files g c =
     let Rose = Rises (g.S.Source.faults c.args.queries.now) (g.S.Source.faults c.run_text.new.queries) in
-    files_kept _ _ c.deref.result.now (g.S.Source.left c.args.queries.now) Rose _ _ c.run_text.result (search rules) c.run_text.ensures.lines
+    files_kept _ _ (asked_of c.args.command.now) c.deref.result.now (g.S.Source.left c.args.queries.now) Rose _ _ c.run_text.result (search rules) c.run_text.ensures.lines

@@ -1,34 +1,70 @@
-use Rattle.std.proofs.Common.{◌≤◌, length}
+use Rattle.std.proofs.Common.{◌≡◌, ◌≤◌, true, false, length, refl, Err, rules}
 use Rattle.ap_outside.specs.Faults.{Rises}
-use Rattle.ap_outside.proofs.Halts.{finishes_map, halts_at_once}
-use Rattle.ap_top.specs.Ends.{SourceEnds, QueriesEnd, IsTold}
-use Rattle.ap_top.proofs.Layers.{source_fault, source_too_long, told_whole}
+use Rattle.ap_outside.proofs.Puts.{puts_map}
+use Rattle.ap_outside.proofs.Halts.{finishes_map, passes_halt, halts_at_once}
+use Rattle.ap_top.specs.Words.{asked_of}
+use Rattle.ap_top.specs.Output.{IsOutput, judged}
+use Rattle.ap_top.specs.Status.{status_of}
+use Rattle.ap_top.specs.Ends.{SourceEnds, IsTold, IsTaken}
+use Rattle.ap_top.proofs.Layers.{source_fault, taken_halts, source_too_long, told_whole, taken_first}
 use Rattle.ap_top.proofs.command.run_source.Goals as goal
+
+pub returns-in_err-print_text-in-Err-Failed-clause-lines : goal.returns-in_err-print_text-in-Err-Failed-clause-lines
+returns-in_err-print_text-in-Err-Failed-clause-lines g c =
+    let same : c.from_residual.result ≡ Err c.in_err-print_text-in-Err-Failed.field-0.0 = search rules in
+    let left = g.S.Source.left c.args.queries.now in
+    let Rose = Rises (g.S.Source.faults c.args.queries.now) (g.S.Source.faults c.drain.new.source) in
+    let before = c.in-Err-Failed.ensures.taken (cc) in
+    let told : IsTaken left c.deref.result.now = rw c.deref.ensures.value (taken_first left before.0 c.drain.new.all.items before.1) in
+    let short : length c.deref.result.now ≤ 16777216 = rw c.deref.ensures.value c.in-Err-Failed.ensures.short in
+    taken_halts (asked_of c.args.command.now) c.args.program.now c.args.atoms.now left Rose c.deref.result.now (c.in-Err-Failed.ensures.cause (cc)) told short
+    _ _ c.print_text.result _ c.in_err-print_text-in-Err-Failed.field-0.0 c.in_err-print_text-in-Err-Failed.was same c.print_text.ensures.lines
 
 pub returns-in-Err-Failed-clause-lines : goal.returns-in-Err-Failed-clause-lines
 returns-in-Err-Failed-clause-lines g c =
     let left = g.S.Source.left c.args.queries.now in
     let Rose = Rises (g.S.Source.faults c.args.queries.now) (g.S.Source.faults c.drain.new.source) in
-    finishes_map _ _ _ (SourceEnds c.args.program.now c.args.atoms.now left Rose) _ (source_fault c.args.program.now c.args.atoms.now left Rose (c.in-Err-Failed.ensures.cause (cc))) c.close.ensures.lines
+    let before = c.in-Err-Failed.ensures.taken (cc) in
+    let told : IsTaken left c.deref.result.now = rw c.deref.ensures.value (taken_first left before.0 c.drain.new.all.items before.1) in
+    let short : length c.deref.result.now ≤ 16777216 = rw c.deref.ensures.value c.in-Err-Failed.ensures.short in
+    source_fault (asked_of c.args.command.now) c.args.program.now c.args.atoms.now left Rose c.deref.result.now (c.in-Err-Failed.ensures.cause (cc)) told short
+    _ _ _ c.in_ok-print_text-in-Err-Failed.field-0 c.close.result c.in_ok-print_text-in-Err-Failed.ensures.lines c.close.ensures.lines
 
 pub returns-in-Err-TooLong-clause-lines : goal.returns-in-Err-TooLong-clause-lines
 returns-in-Err-TooLong-clause-lines g c =
     let more = c.in-Err-TooLong.ensures.too_long (cc) in
+    let what = asked_of c.args.command.now in
     let left = g.S.Source.left c.args.queries.now in
     let Rose = Rises (g.S.Source.faults c.args.queries.now) (g.S.Source.faults c.drain.new.source) in
-    finishes_map _ _ _ (SourceEnds c.args.program.now c.args.atoms.now left Rose) _
-    (source_too_long c.args.program.now c.args.atoms.now left (g.S.Source.left c.drain.new.source) more.0 Rose more.1 more.2) c.close-in-Err-TooLong.ensures.lines
+    finishes_map _ _ _ (SourceEnds what c.args.program.now c.args.atoms.now left Rose) _
+    (source_too_long what c.args.program.now c.args.atoms.now left (g.S.Source.left c.drain.new.source) more.0 Rose more.1 more.2) c.close-in-Err-TooLong.ensures.lines
 
 pub returns-in-Err-NoMemory-clause-lines : goal.returns-in-Err-NoMemory-clause-lines
 returns-in-Err-NoMemory-clause-lines g c =
     let Rose = Rises (g.S.Source.faults c.args.queries.now) (g.S.Source.faults c.drain.new.source) in
-    halts_at_once (g.K.Sink.pieces c.args.out.now) (SourceEnds c.args.program.now c.args.atoms.now (g.S.Source.left c.args.queries.now) Rose)
+    halts_at_once (g.K.Sink.pieces c.args.out.now) (SourceEnds (asked_of c.args.command.now) c.args.program.now c.args.atoms.now (g.S.Source.left c.args.queries.now) Rose)
 
-pub returns-in-Ok-clause-lines : goal.returns-in-Ok-clause-lines
-returns-in-Ok-clause-lines g c =
+pub returns-in_err-tally-in-Ok-clause-lines : goal.returns-in_err-tally-in-Ok-clause-lines
+returns-in_err-tally-in-Ok-clause-lines g c =
+    let same : c.from_residual-in_err-tally-in-Ok.result ≡ Err c.in_err-tally-in-Ok.field-0.0 = search rules in
+    let what = asked_of c.args.command.now in
+    let text = c.deref-in-Ok.result.now in
     let left = g.S.Source.left c.args.queries.now in
     let Rose = Rises (g.S.Source.faults c.args.queries.now) (g.S.Source.faults c.drain.new.source) in
-    let told : IsTold left c.deref.result.now = rw c.deref.ensures.value (told_whole left (g.S.Source.left c.drain.new.source) c.in-Ok.text.items c.in-Ok.ensures.bytes c.in-Ok.ensures.end) in
-    let short : length c.deref.result.now ≤ 16777216 = rw c.deref.ensures.value c.in-Ok.ensures.short in
-    finishes_map _ _ (QueriesEnd c.args.program.now c.args.atoms.now c.deref.result.now) (SourceEnds c.args.program.now c.args.atoms.now left Rose) _
-    (λ s ls q. SourceEnds.read c.deref.result.now s ls told short q) c.run_queries.ensures.lines
+    let told : IsTold left text = rw c.deref-in-Ok.ensures.value (told_whole left (g.S.Source.left c.drain.new.source) c.drain.new.all.items c.in-Ok.ensures.bytes c.in-Ok.ensures.end) in
+    let short : length text ≤ 16777216 = rw c.deref-in-Ok.ensures.value c.in-Ok.ensures.short in
+    passes_halt _ _ (IsOutput what.budget what.answers c.args.program.now c.args.atoms.now text (judged true text)) (SourceEnds what c.args.program.now c.args.atoms.now left Rose)
+    (λ ls any. (status_of any.0, SourceEnds.read text any.0 (status_of any.0) ls told short any.1 refl))
+    c.print_text-in-Ok.result _ c.in_err-tally-in-Ok.field-0.0 c.in_err-tally-in-Ok.was same c.print_text-in-Ok.ensures.lines
+
+pub returns-clause-lines : goal.returns-clause-lines
+returns-clause-lines g c =
+    let what = asked_of c.args.command.now in
+    let text = c.deref-in-Ok.result.now in
+    let left = g.S.Source.left c.args.queries.now in
+    let Rose = Rises (g.S.Source.faults c.args.queries.now) (g.S.Source.faults c.drain.new.source) in
+    let told : IsTold left text = rw c.deref-in-Ok.ensures.value (told_whole left (g.S.Source.left c.drain.new.source) c.drain.new.all.items c.in-Ok.ensures.bytes c.in-Ok.ensures.end) in
+    let short : length text ≤ 16777216 = rw c.deref-in-Ok.ensures.value c.in-Ok.ensures.short in
+    let t = c.in_ok-tally-in-Ok.tally in
+    puts_map _ _ (IsOutput what.budget what.answers c.args.program.now c.args.atoms.now text (judged true text) t) (SourceEnds what c.args.program.now c.args.atoms.now left Rose c.status.result)
+    (λ ls out. SourceEnds.read text t c.status.result ls told short out c.status.ensures) c.in_ok-tally-in-Ok.ensures.lines

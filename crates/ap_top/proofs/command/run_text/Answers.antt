@@ -1,35 +1,61 @@
-use Rattle.std.proofs.Common.{map, ap, sym, ◌∙◌, subst}
-use Rattle.std.specs.List.{list_all}
+use Rattle.std.proofs.Common.{◌≡◌, [], ◌∷◌, Err, subst, ◌∙◌, rules}
 use Rattle.ap_outside.specs.Faults.{Rises}
-use Rattle.ap_outside.proofs.Halts.{finishes_map}
-use Rattle.ap_top.specs.SmallForm.{goal_of, is_goal, ReadsAsFacts}
-use Rattle.ap_top.specs.Meaning.{program_of, table_of}
+use Rattle.ap_outside.proofs.Puts.{puts_map}
+use Rattle.ap_outside.proofs.Halts.{finishes_map, passes_halt}
+use Rattle.ap_term.specs.AtomTable.{fixed_names}
+use Rattle.ap_clause.specs.Reads.{AcceptsProgram, RefusesProgram}
+use Rattle.ap_clause.specs.declared.refusal.Refusal.TheVariants as refusal
+use Rattle.ap_top.specs.Words.{asked_of}
+use Rattle.ap_top.specs.Refusals.{refusal_line}
 use Rattle.ap_top.specs.Ends.{SourceEnds, TextEnds}
-use Rattle.ap_top.proofs.Reading.{at_some}
-use Rattle.ap_top.proofs.Layers.{text_refused, reads_none, goals_are, facts_few}
+use Rattle.ap_top.specs.declared.status.Status.TheVariants as status
+use Rattle.ap_top.proofs.Layers.{text_refused}
+use Rattle.ap_top.proofs.Pieces.{refused}
 use Rattle.ap_top.proofs.command.run_text.Goals as goal
 
-pub returns-in-None-clause-lines : goal.returns-in-None-clause-lines
-returns-in-None-clause-lines g c =
-    let none = reads_none (λ facts. ReadsAsFacts facts c.args.text.now) (λ v. map goal_of v.items) c.in-Ok.read c.in-None.is c.in-Ok.ensures.only in
-    let Rose = Rises (g.S.Source.faults c.args.queries.now) (g.S.Source.faults c.args.queries.now) in
-    finishes_map _ _ _ (TextEnds c.args.text.now (g.S.Source.left c.args.queries.now) Rose) _ (text_refused c.args.text.now (g.S.Source.left c.args.queries.now) Rose none) c.close.ensures.lines
-
-pub run_facts-requires-clause-goals : goal.run_facts-requires-clause-goals
-run_facts-requires-clause-goals g c κs within =
-    let read = at_some (λ facts. ReadsAsFacts (map goal_of facts.items) c.args.text.now) c.in-Ok.read c.in-Some.facts c.in-Some.is c.in-Ok.ensures.reads in
-    ap (λ xs. list_all is_goal (map goal_of xs)) c.deref.ensures.value ∙ goals_are 1 _ (map goal_of c.in-Some.facts.items) c.args.text.now read.reads
-
-pub run_facts-requires-clause-few : goal.run_facts-requires-clause-few
-run_facts-requires-clause-few g c κs within =
-    let read = at_some (λ facts. ReadsAsFacts (map goal_of facts.items) c.args.text.now) c.in-Ok.read c.in-Some.facts c.in-Some.is c.in-Ok.ensures.reads in
-    facts_few c.deref.result.now c.in-Some.facts.items c.args.text.now c.deref.ensures.value read
-
-pub returns-in-Some-clause-lines : goal.returns-in-Some-clause-lines
-returns-in-Some-clause-lines g c =
-    let facts = map goal_of c.deref.result.now in
-    let read : ReadsAsFacts facts c.args.text.now =
-    subst (λ xs. ReadsAsFacts (map goal_of xs) c.args.text.now) (sym c.deref.ensures.value) (at_some (λ v. ReadsAsFacts (map goal_of v.items) c.args.text.now) c.in-Ok.read c.in-Some.facts c.in-Some.is c.in-Ok.ensures.reads) in
+pub returns-in-Ok-program-clause-lines : goal.returns-in-Ok-program-clause-lines
+returns-in-Ok-program-clause-lines g c =
+    let what = asked_of c.args.command.now in
+    let text = c.args.text.now in
     let left = g.S.Source.left c.args.queries.now in
-    let Rose = Rises (g.S.Source.faults c.args.queries.now) (g.S.Source.faults c.run_facts.new.queries) in
-    finishes_map _ _ (SourceEnds (program_of facts) (table_of facts) left Rose) (TextEnds c.args.text.now left Rose) _ (λ s ls p. TextEnds.accepted facts s ls read p) c.run_facts.ensures.lines
+    let Rose = Rises (g.S.Source.faults c.args.queries.now) (g.S.Source.faults c.run_source.new.queries) in
+    let program = c.in-Ok-program.program in
+    let table = c.program.new.atoms in
+    let accepts : AcceptsProgram text fixed_names program table = subst (λ t. AcceptsProgram text t program table) c.in-Ok.ensures c.in-Ok-program.ensures.accepts in
+    finishes_map _ _ (SourceEnds what program table left Rose) (TextEnds what text left Rose) _ (λ s ls ends. TextEnds.accepted program table s ls accepts ends) c.run_source.ensures.lines
+
+pub returns-in_err-print_refusal-in-Err : goal.returns-in_err-print_refusal-in-Err
+returns-in_err-print_refusal-in-Err g c =
+    let same : c.from_residual.result ≡ Err c.in_err-print_refusal-in-Err.field-0.0 = search rules in
+    let what = asked_of c.args.command.now in
+    let text = c.args.text.now in
+    let left = g.S.Source.left c.args.queries.now in
+    let Rose = Rises (g.S.Source.faults c.args.queries.now) (g.S.Source.faults c.args.queries.now) in
+    let r = c.in-Err.refusal in
+    let other : r ≡ refusal.NoMemory → ⊥ = search rules in
+    let refuses : RefusesProgram text fixed_names r = subst (λ t. RefusesProgram text t r) c.in-Ok.ensures (refused (RefusesProgram text c.in-Ok.atoms) r other c.in-Err.ensures.refuses) in
+    let fixed = c.in-Err.ensures.table ∙ c.in-Ok.ensures in
+    record {
+      lines = passes_halt _ _ (λ _ put. put ≡ refusal_line c.program.new.atoms r ∷ []) (TextEnds what text left Rose) (λ ls any. (status.ProgramRefused, text_refused what text left Rose c.program.new.atoms r fixed refuses ls any.1))
+          c.print_refusal.result _ c.in_err-print_refusal-in-Err.field-0.0 c.in_err-print_refusal-in-Err.was same c.print_refusal.ensures.lines;
+      sink = search rules;
+      source = search rules;
+      end = search rules;
+    }
+
+pub returns : goal.returns
+returns g c =
+    let what = asked_of c.args.command.now in
+    let text = c.args.text.now in
+    let left = g.S.Source.left c.args.queries.now in
+    let Rose = Rises (g.S.Source.faults c.args.queries.now) (g.S.Source.faults c.args.queries.now) in
+    let r = c.in-Err.refusal in
+    let other : r ≡ refusal.NoMemory → ⊥ = search rules in
+    let refuses : RefusesProgram text fixed_names r = subst (λ t. RefusesProgram text t r) c.in-Ok.ensures (refused (RefusesProgram text c.in-Ok.atoms) r other c.in-Err.ensures.refuses) in
+    let fixed = c.in-Err.ensures.table ∙ c.in-Ok.ensures in
+    record {
+      lines = puts_map _ _ (λ put. put ≡ refusal_line c.program.new.atoms r ∷ []) (TextEnds what text left Rose status.ProgramRefused) (text_refused what text left Rose c.program.new.atoms r fixed refuses) c.in_ok-print_refusal-in-Err.ensures.lines;
+      sink = search rules;
+      source = search rules;
+      end = search rules;
+    }

@@ -1,8 +1,9 @@
-use Rattle.std.proofs.Common.{◌≡◌, map, Some, None, rules}
+use Rattle.std.proofs.Common.{◌≡◌, map, rules}
 use Rattle.ap_outside.specs.Faults.{Rises}
 use Rattle.ap_outside.proofs.Halts.{finishes_map}
-use Rattle.ap_top.specs.Ends.{RunEnds, FileEnds, file_of}
-use Rattle.ap_top.proofs.Layers.{usage}
+use Rattle.ap_top.specs.Words.{Asked, asked_of, IsCommand}
+use Rattle.ap_top.specs.Ends.{RunEnds, FileEnds}
+use Rattle.ap_top.proofs.Layers.{usage, unread}
 use Rattle.ap_top.proofs.command.run_words.Goals as goal
 
 pub returns-in-None-clause-lines : goal.returns-in-None-clause-lines
@@ -12,7 +13,7 @@ returns-in-None-clause-lines g c =
     let left = g.S.Source.left c.args.queries.now in
     let Fault = Rises (g.F.Files.faults c.args.files.now) (g.F.Files.faults c.args.files.now) in
     let Rose = Rises (g.S.Source.faults c.args.queries.now) (g.S.Source.faults c.args.queries.now) in
-    let none : file_of words ≡ None = search rules in
+    let none : (what : Asked) → IsCommand words what → ⊥ = unread words c.command_of.result c.in-None.is c.command_of.ensures.only in
     finishes_map _ _ _ (RunEnds words entries left Fault Rose) _ (usage words entries left Fault Rose none) c.close.ensures.lines
 
 pub returns-in-Some-clause-lines : goal.returns-in-Some-clause-lines
@@ -22,6 +23,6 @@ returns-in-Some-clause-lines g c =
     let left = g.S.Source.left c.args.queries.now in
     let Fault = Rises (g.F.Files.faults c.args.files.now) (g.F.Files.faults c.run_file.new.files) in
     let Rose = Rises (g.S.Source.faults c.args.queries.now) (g.S.Source.faults c.run_file.new.queries) in
-    let name = c.in-Some.name.now in
-    let named : file_of words ≡ Some name = search rules in
-    finishes_map _ _ (FileEnds name entries left Fault Rose) (RunEnds words entries left Fault Rose) _ (λ s ls f. RunEnds.named name s ls named f) c.run_file.ensures.lines
+    let what = asked_of c.in-Some.command in
+    let named : IsCommand words what = search rules in
+    finishes_map _ _ (FileEnds what entries left Fault Rose) (RunEnds words entries left Fault Rose) _ (λ s ls f. RunEnds.named what s ls named f) c.run_file.ensures.lines

@@ -1,0 +1,95 @@
+//! The pieces of a source, each judged alone beside the program.
+
+ghost use Rattle.std.specs.Prelude.{◌≡◌, ◌≤◌, ◌^◌, [], ◌∷◌, OnOk, All, Contains};
+ghost use Rattle.ap_lexer.specs.Piece as lexer;
+ghost use Rattle.ap_outside.specs.Halting.{Finishes, Prints, SinkCount};
+ghost use Rattle.ap_top.specs.Output.{PieceEnds, IsOutput};
+ghost use Rattle.ap_top.specs.Refusals.{refusal_line};
+
+use crate::answers::{Bounds, print_query};
+use crate::refusals::refusal_line;
+use crate::status::Tally;
+use ap_clause::{Refusal, query};
+use ap_lexer::Piece;
+use ap_outside::{Halt, Sink, put_line};
+use ap_term::{Atoms, Program};
+use std::alloc::Global;
+
+/// Prints the line of a refusal.
+pub fn print_refusal<K: Sink>(
+    alloc: Global,
+    refusal: &Refusal,
+    atoms: &Atoms,
+    out: &mut K,
+) -> Result<(), Halt>
+    ensures lines { Prints (K.pieces out.old) (K.pieces out.new) (λ put. put ≡ refusal_line atoms.now refusal.now ∷ []) result }
+    ensures count { SinkCount (K.faults out.old) (K.faults out.new) result }
+{
+    let Ok(line) = refusal_line(alloc, refusal, atoms) else {
+        return Err(Halt::NoMemory);
+    };
+    put_line(&line, out)
+}
+
+// Prints what a piece comes to. The table is cut back after it.
+fn print_piece<K: Sink>(
+    alloc: Global,
+    text: &[u8],
+    piece: &Piece,
+    program: &Program,
+    bounds: Bounds,
+    atoms: &mut Atoms,
+    out: &mut K,
+) -> Result<Tally, Halt>
+    requires budget { bounds.budget ≤ 2 ^ 54 }
+    requires piece { Contains (lexer.pieces text.now) piece.now }
+    ensures lines { Finishes (K.pieces out.old) (K.pieces out.new) (PieceEnds bounds.budget bounds.answers program.now atoms.old text.now piece.now) result }
+    ensures count { SinkCount (K.faults out.old) (K.faults out.new) result }
+    ensures table { OnOk result (atoms.new ≡ atoms.old) }
+{
+    let mark = atoms.mark();
+    match query(alloc, text, piece, program, atoms) {
+        Ok(query) => {
+            let spent = print_query(alloc, program, &query, bounds, atoms, out)?;
+            atoms.cut_to(mark);
+            Ok(Tally {
+                spent,
+                refused: false,
+            })
+        }
+        Err(Refusal::NoMemory) => Err(Halt::NoMemory),
+        Err(refusal) => {
+            print_refusal(alloc, &refusal, atoms, out)?;
+            Ok(Tally {
+                spent: false,
+                refused: true,
+            })
+        }
+    }
+}
+
+/// Prints what each piece of a text comes to, in order.
+pub fn print_pieces<K: Sink>(
+    alloc: Global,
+    text: &[u8],
+    pieces: &[Piece],
+    program: &Program,
+    bounds: Bounds,
+    atoms: &mut Atoms,
+    out: &mut K,
+) -> Result<Tally, Halt>
+    requires budget { bounds.budget ≤ 2 ^ 54 }
+    requires pieces { All (Contains (lexer.pieces text.now)) pieces.now }
+    ensures lines { Finishes (K.pieces out.old) (K.pieces out.new) (IsOutput bounds.budget bounds.answers program.now atoms.old text.now pieces.now) result }
+    ensures count { SinkCount (K.faults out.old) (K.faults out.new) result }
+{
+    let mut tally = Tally {
+        spent: false,
+        refused: false,
+    };
+    for piece in pieces {
+        let here = print_piece(alloc, text, piece, program, bounds, atoms, out)?;
+        tally = tally.and(here);
+    }
+    Ok(tally)
+}
