@@ -17,3 +17,5 @@ pub use states::{State, ground, made};
 pub use term_sets::{add_var_sets, var_set};
 pub use unifications::{after_unify, is_free};
 
+#[cfg(test)]
+mod tests;
