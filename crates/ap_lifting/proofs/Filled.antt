@@ -6,8 +6,8 @@ use Rattle.ap_lifting.specs.declared.lifter.Raised.{Raised}
 use Rattle.ap_lifting.specs.Rule.{Rule}
 use Rattle.ap_lifting.specs.Lifted.{clause_of, lifted_rule, lifted_rules, lifted_program, LiftedRules}
 use Rattle.ap_lifting.specs.Lifts.{Lifts, values}
-use Rattle.ap_lifting.specs.Sizes.{predicates, predicates_in}
-use Rattle.ap_lifting.proofs.Measured.{lifted_measures}
+use Rattle.ap_lifting.specs.Sizes.{predicates_if, predicates_in}
+use Rattle.ap_lifting.proofs.Measured.{measures_if}
 
 pub values-append : {A : Type 0} (xs ys : List (Option A)) → values (xs ++ ys) ≡ values xs ++ values ys
 values-append [] ys = refl
@@ -26,10 +26,10 @@ pub values-same : {A : Type 0} (out before : List A) (xs : List (Option A)) (o :
 values-same out before xs o e q =
     q ∙ ap (λ l. out ++ l) (sym (append-nil (values xs)) ∙ sym (values-append xs (None ∷ []))) ∙ ap (λ v. out ++ values (xs ++ v ∷ [])) (sym e)
 
-pub next-lifted_rule : (names : ℕ → ℕ) (r : Rule) (n : ℕ) → (lifted_rule names r n).next ≡ n + predicates r.body
-next-lifted_rule names r n = (lifted_measures names r.vars r.line r.body [] n).predicates
+next-lifted_rule : (names : ℕ → ℕ) (r : Rule) (n : ℕ) → (lifted_rule names r n).next ≡ n + predicates_if r.body
+next-lifted_rule names r n = (measures_if names r.vars r.line r.body n).predicates
 
-predicates_in-push : (rs : List Rule) (r : Rule) → predicates_in (rs ++ r ∷ []) ≡ predicates_in rs + predicates r.body
+predicates_in-push : (rs : List Rule) (r : Rule) → predicates_in (rs ++ r ∷ []) ≡ predicates_in rs + predicates_if r.body
 predicates_in-push [] r = omega arith
 predicates_in-push (q ∷ rs) r = omega (arith, predicates_in-push rs r)
 
@@ -38,7 +38,7 @@ predicates_in-append [] qs = omega arith
 predicates_in-append (r ∷ rs) qs = omega (arith, predicates_in-append rs qs)
 
 -- the next rule's predicates have names
-pub enough_names : (rs rest next all : List Rule) (r : Rule) (n m : ℕ) → n ≡ predicates_in rs → rs ++ rest ≡ all → rest ≡ r ∷ next → predicates_in all ≤ m → n + predicates r.body ≤ m
+pub enough_names : (rs rest next all : List Rule) (r : Rule) (n m : ℕ) → n ≡ predicates_in rs → rs ++ rest ≡ all → rest ≡ r ∷ next → predicates_in all ≤ m → n + predicates_if r.body ≤ m
 enough_names rs rest next all r n m p q e h =
     omega (arith, p, h, ap predicates_in (sym q ∙ ap (λ l. rs ++ l) e), predicates_in-append rs (r ∷ next))
 
@@ -47,7 +47,7 @@ abbrev pub IsOneMore : (ℕ → ℕ) → Rule → ℕ → LiftedRules → Lifted
 IsOneMore names r k all more =
     (more.clauses ≡ all.clauses ++ clause_of r (lifted_rule names r k).parts ∷ []) × (more.lifted ≡ all.lifted ++ (lifted_rule names r k).clauses)
 
-pub one_more : (names : ℕ → ℕ) (rs : List Rule) (r : Rule) (n k : ℕ) → k ≡ n + predicates_in rs → IsOneMore names r k (lifted_rules names rs n) (lifted_rules names (rs ++ r ∷ []) n)
+one_more : (names : ℕ → ℕ) (rs : List Rule) (r : Rule) (n k : ℕ) → k ≡ n + predicates_in rs → IsOneMore names r k (lifted_rules names rs n) (lifted_rules names (rs ++ r ∷ []) n)
 one_more names [] r n k e =
     let P : ℕ → Type 0 = λ m. IsOneMore names r m (lifted_rules names [] n) (lifted_rules names (r ∷ []) n) in
     subst P (omega arith) (refl, append-nil (lifted_rule names r n).clauses)
@@ -65,7 +65,7 @@ pub record AreLifted (names : ℕ → ℕ) (rs : List Rule) (program : List Clau
   pub next : out.next ≡ predicates_in rs
 
 pub one_lifted : (names : ℕ → ℕ) (rs : List Rule) (r : Rule) (before after : List Clause) (c : Clause) (old new : Raised) → AreLifted names rs before old
-    → c ≡ clause_of r (lifted_rule names r old.next).parts → Lifts (lifted_rule names r old.next) old new → new.next ≡ old.next + predicates r.body → after ≡ before ++ c ∷ []
+    → c ≡ clause_of r (lifted_rule names r old.next).parts → Lifts (lifted_rule names r old.next) old new → new.next ≡ old.next + predicates_if r.body → after ≡ before ++ c ∷ []
     → AreLifted names (rs ++ r ∷ []) after new
 one_lifted names rs r before after c old new h p q e f =
     let x = lifted_rule names r old.next in

@@ -1,6 +1,6 @@
 -- What is lifted from a well formed clause is well formed.
-use Rattle.std.proofs.Common.{◌≡◌, ℕ, zero, suc, ◌+◌, ◌<◌, ◌≤◌, Bool, true, false, ◌&&◌, nat_le, min, max, List, [], ◌∷◌, ◌++◌, refl, ap, sym, ◌∙◌, subst, arith}
-use Rattle.std.specs.Prelude.{IsTrue, ◌↔◌}
+use Rattle.std.proofs.Common.{◌≡◌, ℕ, zero, suc, ◌+◌, ◌<◌, ◌≤◌, Bool, true, false, ◌&&◌, nat_le, min, max, List, [], ◌∷◌, ◌++◌, refl, ap, sym, ◌∙◌, subst, arith, Option, Some, None}
+use Rattle.std.specs.Prelude.{IsTrue}
 use Rattle.std.specs.List.{list_all}
 use Rattle.std.proofs.lemmas.Bool.Decides.{nat_tests}
 use Rattle.ap_term.specs.declared.clauses.Check.{Check}
@@ -14,8 +14,8 @@ use Rattle.ap_lifting.specs.declared.bodies.Condition.{Condition}
 use Rattle.ap_lifting.specs.declared.bodies.Condition.TheVariants.{True, Ground, Indep}
 use Rattle.ap_lifting.proofs.Measured.{count_trees-append, some_lifted}
 use Rattle.ap_lifting.specs.Body.{Body, goal, conjunction, disjunction, parallel, conditional, numbered_condition, well_formed}
-use Rattle.ap_lifting.specs.Rule.{Rule, IsRule}
-use Rattle.ap_lifting.specs.Lifted.{Lifted, applied, stays, number_inside, check_of, checks_of, raised_unless, lifted, lifted_goal, lifted_clause}
+use Rattle.ap_lifting.specs.Rule.{Rule, IsRule, well_formed_if}
+use Rattle.ap_lifting.specs.Lifted.{Lifted, applied, stays, number_inside, check_of, checks_of, raised_unless, lifted, lifted_goal, lifted_clause, lifted_if}
 
 pub and_first : (a b : Bool) → (a && b) ≡ true → a ≡ true
 and_first true b h = refl
@@ -52,7 +52,7 @@ numbered_all-push n (more u ts) t h k =
     and_both (numbered n u) (numbered_all n (push_tree ts t)) (and_first (numbered n u) (numbered_all n ts) h)
     (numbered_all-push n ts t (and_second (numbered n u) (numbered_all n ts) h) k)
 
-pub numbered_all-variables : (n m : ℕ) → m ≤ n → numbered_all n (variables m) ≡ true
+numbered_all-variables : (n m : ℕ) → m ≤ n → numbered_all n (variables m) ≡ true
 numbered_all-variables n zero h = refl
 numbered_all-variables n (suc m) h =
     numbered_all-push n (variables m) (var (suc m)) (numbered_all-variables n m (omega arith)) (grind (arith, nat_tests))
@@ -160,7 +160,7 @@ module _ (names : ℕ → ℕ) (vars line : ℕ) where
     body = h;
   }
 
-  pub unless_kept : vars ≤ 255 → (s : Bool) (n : ℕ) (x : Lifted) → list_all (well_formed_part vars) x.parts ≡ true
+  unless_kept : vars ≤ 255 → (s : Bool) (n : ℕ) (x : Lifted) → list_all (well_formed_part vars) x.parts ≡ true
       → list_all (well_formed_part vars) (raised_unless names vars line s n x).parts ≡ true
   unless_kept few true n x h = h
   unless_kept few false n x h = call_kept few n
@@ -195,15 +195,19 @@ module _ (names : ℕ → ℕ) (vars line : ℕ) where
       parts_kept few b (checks_of ds) n (and_second (list_all (numbered_condition vars) ds) (well_formed vars b) h)
       (checks_kept vars ds (and_first (list_all (numbered_condition vars) ds) (well_formed vars b) h))
 
+if_kept : (names : ℕ → ℕ) (vars line : ℕ) → vars ≤ 255 → (b : Option Body) (n : ℕ) → well_formed_if vars b ≡ true → list_all (well_formed_part vars) (lifted_if names vars line b n).parts ≡ true
+if_kept names vars line few None n h = refl
+if_kept names vars line few (Some b) n h = parts_kept names vars line few b [] n h refl
+
 -- a clause that was well formed is so with its body lifted
-pub rule_kept : (names : ℕ → ℕ) (r : Rule) (n : ℕ) (head : Tree) (before ps : List Part) (vars line : ℕ) (b : Body) (cs : List Check) → IsRule r → head ≡ r.head → vars ≡ r.vars → line ≡ r.line
-    → b ≡ r.body → cs ≡ [] → before ≡ [] → ps ≡ before ++ (lifted names vars line b cs n).parts → IsClause (record { head = head; body = ps; vars = vars; line = line })
-rule_kept names r n head before ps vars line b cs ok p e f q k l is =
-    let body : ps ≡ (lifted names r.vars r.line r.body [] n).parts
-    = is ∙ ap (λ xs. xs ++ (lifted names vars line b cs n).parts) l ∙ ap (λ v. (lifted names v line b cs n).parts) e ∙ ap (λ v. (lifted names r.vars v b cs n).parts) f
-    ∙ ap (λ v. (lifted names r.vars r.line v cs n).parts) q ∙ ap (λ v. (lifted names r.vars r.line r.body v n).parts) k
+pub rule_kept : (names : ℕ → ℕ) (r : Rule) (n : ℕ) (head : Tree) (before ps : List Part) (vars line : ℕ) (b : Option Body) → IsRule r → head ≡ r.head → vars ≡ r.vars → line ≡ r.line
+    → b ≡ r.body → before ≡ [] → ps ≡ before ++ (lifted_if names vars line b n).parts → IsClause (record { head = head; body = ps; vars = vars; line = line })
+rule_kept names r n head before ps vars line b ok p e f q l is =
+    let body : ps ≡ (lifted_if names r.vars r.line r.body n).parts
+    = is ∙ ap (λ xs. xs ++ (lifted_if names vars line b n).parts) l ∙ ap (λ v. (lifted_if names v line b n).parts) e ∙ ap (λ v. (lifted_if names r.vars v b n).parts) f
+    ∙ ap (λ v. (lifted_if names r.vars r.line v n).parts) q
     in
-    let kept = parts_kept names r.vars r.line ok.few r.body [] n ok.body refl in
+    let kept = if_kept names r.vars r.line ok.few r.body n ok.body in
     record {
       few = subst (λ v. v ≤ 255) (sym e) ok.few;
       head = subst (λ v. IsTrue (callable head && numbered v head)) (sym e) (subst (λ t. IsTrue (callable t && numbered r.vars t)) (sym p) ok.head);
@@ -222,16 +226,3 @@ append-append (more t ts) us vs = ap (more t) (append-append ts us vs)
 
 -- what the proofs of the code that lifts cite
 pub ruleset lifting = (push_tree-append, append-append, checks_kept)
-
--- ---- the test of a goal
-
-goal_test : (b : Bool) (t : Tree) (n : ℕ) (v : Bool) → (callable t && numbered n t) ≡ v → n ≤ 255 → (IsTrue b → IsClause (record { head = t; body = []; vars = n; line = 1 })) → (IsClause (record { head = t; body = []; vars = n; line = 1 }) → IsTrue b) → b ≡ v
-goal_test true t n true e few h k = refl
-goal_test false t n false e few h k = refl
-goal_test true t n false e few h k = sym (h refl).head ∙ e
-goal_test false t n true e few h k = k (record { few = few; head = e; body = refl })
-
-pub is_goal_test : (b : Bool) (t : Tree) (n : ℕ) (ps : List Part) → ps ≡ [] → n ≤ 255 → (IsTrue b ↔ IsClause (record { head = t; body = ps; vars = n; line = 1 })) → b ≡ (callable t && numbered n t)
-is_goal_test b t n ps e few h =
-    goal_test b t n (callable t && numbered n t) refl few (λ x. subst (λ qs. IsClause (record { head = t; body = qs; vars = n; line = 1 })) e (h.0 x))
-    (λ c. h.1 (subst (λ qs. IsClause (record { head = t; body = qs; vars = n; line = 1 })) (sym e) c))

@@ -1,13 +1,13 @@
 -- What is read off a body is what lifting gives.
-use Rattle.std.proofs.Common.{◌≡◌, ℕ, ◌+◌, ◌<◌, Bool, true, false, max, List, [], ◌∷◌, ◌++◌, length, refl, ap, arith, length-append}
+use Rattle.std.proofs.Common.{◌≡◌, ℕ, ◌+◌, ◌<◌, Bool, true, false, max, List, [], ◌∷◌, ◌++◌, length, Option, Some, None, refl, ap, arith, length-append}
 use Rattle.ap_term.specs.declared.clauses.Check.{Check}
 use Rattle.ap_term.specs.Tree.{Trees, none, more, count_trees}
 use Rattle.ap_term.specs.Goals.{Part, call, group, Clause}
 use Rattle.ap_laws.specs.Plain.{append_trees, plain_goals}
 use Rattle.ap_lifting.specs.declared.sizes.Measure.{Measure}
 use Rattle.ap_lifting.specs.Body.{Body, goal, conjunction, disjunction, parallel, conditional}
-use Rattle.ap_lifting.specs.Lifted.{Lifted, in_turn, grouped, stays, number_inside, checks_of, either, raised_unless, lifted}
-use Rattle.ap_lifting.specs.Sizes.{AreSizesOf, held_measure, count_goals, largest_group, most_goals, largest_group_in, one_after_other, measured_either, measured_raised_unless, measured_group, measured}
+use Rattle.ap_lifting.specs.Lifted.{Lifted, in_turn, grouped, stays, number_inside, checks_of, either, raised_unless, lifted, lifted_if}
+use Rattle.ap_lifting.specs.Sizes.{AreSizesOf, held_measure, count_goals, largest_group, most_goals, largest_group_in, one_after_other, measured_either, measured_raised_unless, measured_group, measured, measured_if}
 
 pub count_trees-append : (ts us : Trees) → count_trees (append_trees ts us) ≡ count_trees ts + count_trees us
 count_trees-append none us = omega arith
@@ -138,3 +138,14 @@ some_goals (conditional cs b) = some_goals b
 pub some_lifted : (names : ℕ → ℕ) (vars line : ℕ) (b : Body) (cs : List Check) (n : ℕ) → 0 < count_trees (plain_goals (lifted names vars line b cs n).parts)
 some_lifted names vars line b cs n =
     omega (arith, count_trees-plain_goals (lifted names vars line b cs n).parts, (lifted_measures names vars line b cs n).goals, some_goals b)
+
+pub measures_if : (names : ℕ → ℕ) (vars line : ℕ) (b : Option Body) (n : ℕ) → Measures n (lifted_if names vars line b n) (measured_if b)
+measures_if names vars line None n = record {
+  predicates = omega arith;
+  clauses = refl;
+  goals = refl;
+  group = refl;
+  lifted_goals = refl;
+  lifted_group = refl;
+}
+measures_if names vars line (Some b) n = lifted_measures names vars line b [] n

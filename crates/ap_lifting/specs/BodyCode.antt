@@ -1,7 +1,7 @@
 -- How the logic stores bodies and rules.
-use Rattle.std.specs.Prelude.{◌≡◌, ℕ, zero, suc, List, [], ◌∷◌, refl}
+use Rattle.std.specs.Prelude.{◌≡◌, ℕ, zero, suc, List, [], ◌∷◌, Option, refl}
 use Rattle.std.proofs.Common.{ap, sym, ◌∙◌}
-use Rattle.std.specs.Coded.{Coded, code_by, coded×, coded_ℕ}
+use Rattle.std.specs.Coded.{Coded, code_by, coded_option, coded×, coded_ℕ}
 use base.Stored.{Gv, gnil, gnum, gcons, num}
 use Rattle.ap_term.specs.Tree.{Tree}
 use Rattle.ap_term.specs.TreeCode.{to_code, from_code, back, tree_code}
@@ -72,5 +72,5 @@ written_code = record { code = of_body; inj = λ x y p. sym (body_back x) ∙ ap
 
 abbrev pub rule_code : Coded Rule
 rule_code =
-    code_by (Tree × (Body × (ℕ × ℕ))) (coded× tree_code (coded× written_code (coded× coded_ℕ coded_ℕ)))
+    code_by (Tree × (Option Body × (ℕ × ℕ))) (coded× tree_code (coded× (coded_option written_code) (coded× coded_ℕ coded_ℕ)))
     (λ c. (c.head, (c.body, (c.vars, c.line)))) (λ p. record { head = p.0; body = p.1.0; vars = p.1.1.0; line = p.1.1.1 }) (λ _. refl)

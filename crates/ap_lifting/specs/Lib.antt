@@ -6,5 +6,3 @@ pub mod Lifted
 pub mod Sizes
 pub mod Lifts
 pub mod LiftingLaws
-pub mod WrittenSearch
-pub mod Shown

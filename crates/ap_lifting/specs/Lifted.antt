@@ -1,5 +1,5 @@
 -- Lifting: the parts of a body, and the clauses of the predicates that stand in the place of what no part can be.
-use Rattle.std.specs.Prelude.{ℕ, ◌+◌, Bool, true, false, if◌then◌else◌, min, max, List, [], ◌∷◌, ◌++◌}
+use Rattle.std.specs.Prelude.{ℕ, ◌+◌, Bool, true, false, if◌then◌else◌, min, max, List, [], ◌∷◌, ◌++◌, Option, Some, None}
 use Rattle.std.specs.List.{flat_map}
 use Rattle.ap_term.specs.declared.clauses.Check.{Check}
 use Rattle.ap_term.specs.declared.clauses.Check.TheVariants.{Ground as IsGround, Indep as AreIndep}
@@ -91,12 +91,17 @@ module _ (names : ℕ → ℕ) (vars line : ℕ) where
   abbrev pub operand : Bool → Body → ℕ → Lifted
   operand is_last b n = raised_unless (stays is_last b) n (lifted b [] (number_inside (stays is_last b) n))
 
+-- of a fact nothing is lifted
+abbrev pub lifted_if : (ℕ → ℕ) → ℕ → ℕ → Option Body → ℕ → Lifted
+lifted_if names vars line None n = record { parts = []; next = n; clauses = [] }
+lifted_if names vars line (Some b) n = lifted names vars line b [] n
+
 -- a clause with its body lifted
 abbrev pub clause_of : Rule → List Part → Clause
 clause_of r parts = record { head = r.head; body = parts; vars = r.vars; line = r.line }
 
 abbrev pub lifted_rule : (ℕ → ℕ) → Rule → ℕ → Lifted
-lifted_rule names r n = lifted names r.vars r.line r.body [] n
+lifted_rule names r n = lifted_if names r.vars r.line r.body n
 
 -- clauses with their bodies lifted, from the n-th lifted predicate on, and what was lifted from them
 pub record LiftedRules : Type 0 where

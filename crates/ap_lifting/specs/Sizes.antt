@@ -1,5 +1,5 @@
 -- How large a clause is with what is lifted from it.
-use Rattle.std.specs.Prelude.{◌≡◌, ℕ, ◌+◌, ◌-◌, ◌^◌, Bool, true, false, if◌then◌else◌, min, max, List, [], ◌∷◌, length}
+use Rattle.std.specs.Prelude.{◌≡◌, ℕ, ◌+◌, ◌-◌, ◌^◌, Bool, true, false, if◌then◌else◌, min, max, List, [], ◌∷◌, length, Option, Some, None}
 use Rattle.ap_term.specs.Tree.{count_trees}
 use Rattle.ap_term.specs.Goals.{Part, call, group, Clause}
 use Rattle.ap_lifting.specs.declared.sizes.Sizes.{Sizes}
@@ -106,6 +106,17 @@ held_measure a = record {
 abbrev pub predicates : Body → ℕ
 predicates b = (measured b).predicates
 
+abbrev pub nothing : Measure
+nothing = record { predicates = 0; clauses = 0; goals = 0; group = 0; lifted_goals = 0; lifted_group = 0 }
+
+-- a fact has no body
+abbrev pub measured_if : Option Body → Measure
+measured_if None = nothing
+measured_if (Some b) = measured b
+
+abbrev pub predicates_if : Option Body → ℕ
+predicates_if b = (measured_if b).predicates
+
 abbrev pub predicates_in : List Rule → ℕ
 predicates_in [] = 0
-predicates_in (r ∷ rs) = predicates r.body + predicates_in rs
+predicates_in (r ∷ rs) = predicates_if r.body + predicates_in rs

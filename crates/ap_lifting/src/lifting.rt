@@ -1,10 +1,13 @@
 //! Lifting the clauses of a program, and a query.
 
-ghost use Rattle.std.specs.Prelude.{◌≡◌, ◌+◌, ◌≤◌, ◌++◌, length, slice_index, IfOk, OnOk};
-ghost use Rattle.ap_lifting.specs.Lifted.{clause_of, lifted_rule, lifted_program};
+ghost use Rattle.std.specs.Prelude.{◌≡◌, ◌+◌, ◌≤◌, ◌++◌, length, slice_index, IfOk, OnOk, IsTrue};
+ghost use Rattle.ap_lifting.specs.BodyView.{body_if};
+ghost use Rattle.ap_lifting.specs.Rule.{well_formed_if};
+ghost use Rattle.ap_lifting.specs.Lifted.{clause_of, lifted_if, lifted_rule, lifted_program};
 ghost use Rattle.ap_lifting.specs.Lifts.{Lifts, values};
-ghost use Rattle.ap_lifting.specs.Sizes.{predicates, predicates_in};
+ghost use Rattle.ap_lifting.specs.Sizes.{predicates_if, predicates_in};
 
+use crate::bodies::Body;
 use crate::lifter::{Origin, Raised, add_parts};
 use crate::rules::Rule;
 use ap_term::{Atom, Body as Parts, Checks, Clause, NoMemory, Program};
@@ -17,6 +20,26 @@ pub struct Lifted {
     pub lifted: Program,
 }
 
+/// Adds the parts of a body; a fact has none.
+fn add_body(
+    origin: &Origin,
+    body: Option<Body>,
+    out: &mut Raised,
+    parts: &mut Parts,
+) -> Result<(), NoMemory>
+    requires few { origin.now.vars ≤ 255 }
+    requires body { IsTrue (well_formed_if origin.now.vars (body_if body)) }
+    requires named { out.old.next + predicates_if (body_if body) ≤ length origin.now.names.now }
+    ensures parts { OnOk result (parts.new ≡ parts.old ++ (lifted_if (slice_index origin.now.names.now) origin.now.vars origin.now.line (body_if body) out.old.next).parts) }
+    ensures lifts { OnOk result (Lifts (lifted_if (slice_index origin.now.names.now) origin.now.vars origin.now.line (body_if body) out.old.next) out.old out.new) }
+    ensures next { OnOk result (out.new.next ≡ out.old.next + predicates_if (body_if body)) }
+{
+    match body {
+        Some(body) => add_parts(origin, body, Checks::new(origin.alloc), out, parts),
+        None => Ok(()),
+    }
+}
+
 /// A clause with its body lifted.
 fn lift_rule(
     alloc: Global,
@@ -24,10 +47,10 @@ fn lift_rule(
     names: &[Atom],
     out: &mut Raised,
 ) -> Result<Clause, NoMemory>
-    requires { out.old.next + predicates rule.body ≤ length names.now }
+    requires { out.old.next + predicates_if rule.body ≤ length names.now }
     ensures clause { IfOk result (λ c. c ≡ clause_of rule (lifted_rule (slice_index names.now) rule out.old.next).parts) }
     ensures lifts { OnOk result (Lifts (lifted_rule (slice_index names.now) rule out.old.next) out.old out.new) }
-    ensures next { OnOk result (out.new.next ≡ out.old.next + predicates rule.body) }
+    ensures next { OnOk result (out.new.next ≡ out.old.next + predicates_if rule.body) }
 {
     let origin = Origin {
         alloc,
@@ -37,7 +60,7 @@ fn lift_rule(
     };
     let (head, body) = rule.into_parts();
     let mut parts = Parts::new(alloc);
-    add_parts(&origin, body, Checks::new(alloc), out, &mut parts)?;
+    add_body(&origin, body, out, &mut parts)?;
     Ok(Clause::new(head, parts, origin.vars, origin.line))
 }
 
@@ -70,7 +93,7 @@ pub fn lift_program(alloc: Global, rules: Vec<Rule>, names: &[Atom]) -> Result<P
 
 /// A query's clause with its body lifted, and the clauses that were lifted from it.
 pub fn lift_question(alloc: Global, rule: Rule, names: &[Atom]) -> Result<Lifted, NoMemory>
-    requires { predicates rule.body ≤ length names.now }
+    requires { predicates_if rule.body ≤ length names.now }
     ensures question { IfOk result (λ q. q.question ≡ clause_of rule (lifted_rule (slice_index names.now) rule 0).parts) }
     ensures lifted { IfOk result (λ q. q.lifted ≡ (lifted_rule (slice_index names.now) rule 0).clauses) }
 {

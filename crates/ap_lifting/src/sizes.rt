@@ -1,9 +1,9 @@
 //! How large a clause is with what is lifted from it, before anything is lifted.
 
 ghost use Rattle.std.specs.Prelude.{◌≡◌, ℕ};
-ghost use Rattle.ap_lifting.specs.BodyView.{body_of};
+ghost use Rattle.ap_lifting.specs.BodyView.{body_of, body_if};
 ghost use Rattle.ap_lifting.specs.Lifted.{lifted_rule};
-ghost use Rattle.ap_lifting.specs.Sizes.{held, AreSizesOf, predicates, measured, measured_operand, held_measure};
+ghost use Rattle.ap_lifting.specs.Sizes.{held, AreSizesOf, predicates_if, measured, measured_if, measured_operand, held_measure};
 
 use crate::bodies::Body;
 use crate::rules::Rule;
@@ -33,7 +33,7 @@ struct Measure {
 }
 
 impl Measure {
-    ghost use Rattle.ap_lifting.specs.Sizes.{held_measure, one_goal, one_after_other, measured_either, measured_raised, measured_group};
+    ghost use Rattle.ap_lifting.specs.Sizes.{held_measure, nothing, one_goal, one_after_other, measured_either, measured_raised, measured_group};
 
     /// Of two bodies, one after the other.
     fn then(self, next: Measure) -> Measure
@@ -46,6 +46,20 @@ impl Measure {
             group: self.group.max(next.group),
             lifted_goals: self.lifted_goals.max(next.lifted_goals),
             lifted_group: self.lifted_group.max(next.lifted_group),
+        }
+    }
+
+    /// Of no body.
+    fn nothing() -> Measure
+        ensures { result ≡ held_measure nothing }
+    {
+        Measure {
+            predicates: 0,
+            clauses: 0,
+            goals: 0,
+            group: 0,
+            lifted_goals: 0,
+            lifted_group: 0,
         }
     }
 
@@ -132,12 +146,27 @@ fn measure_body(body: &Body) -> Measure
     }
 }
 
+fn measure_if(body: &Option<Body>) -> Measure
+    ensures { result ≡ held_measure (measured_if (body_if body.now)) }
+{
+    match body {
+        Some(body) => measure_body(body),
+        None => Measure::nothing(),
+    }
+}
+
+/// How many predicates are lifted from a body.
+pub fn predicates_of(body: &Option<Body>) -> u64
+    ensures { result ≡ held (predicates_if (body_if body.now)) }
+{
+    measure_if(body).predicates
+}
+
 /// The sizes of a clause with what is lifted from it, whatever the lifted predicates are called.
 pub fn sizes_of(rule: &Rule) -> Sizes
-    ensures sizes { (names : ℕ → ℕ) (n : ℕ) → AreSizesOf n (lifted_rule names rule.now n) result }
-    ensures predicates { result.predicates ≡ held (predicates rule.now.body) }
+    ensures { (names : ℕ → ℕ) (n : ℕ) → AreSizesOf n (lifted_rule names rule.now n) result }
 {
-    let measure = measure_body(rule.body());
+    let measure = measure_if(rule.body());
     Sizes {
         predicates: measure.predicates,
         clauses: measure.clauses,
