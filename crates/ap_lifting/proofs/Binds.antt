@@ -6,7 +6,7 @@ use Rattle.std.specs.Prelude.{[], ◌∷◌, Some}
 use Rattle.ap_term.specs.Tree.{Tree, Trees, var, int, atom, node, none, more, push_tree}
 use Rattle.ap_term.specs.Vars.{occurs, occurs_all}
 use Rattle.ap_term.specs.Substitution.{instance, instance_all, Subst, value, shift}
-use Rattle.ap_term.specs.Unifier.{IsMostGeneral, Unifies}
+use Rattle.ap_term.specs.Unifier.{IsMostGeneral}
 use Rattle.ap_term.specs.Search.{variables}
 use Rattle.ap_term.specs.WellFormed.{in_range, numbered, numbered_all}
 use Rattle.ap_term.proofs.Copies.{instance_var, instance_all_var, instance_twice, instance_all_twice}
@@ -14,7 +14,7 @@ use Rattle.ap_term.proofs.Solutions.{same_var, same_test, or_left, or_right}
 use Rattle.ap_laws.specs.Renaming.{Local, LocalAll, LocalSubst}
 use Rattle.ap_laws.proofs.Plain.{instance-Local, instance_all-LocalAll}
 use Rattle.ap_laws.proofs.Unifiers.{instance-at}
-use Rattle.ap_lifting.specs.Lifted.{applied, lifted_goal}
+use Rattle.ap_lifting.specs.Lifted.{applied}
 use Rattle.ap_lifting.proofs.Kept.{and_first, and_second, applied-variables}
 
 -- ---- a clause's variables
@@ -111,8 +111,8 @@ module _ (f : ℕ → Tree) (n : ℕ) where
       → IsMostGeneral (instance f h) (instance (shift n) h) (Some (binds v))
   binds-unifier v h range old all = (
     instance-Local (λ x. x < n) (value (binds v)) (λ x. var x) (λ x l. value-free v x (omega arith)) (instance f h) old
-    ∙ instance_var (instance f h)
-    ∙ sym (instance_twice (shift n) (value (binds v)) h ∙ instance-Local (InRange v) (λ x. instance (value (binds v)) (shift n x)) f (λ x l. value-bound v x l.0 l.1) h range),
+        ∙ instance_var (instance f h)
+        ∙ sym (instance_twice (shift n) (value (binds v)) h ∙ instance-Local (InRange v) (λ x. instance (value (binds v)) (shift n x)) f (λ x l. value-bound v x l.0 l.1) h range),
     λ F e. binds-general F v
-    (λ x l m. instance-at (λ y. instance F (f y)) (λ y. instance F (shift n y)) h (sym (instance_twice f F h) ∙ e ∙ instance_twice (shift n) F h) x (all x l m)),
+        (λ x l m. instance-at (λ y. instance F (f y)) (λ y. instance F (shift n y)) h (sym (instance_twice f F h) ∙ e ∙ instance_twice (shift n) F h) x (all x l m)),
   )

@@ -26,7 +26,7 @@ pub values-same : {A : Type 0} (out before : List A) (xs : List (Option A)) (o :
 values-same out before xs o e q =
     q ∙ ap (λ l. out ++ l) (sym (append-nil (values xs)) ∙ sym (values-append xs (None ∷ []))) ∙ ap (λ v. out ++ values (xs ++ v ∷ [])) (sym e)
 
-next-lifted_rule : (names : ℕ → ℕ) (r : Rule) (n : ℕ) → (lifted_rule names r n).next ≡ n + predicates_if r.body
+pub next-lifted_rule : (names : ℕ → ℕ) (r : Rule) (n : ℕ) → (lifted_rule names r n).next ≡ n + predicates_if r.body
 next-lifted_rule names r n = (measures_if names r.vars r.line r.body n).predicates
 
 predicates_in-push : (rs : List Rule) (r : Rule) → predicates_in (rs ++ r ∷ []) ≡ predicates_in rs + predicates_if r.body
@@ -47,7 +47,7 @@ abbrev pub IsOneMore : (ℕ → ℕ) → Rule → ℕ → LiftedRules → Lifted
 IsOneMore names r k all more =
     (more.clauses ≡ all.clauses ++ clause_of r (lifted_rule names r k).parts ∷ []) × (more.lifted ≡ all.lifted ++ (lifted_rule names r k).clauses)
 
-one_more : (names : ℕ → ℕ) (rs : List Rule) (r : Rule) (n k : ℕ) → k ≡ n + predicates_in rs → IsOneMore names r k (lifted_rules names rs n) (lifted_rules names (rs ++ r ∷ []) n)
+pub one_more : (names : ℕ → ℕ) (rs : List Rule) (r : Rule) (n k : ℕ) → k ≡ n + predicates_in rs → IsOneMore names r k (lifted_rules names rs n) (lifted_rules names (rs ++ r ∷ []) n)
 one_more names [] r n k e =
     let P : ℕ → Type 0 = λ m. IsOneMore names r m (lifted_rules names [] n) (lifted_rules names (r ∷ []) n) in
     subst P (omega arith) (refl, append-nil (lifted_rule names r n).clauses)

@@ -1,6 +1,6 @@
 -- What is lifted from a well formed clause is well formed.
 use Rattle.std.proofs.Common.{◌≡◌, ℕ, zero, suc, ◌+◌, ◌<◌, ◌≤◌, Bool, true, false, ◌&&◌, nat_le, min, max, List, [], ◌∷◌, ◌++◌, refl, ap, sym, ◌∙◌, subst, arith, Option, Some, None}
-use Rattle.std.specs.Prelude.{IsTrue}
+use Rattle.std.specs.Prelude.{IsTrue, ◌↔◌}
 use Rattle.std.specs.List.{list_all}
 use Rattle.std.proofs.lemmas.Bool.Decides.{nat_tests}
 use Rattle.ap_term.specs.declared.clauses.Check.{Check}
@@ -52,7 +52,7 @@ numbered_all-push n (more u ts) t h k =
     and_both (numbered n u) (numbered_all n (push_tree ts t)) (and_first (numbered n u) (numbered_all n ts) h)
     (numbered_all-push n ts t (and_second (numbered n u) (numbered_all n ts) h) k)
 
-numbered_all-variables : (n m : ℕ) → m ≤ n → numbered_all n (variables m) ≡ true
+pub numbered_all-variables : (n m : ℕ) → m ≤ n → numbered_all n (variables m) ≡ true
 numbered_all-variables n zero h = refl
 numbered_all-variables n (suc m) h =
     numbered_all-push n (variables m) (var (suc m)) (numbered_all-variables n m (omega arith)) (grind (arith, nat_tests))
@@ -160,7 +160,7 @@ module _ (names : ℕ → ℕ) (vars line : ℕ) where
     body = h;
   }
 
-  unless_kept : vars ≤ 255 → (s : Bool) (n : ℕ) (x : Lifted) → list_all (well_formed_part vars) x.parts ≡ true
+  pub unless_kept : vars ≤ 255 → (s : Bool) (n : ℕ) (x : Lifted) → list_all (well_formed_part vars) x.parts ≡ true
       → list_all (well_formed_part vars) (raised_unless names vars line s n x).parts ≡ true
   unless_kept few true n x h = h
   unless_kept few false n x h = call_kept few n
@@ -195,7 +195,7 @@ module _ (names : ℕ → ℕ) (vars line : ℕ) where
       parts_kept few b (checks_of ds) n (and_second (list_all (numbered_condition vars) ds) (well_formed vars b) h)
       (checks_kept vars ds (and_first (list_all (numbered_condition vars) ds) (well_formed vars b) h))
 
-if_kept : (names : ℕ → ℕ) (vars line : ℕ) → vars ≤ 255 → (b : Option Body) (n : ℕ) → well_formed_if vars b ≡ true → list_all (well_formed_part vars) (lifted_if names vars line b n).parts ≡ true
+pub if_kept : (names : ℕ → ℕ) (vars line : ℕ) → vars ≤ 255 → (b : Option Body) (n : ℕ) → well_formed_if vars b ≡ true → list_all (well_formed_part vars) (lifted_if names vars line b n).parts ≡ true
 if_kept names vars line few None n h = refl
 if_kept names vars line few (Some b) n h = parts_kept names vars line few b [] n h refl
 
@@ -226,3 +226,16 @@ append-append (more t ts) us vs = ap (more t) (append-append ts us vs)
 
 -- what the proofs of the code that lifts cite
 pub ruleset lifting = (push_tree-append, append-append, checks_kept)
+
+-- ---- the test of a goal
+
+goal_test : (b : Bool) (t : Tree) (n : ℕ) (v : Bool) → (callable t && numbered n t) ≡ v → n ≤ 255 → (IsTrue b → IsClause (record { head = t; body = []; vars = n; line = 1 })) → (IsClause (record { head = t; body = []; vars = n; line = 1 }) → IsTrue b) → b ≡ v
+goal_test true t n true e few h k = refl
+goal_test false t n false e few h k = refl
+goal_test true t n false e few h k = sym (h refl).head ∙ e
+goal_test false t n true e few h k = k (record { few = few; head = e; body = refl })
+
+pub is_goal_test : (b : Bool) (t : Tree) (n : ℕ) (ps : List Part) → ps ≡ [] → n ≤ 255 → (IsTrue b ↔ IsClause (record { head = t; body = ps; vars = n; line = 1 })) → b ≡ (callable t && numbered n t)
+is_goal_test b t n ps e few h =
+    goal_test b t n (callable t && numbered n t) refl few (λ x. subst (λ qs. IsClause (record { head = t; body = qs; vars = n; line = 1 })) e (h.0 x))
+    (λ c. h.1 (subst (λ qs. IsClause (record { head = t; body = qs; vars = n; line = 1 })) (sym e) c))

@@ -1,6 +1,6 @@
 -- The call of a lifted predicate.
-use Rattle.std.proofs.Common.{◌≡◌, ℕ, zero, suc, ◌+◌, ◌<◌, ◌≤◌, Bool, true, false, ◌==◌, ◌&&◌, if◌then◌else◌, nat_eq, nat_le, length, option_and_then, List, [], ◌∷◌, ◌++◌, map, Option, Some, None, refl, ap, sym, ◌∙◌, subst, arith}
-use Rattle.std.specs.List.{AllZip, AllByRecursion, flat_map, list_all}
+use Rattle.std.proofs.Common.{◌≡◌, ℕ, ◌+◌, ◌<◌, ◌≤◌, Bool, true, false, ◌==◌, ◌&&◌, if◌then◌else◌, nat_eq, nat_le, length, option_and_then, List, [], ◌∷◌, ◌++◌, map, Option, Some, None, refl, ap, sym, ◌∙◌, subst, arith}
+use Rattle.std.specs.List.{AllZip, AllByRecursion, flat_map}
 use Rattle.std.proofs.lemmas.List.{map-append}
 use Rattle.std.proofs.lemmas.Bool.{false≢true}
 use Rattle.std.proofs.lemmas.Bool.Decides.{nat_tests}
@@ -11,16 +11,16 @@ use Rattle.ap_term.specs.Substitution.{instance, instance_all, Subst, value, shi
 use Rattle.ap_term.specs.Unification.{mgu, solve, apart_all}
 use Rattle.ap_term.specs.Unifier.{IsMostGeneral}
 use Rattle.ap_term.specs.Builtins.{builtin, relation_named, named_answer}
-use Rattle.ap_term.specs.Goals.{Part, Clause, Program, calls, instance_part}
-use Rattle.ap_term.specs.WellFormed.{IsClause, IsProgram, callable, numbered, numbered_all, well_formed_part}
-use Rattle.ap_term.specs.Search.{variables, way_if, clause_way, ways, ways_by, child}
+use Rattle.ap_term.specs.Goals.{Part, Program, calls, instance_part}
+use Rattle.ap_term.specs.WellFormed.{IsClause, IsProgram, callable, numbered}
+use Rattle.ap_term.specs.Search.{variables, way_if, clause_way, ways_by, child}
 use Rattle.ap_term.proofs.Solvable.{mgu-general}
 use Rattle.ap_term.proofs.Solutions.{same_var, same_test}
 use Rattle.ap_term.specs.Vars.{occurs, add_vars}
 use Rattle.ap_laws.specs.Renaming.{OptionAll, SameState, Local, LocalAll, LocalSubst, LocalPart, LocalParts}
-use Rattle.ap_laws.specs.Plain.{Plain, state, PlainWay, way, append_trees, plain_goals, plain_of, as_state, plain_way, plain_ways, plain_child, plain_children_by, plain_children, IsPlainBelow, SamePlain}
+use Rattle.ap_laws.specs.Plain.{state, PlainWay, way, append_trees, plain_goals, plain_of, as_state, plain_way, plain_child, plain_children_by, IsPlainBelow, SamePlain}
 use Rattle.ap_laws.proofs.Zips.{AllByRecursion-append, AllZip-append}
-use Rattle.ap_laws.proofs.Local.{Local-mgu, Local-instance, LocalAll-instance_all, LocalAll-weaken, Local-weaken, LocalParts-instance_part, LocalAll-calls}
+use Rattle.ap_laws.proofs.Local.{Local-mgu, Local-instance, LocalAll-weaken, Local-weaken, LocalParts-instance_part, LocalAll-calls}
 use Rattle.ap_laws.proofs.Ways.{LocalParts-body}
 use Rattle.ap_laws.proofs.Plain.{instance_all-append_trees}
 use Rattle.ap_laws.proofs.Graft.{state-eq, Local-at}
@@ -79,17 +79,17 @@ module _ (p : Program) (good : IsProgram p) (h : Tree) (vars : ℕ) (f : ℕ →
           let body = map (instance_part (shift n)) ps in
           let S = as_state (state (more g G) T n k) in
           let same : SameState (child S (calls G) (record { binds = s; body = body; takes = vars + 1 })) (child S (calls G) (record { binds = binds f n vars; body = body; takes = vars + 1 }))
-              = SameState-unifiers S (calls G) body (vars + 1) g (instance (shift n) h) s (binds f n vars) most unifier bound
-              (LocalSubst-binds f n P vars (λ x l m. (Local-weaken Q P wider (f x) (Local-at Q f h below.0.0 x (all x l m)), new x m)))
-              (AllByRecursion-append (LocalPart P) body (calls G) (LocalParts-instance_part (λ x. x ≤ vars) P (shift n) new ps parts) (LocalAll-calls P G (LocalAll-weaken Q P wider G below.0.1)))
-              (LocalAll-weaken Q P wider T below.1)
+          = SameState-unifiers S (calls G) body (vars + 1) g (instance (shift n) h) s (binds f n vars) most unifier bound
+          (LocalSubst-binds f n P vars (λ x l m. (Local-weaken Q P wider (f x) (Local-at Q f h below.0.0 x (all x l m)), new x m)))
+          (AllByRecursion-append (LocalPart P) body (calls G) (LocalParts-instance_part (λ x. x ≤ vars) P (shift n) new ps parts) (LocalAll-calls P G (LocalAll-weaken Q P wider G below.0.1)))
+          (LocalAll-weaken Q P wider T below.1)
           in
           let plain = (trace_renaming p good).0 _ _ same in
           (subst (λ u. SamePlain u (entered vars f G T n k ps)) (child_is s body) (subst (SamePlain (plain_of (child S (calls G) (record { binds = s; body = body; takes = vars + 1 })))) (child_is (binds f n vars) body ∙ entered_is ps local) plain), tt)
 
 -- ---- a goal's own clauses
 
-named_callable : (a : ℕ) (t : Tree) (s : ℕ → Tree) → callable t ≡ true → is_named a (instance s t) ≡ is_named a t
+pub named_callable : (a : ℕ) (t : Tree) (s : ℕ → Tree) → callable t ≡ true → is_named a (instance s t) ≡ is_named a t
 named_callable a (var x) s h = absurd (false≢true h)
 named_callable a (int z) s h = refl
 named_callable a (atom b) s h = refl
@@ -114,7 +114,7 @@ no_unifier a (atom b) (atom d) h k c = ap (λ v. option_and_then (solve (length 
 no_unifier a (node b ts) (node d us) h k c =
     ap (λ v. option_and_then (solve (length (add_vars (node d us) (add_vars (node b ts) [])))) (if v then apart_all ts us else None)) (differ a b d h k)
 
-callable-instance : (s : ℕ → Tree) (t : Tree) → callable t ≡ true → callable (instance s t) ≡ true
+pub callable-instance : (s : ℕ → Tree) (t : Tree) → callable t ≡ true → callable (instance s t) ≡ true
 callable-instance s (var x) h = absurd (false≢true h)
 callable-instance s (int z) h = absurd (false≢true h)
 callable-instance s (atom a) h = refl

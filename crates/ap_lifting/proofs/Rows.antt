@@ -1,13 +1,16 @@
 -- Rows of the definition, computed.
-use Rattle.std.proofs.Common.{◌≡◌, ℕ, ◌+◌, List, [], ◌∷◌, refl, Some}
+use Rattle.std.proofs.Common.{◌≡◌, ℕ, ◌+◌, List, [], ◌∷◌, map, refl, Some}
 use Rattle.std.specs.Prelude.{pos}
 use Rattle.ap_term.specs.declared.clauses.Check.TheVariants.{Ground as IsGround, Indep as AreIndep}
-use Rattle.ap_term.specs.declared.fixed.TheConstants.{UNIFY}
+use Rattle.ap_term.specs.declared.fixed.TheConstants.{TRUE, UNIFY, QUERY}
 use Rattle.ap_term.specs.Tree.{Tree, var, int, atom, node, none, more}
 use Rattle.ap_term.specs.Goals.{Part, call, group, Clause}
 use Rattle.ap_lifting.specs.declared.bodies.Condition.TheVariants.{True, Ground, Indep}
 use Rattle.ap_lifting.specs.Body.{Body, goal, conjunction, disjunction, parallel, conditional}
 use Rattle.ap_lifting.specs.Rule.{Rule}
+use Rattle.ap_laws.specs.Plain.{tuple_of}
+use Rattle.ap_laws.specs.Trace.{answers_in, calls_in}
+use Rattle.ap_lifting.specs.WrittenSearch.{written_trace, written_start}
 use Rattle.ap_lifting.specs.Lifted.{lifted, lifted_program}
 
 -- the n-th lifted predicate has the name 900 + n
@@ -26,6 +29,12 @@ of_x a = node a (more (var 1) none)
 
 abbrev equals : ℕ → Tree
 equals n = node UNIFY (more (var 1) (more (int (pos n)) none))
+
+abbrev question : Rule
+question = record { head = atom QUERY; body = Some (goal (of_x 200)); vars = 1; line = 1 }
+
+abbrev fact : ℕ → Rule
+fact n = record { head = atom n; body = Some (goal (atom TRUE)); vars = 0; line = 1 }
 
 abbrev a : Body
 a = goal (atom 301)
@@ -93,3 +102,28 @@ program_row : lifted_program names (rule (disjunction a b) ∷ rule (disjunction
     ∷ clause (of_x 900) (call (atom 301) ∷ []) ∷ clause (of_x 900) (call (atom 302) ∷ [])
     ∷ clause (of_x 901) (call (atom 303) ∷ []) ∷ clause (of_x 901) (call (atom 304) ∷ []) ∷ []
 program_row = refl
+
+-- ---- the written search: p(X) :- (X = 1 ; X = 2). ?- p(X).
+abbrev one_of_two : List Rule
+one_of_two = rule (disjunction (goal (equals 1)) (goal (equals 2))) ∷ question ∷ []
+
+-- both answers after three calls: of p, of the disjunction and of =
+answers_row : map tuple_of (answers_in (written_trace one_of_two 3 (written_start question))) ≡ more (int (pos 1)) none ∷ more (int (pos 2)) none ∷ []
+unfolding written_trace
+answers_row = refl
+
+-- two calls are too few
+short_row : answers_in (written_trace one_of_two 2 (written_start question)) ≡ []
+unfolding written_trace
+short_row = refl
+
+-- a :- true. b :- true. c :- true. ?- a & (b, c). Each fact takes two calls, and the operand one of its own.
+abbrev both_operands : Rule
+both_operands = record { head = atom QUERY; body = Some (parallel a (conjunction b c)); vars = 0; line = 1 }
+
+abbrev three_facts : List Rule
+three_facts = fact 301 ∷ fact 302 ∷ fact 303 ∷ both_operands ∷ []
+
+operand_calls_row : calls_in (written_trace three_facts 9 (written_start both_operands)) ≡ 7
+unfolding written_trace
+operand_calls_row = refl

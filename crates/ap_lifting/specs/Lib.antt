@@ -6,3 +6,5 @@ pub mod Lifted
 pub mod Sizes
 pub mod Lifts
 pub mod LiftingLaws
+pub mod WrittenSearch
+pub mod Shown

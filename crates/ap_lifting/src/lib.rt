@@ -12,7 +12,10 @@ mod rules;
 mod sizes;
 
 pub use bodies::{Body, Condition};
-pub use laws::lifted_call_law;
+pub use laws::{lifted_call_law, meaning_law};
 pub use lifting::{Lifted, lift_program, lift_question};
-pub use rules::Rule;
+pub use rules::{Rule, is_rule};
 pub use sizes::{Sizes, predicates_of, sizes_of};
+
+#[cfg(test)]
+mod tests;

@@ -1,9 +1,16 @@
 //! Clauses as they are written.
 
-ghost use Rattle.std.specs.Prelude.{◌≡◌, ◌≤◌};
+ghost use Rattle.std.specs.Prelude.{◌≡◌, ◌≤◌, ◌↔◌, ◌&&◌, [], IsTrue};
+ghost use Rattle.std.specs.List.{list_all};
+ghost use Rattle.ap_term.specs.TermView.{tree_of};
+ghost use Rattle.ap_term.specs.WellFormed.{in_range, callable, numbered};
+ghost use Rattle.ap_lifting.specs.Body.{numbered_condition, well_formed};
+ghost use Rattle.ap_lifting.specs.BodyView.{body_of, body_if};
+ghost use Rattle.ap_lifting.specs.Rule.{IsRule, well_formed_if};
 
-use crate::bodies::Body;
-use ap_term::Term;
+use crate::bodies::{Body, Condition};
+use ap_term::{Body as Parts, Term, is_clause};
+use std::alloc::Global;
 use std::marker::Model;
 
 /// A clause as it is written, whose variables are numbered from 1 to `vars` by first occurrence, at most 255.
@@ -89,4 +96,69 @@ impl Rule {
         let Rule { head, body, .. } = self;
         (head, body)
     }
+}
+
+/// Whether a goal or a head can be called, with variables from 1 to n.
+fn is_goal(t: &Term, n: u64, no_parts: &Parts) -> bool
+    requires few { n ≤ 255 }
+    requires none { no_parts.now ≡ [] }
+    ensures { result ≡ (callable (tree_of t.now) && numbered n (tree_of t.now)) }
+{
+    is_clause(t, no_parts, n, 1)
+}
+
+fn is_in_range(n: u64, x: u64) -> bool
+    ensures { result ≡ in_range n x }
+{
+    1 <= x && x <= n
+}
+
+fn are_conditions_numbered(n: u64, conditions: &[Condition]) -> bool
+    ensures { result ≡ list_all (numbered_condition n) conditions.now }
+{
+    conditions.iter().all(|condition| match condition {
+        Condition::True => true,
+        Condition::Ground(x) => is_in_range(n, *x),
+        Condition::Indep(x, y) => is_in_range(n, *x) && is_in_range(n, *y),
+    })
+}
+
+fn is_body_well_formed(body: &Body, n: u64, no_parts: &Parts) -> bool
+    requires few { n ≤ 255 }
+    requires none { no_parts.now ≡ [] }
+    ensures { result ≡ well_formed n (body_of body.now) }
+{
+    match body {
+        Body::Goal(goal) => is_goal(goal, n, no_parts),
+        Body::Conjunction(a, b) | Body::Disjunction(a, b) | Body::Parallel(a, b) => {
+            is_body_well_formed(a, n, no_parts) && is_body_well_formed(b, n, no_parts)
+        }
+        Body::Conditional(conditions, body) => {
+            are_conditions_numbered(n, conditions) && is_body_well_formed(body, n, no_parts)
+        }
+    }
+}
+
+fn is_well_formed(body: &Option<Body>, n: u64, no_parts: &Parts) -> bool
+    requires few { n ≤ 255 }
+    requires none { no_parts.now ≡ [] }
+    ensures { result ≡ well_formed_if n (body_if body.now) }
+{
+    match body {
+        Some(body) => is_body_well_formed(body, n, no_parts),
+        None => true,
+    }
+}
+
+/// Whether `Rule::new` takes these: at most 255 variables, each numbered from 1 to `vars`, a head and goals that can
+/// be called.
+pub fn is_rule(alloc: Global, head: &Term, body: &Option<Body>, vars: u64, line: u64) -> bool
+    ensures { IsTrue result ↔ IsRule (record { head = tree_of head.now; body = body_if body.now; vars = vars; line = line }) }
+{
+    let _any = line;
+    if vars > 255 {
+        return false;
+    }
+    let no_parts = Parts::new(alloc);
+    is_goal(head, vars, &no_parts) && is_well_formed(body, vars, &no_parts)
 }

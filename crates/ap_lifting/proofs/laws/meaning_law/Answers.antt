@@ -1,0 +1,5 @@
+use Rattle.ap_lifting.proofs.Queries.{meaning}
+use Rattle.ap_lifting.proofs.laws.meaning_law.Goals as goal
+
+pub returns : goal.returns
+returns c = meaning
