@@ -48,13 +48,7 @@ fn number(greatest: u64, word: &str) -> Option<u64>
         return None;
     }
     match word.parse::<u64>() {
-        Ok(n) => {
-            if n <= greatest {
-                Some(n)
-            } else {
-                None
-            }
-        }
+        Ok(n) => { if n <= greatest { Some(n) } else { None } }
         Err(_) => None,
     }
 }

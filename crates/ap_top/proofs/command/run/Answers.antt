@@ -52,4 +52,4 @@ pub returns-in-Err-NoMemory-clause-complete : goal.returns-in-Err-NoMemory-claus
 returns-in-Err-NoMemory-clause-complete g c =
     let before = memory_stays Status _ _ c.in-Err-NoMemory.field-0 c.in-Err-NoMemory.field-0-is c.in-Err-NoMemory.ensures.sink in
     λ names quiet calm still. given_up (g.K.Sink.faults c.args.out.now) (g.K.Sink.faults c.give_up.new.out) c.give_up.result still c.give_up.ensures.only
-        (subst (λ n. RunSinkCount n (g.K.Sink.faults c.give_up.new.out) c.give_up.result) before c.give_up.ensures.count)
+    (subst (λ n. RunSinkCount n (g.K.Sink.faults c.give_up.new.out) c.give_up.result) before c.give_up.ensures.count)
