@@ -67,10 +67,11 @@ fn shape_of(alloc: Global, program: &Program) -> Result<Vec<u64>, NoMemory> {
 fn lifted_shape(rt: &impl Abort, alloc: Global, body: Body) -> Result<Vec<u64>, Fail> {
     let head = Term::Atom(Atom::at(200));
     let body = Some(body);
+    let predicates = predicates_of(&body);
+    assert!(rt; predicates < 100);
     assert!(rt; is_rule(alloc, &head, &body, 1, 1));
     let rule = Rule::new(head, body, 1, 1);
-    let predicates = sizes_of(&rule).predicates;
-    assert!(rt; predicates < 100);
+    assert!(rt; sizes_of(&rule).predicates == predicates);
     let mut names = Vec::new(alloc);
     for i in 0..predicates {
         names.push(Atom::at(901 + i as u32))?;
@@ -133,10 +134,10 @@ fn a_query_is_lifted(rt: HostRuntime) -> Result<(), Fail> {
     let head = Term::Atom(Atom::at(200));
     let body = or(alloc, goal(301), goal(302))?;
     let body = Some(body);
+    let names = [Atom::at(901)];
+    assert!(rt; predicates_of(&body) == 1);
     assert!(rt; is_rule(alloc, &head, &body, 0, 1));
     let rule = Rule::new(head, body, 0, 1);
-    let names = [Atom::at(901)];
-    assert!(rt; sizes_of(&rule).predicates == 1);
     let lifted = lift_question(alloc, rule, &names)?;
     let shape = shape_of(alloc, &lifted.lifted)?;
     assert_eq!(rt; shape.as_slice(), [901, 301, 901, 302].as_slice());
