@@ -8,7 +8,7 @@ ghost use Rattle.ap_cells.specs.Trees.{tree_at, trees, step, Within, IsEnd, link
 ghost use Rattle.ap_cells.specs.Raws.{raw_of};
 ghost use Rattle.ap_cells.specs.declared.cells.Raw.{Raw};
 ghost use Rattle.ap_cells.specs.declared.cells.Raw.TheVariants.{Free};
-ghost use Rattle.ap_cells.specs.Store.{freed, undone, IsMark, Keeps};
+ghost use Rattle.ap_cells.specs.Store.{freed, undone, IsMark, IsStore, Keeps};
 ghost use Rattle.std.specs.Vec.{vec_capacity};
 
 use ap_term::{Atom, NoMemory};
@@ -139,6 +139,13 @@ impl Cells {
         ensures few { length self.now.cells ≤ 4294967295 }
     {
         self.cells.len()
+    }
+
+    /// A law: the cells stand for finite terms, also where bindings are taken back.
+    pub fn is_store(&self)
+        ensures { IsStore self.now.cells self.now.trail }
+    {
+        let _places = self.cells.len();
     }
 
     /// This moment, to which `undo_to` leads back.

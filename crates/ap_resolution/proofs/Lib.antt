@@ -1,0 +1,4 @@
+pub mod Unified
+pub mod Resolution
+pub mod Variants
+pub mod Builtins
