@@ -1,6 +1,6 @@
 -- Entries: calls whose arguments are marked as ground, as distinct variables that share nothing, or as anything.
-use Rattle.std.specs.Prelude.{◌≡◌, ◌≢◌, ℕ, suc, false, nat_eq, if◌then◌else◌, List, [], ◌∷◌, Option, Some, None, length}
-use Rattle.ap_term.specs.Tree.{Tree, Trees, var, count_trees}
+use Rattle.std.specs.Prelude.{◌≡◌, ◌≢◌, ℕ, suc, Bool, true, false, nat_eq, if◌then◌else◌, List, [], ◌∷◌, Option, Some, None, length}
+use Rattle.ap_term.specs.Tree.{Trees, var, count_trees}
 use Rattle.ap_term.specs.Vars.{occurs}
 use Rattle.ap_term.specs.Independence.{IsGround}
 use Rattle.ap_sharing.specs.VarSet.{empty, just, union}
@@ -22,6 +22,14 @@ pub record AsMarked (marks : List Mark) (args : Trees) : Type 0 where
   pub as_many : count_trees args ≡ length marks
   pub ground : (j : ℕ) → mark_at 1 marks j ≡ Some Ground → IsGround (argument 1 args j)
   pub free : (j : ℕ) → mark_at 1 marks j ≡ Some Free → (v : ℕ) × (argument 1 args j ≡ var v) × ((i : ℕ) → i ≢ j → occurs v (argument 1 args i) ≡ false)
+
+abbrev pub is_free_mark : Mark → Bool
+is_free_mark Free = true
+is_free_mark _ = false
+
+abbrev pub is_any_mark : Mark → Bool
+is_any_mark Any = true
+is_any_mark _ = false
 
 -- the places from i on that are marked as free, each alone
 abbrev pub free_sets : ℕ → List Mark → List ℕ

@@ -1,5 +1,5 @@
 -- Tables: one call and one success pattern for each predicate.
-use Rattle.std.specs.Prelude.{ℕ, Bool, ◌==◌, ◌&&◌, if◌then◌else◌, List, [], ◌∷◌, Option, Some, None}
+use Rattle.std.specs.Prelude.{Bool, ◌==◌, ◌&&◌, if◌then◌else◌, List, [], ◌∷◌, Option, Some, None}
 use Rattle.ap_term.specs.Tree.{Tree, var, int, atom, node, count_trees}
 use Rattle.ap_absunify.specs.declared.states.State.{State}
 use Rattle.ap_absunify.specs.declared.states.State.TheVariants.{Unreachable}
