@@ -1,3 +1,5 @@
 pub mod Held
 pub mod Follow
 pub mod Laws
+pub mod Emitted
+pub mod Permanent
