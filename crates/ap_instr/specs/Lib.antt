@@ -4,3 +4,4 @@ pub mod Listing
 pub mod Shown
 pub mod Step
 pub mod Runs
+pub mod StandsFor
