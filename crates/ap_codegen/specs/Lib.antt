@@ -3,3 +3,5 @@ pub mod Follow
 pub mod Laws
 pub mod Emitted
 pub mod Permanent
+pub mod Assembled
+pub mod Temporary

@@ -5,7 +5,15 @@
 //! what passes it reads as the clause, so that whoever writes the code is free in the choice of registers.
 #![tactic(auto, using(ap_term::proofs::TermLists::arguments, ap_term::proofs::TermLists::item_less_deep))]
 
+mod asking;
+mod assembly;
+mod bodies;
 mod builtin_goals;
 pub mod laws;
+mod layout;
 mod permanent;
+mod programs;
 mod steps;
+mod tables;
+
+pub use programs::compile;

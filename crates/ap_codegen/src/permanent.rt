@@ -30,7 +30,7 @@ pub fn above(m: u32, n: usize) -> Result<u32, NoMemory>
 }
 
 /// How many arguments there are, where an instruction can say it.
-fn count(args: &Args) -> Result<u8, NoMemory>
+pub fn count(args: &Args) -> Result<u8, NoMemory>
     ensures { IfOk result (λ n. n ≡ count_trees args.now) }
 {
     let n = args.len();
