@@ -13,3 +13,6 @@ mod sound;
 
 pub use rule::{CodeErr, Rule};
 pub use sound::{Sound, check};
+
+#[cfg(test)]
+mod tests;
