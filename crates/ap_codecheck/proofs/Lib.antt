@@ -1,3 +1,5 @@
+pub mod Agree
 pub mod Marks
+pub mod Stands
 pub mod Tried
 pub mod Ways

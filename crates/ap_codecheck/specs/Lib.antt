@@ -4,3 +4,4 @@ pub mod Rules
 pub mod Marks
 pub mod Held
 pub mod Judged
+pub mod Laws

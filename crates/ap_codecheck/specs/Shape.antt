@@ -1,5 +1,5 @@
 -- What is known at a place of a clause's code, and what an instruction makes of it.
-use Rattle.std.specs.Prelude.{ℕ, ◌-◌, ◌==◌, ◌&&◌, nat_le, Bool, true, false, if◌then◌else◌, Option, Some, None}
+use Rattle.std.specs.Prelude.{ℕ, ◌-◌, ◌==◌, ◌&&◌, nat_le, Bool, true, false, Option, Some, None}
 use Rattle.ap_instr.specs.declared.instruction.Slot.{Slot}
 use Rattle.ap_instr.specs.declared.instruction.Slot.TheVariants.{X, Y}
 use Rattle.ap_instr.specs.declared.instruction.Instr.{Instr}
@@ -42,12 +42,13 @@ abbrev pub with_target : Option ℕ → (ℕ → Bool) → ℕ → Bool
 with_target None x = x
 with_target (Some a) x = set x a true
 
--- behind an argument; the last one makes the structure whole
+-- behind an argument, which is the last one or not; the last one makes the structure whole
+abbrev pub passed : Bool → Shape → Shape
+passed true s = record { x = with_target s.target s.x; y = s.y; room = s.room; pending = 0; target = None }
+passed false s = record { x = s.x; y = s.y; room = s.room; pending = s.pending - 1; target = s.target }
+
 abbrev pub behind_argument : Shape → Shape
-behind_argument s =
-    if s.pending == 1
-    then record { x = with_target s.target s.x; y = s.y; room = s.room; pending = 0; target = None }
-    else record { x = s.x; y = s.y; room = s.room; pending = s.pending - 1; target = s.target }
+behind_argument s = passed (s.pending == 1) s
 
 -- the shape behind an instruction, of the shape before it
 abbrev pub after : Instr → Shape → Shape
