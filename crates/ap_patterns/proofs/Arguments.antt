@@ -125,7 +125,7 @@ arguments-numbered n (atom a) h = refl
 arguments-numbered n (node a ts) h = h
 
 mutual
-  numbered-more : (n m : ℕ) (t : Tree) → n ≤ m → IsTrue (numbered n t) → IsTrue (numbered m t)
+  pub numbered-more : (n m : ℕ) (t : Tree) → n ≤ m → IsTrue (numbered n t) → IsTrue (numbered m t)
   numbered-more n m (var x) l h =
       let r = and_parts (nat_le 1 x) (nat_le x n) h in
       let k : x ≤ n = leb-true x n r.1 in

@@ -1,5 +1,5 @@
 -- Entries: calls whose arguments are marked as ground, as distinct variables that share nothing, or as anything.
-use Rattle.std.specs.Prelude.{◌≡◌, ◌≢◌, ℕ, suc, Bool, true, false, nat_eq, if◌then◌else◌, List, [], ◌∷◌, Option, Some, None, length}
+use Rattle.std.specs.Prelude.{◌≡◌, ◌≢◌, ℕ, suc, Bool, true, false, nat_eq, if◌then◌else◌, List, [], ◌∷◌, Option, Some, None, length, ◌≤◌}
 use Rattle.ap_term.specs.Tree.{Trees, var, count_trees}
 use Rattle.ap_term.specs.Vars.{occurs}
 use Rattle.ap_term.specs.Independence.{IsGround}
@@ -10,6 +10,8 @@ use Rattle.ap_absunify.specs.declared.states.State.{State}
 use Rattle.ap_absunify.specs.State.{made}
 use Rattle.ap_patterns.specs.declared.entries.Mark.{Mark}
 use Rattle.ap_patterns.specs.declared.entries.Mark.TheVariants.{Ground, Free, Any}
+use Rattle.ap_patterns.specs.declared.entries.Entries.{Entries}
+use Rattle.ap_patterns.specs.declared.entries.Entries.TheVariants.{All, One, Query}
 use Rattle.ap_patterns.specs.Places.{argument}
 
 -- the mark of place j, where the first has place i
@@ -55,3 +57,8 @@ any_marks i (Free ∷ ms) = any_marks (suc i) ms
 -- what is known of a query that is as the marks say
 abbrev pub marked_pattern : List Mark → State
 marked_pattern ms = made (norm (record { sets = sets_of (free_sets 1 ms); any = any_marks 1 ms })) (free_marks 1 ms)
+
+-- an entry has a mark for each argument, at most 255
+abbrev pub IsMarked : Entries → Type 0
+IsMarked (One e) = (length e.marks.items ≡ e.predicate.arity) × (length e.marks.items ≤ 255)
+IsMarked _ = Unit {0}
