@@ -5,7 +5,7 @@ pub mod Followed
 pub mod PermanentReads
 pub mod BodyTurns
 pub mod Placed
-pub mod Moving
+pub mod Moved
 pub mod Growing
 pub mod Making
 pub mod AskedClause

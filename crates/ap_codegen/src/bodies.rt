@@ -125,13 +125,12 @@ fn head(code: &mut Vec<Step>, t: &Term, seen: &mut Vec<u64>) -> Result<(), NoMem
     }
 }
 
-/// The code of a clause, whatever stands behind it.
-pub fn permanent_code(alloc: Global, clause: &Clause) -> Result<Vec<Step>, NoMemory>
+/// The code of a clause, whatever stands behind it, with an environment or without.
+pub fn permanent_code(alloc: Global, clause: &Clause, framed: bool) -> Result<Vec<Step>, NoMemory>
     ensures { IfOk result (λ code. (rest : List Said) → Reads (steps_of code.items ++ rest) clause.now) }
 {
     let goals = goals_of(alloc, clause.body())?;
     let vars = clause.vars() as u8;
-    let framed = vars > 0 || goals.len() > 1;
     let mut code = Vec::new(alloc);
     let mut seen = Vec::new(alloc);
     enter(&mut code, framed, vars)?;

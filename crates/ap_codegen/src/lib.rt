@@ -15,5 +15,6 @@ mod permanent;
 mod programs;
 mod steps;
 mod tables;
+mod temporary;
 
 pub use programs::compile;

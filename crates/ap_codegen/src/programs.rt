@@ -11,10 +11,10 @@ ghost use Rattle.ap_codegen.specs.Assembled.{Grows, Holds, AreCoded, heads, clau
 
 use crate::asking::asked_program;
 use crate::assembly::assemble;
-use crate::bodies::permanent_code;
 use crate::layout::lay;
 use crate::permanent::{above, count};
 use crate::tables::Tables;
+use crate::temporary::clause_steps;
 use ap_instr::{Code, Instr, Predicate};
 use ap_term::{Atom, Clause, NoMemory, Program, Query, Term, fixed};
 use std::alloc::Global;
@@ -35,7 +35,7 @@ fn clause_code(alloc: Global, tables: &mut Tables, clause: &Clause) -> Result<Ve
     ensures grows { OnOk result (Grows tables.old tables.new) }
     ensures code { IfOk result (λ is. (code : Compiled) (rest : List Said) → Holds tables.new code → Reads (said code is.items ++ rest) clause.now) }
 {
-    let steps = permanent_code(alloc, clause)?;
+    let steps = clause_steps(alloc, clause)?;
     let mut out = Vec::new(alloc);
     assemble(tables, steps.as_slice(), &mut out)?;
     Ok(out)
