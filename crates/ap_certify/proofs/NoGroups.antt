@@ -9,7 +9,7 @@ use Rattle.ap_term.specs.Goals as goals
 use Rattle.ap_term.specs.Goals.{Clause, Program}
 use Rattle.ap_cge.specs.Stripped.{stripped_part, stripped_clause, stripped}
 use Rattle.ap_certify.specs.declared.certified.Scope.TheVariants.{Every}
-use Rattle.ap_certify.specs.Forks.{Fork, Goal, call, fork, moved, placed, Tracked, child_if, clause_children, call_children, children_by, children, opened, IsOneOf, ComesFirst, Forks, here, below, beside}
+use Rattle.ap_certify.specs.Forks.{Fork, Goal, call, fork, moved, renamed, placed, Tracked, child_if, clause_children, call_children, children_by, children, opened, IsOneOf, ComesFirst, Forks, here, below, beside}
 use Rattle.ap_certify.specs.Certificate.{AreMissingGiven}
 
 abbrev pub AllCalls : List Goal → Type 0
@@ -69,7 +69,7 @@ by_clauses : (p : Program) (s t : Tracked) (g : Tree) (rest : List Goal) → NoG
 by_clauses [] s t g rest h b i = absurd i
 by_clauses (c ∷ cs) s t g rest h b i =
     elim (of_both t (clause_children s g rest c) (flat_map (clause_children s g rest) cs) i) [
-      | inl k ↦ child_calls s t rest (mgu g (instance (shift s.next) c.head)) (map (placed (shift s.next)) c.body) (c.vars + 1) (placed_calls (shift s.next) c.body h.0) b k
+      | inl k ↦ child_calls s t rest (mgu g (instance (shift s.next) c.head)) (map (placed (renamed c.vars s.next)) c.body) (c.vars + 1) (placed_calls (renamed c.vars s.next) c.body h.0) b k
       | inr k ↦ by_clauses cs s t g rest h.1 b k
     ]
 

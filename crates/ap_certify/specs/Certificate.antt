@@ -1,8 +1,7 @@
 -- What a certified program promises.
-use Rattle.std.specs.Prelude.{◌≡◌, ℕ, Bool, true, false, ◌||◌, ◌&&◌, nat_eq, IsTrue, List}
-use Rattle.std.specs.List.{All, list_any}
+use Rattle.std.specs.Prelude.{◌≡◌, ℕ, false, IsTrue}
+use Rattle.std.specs.List.{All}
 use Rattle.ap_term.specs.declared.clauses.Check.{Check}
-use Rattle.ap_term.specs.declared.clauses.Check.TheVariants.{Ground, Indep}
 use Rattle.ap_term.specs.Tree.{Tree}
 use Rattle.ap_term.specs.WellFormed.{callable}
 use Rattle.ap_term.specs.Goals.{Program}
@@ -11,6 +10,7 @@ use Rattle.ap_cge.specs.Stripped.{stripped}
 use Rattle.ap_certify.specs.declared.certified.Scope.{Scope}
 use Rattle.ap_certify.specs.declared.certified.Scope.TheVariants.{Every, Of}
 use Rattle.ap_certify.specs.Entered.{IsEntered}
+use Rattle.ap_certify.specs.Written.{is_written}
 use Rattle.ap_certify.specs.Forks.{Fork, Forks, IsUnused, alone}
 
 -- an annotated program, and the queries for which it is certified
@@ -22,16 +22,6 @@ pub record Certificate : Type 0 where
 abbrev pub IsWithin : Program → Scope → Tree → Type 0
 IsWithin p Every goal = IsTrue (callable goal)
 IsWithin p (Of entries) goal = IsEntered p entries goal
-
--- whether two checks ask for the same: independence doesn't tell its sides apart
-abbrev pub same_check : Check → Check → Bool
-same_check (Ground x) (Ground y) = nat_eq x y
-same_check (Ground x) (Indep y z) = false
-same_check (Indep x y) (Ground z) = false
-same_check (Indep x y) (Indep z w) = (nat_eq x z && nat_eq y w) || (nat_eq x w && nat_eq y z)
-
-abbrev pub is_written : Check → List Check → Bool
-is_written c cs = list_any (same_check c) cs
 
 -- each check of the full condition that isn't written holds
 abbrev pub MissingHold : Fork → Type 0

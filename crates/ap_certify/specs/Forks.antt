@@ -1,12 +1,13 @@
 -- The groups that a search comes to. A state of the search keeps beside each group its clause's text and the instances
 -- of its clause's variables; without these it is a state of the search.
-use Rattle.std.specs.Prelude.{◌≡◌, ℕ, ◌+◌, ◌<◌, ◌≤◌, true, ◌⊎◌, List, [], ◌∷◌, ◌++◌, map, Option, Some, None}
+use Rattle.std.specs.Prelude.{◌≡◌, ℕ, ◌+◌, ◌<◌, ◌≤◌, true, ◌⊎◌, List, [], ◌∷◌, ◌++◌, map, if◌then◌else◌, Option, Some, None}
 use Rattle.std.specs.List.{flat_map}
 use Rattle.ap_term.specs.declared.clauses.Check.{Check}
-use Rattle.ap_term.specs.Tree.{Tree, Trees, none, more}
+use Rattle.ap_term.specs.Tree.{Tree, Trees, var, atom, none, more}
 use Rattle.ap_term.specs.Vars.{occurs}
 use Rattle.ap_term.specs.Substitution.{instance, instance_all, Subst, value, shift}
 use Rattle.ap_term.specs.Unification.{mgu}
+use Rattle.ap_term.specs.WellFormed.{in_range}
 use Rattle.ap_term.specs.Builtins.{builtin}
 use Rattle.ap_term.specs.Goals as goals
 use Rattle.ap_term.specs.Goals.{Clause, Program, instance_check}
@@ -33,6 +34,10 @@ untracked_goal (fork cs ts f now) = goals.group now (instance_all f ts)
 abbrev pub moved : (ℕ → Tree) → Goal → Goal
 moved u (call t) = call (instance u t)
 moved u (fork cs ts f now) = fork cs ts (λ x. instance u (f x)) (flat_map (instance_check u) now)
+
+-- a clause's variables, which are numbered from 1 to n, moved up; beside them there is none
+abbrev pub renamed : ℕ → ℕ → ℕ → Tree
+renamed n next x = if in_range n x then var (x + next) else atom 0
 
 -- a part of a body, f giving the instances of the clause's variables
 abbrev pub placed : (ℕ → Tree) → goals.Part → Goal
@@ -70,7 +75,7 @@ child_if s rest (Some b) body takes = record {
 } ∷ []
 
 abbrev pub clause_children : Tracked → Tree → List Goal → Clause → List Tracked
-clause_children s g rest c = child_if s rest (mgu g (instance (shift s.next) c.head)) (map (placed (shift s.next)) c.body) (c.vars + 1)
+clause_children s g rest c = child_if s rest (mgu g (instance (shift s.next) c.head)) (map (placed (renamed c.vars s.next)) c.body) (c.vars + 1)
 
 abbrev pub call_children : Program → Tracked → Tree → List Goal → Option (Option Subst) → List Tracked
 call_children p s g rest None = flat_map (clause_children s g rest) p

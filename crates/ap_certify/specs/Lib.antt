@@ -1,3 +1,6 @@
 pub mod Forks
+pub mod Written
 pub mod Entered
 pub mod Certificate
+pub mod GroupsGiven
+pub mod Laws

@@ -6,6 +6,7 @@
 #![tactic(auto)]
 
 mod certified;
+pub mod laws;
 mod without_groups;
 
 pub use certified::{Certified, Scope};
