@@ -1,0 +1,77 @@
+-- What new cells, and a term that is matched with a constant, make of the maps that fit.
+use Rattle.std.proofs.Common.{◌≡◌, ℕ, ℤ, ◌<◌, ◌==◌, Bool, true, false, List, [], ◌∷◌, ◌++◌, length, map, refl, sym, ap, ◌∙◌, subst, arith}
+use Rattle.std.specs.Ordering.{int_eq}
+use Rattle.std.proofs.lemmas.Bool.Decides.{Decides-int_eq}
+use Rattle.std.proofs.lemmas.Bool.{false≢true}
+use Rattle.ap_term.specs.Tree.{Tree, var, int, atom}
+use Rattle.ap_term.specs.Vars.{occurs}
+use Rattle.ap_term.specs.Substitution.{instance, value, one}
+use Rattle.ap_term.proofs.Solutions.{same_var, same_test}
+use Rattle.ap_cells.specs.declared.cells.Raw.{Raw}
+use Rattle.ap_cells.specs.Trees.{tree_at, trees, step, Within}
+use Rattle.ap_cells.specs.Store.{IsStore}
+use Rattle.ap_match.specs.Fits.{Fits, cell_tree, Becomes, Answered}
+use Rattle.ap_match.proofs.Inside.{inside}
+use Rattle.ap_match.proofs.Maps.{below, last, fits-longer, push-fits, bound, bound-fits}
+
+-- a new cell behind the old ones
+module _ (old new : List Raw) (trail : List ℕ) (c : Raw) (s : IsStore old trail) (w : Within (length old) (length old) c) (e : new ≡ old ++ c ∷ []) (t : trees new ≡ trees old ++ step (trees old) (length old) c ∷ []) where
+  pushed : trees (old ++ c ∷ []) ≡ trees old ++ step (trees old) (length old) c ∷ []
+  pushed = subst (λ cs. trees cs ≡ trees old ++ step (trees old) (length old) c ∷ []) e t
+
+  pub push-becomes : (place : ℕ) → place ≡ length old → Becomes old new (λ k. Unit {0}) (λ k. k place ≡ cell_tree k place c)
+  push-becomes place p =
+      subst (λ n. Becomes old new (λ k. Unit {0}) (λ k. k n ≡ cell_tree k n c)) (sym p)
+      (subst (λ cs. Becomes old cs (λ k. Unit {0}) (λ k. k (length old) ≡ cell_tree k (length old) c)) (sym e) (push-fits old c (inside old trail s) w pushed))
+
+  -- under each map that gives the new place its tree
+  pub push-longer : (place : ℕ) → place ≡ length old → (k : ℕ → Tree) → Fits old k → k place ≡ cell_tree k place c → Fits new k
+  push-longer place p k h q =
+      subst (λ cs. Fits cs k) (sym e) (fits-longer old c (inside old trail s) w pushed k h (subst (λ n. k n ≡ cell_tree k n c) p q))
+
+  pub tree-below : (i : ℕ) → i < length old → tree_at (trees new) i ≡ tree_at (trees old) i
+  tree-below i l = ap (λ cs. tree_at (trees cs) i) e ∙ below old c (inside old trail s) w pushed i l
+
+  pub tree-last : (place : ℕ) → place ≡ length old → tree_at (trees new) place ≡ step (trees old) (length old) c
+  tree-last place p = ap (tree_at (trees new)) p ∙ ap (λ cs. tree_at (trees cs) (length old)) e ∙ last old c (inside old trail s) w pushed
+
+  -- bound to the new place, at which no variable stands
+  pub bind-becomes : (bound_cells : List Raw) (x place : ℕ) → place ≡ length old → x < length old → tree_at (trees old) x ≡ var x → ((y : ℕ) → step (trees old) (length old) c ≡ var y → ⊥)
+      → occurs x (step (trees old) (length old) c) ≡ false → trees bound_cells ≡ map (instance (value (one x (tree_at (trees new) place)))) (trees new) → length bound_cells ≡ length new
+      → Becomes old bound_cells (λ k. k x ≡ cell_tree k (length old) c) (λ k. Unit {0})
+  bind-becomes bs x place p l free term absent now len =
+      bound-fits old c (inside old trail s) w pushed bs x l (λ q. term (length old) (ap (step (trees old) (length old)) q))
+      (bound (trees (old ++ c ∷ [])) (trees bs) x (tree_at (trees (old ++ c ∷ [])) (length old)) (tree_at (trees (old ++ c ∷ [])) x) (at x l ∙ free) (ap (occurs x) end ∙ absent) whole)
+      (len ∙ ap length e)
+    where
+      at : (i : ℕ) → i < length old → tree_at (trees (old ++ c ∷ [])) i ≡ tree_at (trees old) i
+      at i b = below old c (inside old trail s) w pushed i b
+
+      end : tree_at (trees (old ++ c ∷ [])) (length old) ≡ step (trees old) (length old) c
+      end = last old c (inside old trail s) w pushed
+
+      whole : trees bs ≡ map (instance (value (one x (tree_at (trees (old ++ c ∷ [])) (length old))))) (trees (old ++ c ∷ []))
+      whole = subst (λ cs. trees bs ≡ map (instance (value (one x (tree_at (trees cs) (length old))))) (trees cs)) e (now ∙ ap (λ q. map (instance (value (one x (tree_at (trees new) q)))) (trees new)) p)
+
+-- what is asked, in other words
+pub Becomes-asked : (old new : List Raw) (P Q R : (ℕ → Tree) → Type 0) → ((k : ℕ → Tree) → Fits old k → P k → Q k) → ((k : ℕ → Tree) → Fits old k → Q k → P k) → Becomes old new P R → Becomes old new Q R
+Becomes-asked old new P Q R there back b = record {
+  longer = b.longer;
+  only = λ k h. let u = b.only k h in (u.0, there k u.0 u.1, u.2);
+  each = λ k h q. b.each k h (back k h q);
+}
+
+-- what holds already
+pub Becomes-same : (cs : List Raw) (P : (ℕ → Tree) → Type 0) → ((k : ℕ → Tree) → Fits cs k → P k) → Becomes cs cs P (λ k. Unit {0})
+Becomes-same cs P holds = record { longer = omega arith; only = λ k h. (h, holds k h, tt); each = λ k h p. (k, λ i b. refl, h) }
+
+-- a place that has a tree already, which is a constant or not
+pub decided : (cs : List Raw) (place : ℕ) (t u : Tree) (b : Bool) → ((k : ℕ → Tree) → Fits cs k → k place ≡ t) → (b ≡ true → t ≡ u) → (t ≡ u → b ≡ true) → Answered cs cs (λ k. k place ≡ u) b
+decided cs place t u true is then only = Becomes-same cs (λ k. k place ≡ u) (λ k h. is k h ∙ then refl)
+decided cs place t u false is then only = λ k h e. false≢true (only (sym (is k h) ∙ e))
+
+pub decided-atom : (cs : List Raw) (place a b : ℕ) (r : Bool) → ((k : ℕ → Tree) → Fits cs k → k place ≡ atom a) → r ≡ (a == b) → Answered cs cs (λ k. k place ≡ atom b) r
+decided-atom cs place a b r is e = decided cs place (atom a) (atom b) r is (λ p. ap atom (same_var a b (sym e ∙ p))) (λ p. let q : a ≡ b = cc in e ∙ same_test a b q)
+
+pub decided-integer : (cs : List Raw) (place : ℕ) (x y : ℤ) (r : Bool) → ((k : ℕ → Tree) → Fits cs k → k place ≡ int x) → r ≡ int_eq x y → Answered cs cs (λ k. k place ≡ int y) r
+decided-integer cs place x y r is e = decided cs place (int x) (int y) r is (λ p. ap int ((Decides-int_eq x y).0 (sym e ∙ p))) (λ p. let q : x ≡ y = cc in e ∙ (Decides-int_eq x y).1 q)

@@ -1,0 +1,112 @@
+//! Equations, constants and new cells.
+
+ghost use Rattle.std.specs.Prelude.{◌≡◌, ℕ, ◌+◌, ◌<◌, ◌≤◌, length, false, ◌==◌, IfOk};
+ghost use Rattle.std.specs.Ordering.{int_eq};
+ghost use Rattle.ap_term.specs.Tree.{Tree, var, int, atom};
+ghost use Rattle.ap_term.specs.Vars.{occurs};
+ghost use Rattle.ap_cells.specs.Raws.{raw_of};
+ghost use Rattle.ap_cells.specs.Trees.{tree_at, trees, step, Within};
+ghost use Rattle.ap_cells.specs.Store.{Keeps};
+ghost use Rattle.ap_match.specs.Fits.{Fits, cell_tree, Becomes, Answered};
+
+use ap_cells::{Cell, Cells, Top};
+use ap_term::{Atom, NoMemory};
+use ap_unify::{Work, unify};
+
+/// Makes the terms of two places equal, if they can be. After false, or want of memory, some bindings may be made;
+/// `undo_to` takes them back.
+pub fn equate(cells: &mut Cells, a: usize, b: usize, work: &mut Work) -> Result<bool, NoMemory>
+    requires { (a < length cells.old.cells) × (b < length cells.old.cells) }
+    ensures answered { IfOk result (λ r. Answered cells.old.cells cells.new.cells (λ k. k a ≡ k b) r) }
+    ensures len { length cells.new.cells ≡ length cells.old.cells }
+    ensures spare { cells.new.spare ≡ cells.old.spare }
+    ensures keeps { Keeps cells.old cells.new }
+{
+    let answer = unify(cells, a, b, work)?;
+    Ok(answer)
+}
+
+/// A new place with this cell. It takes no memory.
+pub fn push_new(cells: &mut Cells, cell: Cell) -> usize
+    requires room { 0 < cells.old.spare }
+    requires within { Within (length cells.old.cells) (length cells.old.cells) (raw_of cell) }
+    ensures place { result ≡ length cells.old.cells }
+    ensures becomes { Becomes cells.old.cells cells.new.cells (λ k. Unit {0}) (λ k. k result ≡ cell_tree k result (raw_of cell)) }
+    ensures fits { (k : ℕ → Tree) → Fits cells.old.cells k → k result ≡ cell_tree k result (raw_of cell) → Fits cells.new.cells k }
+    ensures len { length cells.new.cells ≡ length cells.old.cells + 1 }
+    ensures spare { cells.new.spare + 1 ≡ cells.old.spare }
+    ensures keeps { Keeps cells.old cells.new }
+{
+    cells.is_store();
+    cells.push(cell)
+}
+
+/// Binds an unbound place to a new cell, at which no variable stands and in whose term the place doesn't.
+fn bind_new(cells: &mut Cells, x: usize, cell: Cell)
+    requires room { 0 < cells.old.spare }
+    requires inside { x < length cells.old.cells }
+    requires within { Within (length cells.old.cells) (length cells.old.cells) (raw_of cell) }
+    requires unbound { tree_at (trees cells.old.cells) x ≡ var x }
+    requires absent { occurs x (step (trees cells.old.cells) (length cells.old.cells) (raw_of cell)) ≡ false }
+    requires term { (y : ℕ) → step (trees cells.old.cells) (length cells.old.cells) (raw_of cell) ≡ var y → ⊥ }
+    ensures becomes { Becomes cells.old.cells cells.new.cells (λ k. k x ≡ cell_tree k (length cells.old.cells) (raw_of cell)) (λ k. Unit {0}) }
+    ensures len { length cells.new.cells ≡ length cells.old.cells + 1 }
+    ensures spare { cells.new.spare + 1 ≡ cells.old.spare }
+    ensures keeps { Keeps cells.old cells.new }
+{
+    cells.is_store();
+    let place = cells.push(cell);
+    cells.bind(x, place);
+}
+
+fn same_atom(a: Atom, b: Atom) -> bool
+    ensures { result ≡ (a == b) }
+{
+    a == b
+}
+
+fn same_integer(a: i64, b: i64) -> bool
+    ensures { result ≡ int_eq a b }
+{
+    a == b
+}
+
+/// Makes a place's term an atom, if it can be. It takes no memory.
+pub fn match_atom(cells: &mut Cells, place: usize, name: Atom) -> bool
+    requires room { 0 < cells.old.spare }
+    requires inside { place < length cells.old.cells }
+    ensures answered { Answered cells.old.cells cells.new.cells (λ k. k place ≡ atom name) result }
+    ensures longer { length cells.old.cells ≤ length cells.new.cells }
+    ensures spare { cells.old.spare ≤ cells.new.spare + 1 }
+    ensures keeps { Keeps cells.old cells.new }
+{
+    match cells.top(place) {
+        Top::Free(x) => {
+            bind_new(cells, x, Cell::Atom(name));
+            true
+        }
+        Top::Atom(found) => same_atom(found, name),
+        Top::Int(_) => false,
+        Top::Node(_, _, _) => false,
+    }
+}
+
+/// Makes a place's term an integer, if it can be. It takes no memory.
+pub fn match_integer(cells: &mut Cells, place: usize, value: i64) -> bool
+    requires room { 0 < cells.old.spare }
+    requires inside { place < length cells.old.cells }
+    ensures answered { Answered cells.old.cells cells.new.cells (λ k. k place ≡ int value) result }
+    ensures longer { length cells.old.cells ≤ length cells.new.cells }
+    ensures spare { cells.old.spare ≤ cells.new.spare + 1 }
+    ensures keeps { Keeps cells.old cells.new }
+{
+    match cells.top(place) {
+        Top::Free(x) => {
+            bind_new(cells, x, Cell::Int(value));
+            true
+        }
+        Top::Int(found) => same_integer(found, value),
+        Top::Atom(_) => false,
+        Top::Node(_, _, _) => false,
+    }
+}

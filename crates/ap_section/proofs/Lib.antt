@@ -1,0 +1,5 @@
+pub mod RegisterMaps
+pub mod Steps
+pub mod StepsTaken
+pub mod Building
+pub mod Entry

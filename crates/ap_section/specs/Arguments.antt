@@ -1,0 +1,24 @@
+-- What an instruction behind a structure makes of the goals that code can ask for, where the structure's arguments are
+-- the cells that are pushed.
+use Rattle.std.specs.Prelude.{◌≡◌, ℕ, suc, ◌+◌, Bool, true, false, List, ◌∷◌, length}
+use Rattle.ap_term.specs.Tree.{Tree, Trees}
+use Rattle.ap_cells.specs.declared.cells.Raw.{Raw}
+use Rattle.ap_instr.specs.Step.{Step}
+use Rattle.ap_instr.specs.Runs.{Runs, spread}
+use Rattle.ap_match.specs.Fits.{Fits}
+
+-- under a map that fits the cells, inside a structure whose arguments ts are still to come, the steps ask for these goals
+abbrev pub AskedInside : List Raw → (ℕ → ℕ) → (ℕ → ℕ) → List Step → Trees → (ℕ → Tree) → Trees → Type 0
+AskedInside cs x y is ts l bs = Fits cs l × Runs is ts (λ w. l (x w)) (λ w. l (y w)) bs
+
+-- one more argument has its cell: under each map, which gives trees to places behind the cells too, code asks for the same
+pub record Built (cs : List Raw) (x y : ℕ → ℕ) (i : Step) (ds : List Raw) (x' y' : ℕ → ℕ) : Type 0 where
+  pub longer : length ds ≡ length cs + 1
+  pub forth : (l : ℕ → Tree) (m : ℕ) (is : List Step) (bs : Trees) → AskedInside cs x y (i ∷ is) (spread l (length cs) (suc m)) l bs → AskedInside ds x' y' is (spread l (length cs + 1) m) l bs
+  pub back : (l : ℕ → Tree) (m : ℕ) (is : List Step) (bs : Trees) → AskedInside ds x' y' is (spread l (length cs + 1) m) l bs → AskedInside cs x y (i ∷ is) (spread l (length cs) (suc m)) l bs
+
+-- The same, or no map serves that gives the structure's own place, which is to come, another tree than its argument.
+abbrev pub BuiltOr : ℕ → List Raw → (ℕ → ℕ) → (ℕ → ℕ) → Step → List Raw → (ℕ → ℕ) → (ℕ → ℕ) → Bool → Type 0
+BuiltOr whole cs x y i ds x' y' true = Built cs x y i ds x' y'
+BuiltOr whole cs x y i ds x' y' false =
+    (l : ℕ → Tree) (m : ℕ) (is : List Step) (bs : Trees) → (l whole ≡ l (length cs) → ⊥) → AskedInside cs x y (i ∷ is) (spread l (length cs) (suc m)) l bs → ⊥
