@@ -1,5 +1,5 @@
 -- A printed term before a rest is read as its tokens.
-use Rattle.std.proofs.Common.{◌≡◌, ℕ, ◌<◌, ◌==◌, Bool, true, false, if◌then◌else◌, List, [], ◌∷◌, ◌++◌, codes, bytes_eq, refl, ap, sym, subst, ◌∙◌, append_assoc, arith}
+use Rattle.std.proofs.Common.{◌≡◌, ℕ, ◌<◌, ◌==◌, Bool, true, false, if◌then◌else◌, List, [], ◌∷◌, ◌++◌, codes, bytes_eq, refl, sym, subst, ◌∙◌, append_assoc, arith}
 use Rattle.std.specs.Prelude.{All}
 use Rattle.std.specs.Fmt.{decimal, signed_decimal}
 use Rattle.std.specs.Str.{IsUtf8}
@@ -10,13 +10,13 @@ use Rattle.std.proofs.lemmas.Str.{IsUtf8-append}
 use Rattle.ap_lexer.specs.declared.kind.TokenKind.{TokenKind}
 use Rattle.ap_lexer.specs.declared.kind.TokenKind.TheVariants as token
 use Rattle.ap_lexer.specs.declared.kind.LexemeKind.TheVariants as kind
-use Rattle.ap_lexer.specs.Lexeme.{lexeme, lexemes}
-use Rattle.ap_lexer.specs.Law.{Spelled, spelled, begins_token}
+use Rattle.ap_lexer.specs.Lexeme.{lexeme}
+use Rattle.ap_lexer.specs.Law.{Spelled}
 use Rattle.ap_term.specs.Tree.{Tree, Trees, var, int, atom, node, none, more}
 use Rattle.ap_writer.specs.Quoted.{is_word, is_symbols, name_text}
 use Rattle.ap_writer.specs.Text.{Shown, by_itself, behind_commas, arguments, compound, cell, shown_node, shown_atom, shown, all_shown, name_at, text}
 use Rattle.ap_writer.specs.Writable.{IsWritable, AreWritable}
-use Rattle.ap_cge.specs.Again.{is_apart, one_token, name_tokens, integer_tokens, variable_tokens, IsReadAs}
+use Rattle.ap_cge.specs.Again.{is_apart, one_token, name_tokens, integer_tokens, variable_tokens}
 use Rattle.ap_cge.specs.TermTokens.{Told, told_alone, told_later, told_arguments, told_compound, told_cell, told_node, told_atom, told, all_told, term_tokens}
 use Rattle.ap_cge.proofs.Lexing.{stops, one_ascii}
 use Rattle.ap_cge.proofs.Tokens.{is_inner, Front, one_front, joined_front, name_front, name_apart, integer_front, variable_front, open_list, close_list}

@@ -1,0 +1,4 @@
+pub mod Unplaced
+pub mod Printable
+pub mod Phrase
+pub mod Readback
