@@ -1,18 +1,16 @@
 -- A closed table that gives what the groups leave out certifies the program.
-use Rattle.std.proofs.Common.{◌≡◌, ℕ, zero, suc, ◌+◌, ◌<◌, ◌⊎◌, inl, inr, Bool, true, false, ◌&&◌, if◌then◌else◌, IsTrue, List, [], ◌∷◌, ◌++◌, Option, Some, None, refl, ap, ap₂, sym, ◌∙◌, subst}
+use Rattle.std.proofs.Common.{◌≡◌, ℕ, inl, inr, Bool, true, false, if◌then◌else◌, IsTrue, List, [], ◌∷◌, ◌++◌, Some, refl, ap, sym, ◌∙◌, subst}
 use Rattle.std.specs.List.{All, flat_map}
-use Rattle.std.proofs.lemmas.Bool.{false≢true, and_parts}
+use Rattle.std.proofs.lemmas.Bool.{and_parts}
 use Rattle.std.proofs.lemmas.List.Elements.{All-head, All-tail, All-nil, All-cons}
 use Rattle.ap_term.specs.declared.fixed.TheConstants.{QUERY}
 use Rattle.ap_term.specs.declared.clauses.Check.{Check}
 use Rattle.ap_term.specs.Tree.{Tree, Trees, var, int, atom, node, none, more, count_trees}
-use Rattle.ap_term.specs.Vars.{occurs}
 use Rattle.ap_term.specs.WellFormed.{callable, numbered, IsClause, IsProgram}
 use Rattle.ap_term.specs.Substitution.{instance}
-use Rattle.ap_term.specs.Builtins.{builtin}
 use Rattle.ap_term.specs.Independence.{IsInFullCondition}
 use Rattle.ap_certify.specs.Written.{is_written}
-use Rattle.ap_term.specs.Goals.{Part, call, group, calls, Clause, Program}
+use Rattle.ap_term.specs.Goals.{Part, call, group, Clause, Program}
 use Rattle.ap_term.proofs.Copies.{instance_var}
 use Rattle.ap_absunify.specs.declared.states.State.{State}
 use Rattle.ap_absunify.specs.declared.states.State.TheVariants.{Unreachable, Reachable}
@@ -20,22 +18,21 @@ use Rattle.ap_absunify.specs.State.{Covers}
 use Rattle.ap_patterns.specs.declared.entries.Entries.{Entries}
 use Rattle.ap_patterns.specs.declared.entries.Entries.TheVariants.{All as AllOf, One, Query}
 use Rattle.ap_patterns.specs.declared.tables.Predicate.{Predicate}
-use Rattle.ap_patterns.specs.declared.slots.Slot.TheVariants.{Call, Success}
-use Rattle.ap_patterns.specs.declared.slots.Given.{Given}
-use Rattle.ap_patterns.specs.Entry.{marked_pattern, AsMarked}
+use Rattle.ap_patterns.specs.declared.slots.Slot.TheVariants.{Call}
+use Rattle.ap_patterns.specs.Entry.{marked_pattern}
 use Rattle.ap_patterns.specs.Places.{arguments, argument}
 use Rattle.ap_patterns.specs.Table.{predicate_of}
-use Rattle.ap_patterns.specs.Given.{Patterns, call_at, to_call, to_success, after_goal, after_goals, after_part, after_body, given_by_goal, given_at_fork, given_in_turn, given_by_part, given_by_body, given_from, given_anyhow, given_by_all, given_by_any_part, given_unanalysed, given_by_clause, given_by_heads, given_by_entries, given, any_pattern, anything, is_analysed, entered}
+use Rattle.ap_patterns.specs.Given.{Patterns, call_at, to_call, to_success, after_goal, after_goals, after_part, after_body, given_by_goal, given_at_fork, given_in_turn, given_by_body, given_from, given_anyhow, given_by_all, given_by_any_part, given_unanalysed, given_by_clause, given_by_heads, given_by_entries, any_pattern, anything, is_analysed, entered}
 use Rattle.ap_patterns.specs.Covered.{IsHeld, IsClosed}
 use Rattle.ap_patterns.proofs.Coverings.{covered-covers}
 use Rattle.ap_patterns.proofs.Marks.{marked-covers}
-use Rattle.ap_certify.specs.Forks.{Fork, IsOneOf, IsUnused, Tracked, Forks, here, below, beside, alone}
+use Rattle.ap_certify.specs.Forks.{Fork, IsOneOf, IsUnused, Tracked, Forks, here, below, beside}
 use Rattle.ap_certify.specs.Entered.{HasClause, IsEntered}
 use Rattle.ap_certify.specs.Certificate.{AreMissingGiven}
 use Rattle.ap_certify.specs.GroupsGiven.{AreGiven, AreWritten, IsReached, IsGivenAs, IsClauseGiven, AreGroupsGiven}
 use Rattle.ap_certify.specs.declared.certified.Scope.TheVariants.{Of}
-use Rattle.ap_certify.proofs.Sights.{Sight, known, unknown, Missing, held_call, callable_instance, Held, after, after_all, TurnHeld, ForkHeld, BodyHeld, after_parts, IsCalled, predicate, any-covers}
-use Rattle.ap_certify.proofs.Sound.{ClauseHeld, AllHeld, entry_as, entry, end_pattern, body_callable, IsGood, goal_good}
+use Rattle.ap_certify.proofs.Sights.{known, unknown, Missing, held_call, callable_instance, after_all, TurnHeld, ForkHeld, BodyHeld, after_parts, IsCalled, predicate, any-covers}
+use Rattle.ap_certify.proofs.Sound.{ClauseHeld, AllHeld, entry_as, end_pattern, body_callable, IsGood, goal_good}
 use Rattle.ap_certify.proofs.Items.{IsSafe, one, bares, Reached, child_safe, first_good, reached_fork}
 
 -- ---- lists

@@ -1,8 +1,7 @@
 -- The search by single moves, on goals alone: a call, or a group that comes first opened.
-use Rattle.std.proofs.Common.{◌≡◌, ℕ, zero, suc, ◌+◌, ◌<◌, ◌≤◌, ◌⊎◌, inl, inr, List, [], ◌∷◌, ◌++◌, map, Option, Some, None, refl, ap, ap₂, sym, ◌∙◌, subst, arith}
+use Rattle.std.proofs.Common.{◌≡◌, ℕ, zero, suc, ◌+◌, ◌≤◌, ◌⊎◌, inl, inr, List, [], ◌∷◌, ◌++◌, map, Option, Some, None, refl, ap, ap₂, sym, ◌∙◌, subst, arith}
 use Rattle.std.specs.List.{flat_map}
 use Rattle.std.proofs.Math.Path.{fun_ext}
-use Rattle.ap_term.specs.declared.clauses.Check.{Check}
 use Rattle.ap_term.specs.Tree.{Tree, Trees, var, none, more}
 use Rattle.ap_term.specs.Substitution.{instance, Subst, value, shift}
 use Rattle.ap_term.specs.Unification.{mgu}
@@ -13,8 +12,8 @@ use Rattle.ap_term.specs.Goals.{Clause, Program}
 use Rattle.ap_term.proofs.Copies.{instance_var, instance_twice}
 use Rattle.ap_term.proofs.Solvable.{mgu-general}
 use Rattle.ap_absunify.specs.MostGeneral.{MostGeneral}
-use Rattle.ap_certify.specs.Forks.{Fork, Goal, call, fork, moved, renamed, placed, calls, opened, Tracked, child_if, clause_children, call_children, children_by, children, IsOneOf, ComesFirst}
-use Rattle.ap_certify.proofs.Runs.{after_head, Ans, answered, by, Body, done, goal, joined, CallFork, within, BodyFork, first, sequence, past_group, in_goal, past_goal}
+use Rattle.ap_certify.specs.Forks.{Fork, Goal, call, fork, moved, renamed, placed, calls, opened, Tracked, child_if, clause_children, call_children, children_by, IsOneOf, ComesFirst}
+use Rattle.ap_certify.proofs.Runs.{after_head, Ans, answered, by, Body, done, goal, joined, within, BodyFork, first, sequence, past_group, in_goal, past_goal}
 
 pub data Item : Type 0 where
   one : Tree → Item

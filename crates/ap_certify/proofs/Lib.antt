@@ -7,3 +7,5 @@ pub mod Items
 pub mod Closed
 pub mod Strict
 pub mod Untracked
+pub mod HeldGoals
+pub mod HeldParts

@@ -1,5 +1,5 @@
 -- A search of a program without groups comes to no group.
-use Rattle.std.proofs.Common.{◌≡◌, ℕ, ◌+◌, ◌⊎◌, inl, inr, List, [], ◌∷◌, ◌++◌, map, Option, Some, None, subst, sym}
+use Rattle.std.proofs.Common.{ℕ, ◌+◌, ◌⊎◌, inl, inr, List, [], ◌∷◌, ◌++◌, map, Option, Some, None, subst, sym}
 use Rattle.std.specs.List.{flat_map}
 use Rattle.ap_term.specs.Tree.{Tree, Trees, none, more}
 use Rattle.ap_term.specs.Substitution.{instance, Subst, value, shift}
@@ -7,9 +7,9 @@ use Rattle.ap_term.specs.Unification.{mgu}
 use Rattle.ap_term.specs.Builtins.{builtin}
 use Rattle.ap_term.specs.Goals as goals
 use Rattle.ap_term.specs.Goals.{Clause, Program}
-use Rattle.ap_cge.specs.Stripped.{stripped_part, stripped_clause, stripped}
+use Rattle.ap_cge.specs.Stripped.{stripped_part, stripped}
 use Rattle.ap_certify.specs.declared.certified.Scope.TheVariants.{Every}
-use Rattle.ap_certify.specs.Forks.{Fork, Goal, call, fork, moved, renamed, placed, Tracked, child_if, clause_children, call_children, children_by, children, opened, IsOneOf, ComesFirst, Forks, here, below, beside}
+use Rattle.ap_certify.specs.Forks.{Fork, Goal, call, fork, moved, renamed, placed, Tracked, child_if, clause_children, call_children, children_by, opened, IsOneOf, ComesFirst, Forks, here, below, beside}
 use Rattle.ap_certify.specs.Certificate.{AreMissingGiven}
 
 abbrev pub AllCalls : List Goal → Type 0

@@ -1,5 +1,5 @@
 -- Runs of a program by what each call and each body comes to, and the groups that they come to.
-use Rattle.std.proofs.Common.{◌≡◌, ℕ, ◌+◌, List, [], ◌∷◌, Option, Some, None}
+use Rattle.std.proofs.Common.{◌≡◌, ℕ, ◌+◌, List, [], ◌∷◌, Some, None}
 use Rattle.ap_term.specs.declared.clauses.Check.{Check}
 use Rattle.ap_term.specs.Tree.{Tree, Trees, var}
 use Rattle.ap_term.specs.Substitution.{instance, Subst, value, shift}

@@ -1,13 +1,12 @@
 -- A closed table covers every call, every answer and every group that a search comes to.
-use Rattle.std.proofs.Common.{◌≡◌, ℕ, ◌+◌, ◌<◌, ◌≤◌, ◌⊎◌, inl, inr, Bool, true, false, ◌&&◌, nat_le, if◌then◌else◌, IsTrue, List, [], ◌∷◌, ◌++◌, Option, Some, None, refl, ap, ap₂, sym, ◌∙◌, subst, arith}
-use Rattle.std.specs.List.{All, flat_map, list_all}
+use Rattle.std.proofs.Common.{◌≡◌, ℕ, ◌+◌, ◌<◌, inl, inr, Bool, true, false, ◌&&◌, nat_le, if◌then◌else◌, IsTrue, List, [], ◌∷◌, None, refl, ap, sym, ◌∙◌, subst, arith}
+use Rattle.std.specs.List.{All, list_all}
 use Rattle.std.proofs.lemmas.Bool.{false≢true, and_parts, and_from, le-leb}
-use Rattle.std.proofs.lemmas.List.Elements.{All-head, All-tail}
 use Rattle.ap_term.specs.declared.clauses.Check.{Check}
 use Rattle.ap_term.specs.Tree.{Tree, Trees, var, atom, none, more, count_trees}
-use Rattle.ap_term.specs.Vars.{occurs, occurs_all}
-use Rattle.ap_term.specs.WellFormed.{in_range, callable, all_callable, numbered, numbered_all, numbered_check, well_formed_part, IsClause}
-use Rattle.ap_term.specs.Substitution.{instance, instance_all, Subst, value, shift}
+use Rattle.ap_term.specs.Vars.{occurs}
+use Rattle.ap_term.specs.WellFormed.{in_range, callable, all_callable, numbered, numbered_all, numbered_check, well_formed_part}
+use Rattle.ap_term.specs.Substitution.{instance, shift}
 use Rattle.ap_term.specs.Builtins.{builtin}
 use Rattle.ap_term.specs.Independence.{Holds, IsInFullCondition}
 use Rattle.ap_term.specs.Goals.{Part, call, group, calls, Clause, Program}
@@ -21,9 +20,8 @@ use Rattle.ap_absunify.specs.declared.states.State.TheVariants.{Unreachable, Rea
 use Rattle.ap_absunify.specs.State.{Covers}
 use Rattle.ap_absunify.proofs.Renamed.{Covers-same}
 use Rattle.ap_absunify.proofs.Vars.{any_some, occurs_instance}
-use Rattle.ap_patterns.specs.declared.slots.Given.{Given}
 use Rattle.ap_patterns.specs.Places.{arguments, argument, call_pattern}
-use Rattle.ap_patterns.specs.Entering.{own, enter, own_after}
+use Rattle.ap_patterns.specs.Entering.{own, own_after}
 use Rattle.ap_patterns.specs.Table.{predicate_of}
 use Rattle.ap_patterns.specs.Given.{Patterns, call_at, success_at, to_success, is_analysed, entered, any_pattern, anything}
 use Rattle.ap_patterns.specs.Covered.{IsHeld}
@@ -31,10 +29,10 @@ use Rattle.ap_patterns.proofs.CallPatterns.{call_pattern-covers}
 use Rattle.ap_patterns.proofs.Entering.{own-range, own-has, enter-covers}
 use Rattle.ap_conditions.proofs.Given.{given-holds}
 use Rattle.ap_certify.specs.Written.{is_written}
-use Rattle.ap_certify.specs.Forks.{Fork, renamed, IsOneOf, IsGoalOf}
+use Rattle.ap_certify.specs.Forks.{Fork, IsOneOf, IsGoalOf}
 use Rattle.ap_certify.specs.Certificate.{MissingHold}
 use Rattle.ap_certify.proofs.Runs.{after_head, Ans, answered, by, Body, done, goal, joined, CallFork, within, BodyFork, first, sequence, past_group, in_goal, past_goal}
-use Rattle.ap_certify.proofs.Tame.{Tame, Wider, ans_tame, body_tame, own_wider, below, numbered-range, in_range-bounds}
+use Rattle.ap_certify.proofs.Tame.{Tame, ans_tame, body_tame, own_wider, below, numbered-range, in_range-bounds}
 use Rattle.ap_certify.proofs.Sights.{Sight, known, unknown, Sees, after, Held, after_all, TurnHeld, ForkHeld, Missing, BodyHeld, after_parts, sees_same, IsCalled, called, held_success, Bounded, goal_bounded, Of_f, next_bounded, returned, answered-sees, argument_instance, arguments_instance, callable_instance, predicate_instance, count_instance, predicate, any-covers}
 
 -- ---- bodies whose goals can be called

@@ -1,5 +1,5 @@
 -- What an answer binds and mentions: of the variables below n those of the call alone, and new ones from n on.
-use Rattle.std.proofs.Common.{◌≡◌, ℕ, ℤ, zero, suc, ◌+◌, ◌<◌, ◌≤◌, ◌⊎◌, inl, inr, Bool, true, false, not, ◌||◌, ◌&&◌, ◌==◌, if◌then◌else◌, IsTrue, nat_eq, nat_le, is_none, List, [], ◌∷◌, Option, Some, None, refl, ap, ap₂, sym, ◌∙◌, subst, arith}
+use Rattle.std.proofs.Common.{◌≡◌, ℕ, ℤ, ◌+◌, ◌<◌, ◌≤◌, ◌⊎◌, inl, inr, Bool, true, false, not, ◌||◌, ◌==◌, if◌then◌else◌, IsTrue, nat_eq, nat_le, is_none, List, [], Option, Some, None, refl, ap, sym, ◌∙◌, subst, arith}
 use Rattle.std.proofs.lemmas.Bool.{false≢true, and_parts, leb-true}
 use Rattle.ap_term.specs.declared.fixed.TheConstants.{TRUE, FAIL}
 use Rattle.ap_term.specs.declared.builtins.Relation.{Relation}
@@ -13,14 +13,14 @@ use Rattle.ap_term.specs.Unifier.{IsMostGeneral}
 use Rattle.ap_term.specs.Arithmetic.{eval, compare_values}
 use Rattle.ap_term.specs.Identical.{identical}
 use Rattle.ap_term.specs.Builtins.{relation_named, succeeds_if, unified_value, named_answer, builtin}
-use Rattle.ap_term.specs.Goals.{Part, call, group, calls, Clause, Program}
+use Rattle.ap_term.specs.Goals.{Part, Clause, Program}
 use Rattle.ap_term.proofs.Solvable.{mgu-general}
 use Rattle.ap_term.proofs.Solutions.{same_var}
-use Rattle.ap_sharing.proofs.Elements.{same_test, clash}
+use Rattle.ap_sharing.proofs.Elements.{clash}
 use Rattle.ap_absunify.specs.MostGeneral.{MostGeneral}
 use Rattle.ap_absunify.proofs.Vars.{or_cases, decide, refuted, any_some, occurs_instance}
 use Rattle.ap_absunify.proofs.Unifier.{stays, none_new}
-use Rattle.ap_certify.specs.Forks.{IsOneOf, renamed}
+use Rattle.ap_certify.specs.Forks.{IsOneOf}
 use Rattle.ap_certify.proofs.Runs.{after_head, Ans, answered, by, Body, done, goal, joined}
 
 -- of the variables below n, s binds those of V alone, to terms with variables of V and variables from n to m

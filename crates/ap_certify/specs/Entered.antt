@@ -1,9 +1,9 @@
 -- The queries with which a program is entered.
-use Rattle.std.specs.Prelude.{◌≡◌, ◌⊎◌, IsTrue, List, [], ◌∷◌, Some}
+use Rattle.std.specs.Prelude.{◌≡◌, ◌⊎◌, IsTrue, [], ◌∷◌, Some}
 use Rattle.ap_term.specs.declared.fixed.TheConstants.{QUERY}
 use Rattle.ap_term.specs.Tree.{Tree, atom}
 use Rattle.ap_term.specs.WellFormed.{callable}
-use Rattle.ap_term.specs.Goals.{Clause, Program}
+use Rattle.ap_term.specs.Goals.{Program}
 use Rattle.ap_patterns.specs.declared.entries.Entries.{Entries}
 use Rattle.ap_patterns.specs.declared.entries.Entries.TheVariants.{All, One, Query}
 use Rattle.ap_patterns.specs.Entry.{AsMarked}

@@ -1,5 +1,5 @@
 -- What certified programs are worth.
-use Rattle.std.specs.Prelude.{◌≡◌, IsTrue, map}
+use Rattle.std.specs.Prelude.{◌≡◌, map}
 use Rattle.ap_term.specs.Goals.{Program}
 use Rattle.ap_term.specs.WellFormed.{IsProgram}
 use Rattle.ap_term.specs.Search as search

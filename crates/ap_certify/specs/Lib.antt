@@ -4,3 +4,4 @@ pub mod Entered
 pub mod Certificate
 pub mod GroupsGiven
 pub mod Laws
+pub mod Held

@@ -5,9 +5,17 @@
 //! that isn't written holds.
 #![tactic(auto)]
 
+mod bodies;
 mod certified;
+mod coverage;
+mod faults;
+mod groups;
 pub mod laws;
 mod without_groups;
 
 pub use certified::{Certified, Scope};
+pub use faults::CertErr;
 pub use without_groups::plain;
+
+#[cfg(test)]
+mod tests;

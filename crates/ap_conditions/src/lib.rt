@@ -10,3 +10,6 @@ mod simplifications;
 
 pub use conditions::full;
 pub use simplifications::{Simplified, gives, simplify};
+
+#[cfg(test)]
+mod tests;
