@@ -1,14 +1,14 @@
 -- Arguments of a structure that are pushed one by one.
-use Rattle.std.proofs.Common.{◌≡◌, ℕ, zero, suc, ◌+◌, ◌<◌, ◌≤◌, Bool, true, false, List, ◌∷◌, length, refl, ap, sym, ◌∙◌, subst, arith}
+use Rattle.std.proofs.Common.{◌≡◌, ℕ, suc, ◌+◌, List, ◌∷◌, length, refl, ap, sym, ◌∙◌, subst}
 use Rattle.ap_term.specs.Tree.{Tree, Trees}
 use Rattle.ap_cells.specs.declared.cells.Raw.{Raw}
-use Rattle.ap_cells.specs.declared.cells.Raw.TheVariants.{Free, Same}
+use Rattle.ap_cells.specs.declared.cells.Raw.TheVariants.{Same}
 use Rattle.ap_instr.specs.declared.instruction.Slot.{Slot}
 use Rattle.ap_instr.specs.Step.{Step, unify_variable, unify_value, unify_constant}
 use Rattle.ap_instr.specs.Runs.{Runs, spread, read, set_x, set_y}
 use Rattle.ap_match.specs.Fits.{Fits, cell_tree, Becomes}
 use Rattle.ap_section.specs.Moves.{held}
-use Rattle.ap_section.specs.Arguments.{AskedInside, Built}
+use Rattle.ap_section.specs.Arguments.{Built}
 use Rattle.ap_section.proofs.RegisterMaps.{funext, read-of}
 use Rattle.ap_section.proofs.Steps.{Runs-written, Runs-unwritten}
 
