@@ -1,14 +1,15 @@
 -- Arguments of a structure that are pushed one by one.
-use Rattle.std.proofs.Common.{◌≡◌, ℕ, zero, suc, ◌+◌, ◌<◌, ◌≤◌, Bool, true, false, List, ◌∷◌, length, refl, ap, sym, ◌∙◌, subst, arith}
+use Rattle.std.proofs.Common.{◌≡◌, ℕ, suc, ◌+◌, ◌<◌, List, ◌∷◌, length, refl, ap, sym, ◌∙◌, subst}
 use Rattle.ap_term.specs.Tree.{Tree, Trees}
 use Rattle.ap_cells.specs.declared.cells.Raw.{Raw}
-use Rattle.ap_cells.specs.declared.cells.Raw.TheVariants.{Free, Same}
+use Rattle.ap_cells.specs.declared.cells.Raw.TheVariants.{Same}
 use Rattle.ap_instr.specs.declared.instruction.Slot.{Slot}
+use Rattle.ap_instr.specs.declared.instruction.Slot.TheVariants.{X, Y}
 use Rattle.ap_instr.specs.Step.{Step, unify_variable, unify_value, unify_constant}
 use Rattle.ap_instr.specs.Runs.{Runs, spread, read, set_x, set_y}
 use Rattle.ap_match.specs.Fits.{Fits, cell_tree, Becomes}
-use Rattle.ap_section.specs.Moves.{held}
-use Rattle.ap_section.specs.Arguments.{AskedInside, Built}
+use Rattle.ap_section.specs.Moves.{held, HoldPlacesBut}
+use Rattle.ap_section.specs.Arguments.{Built}
 use Rattle.ap_section.proofs.RegisterMaps.{funext, read-of}
 use Rattle.ap_section.proofs.Steps.{Runs-written, Runs-unwritten}
 
@@ -53,3 +54,8 @@ variable-built cs ds p end len b f x x' y y' v ex ey =
       forth = λ l m is bs h. (f l h.0 refl, Runs-written is (spread l (length cs + 1) m) bs l v p (l (length cs)) (held x) (held y) (ap l end) h.1);
       back = λ l m is bs h. ((b.only l h.0).0, Runs-unwritten is (spread l (length cs + 1) m) bs l v p (l (length cs)) (held x) (held y) (ap l end) h.1);
     }
+
+-- a register that doesn't hold the place that is to come holds a place
+pub read-but : (whole n : ℕ) (x y : List ℕ) (v : Slot) → HoldPlacesBut whole n x → HoldPlacesBut whole n y → (read v (held x) (held y) ≡ whole → ⊥) → read v (held x) (held y) < n
+read-but whole n x y (X m) hx hy = hx m
+read-but whole n x y (Y m) hx hy = hy m

@@ -1,17 +1,13 @@
 -- Calls and the entry of a clause.
-use Rattle.std.proofs.Common.{◌≡◌, ℕ, zero, suc, ◌+◌, ◌<◌, List, [], ◌∷◌, drop, length, refl, ap, ap₂, sym, ◌∙◌, subst, arith}
+use Rattle.std.proofs.Common.{◌≡◌, ℕ, drop, refl, ap, sym, ◌∙◌, subst}
 use Rattle.ap_term.specs.Tree.{Tree, Trees, var, int, atom, node, none, more, count_trees}
 use Rattle.ap_term.specs.Substitution.{instance, instance_all}
-use Rattle.ap_term.specs.Goals.{Clause}
 use Rattle.ap_laws.specs.Plain.{append_trees, plain_goals}
-use Rattle.ap_laws.proofs.Plain.{append_trees-assoc}
-use Rattle.ap_instr.specs.Code.{Compiled}
-use Rattle.ap_instr.specs.Step.{Step, call, execute, proceed, steps_of}
-use Rattle.ap_instr.specs.Runs.{Runs, Asks, Reads, applied, arguments, spread, lost}
-use Rattle.ap_match.specs.Fits.{Fits}
+use Rattle.ap_instr.specs.Step.{steps_of}
+use Rattle.ap_instr.specs.Runs.{Runs, Asks, applied, arguments, spread, lost}
 use Rattle.ap_resolution.specs.Instances.{Resolved}
 use Rattle.ap_section.specs.Moves.{held}
-use Rattle.ap_section.specs.Standing.{Return, Standing, Waits, AtCall, InCode, IsHead, EntryLaw, returning, CallLaw}
+use Rattle.ap_section.specs.Standing.{AtCall, InCode, IsHead, EntryLaw, CallLaw}
 use Rattle.ap_section.proofs.RegisterMaps.{funext}
 
 -- ---- heads

@@ -3,3 +3,4 @@ pub mod Steps
 pub mod StepsTaken
 pub mod Building
 pub mod Entry
+pub mod Structures

@@ -31,7 +31,7 @@ Moves-stuck cs ds x y x' y' js is m s k bs h = let a = m.forth k bs h in s a.0 b
 -- ---- registers under maps that agree
 
 module _ (n : ℕ) (k l : ℕ → Tree) (a : Agree n k l) where
-  same-held : (x : ℕ → ℕ) → ((w : ℕ) → x w < n) → ◌≡◌ {A = ℕ → Tree} (λ w. k (x w)) (λ w. l (x w))
+  pub same-held : (x : ℕ → ℕ) → ((w : ℕ) → x w < n) → ◌≡◌ {A = ℕ → Tree} (λ w. k (x w)) (λ w. l (x w))
   same-held x h = funext (λ w. k (x w)) (λ w. l (x w)) (λ w. a (x w) (h w))
 
   pub Runs-agree : (x y : ℕ → ℕ) → ((w : ℕ) → x w < n) → ((w : ℕ) → y w < n) → (is : List Step) (ts bs : Trees) → Runs is ts (λ w. k (x w)) (λ w. k (y w)) bs → Runs is ts (λ w. l (x w)) (λ w. l (y w)) bs

@@ -1,6 +1,6 @@
 -- What an instruction behind a structure makes of the goals that code can ask for, where the structure's arguments are
 -- the cells that are pushed.
-use Rattle.std.specs.Prelude.{◌≡◌, ℕ, suc, ◌+◌, Bool, true, false, List, ◌∷◌, length}
+use Rattle.std.specs.Prelude.{◌≡◌, ℕ, suc, ◌+◌, ◌<◌, ◌≤◌, Bool, true, false, List, ◌∷◌, length}
 use Rattle.ap_term.specs.Tree.{Tree, Trees}
 use Rattle.ap_cells.specs.declared.cells.Raw.{Raw}
 use Rattle.ap_instr.specs.Step.{Step}
@@ -22,3 +22,14 @@ abbrev pub BuiltOr : ℕ → List Raw → (ℕ → ℕ) → (ℕ → ℕ) → St
 BuiltOr whole cs x y i ds x' y' true = Built cs x y i ds x' y'
 BuiltOr whole cs x y i ds x' y' false =
     (l : ℕ → Tree) (m : ℕ) (is : List Step) (bs : Trees) → (l whole ≡ l (length cs) → ⊥) → AskedInside cs x y (i ∷ is) (spread l (length cs) (suc m)) l bs → ⊥
+
+-- So many arguments have their cells one behind another: of `total` that were to come, m are.
+pub record BuiltAll (count : ℕ) (cs : List Raw) (x y : ℕ → ℕ) (js : List Step) (ds : List Raw) (x' y' : ℕ → ℕ) (is : List Step) : Type 0 where
+  pub longer : length ds ≡ length cs + count
+  pub forth : (l : ℕ → Tree) (m total : ℕ) (bs : Trees) → total ≡ count + m → AskedInside cs x y js (spread l (length cs) total) l bs → AskedInside ds x' y' is (spread l (length cs + count) m) l bs
+  pub back : (l : ℕ → Tree) (m total : ℕ) (bs : Trees) → total ≡ count + m → AskedInside ds x' y' is (spread l (length cs + count) m) l bs → AskedInside cs x y js (spread l (length cs) total) l bs
+
+-- no map serves that gives the structure's own place another tree than each of its arguments
+abbrev pub IsStuckInside : ℕ → ℕ → List Raw → (ℕ → ℕ) → (ℕ → ℕ) → List Step → Type 0
+IsStuckInside whole total cs x y js =
+    (l : ℕ → Tree) (bs : Trees) → ((p : ℕ) → length cs ≤ p → p < length cs + total → l whole ≡ l p → ⊥) → AskedInside cs x y js (spread l (length cs) total) l bs → ⊥

@@ -1,11 +1,13 @@
 -- What an instruction makes of the goals that code can ask for.
-use Rattle.std.specs.Prelude.{ℕ, ◌<◌, ◌≤◌, Bool, true, false, List, ◌∷◌, length, slice_index}
+use Rattle.std.specs.Prelude.{◌≡◌, ℕ, ◌<◌, ◌≤◌, Bool, true, false, List, ◌∷◌, length, slice_index}
 use Rattle.ap_term.specs.Tree.{Tree, Trees, int, atom, none}
 use Rattle.ap_cells.specs.declared.cells.Raw.{Raw}
 use Rattle.ap_cells.specs.declared.cells.Cell.{Cell}
 use Rattle.ap_cells.specs.declared.cells.Cell.TheVariants.{Int, Atom}
 use Rattle.ap_instr.specs.declared.instruction.Slot.{Slot}
 use Rattle.ap_instr.specs.declared.instruction.Slot.TheVariants.{X, Y}
+use Rattle.ap_instr.specs.declared.instruction.Instr.{Instr}
+use Rattle.ap_instr.specs.declared.instruction.Instr.TheVariants.{UnifyVariable}
 use Rattle.ap_instr.specs.Step.{Step}
 use Rattle.ap_instr.specs.Runs.{Runs}
 use Rattle.ap_match.specs.Fits.{Fits, Agree}
@@ -46,3 +48,12 @@ abbrev pub constant_of : Cell → Tree
 constant_of (Int z) = int z
 constant_of (Atom a) = atom a
 constant_of _ = atom 0
+
+-- the register that an argument's instruction writes is there
+abbrev pub HasTarget : Instr → List ℕ → List ℕ → Type 0
+HasTarget (UnifyVariable v) x y = HasRegister v x y
+HasTarget _ x y = Unit {0}
+
+-- registers hold places, or a place that is to come
+abbrev pub HoldPlacesBut : ℕ → ℕ → List ℕ → Type 0
+HoldPlacesBut whole n xs = (w : ℕ) → (held xs w ≡ whole → ⊥) → held xs w < n

@@ -1,12 +1,12 @@
 -- What a machine at a place in code stands for: goals and a tuple, under each map that fits its cells.
-use Rattle.std.specs.Prelude.{◌≡◌, ℕ, ◌<◌, ◌↔◌, List, [], ◌∷◌, drop, length}
+use Rattle.std.specs.Prelude.{◌≡◌, ℕ, List, [], ◌∷◌, drop}
 use Rattle.ap_term.specs.Tree.{Tree, Trees, none, more, atom, node, count_trees}
 use Rattle.ap_term.specs.Goals.{Clause}
 use Rattle.ap_laws.specs.Plain.{append_trees}
 use Rattle.ap_cells.specs.declared.cells.Raw.{Raw}
 use Rattle.ap_instr.specs.Code.{Compiled}
 use Rattle.ap_instr.specs.Step.{Step, call, execute, proceed, steps_of}
-use Rattle.ap_instr.specs.Runs.{Runs, Reads, applied, arguments, spread, lost}
+use Rattle.ap_instr.specs.Runs.{Runs, Reads, applied, spread, lost}
 use Rattle.ap_match.specs.Fits.{Fits}
 use Rattle.ap_resolution.specs.Instances.{SameSet, Resolved}
 use Rattle.ap_section.specs.Moves.{held}

@@ -1,19 +1,19 @@
 //! Arguments of a structure that is built: each becomes the next cell.
 
-ghost use Rattle.std.specs.Prelude.{◌≡◌, ℕ, ◌+◌, ◌<◌, List, length, true};
+ghost use Rattle.std.specs.Prelude.{◌≡◌, ℕ, ◌+◌, ◌<◌, List, length, slice_get, true};
 ghost use Rattle.ap_term.specs.Tree.{Tree, atom, int};
 ghost use Rattle.ap_cells.specs.Raws.{raw_of};
 ghost use Rattle.ap_cells.specs.Store.{Keeps};
 ghost use Rattle.ap_cells.specs.Trees.{Within};
-ghost use Rattle.ap_instr.specs.Step.{unify_variable, unify_value, unify_constant};
+ghost use Rattle.ap_instr.specs.Step.{unify_variable, unify_value, unify_constant, with_integer, step_of};
 ghost use Rattle.ap_instr.specs.Runs.{read};
 ghost use Rattle.ap_match.specs.Fits.{cell_tree};
-ghost use Rattle.ap_section.specs.Moves.{held, HasRegister, constant_of};
+ghost use Rattle.ap_section.specs.Moves.{held, HasRegister, HasTarget, HoldPlacesBut, constant_of};
 ghost use Rattle.ap_section.specs.Arguments.{Built, BuiltOr};
 
 use crate::registers::{read, write};
 use ap_cells::{Cell, Cells};
-use ap_instr::Slot;
+use ap_instr::{Code, Instr, Slot};
 use ap_match::push_new;
 use ap_term::Atom;
 
@@ -80,4 +80,59 @@ pub fn build_integer(cells: &mut Cells, value: i64)
     ensures keeps { Keeps cells.old cells.new }
 {
     build_cell(cells, Cell::Int(value));
+}
+
+/// An integer of the code's table.
+fn integer_at(code: &Code, i: u32) -> Option<i64>
+    ensures { result ≡ slice_get code.now.integers i }
+{
+    code.integers().get(i as usize).copied()
+}
+
+/// `unify_integer I`: the argument is an integer of the code's table. False where the table doesn't have it.
+fn build_listed(cells: &mut Cells, code: &Code, i: u32) -> bool
+    requires room { 0 < cells.old.spare }
+    ensures built { (whole : ℕ) (xs ys : List ℕ) → BuiltOr whole cells.old.cells (held xs) (held ys) (with_integer (slice_get code.now.integers i) unify_constant) cells.new.cells (held xs) (held ys) result }
+    ensures spare { result ≡ true → cells.new.spare + 1 ≡ cells.old.spare }
+    ensures keeps { Keeps cells.old cells.new }
+{
+    match integer_at(code, i) {
+        Some(value) => {
+            build_integer(cells, value);
+            true
+        }
+        None => false,
+    }
+}
+
+/// An argument, by its instruction. False where the instruction is none of an argument's, or the argument would be the
+/// structure itself, whose place is to be `whole`.
+pub fn build_argument(
+    cells: &mut Cells,
+    x: &mut [u32],
+    y: &mut [u32],
+    code: &Code,
+    instr: Instr,
+) -> bool
+    requires room { 0 < cells.old.spare }
+    requires has { HasTarget instr x.old y.old }
+    ensures built { (whole : ℕ) → HoldPlacesBut whole (length cells.old.cells) x.old → HoldPlacesBut whole (length cells.old.cells) y.old → BuiltOr whole cells.old.cells (held x.old) (held y.old) (step_of code.now instr) cells.new.cells (held x.new) (held y.new) result }
+    ensures x_len { length x.new ≡ length x.old }
+    ensures y_len { length y.new ≡ length y.old }
+    ensures spare { result ≡ true → cells.new.spare + 1 ≡ cells.old.spare }
+    ensures keeps { Keeps cells.old cells.new }
+{
+    match instr {
+        Instr::UnifyVariable(v) => {
+            build_variable(cells, x, y, v);
+            true
+        }
+        Instr::UnifyValue(v) => build_value(cells, x, y, v),
+        Instr::UnifyConstant(name) => {
+            build_atom(cells, name);
+            true
+        }
+        Instr::UnifyInteger(i) => build_listed(cells, code, i),
+        _ => false,
+    }
 }
