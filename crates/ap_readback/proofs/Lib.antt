@@ -12,3 +12,4 @@ pub mod Rules
 pub mod Counts
 pub mod Clauses
 pub mod Programs
+pub mod Numbers

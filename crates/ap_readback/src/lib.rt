@@ -7,3 +7,6 @@
 mod law;
 
 pub use law::printed_again_as_program;
+
+#[cfg(test)]
+mod tests;
