@@ -1,8 +1,8 @@
 -- What code asks for doesn't depend on registers that aren't set.
-use Rattle.std.proofs.Common.{◌≡◌, ℕ, zero, suc, ◌+◌, ◌-◌, ◌<◌, ◌≤◌, ◌==◌, if◌then◌else◌, Bool, true, false, ℤ, List, [], ◌∷◌, drop, Option, Some, None, refl, sym, ◌∙◌, ap, subst, eq-eqb, arith}
+use Rattle.std.proofs.Common.{◌≡◌, ℕ, zero, suc, ◌+◌, ◌<◌, ◌≤◌, ◌==◌, if◌then◌else◌, Bool, true, false, ℤ, List, [], ◌∷◌, drop, Option, Some, None, refl, sym, ◌∙◌, ap, subst, eq-eqb, arith}
 use Rattle.std.specs.List.{slice_get}
 use Rattle.std.proofs.lemmas.Bool.Decides.{nat_tests}
-use Rattle.ap_term.specs.Tree.{Tree, Trees, none, more, count_trees, node, atom, int}
+use Rattle.ap_term.specs.Tree.{Tree, none, more, count_trees, node, atom, int}
 use Rattle.ap_instr.specs.declared.instruction.Slot.{Slot}
 use Rattle.ap_instr.specs.declared.instruction.Slot.TheVariants.{X, Y}
 use Rattle.ap_instr.specs.declared.instruction.Instr.{Instr}
@@ -11,7 +11,7 @@ use Rattle.ap_instr.specs.declared.compiled.Predicate.{Predicate}
 use Rattle.ap_instr.specs.Code.{Compiled}
 use Rattle.ap_instr.specs.Builtin.{builtin_name, builtin_arity}
 use Rattle.ap_instr.specs.Step.{Step, get_constant, put_constant, unify_constant, call, execute, with_integer, with_predicate, step_of, steps_of}
-use Rattle.ap_instr.specs.Runs.{set, read, set_x, set_y, spread, applied, lost, Runs}
+use Rattle.ap_instr.specs.Runs.{set, read, set_x, set_y, spread, applied, lost}
 use Rattle.ap_codecheck.specs.Shape.{Shape, unset, is_set, write, with_target, passed, behind_argument, after}
 use Rattle.ap_codecheck.specs.Paths.{Leads, Reaches}
 use Rattle.ap_codecheck.specs.Rules.{arity_in, ArgumentsSet, ReadsSet, IsSound}

@@ -2,4 +2,5 @@ pub mod Agree
 pub mod Marks
 pub mod Stands
 pub mod Tried
+pub mod Walked
 pub mod Ways

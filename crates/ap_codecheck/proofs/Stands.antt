@@ -1,5 +1,5 @@
 -- What sound code has at each place that control comes to.
-use Rattle.std.proofs.Common.{◌≡◌, ℕ, zero, suc, ◌+◌, ◌-◌, ◌<◌, ◌≤◌, ◌==◌, nat_lt, Bool, true, false, Option, Some, None, refl, sym, ◌∙◌, ap, subst, arith}
+use Rattle.std.proofs.Common.{◌≡◌, ℕ, zero, suc, ◌+◌, ◌<◌, ◌==◌, nat_lt, Bool, true, false, Some, refl, sym, ◌∙◌, ap, subst, arith}
 use Rattle.std.specs.List.{slice_get}
 use Rattle.std.proofs.lemmas.Bool.Decides.{nat_tests}
 use Rattle.ap_instr.specs.declared.instruction.Instr.{Instr}
@@ -8,9 +8,9 @@ use Rattle.ap_instr.specs.declared.compiled.Predicate.{Predicate}
 use Rattle.ap_instr.specs.Code.{Compiled}
 use Rattle.ap_codecheck.specs.declared.rule.Rule.TheVariants.{Operand, Target, Unset, Environment, Argument, End, Called}
 use Rattle.ap_codecheck.specs.Shape.{Shape, entry, after, write, passed, behind_argument}
-use Rattle.ap_codecheck.specs.Paths.{IsPlaceOf, Leads, Begins, Reaches}
-use Rattle.ap_codecheck.specs.Rules.{is_argument, IsSound}
-use Rattle.ap_codecheck.specs.Laws.{Stands, PlaceLaw, WayLaw, ArgumentsLaw}
+use Rattle.ap_codecheck.specs.Paths.{Leads, Begins, Reaches}
+use Rattle.ap_codecheck.specs.Rules.{is_argument}
+use Rattle.ap_codecheck.specs.Laws.{PlaceLaw, WayLaw, ArgumentsLaw}
 use Rattle.ap_codecheck.proofs.Ways.{held_at, Path-more}
 
 pub stands : PlaceLaw

@@ -1,5 +1,5 @@
 -- The clauses of a predicate are tried one by one: what is fine of those that are left is fine of all.
-use Rattle.std.proofs.Common.{◌≡◌, ℕ, zero, suc, ◌+◌, ◌<◌, ◌≤◌, min, length, List, [], ◌∷◌, drop, Option, Some, None, refl, sym, ◌∙◌, ap, subst, inl, inr, ◌⊎◌, arith}
+use Rattle.std.proofs.Common.{◌≡◌, ℕ, zero, suc, ◌+◌, ◌<◌, ◌≤◌, length, List, [], ◌∷◌, drop, Option, Some, refl, sym, ◌∙◌, ap, subst, inl, inr, ◌⊎◌, arith}
 use Rattle.std.specs.List.{slice_get}
 use Rattle.std.specs.Prelude.{Result, Ok, Err, IfErr, OnOk, IfSome}
 use Rattle.std.proofs.lemmas.Bool.{cases_order}
@@ -14,7 +14,7 @@ use Rattle.ap_codecheck.specs.declared.rule.CodeErr.{CodeErr}
 use Rattle.ap_codecheck.specs.declared.rule.CodeErr.TheVariants.{Bad, NoMemory}
 use Rattle.ap_codecheck.specs.Shape.{Shape, entry}
 use Rattle.ap_codecheck.specs.Paths.{IsPlaceOf, Begins, Reaches, Awaits}
-use Rattle.ap_codecheck.specs.Rules.{At, IsAlternative, KeepsIn, IsSound}
+use Rattle.ap_codecheck.specs.Rules.{At, IsAlternative, IsSound}
 use Rattle.ap_codecheck.specs.Judged.{IsFine, IsFineFrom, FailsFrom, AreFine, AreAwaited, ArePathsFine, others, KeepsBelow, BreaksIn, KeepsAll, KeepsAllAt, Breaks}
 
 pub drop_at : {A : Type 0} (xs : List A) (n : ℕ) (x : A) → slice_get xs n ≡ Some x → drop n xs ≡ x ∷ drop (n + 1) xs

@@ -1,5 +1,5 @@
 -- A clause is gone through from its place on: what is fine from where one stands is fine from the clause's place.
-use Rattle.std.proofs.Common.{◌≡◌, ℕ, zero, suc, ◌+◌, ◌<◌, ◌≤◌, min, length, List, [], ◌∷◌, Option, Some, None, refl, sym, ◌∙◌, ap, subst, inl, inr, ◌⊎◌, arith}
+use Rattle.std.proofs.Common.{◌≡◌, ℕ, zero, suc, ◌<◌, ◌≤◌, min, length, List, Some, None, refl, sym, ap, subst, inl, inr, arith}
 use Rattle.std.specs.List.{slice_get}
 use Rattle.std.proofs.lemmas.Option.{slice_get_cases}
 use Rattle.ap_instr.specs.declared.instruction.Instr.{Instr}
@@ -11,7 +11,7 @@ use Rattle.ap_codecheck.specs.declared.rule.CodeErr.{CodeErr}
 use Rattle.ap_codecheck.specs.declared.rule.CodeErr.TheVariants.{Bad, NoMemory}
 use Rattle.ap_codecheck.specs.Shape.{Shape, entry, after}
 use Rattle.ap_codecheck.specs.Paths.{IsPlaceOf, Leads, Path}
-use Rattle.ap_codecheck.specs.Rules.{GoesOn, At}
+use Rattle.ap_codecheck.specs.Rules.{At}
 use Rattle.ap_codecheck.specs.Judged.{KeepsWith, IsFine, IsFineFrom, FailsFrom, IsJudged, IsLed, FailsAt}
 
 -- a path goes on by the instruction at its end
@@ -66,9 +66,9 @@ pub fine-end : (code : Compiled) (p : Predicate) (at : ℕ) (s t : Shape) → Is
 fine-end code p at s t h j l zero to u q rule = fine_still code p at to s u h j q.0 q.1 rule
 fine-end code p at s t h j l (suc n) to u q rule = absurd (l q.0 q.2 q.1 q.3)
 
-fine_next : (code : Compiled) (p : Predicate) (at next : ℕ) (s t : Shape) → IsPlaceOf code p at → IsJudged code at s → IsLed code at s t (Some next) → IsFineFrom code p next t → IsFineFrom code p at s
-fine_next code p at next s t h j l f zero to u q rule = fine_still code p at to s u h j q.0 q.1 rule
-fine_next code p at next s t h j l f (suc n) to u q rule =
+pub fine-next : (code : Compiled) (p : Predicate) (at next : ℕ) (s t : Shape) → IsPlaceOf code p at → IsJudged code at s → IsLed code at s t (Some next) → IsFineFrom code p next t → IsFineFrom code p at s
+fine-next code p at next s t h j l f zero to u q rule = fine_still code p at to s u h j q.0 q.1 rule
+fine-next code p at next s t h j l f (suc n) to u q rule =
     let led = l q.0 q.2 in
     let P : ℕ → Type 0 = λ k. Path code n k t to u in
     let Q : Shape → Type 0 = λ v. Path code n q.1 v to u in
@@ -88,7 +88,7 @@ on-next code p start at next s t o h j l =
       behind = omega arith;
       count = suc o.count;
       path = subst P (sym led.2) (Path-more code o.count start at next (entry p.arity) s here.0 o.path here.1 led.0);
-      rest = λ f. o.rest (fine_next code p at next s t h j l f);
+      rest = λ f. o.rest (fine-next code p at next s t h j l f);
     }
 
 -- a rule that isn't kept at the shape makes the place not fine

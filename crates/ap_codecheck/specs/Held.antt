@@ -1,5 +1,4 @@
 -- The shape that the check keeps.
-use Rattle.std.specs.Prelude.{ℕ}
 use Rattle.ap_codecheck.specs.declared.shape.Shape.{Shape as Kept}
 use Rattle.ap_codecheck.specs.Shape.{Shape}
 use Rattle.ap_codecheck.specs.Marks.{marked}

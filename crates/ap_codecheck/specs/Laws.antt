@@ -1,5 +1,5 @@
 -- What a machine has of sound code.
-use Rattle.std.specs.Prelude.{◌≡◌, ℕ, ◌+◌, ◌<◌, true, List, drop, slice_get, Option, Some}
+use Rattle.std.specs.Prelude.{◌≡◌, ℕ, ◌+◌, ◌<◌, true, List, length, drop, slice_get, Some, IfSome}
 use Rattle.ap_term.specs.Tree.{Tree, Trees, count_trees}
 use Rattle.ap_instr.specs.declared.instruction.Instr.{Instr}
 use Rattle.ap_instr.specs.declared.compiled.Predicate.{Predicate}
@@ -9,6 +9,7 @@ use Rattle.ap_instr.specs.Runs.{Runs}
 use Rattle.ap_codecheck.specs.Shape.{Shape, entry, after}
 use Rattle.ap_codecheck.specs.Paths.{IsPlaceOf, Leads, Begins, Reaches}
 use Rattle.ap_codecheck.specs.Rules.{InRange, GoesInside, ReadsSet, FitsEnvironment, is_argument, IsInTurn, GoesOn, CallsKnown, IsSound}
+use Rattle.ap_codecheck.specs.Walk.{IsLaid}
 
 -- an instruction that keeps the rules stands at the place
 pub record Stands (code : Compiled) (p : Predicate) (at : ℕ) (s : Shape) : Type 0 where
@@ -56,3 +57,9 @@ abbrev pub UnsetLaw : Type 0
 UnsetLaw =
     (code : Compiled) (number : ℕ) (p : Predicate) (at : ℕ) (s : Shape) → IsSound code → slice_get code.predicates number ≡ Some p → Reaches code p at s
     → Ignores (steps_of code (drop at code.instructions)) s
+
+-- Code that is laid out clause by clause, each clause a walk, is sound, so that its check never names a broken rule.
+abbrev pub LaidLaw : Type 0
+LaidLaw =
+    (code : Compiled) → ((number : ℕ) (p : Predicate) → slice_get code.predicates number ≡ Some p → IsLaid code p) → IfSome code.query (λ q. q < length code.predicates)
+    → IsSound code

@@ -4,4 +4,5 @@ pub mod Rules
 pub mod Marks
 pub mod Held
 pub mod Judged
+pub mod Walk
 pub mod Laws

@@ -1,5 +1,5 @@
 -- Where control can come to.
-use Rattle.std.specs.Prelude.{◌≡◌, ℕ, zero, suc, ◌+◌, ◌<◌, ◌≤◌, slice_get, length, Option, Some, None}
+use Rattle.std.specs.Prelude.{◌≡◌, ℕ, zero, suc, ◌+◌, ◌<◌, ◌≤◌, slice_get, length, Some}
 use Rattle.ap_instr.specs.declared.instruction.Instr.{Instr}
 use Rattle.ap_instr.specs.declared.instruction.Instr.TheVariants.{Execute, Proceed, Jump, Fail, Try, Retry, Trust}
 use Rattle.ap_instr.specs.declared.compiled.Predicate.{Predicate}

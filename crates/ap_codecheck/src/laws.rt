@@ -1,6 +1,6 @@
 //! What a machine has of sound code, each law as the contract of a function without a body.
 
-ghost use Rattle.ap_codecheck.specs.Laws.{PlaceLaw, WayLaw, ArgumentsLaw, UnsetLaw};
+ghost use Rattle.ap_codecheck.specs.Laws.{PlaceLaw, WayLaw, ArgumentsLaw, UnsetLaw, LaidLaw};
 
 /// Wherever control comes to, an instruction of the predicate stands that keeps every rule.
 pub fn place_law()
@@ -20,4 +20,9 @@ pub fn arguments_law()
 /// What code asks for doesn't depend on what registers hold that aren't set.
 pub fn unset_law()
     ensures { UnsetLaw }
+{}
+
+/// Code that is laid out clause by clause, each clause a walk, is sound, so no rule of it is named as broken.
+pub fn laid_law()
+    ensures { LaidLaw }
 {}

@@ -1,6 +1,5 @@
-use Rattle.std.proofs.Common.{◌<◌, ap, length, arith}
+use Rattle.std.proofs.Common.{◌<◌, arith}
 use Rattle.ap_codecheck.specs.Held.{shape_of}
-use Rattle.ap_codecheck.specs.Paths.{IsPlaceOf}
 use Rattle.ap_codecheck.proofs.Ways.{place_below, on-falls, on-next, fine-end}
 use Rattle.ap_codecheck.proofs.paths.check_clause.Goals as goal
 

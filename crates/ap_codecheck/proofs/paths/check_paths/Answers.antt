@@ -1,4 +1,4 @@
-use Rattle.std.proofs.Common.{rules, ◌≤◌, arith}
+use Rattle.std.proofs.Common.{rules, arith}
 use Rattle.ap_codecheck.specs.Paths.{IsPlaceOf}
 use Rattle.ap_codecheck.proofs.Tried.{try-behind, begins-first, begins-one, paths-tried, paths-none, paths-one, ok_more, ok_both}
 use Rattle.ap_codecheck.proofs.paths.check_paths.Goals as goal
