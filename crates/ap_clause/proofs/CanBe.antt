@@ -46,7 +46,7 @@ same_test false false f g = refl
 Some-inj : {a b : Text} → Some a ≡ Some b → a ≡ b
 Some-inj e = cc
 
-fixed_at : (ns : List Text) (k : ℕ) (name : Text) → IsAtomTable ns → ((others : List Text) → slice_get (fixed_names ++ others) k ≡ Some name) → slice_get ns k ≡ Some name
+pub fixed_at : (ns : List Text) (k : ℕ) (name : Text) → IsAtomTable ns → ((others : List Text) → slice_get (fixed_names ++ others) k ≡ Some name) → slice_get ns k ≡ Some name
 fixed_at ns k name h e = ap (λ l. slice_get l k) (sym (take-append-drop COUNT ns) ∙ ap (λ l. l ++ drop COUNT ns) h.fixed) ∙ e (drop COUNT ns)
 
 place_found : (ns : List Text) (f : Text) → place_of ns f < length ns → slice_get ns (place_of ns f) ≡ Some f

@@ -10,3 +10,4 @@ pub mod Taken
 pub mod Reading
 pub mod OneResult
 pub mod SomeResult
+mod Rows

@@ -2,3 +2,11 @@ pub mod Registers
 pub mod Only
 pub mod Each
 pub mod Followed
+pub mod PermanentReads
+pub mod BodyTurns
+pub mod Placed
+pub mod Moved
+pub mod Growing
+pub mod Making
+pub mod AskedClause
+pub mod BuiltinGoals

@@ -1,3 +1,7 @@
 pub mod Held
 pub mod Follow
 pub mod Laws
+pub mod Emitted
+pub mod Permanent
+pub mod Assembled
+pub mod Temporary

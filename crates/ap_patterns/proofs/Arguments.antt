@@ -8,8 +8,8 @@ use Rattle.ap_term.specs.TermView.{tree_of, trees_of}
 use Rattle.ap_term.proofs.TermLists.{trees_of-drop_more, count-trees_of}
 use Rattle.ap_term.specs.WellFormed.{callable, numbered, numbered_all}
 use Rattle.ap_sharing.specs.VarSet.{has, empty, just, union, meets}
-use Rattle.ap_sharing.specs.Sets.{insert_set, join_sets, sets_of}
-use Rattle.ap_sharing.specs.Share.{Share, nonground, is_member}
+use Rattle.ap_sharing.specs.Sets.{insert_set}
+use Rattle.ap_sharing.specs.Share.{Share, nonground}
 use Rattle.ap_sharing.proofs.Elements.{union_assoc, union-empty, empty-union}
 use Rattle.ap_absunify.specs.declared.states.State.{State}
 use Rattle.ap_absunify.specs.TermSets.{var_set}
@@ -17,13 +17,13 @@ use Rattle.ap_absunify.specs.AfterUnify.{is_free, after_unify}
 use Rattle.ap_absunify.specs.AfterEqual.{after_all}
 use Rattle.ap_patterns.specs.Places.{arguments, argument_sets, places, free_places}
 use Rattle.ap_patterns.specs.Entering.{own, with_own, beside, head_equations}
-use Rattle.ap_patterns.specs.AfterCall.{grounded, kept_free, returned_sets}
+use Rattle.ap_patterns.specs.AfterCall.{grounded, kept_free}
 
-two : (i : ℕ) → suc (i + 1) ≡ i + 1 + 1
+pub two : (i : ℕ) → suc (i + 1) ≡ i + 1 + 1
 two i = omega arith
 
 -- one more piece is found, and the rest is left
-turn : (found new piece now rest whole : ℕ) → new ≡ union found piece → now ≡ union piece rest → union found now ≡ whole → union new rest ≡ whole
+pub turn : (found new piece now rest whole : ℕ) → new ≡ union found piece → now ≡ union piece rest → union found now ≡ whole → union new rest ≡ whole
 turn found new piece now rest whole n e w = ap (λ z. union z rest) n ∙ union_assoc found piece rest ∙ ap (union found) (sym e) ∙ w
 
 places-more : (s i a : ℕ) (sets : List ℕ) → i < length sets → a ≡ get_or sets i a → places (i + 1) s (drop i sets) ≡ union (if meets s a then just (i + 1) else empty) (places (i + 1 + 1) s (drop (i + 1) sets))
@@ -125,7 +125,7 @@ arguments-numbered n (atom a) h = refl
 arguments-numbered n (node a ts) h = h
 
 mutual
-  numbered-more : (n m : ℕ) (t : Tree) → n ≤ m → IsTrue (numbered n t) → IsTrue (numbered m t)
+  pub numbered-more : (n m : ℕ) (t : Tree) → n ≤ m → IsTrue (numbered n t) → IsTrue (numbered m t)
   numbered-more n m (var x) l h =
       let r = and_parts (nat_le 1 x) (nat_le x n) h in
       let k : x ≤ n = leb-true x n r.1 in

@@ -1,10 +1,10 @@
 -- Entering a clause covers.
-use Rattle.std.proofs.Common.{◌≡◌, ℕ, zero, suc, ◌+◌, ◌-◌, ◌<◌, ◌≤◌, ◌⊎◌, inl, inr, Bool, true, false, not, ◌||◌, ◌&&◌, nat_eq, cond, List, [], ◌∷◌, map, if◌then◌else◌, nat_le, IsTrue, refl, ap, ap₂, sym, ◌∙◌, subst, arith}
+use Rattle.std.proofs.Common.{◌≡◌, ℕ, zero, suc, ◌+◌, ◌-◌, ◌<◌, ◌≤◌, ◌⊎◌, inl, inr, Bool, true, false, ◌||◌, nat_eq, cond, List, map, if◌then◌else◌, nat_le, IsTrue, refl, ap, ap₂, sym, ◌∙◌, subst, arith}
 use Rattle.std.proofs.lemmas.Bool.{false≢true}
 use Rattle.ap_term.specs.Tree.{Tree, Trees, var, int, atom, node, none, more, count_trees}
 use Rattle.ap_term.specs.Substitution.{instance, instance_all}
 use Rattle.ap_term.specs.Vars.{occurs, occurs_all}
-use Rattle.ap_sharing.specs.VarSet.{has, empty, just, union, both}
+use Rattle.ap_sharing.specs.VarSet.{has, empty, just, union}
 use Rattle.ap_sharing.specs.Sets.{In, Is, sets_of, insert_set}
 use Rattle.ap_sharing.specs.Share.{Share, Member, nonground, norm}
 use Rattle.ap_sharing.specs.Covering.{only}
@@ -14,7 +14,7 @@ use Rattle.ap_absunify.specs.declared.states.State.{State}
 use Rattle.ap_absunify.specs.declared.states.State.TheVariants.{Unreachable, Reachable}
 use Rattle.ap_absunify.specs.State.{Covers, project}
 use Rattle.ap_absunify.specs.AfterEqual.{after_all}
-use Rattle.ap_patterns.specs.Places.{arguments, argument, places}
+use Rattle.ap_patterns.specs.Places.{arguments, argument}
 use Rattle.ap_patterns.specs.Entering.{own, with_own, beside, beside_own, head_equations, enter, entered, own_after}
 use Rattle.ap_absunify.proofs.AfterEqual.{after_all-covers}
 use Rattle.ap_absunify.proofs.Renamed.{Covers-same}

@@ -4,3 +4,5 @@ pub mod Entering
 pub mod Rows
 pub mod Marks
 pub mod Arguments
+pub mod MarkTurns
+pub mod Coverings

@@ -1,13 +1,10 @@
 -- The pattern of an entry covers each query that is as its marks say.
-use Rattle.std.proofs.Common.{◌≡◌, ◌≢◌, ℕ, zero, suc, ◌+◌, ◌-◌, ◌<◌, ◌≤◌, ◌⊎◌, inl, inr, Bool, true, false, ◌||◌, nat_eq, cond, List, [], ◌∷◌, length, Option, Some, None, refl, ap, sym, ◌∙◌, subst, arith}
-use Rattle.std.proofs.lemmas.Bool.{false≢true}
-use Rattle.ap_term.specs.Tree.{Tree, Trees, var, count_trees}
+use Rattle.std.proofs.Common.{◌≡◌, ◌≢◌, ℕ, zero, suc, ◌+◌, ◌-◌, ◌<◌, ◌≤◌, ◌⊎◌, inl, inr, Bool, true, false, nat_eq, cond, List, [], ◌∷◌, length, Some, refl, ap, sym, ◌∙◌, subst, arith}
+use Rattle.ap_term.specs.Tree.{Trees, var}
 use Rattle.ap_term.specs.Vars.{occurs}
-use Rattle.ap_sharing.specs.VarSet.{has, empty, just, union}
+use Rattle.ap_sharing.specs.VarSet.{has, empty, just}
 use Rattle.ap_sharing.specs.Sets.{In, Is, sets_of}
-use Rattle.ap_sharing.specs.Share.{Share, Member, nonground, norm}
-use Rattle.ap_sharing.specs.Covering.{CoversShare}
-use Rattle.ap_freeness.specs.Free.{IsVar, CoversFree}
+use Rattle.ap_sharing.specs.Share.{Member, nonground, norm}
 use Rattle.ap_sharing.proofs.Elements.{same_test, clash, has-empty, has-union, has-just, both_left}
 use Rattle.ap_sharing.proofs.Covers.{Member-norm}
 use Rattle.ap_term.proofs.Solutions.{same_var, or_left, or_right}

@@ -4,7 +4,7 @@ use Rattle.std.specs.Prelude.{ℕ, zero, suc, ◌+◌, ◌-◌, if◌then◌else
 use Rattle.ap_term.specs.Tree.{Tree, Trees, var, atom, none, more, count_trees}
 use Rattle.ap_sharing.specs.VarSet.{has, empty, just, union}
 use Rattle.ap_sharing.specs.Sets.{insert_set, sets_of}
-use Rattle.ap_sharing.specs.Share.{Share, norm}
+use Rattle.ap_sharing.specs.Share.{norm}
 use Rattle.ap_absunify.specs.declared.states.State.{State}
 use Rattle.ap_absunify.specs.declared.states.State.TheVariants.{Unreachable, Reachable}
 use Rattle.ap_absunify.specs.State.{made, project}

@@ -1,9 +1,10 @@
 -- What patterns are worth.
-use Rattle.std.specs.Prelude.{◌≡◌, ℕ, ◌+◌, ◌<◌, true, false, IsTrue, List}
+use Rattle.std.specs.Prelude.{◌≡◌, ℕ, ◌+◌, ◌<◌, true, IsTrue, List, is_some}
 use Rattle.ap_term.specs.Tree.{Tree, Trees, var, node}
 use Rattle.ap_term.specs.Vars.{occurs}
 use Rattle.ap_term.specs.WellFormed.{callable, numbered}
 use Rattle.ap_term.specs.Substitution.{instance}
+use Rattle.ap_term.specs.Builtins.{builtin}
 use Rattle.ap_absunify.specs.MostGeneral.{MostGeneral}
 use Rattle.ap_absunify.specs.declared.states.State.{State}
 use Rattle.ap_absunify.specs.State.{Covers}
@@ -12,6 +13,8 @@ use Rattle.ap_patterns.specs.Entry.{AsMarked, marked_pattern}
 use Rattle.ap_patterns.specs.Places.{arguments, argument, call_pattern}
 use Rattle.ap_patterns.specs.Entering.{enter, own_after}
 use Rattle.ap_patterns.specs.AfterCall.{after_call, Answers}
+use Rattle.ap_patterns.specs.Given.{is_builtin}
+use Rattle.ap_patterns.specs.Covered.{is_covered}
 
 -- a call's pattern covers its arguments' instances
 abbrev pub CallPatternLaw : Type 0
@@ -33,3 +36,11 @@ AfterCallLaw =
 -- a query that is as an entry's marks say
 abbrev pub EntryLaw : Type 0
 EntryLaw = (marks : List Mark) (args : Trees) → AsMarked marks args → Covers (marked_pattern marks) (argument 1 args)
+
+-- a pattern that covers another one covers what it does
+abbrev pub CoveredLaw : Type 0
+CoveredLaw = (s t : State) (f : ℕ → Tree) → is_covered s t ≡ true → Covers s f → Covers t f
+
+-- the goals that are built in are those that have an answer by their own rules
+abbrev pub BuiltinLaw : Type 0
+BuiltinLaw = (goal : Tree) → is_builtin goal ≡ is_some (builtin goal)

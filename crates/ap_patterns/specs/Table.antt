@@ -1,5 +1,5 @@
 -- Tables: one call and one success pattern for each predicate.
-use Rattle.std.specs.Prelude.{ℕ, Bool, ◌==◌, ◌&&◌, if◌then◌else◌, List, [], ◌∷◌, Option, Some, None}
+use Rattle.std.specs.Prelude.{ℕ, suc, Bool, ◌==◌, ◌&&◌, if◌then◌else◌, List, [], ◌∷◌, Option, Some, None}
 use Rattle.ap_term.specs.Tree.{Tree, var, int, atom, node, count_trees}
 use Rattle.ap_absunify.specs.declared.states.State.{State}
 use Rattle.ap_absunify.specs.declared.states.State.TheVariants.{Unreachable}
@@ -36,3 +36,20 @@ calls rs p = call_of (row_of rs p)
 -- the success pattern of a predicate: no answer is reached where it has no row
 abbrev pub successes : List Row → Predicate → State
 successes rs p = success_of (row_of rs p)
+
+-- the place of a predicate's first row, and the number of rows where it has none
+abbrev pub place_of : List Row → Predicate → ℕ
+place_of [] p = 0
+place_of (r ∷ rs) p = if same_predicate r.predicate p then 0 else suc (place_of rs p)
+
+-- the rows with the first row of a predicate changed, or with a new one
+abbrev pub set_row : (Row → Row) → Row → List Row → Predicate → List Row
+set_row f new [] p = new ∷ []
+set_row f new (r ∷ rs) p = if same_predicate r.predicate p then f r ∷ rs else r ∷ set_row f new rs p
+
+-- the rows with another call pattern, and with another success pattern
+abbrev pub set_call : List Row → Predicate → State → List Row
+set_call rs p s = set_row (λ r. record r { call = s }) (record { predicate = p; call = s; success = Unreachable }) rs p
+
+abbrev pub set_success : List Row → Predicate → State → List Row
+set_success rs p s = set_row (λ r. record r { success = s }) (record { predicate = p; call = Unreachable; success = s }) rs p

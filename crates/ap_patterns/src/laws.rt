@@ -1,6 +1,6 @@
 //! Laws of the definitions. Each is the contract of a function that does nothing.
 
-ghost use Rattle.ap_patterns.specs.Laws.{CallPatternLaw, EnterLaw, AfterCallLaw, EntryLaw};
+ghost use Rattle.ap_patterns.specs.Laws.{CallPatternLaw, EnterLaw, AfterCallLaw, EntryLaw, CoveredLaw, BuiltinLaw};
 
 /// The pattern of a call covers the instances of its arguments.
 pub fn call_pattern_law()
@@ -20,4 +20,14 @@ pub fn after_call_law()
 /// The pattern of an entry covers each query that is as its marks say.
 pub fn entry_law()
     ensures { EntryLaw }
+{}
+
+/// A pattern that covers another one covers what it does.
+pub fn covered_law()
+    ensures { CoveredLaw }
+{}
+
+/// The goals that are built in are those that have an answer by their own rules.
+pub fn builtin_law()
+    ensures { BuiltinLaw }
 {}

@@ -10,10 +10,12 @@ mod entries;
 pub mod laws;
 mod places;
 mod returns;
+mod slots;
 mod tables;
 
 pub use calls::{Pattern, call_pattern};
 pub use clauses::enter;
 pub use entries::{Entries, Entry, Mark};
 pub use returns::after_call;
+pub use slots::{Given, Slot, after_goal, call_at, is_builtin, is_covered};
 pub use tables::{Predicate, Row, Table};

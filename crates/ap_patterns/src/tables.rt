@@ -1,10 +1,11 @@
 //! Tables: one call and one success pattern for each predicate.
 
-ghost use Rattle.std.specs.Prelude.{◌≡◌, ◌++◌, ◌∷◌, [], Some, None, MatchOption, is_ok, if◌then◌else◌};
+ghost use Rattle.std.specs.Prelude.{◌≡◌, ◌++◌, ◌∷◌, [], Some, None, MatchOption, OnOk, is_ok, if◌then◌else◌, ◌<◌, length, slice_set, slice_index_or};
 ghost use Rattle.ap_term.specs.TermView.{tree_of};
-ghost use Rattle.ap_patterns.specs.Table.{predicate_of, row_of};
+ghost use Rattle.ap_patterns.specs.Table.{predicate_of, row_of, place_of, set_call, set_success};
 
 use crate::calls::Pattern;
+use ap_absunify::State;
 use ap_term::{Atom, NoMemory, Term};
 use std::alloc::Global;
 use std::marker::Model;
@@ -43,6 +44,18 @@ pub struct Row {
     pub success: Pattern,
 }
 
+impl Row {
+    fn new(predicate: Predicate, call: Pattern, success: Pattern) -> Row
+        ensures { result ≡ record { predicate = predicate; call = call; success = success } }
+    {
+        Row {
+            predicate,
+            call,
+            success,
+        }
+    }
+}
+
 #[derive(Drop)]
 pub struct Table {
     rows: Vec<Row>,
@@ -58,6 +71,8 @@ impl Model for Table {
 }
 
 impl Table {
+    ghost use Rattle.ap_patterns.specs.declared.tables.Row.{Row};
+
     pub fn new(alloc: Global) -> Table
         ensures { result ≡ [] }
     {
@@ -77,6 +92,61 @@ impl Table {
         ensures { result.now ≡ self.now }
     {
         self.rows.as_slice()
+    }
+
+    /// The place of a predicate's first row, and the number of rows where it has none.
+    #[tactic(auto, using(crate::proofs::Rows::rules_of_rows))]
+    fn position(&self, predicate: &Predicate) -> usize
+        ensures { result ≡ place_of self.now predicate.now }
+    {
+        for i in 0..self.rows.len() {
+            if self.rows[i].predicate == *predicate {
+                return i;
+            }
+        }
+        self.rows.len()
+    }
+
+    fn change_call(&mut self, i: usize, pattern: Pattern)
+        requires { i < length self.old }
+        ensures { (d : Row) → self.new ≡ slice_set self.old i (record (slice_index_or self.old i d) { call = pattern }) }
+    {
+        self.rows[i].call = pattern;
+    }
+
+    /// Puts in the pattern of a predicate's calls.
+    #[tactic(auto, using(crate::proofs::Rows::rules_of_changes))]
+    pub fn set_call(&mut self, predicate: Predicate, pattern: Pattern) -> Result<(), NoMemory>
+        ensures { OnOk result (self.new ≡ set_call self.old predicate pattern) }
+    {
+        let i = self.position(&predicate);
+        if i < self.rows().len() {
+            self.change_call(i, pattern);
+            Ok(())
+        } else {
+            self.push(Row::new(predicate, pattern, State::Unreachable))
+        }
+    }
+
+    fn change_success(&mut self, i: usize, pattern: Pattern)
+        requires { i < length self.old }
+        ensures { (d : Row) → self.new ≡ slice_set self.old i (record (slice_index_or self.old i d) { success = pattern }) }
+    {
+        self.rows[i].success = pattern;
+    }
+
+    /// Puts in the pattern of a predicate's answers.
+    #[tactic(auto, using(crate::proofs::Rows::rules_of_changes))]
+    pub fn set_success(&mut self, predicate: Predicate, pattern: Pattern) -> Result<(), NoMemory>
+        ensures { OnOk result (self.new ≡ set_success self.old predicate pattern) }
+    {
+        let i = self.position(&predicate);
+        if i < self.rows().len() {
+            self.change_success(i, pattern);
+            Ok(())
+        } else {
+            self.push(Row::new(predicate, State::Unreachable, pattern))
+        }
     }
 
     /// The first row of a predicate.

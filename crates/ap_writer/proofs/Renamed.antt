@@ -84,14 +84,14 @@ mutual
 -- ---- a renaming that keeps variables apart
 
 -- whether each variable of a list keeps apart from the others under r
-abbrev KeepsApart : (ℕ → ℕ) → List ℕ → Type 0
+abbrev pub KeepsApart : (ℕ → ℕ) → List ℕ → Type 0
 KeepsApart r vs = (x y : ℕ) → has vs x ≡ true → has vs y ≡ true → r x ≡ r y → x ≡ y
 
 module _ (r : ℕ → ℕ) (vs : List ℕ) (apart : KeepsApart r vs) where
-  abbrev renamed : ℕ → Tree
+  abbrev pub renamed : ℕ → Tree
   renamed x = var (r x)
 
-  abbrev Inside : List ℕ → Type 0
+  abbrev pub Inside : List ℕ → Type 0
   Inside xs = (x : ℕ) → has xs x ≡ true → has vs x ≡ true
 
   test_kept : (x y : ℕ) → has vs x ≡ true → has vs y ≡ true → nat_eq (r x) (r y) ≡ nat_eq x y
@@ -113,7 +113,7 @@ module _ (r : ℕ → ℕ) (vs : List ℕ) (apart : KeepsApart r vs) where
   map_push (y ∷ xs) x = ap (λ ys. r y ∷ ys) (map_push xs x)
 
   mutual
-    add_vars_kept : (t : Tree) (xs : List ℕ) → Inside (add_vars t xs) → add_vars (instance renamed t) (map r xs) ≡ map r (add_vars t xs)
+    pub add_vars_kept : (t : Tree) (xs : List ℕ) → Inside (add_vars t xs) → add_vars (instance renamed t) (map r xs) ≡ map r (add_vars t xs)
     add_vars_kept (var x) xs i =
         ap (λ b. if b then map r xs else map r xs ++ r x ∷ []) (has_kept xs x (λ y o. i y (has-var x xs y ∙ or_left (has xs y) (nat_eq y x) o)) (i x (has-var x xs x ∙ or_right (has xs x) (nat_eq x x) (number_test x x refl))))
         ∙ go (has xs x)
@@ -125,13 +125,13 @@ module _ (r : ℕ → ℕ) (vs : List ℕ) (apart : KeepsApart r vs) where
     add_vars_kept (atom a) xs i = refl
     add_vars_kept (node a ts) xs i = add_all_vars_kept ts xs i
 
-    add_all_vars_kept : (ts : Trees) (xs : List ℕ) → Inside (add_all_vars ts xs) → add_all_vars (instance_all renamed ts) (map r xs) ≡ map r (add_all_vars ts xs)
+    pub add_all_vars_kept : (ts : Trees) (xs : List ℕ) → Inside (add_all_vars ts xs) → add_all_vars (instance_all renamed ts) (map r xs) ≡ map r (add_all_vars ts xs)
     add_all_vars_kept none xs i = refl
     add_all_vars_kept (more t ts) xs i =
         ap (add_all_vars (instance_all renamed ts)) (add_vars_kept t xs (λ y o. i y (has-add_all_vars ts (add_vars t xs) y ∙ or_left (has (add_vars t xs) y) (occurs_all y ts) o)))
         ∙ add_all_vars_kept ts (add_vars t xs) i
 
-  place_kept : (xs : List ℕ) (x : ℕ) → Inside xs → has vs x ≡ true → place (map r xs) (r x) ≡ place xs x
+  pub place_kept : (xs : List ℕ) (x : ℕ) → Inside xs → has vs x ≡ true → place (map r xs) (r x) ≡ place xs x
   place_kept [] x i h = refl
   place_kept (y ∷ xs) x i h =
       ap (λ b. if b then 1 else place (map r xs) (r x) + 1) (test_kept y x (i y (or_left (nat_eq y y) (has xs y) (number_test y y refl))) h)
@@ -155,7 +155,7 @@ place_above (v ∷ vs) x h = go (nat_eq v x) h
     go true h = absurd (omega arith)
     go false h = absurd (omega arith)
 
-place_apart : (vs : List ℕ) → KeepsApart (place vs) vs
+pub place_apart : (vs : List ℕ) → KeepsApart (place vs) vs
 place_apart [] x y h k e = absurd (false≢true h)
 place_apart (v ∷ vs) x y h k e = go (nat_eq v x) (nat_eq v y) refl refl h k e (place_apart vs x y)
   where

@@ -1,4 +1,4 @@
-use Rattle.std.proofs.Common.{Bool, ℕ, ◌+◌, not, if◌then◌else◌, ap, ap₂, ◌∙◌, refl, arith}
+use Rattle.std.proofs.Common.{Bool, ℕ, ◌+◌, not, if◌then◌else◌, ap, ◌∙◌, refl, arith}
 use Rattle.ap_sharing.specs.VarSet.{has, union, empty}
 use Rattle.ap_sharing.proofs.Elements.{empty-union}
 use Rattle.ap_patterns.specs.AfterCall.{grounded}

@@ -1,6 +1,5 @@
 use Rattle.std.proofs.Common.{◌≡◌, ◌+◌, drop}
 use Rattle.ap_sharing.specs.VarSet.{union}
-use Rattle.ap_sharing.specs.Share.{nonground}
 use Rattle.ap_patterns.specs.AfterCall.{grounded}
 use Rattle.ap_patterns.proofs.returns.grounded.Given as goal
 

@@ -1,4 +1,4 @@
-use Rattle.std.proofs.Common.{ℕ, ◌+◌, ap, ◌∙◌, refl, arith}
+use Rattle.std.proofs.Common.{◌+◌, ap, ◌∙◌, refl, arith}
 use Rattle.ap_term.specs.TermView.{trees_of}
 use Rattle.ap_sharing.specs.VarSet.{union}
 use Rattle.ap_sharing.proofs.Elements.{empty-union}

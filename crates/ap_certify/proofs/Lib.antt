@@ -1,0 +1,11 @@
+pub mod NoGroups
+pub mod Runs
+pub mod Tame
+pub mod Sights
+pub mod Sound
+pub mod Items
+pub mod Closed
+pub mod Strict
+pub mod Untracked
+pub mod HeldGoals
+pub mod HeldParts

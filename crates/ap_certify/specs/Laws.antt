@@ -1,0 +1,24 @@
+-- What certified programs are worth.
+use Rattle.std.specs.Prelude.{◌≡◌, map}
+use Rattle.ap_term.specs.Goals.{Program}
+use Rattle.ap_term.specs.WellFormed.{IsProgram}
+use Rattle.ap_term.specs.Search as search
+use Rattle.ap_patterns.specs.declared.entries.Entries.{Entries}
+use Rattle.ap_patterns.specs.Given.{Patterns}
+use Rattle.ap_patterns.specs.Covered.{IsClosed}
+use Rattle.ap_certify.specs.declared.certified.Scope.TheVariants.{Of}
+use Rattle.ap_certify.specs.Forks.{Fork, Tracked, untracked, children}
+use Rattle.ap_certify.specs.Certificate.{MissingHold, IsSafe, AreMissingGiven}
+use Rattle.ap_certify.specs.GroupsGiven.{AreGroupsGiven}
+
+-- a table that covers all that is given to it, and gives what the groups leave out, makes the program sound
+abbrev pub SoundLaw : Type 0
+SoundLaw = (E : Entries) (A : Program) (t : Patterns) → IsProgram A → IsClosed E A t → AreGroupsGiven t A → AreMissingGiven A (Of E)
+
+-- where the checks that aren't written hold, and the written ones do, the goals are strictly independent
+abbrev pub StrictLaw : Type 0
+StrictLaw = (f : Fork) → MissingHold f → IsSafe f
+
+-- without what a state keeps beside its groups the search is the search
+abbrev pub TrackedLaw : Type 0
+TrackedLaw = (p : Program) (s : Tracked) → IsProgram p → map untracked (children p s) ≡ search.children p (untracked s)

@@ -1,0 +1,53 @@
+//! Whether a state gives the checks that a group leaves out.
+
+ghost use Rattle.std.specs.Prelude.{◌≡◌, IfOk, IsTrue};
+ghost use Rattle.ap_term.specs.WellFormed.{numbered_all};
+ghost use Rattle.ap_certify.specs.Written.{same_check, is_written};
+ghost use Rattle.ap_certify.specs.GroupsGiven.{IsGroupGiven};
+
+use crate::faults::{CertErr, Place};
+use ap_absunify::State;
+use ap_conditions::{full, gives};
+use ap_term::{Args, Check, Checks};
+use std::alloc::Global;
+
+fn same_check(a: &Check, b: &Check) -> bool
+    ensures { result ≡ same_check a.now b.now }
+{
+    match (a, b) {
+        (Check::Ground(x), Check::Ground(y)) => x == y,
+        (Check::Indep(x, y), Check::Indep(z, w)) => (x == z && y == w) || (x == w && y == z),
+        _ => false,
+    }
+}
+
+pub fn is_written(check: &Check, checks: &[Check]) -> bool
+    ensures { result ≡ is_written check.now checks.now }
+{
+    checks.iter().any(|written| same_check(check, written))
+}
+
+/// Whether each check of the group's full condition is written or given by the state at the fork.
+pub fn give_group(
+    alloc: Global,
+    at: Place,
+    s: &State,
+    checks: &Checks,
+    goals: &Args,
+) -> Result<(), CertErr>
+    requires { IsTrue (numbered_all 255 goals.now) }
+    ensures { IfOk result (λ _. IsGroupGiven s.now checks.now goals.now) }
+{
+    let condition = full(alloc, goals.as_slice())?;
+    for check in condition.as_slice() {
+        let is_there = is_written(check, checks.as_slice()) || gives(s, check);
+        if !is_there {
+            return Err(CertErr::MissingCheck {
+                clause: at.clause,
+                place: at.goal,
+                check: *check,
+            });
+        }
+    }
+    Ok(())
+}

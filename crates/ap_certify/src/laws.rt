@@ -1,0 +1,18 @@
+//! Laws of the definitions. Each is the contract of a function that does nothing.
+
+ghost use Rattle.ap_certify.specs.Laws.{SoundLaw, StrictLaw, TrackedLaw};
+
+/// A table that covers all that is given to it, and gives what the groups leave out, makes the program sound.
+pub fn sound_law()
+    ensures { SoundLaw }
+{}
+
+/// Where the checks that aren't written hold, and the written ones do, the goals are strictly independent.
+pub fn strict_law()
+    ensures { StrictLaw }
+{}
+
+/// Without what a state keeps beside its groups the search is the search.
+pub fn tracked_law()
+    ensures { TrackedLaw }
+{}

@@ -1,0 +1,21 @@
+//! Certified programs: annotated programs whose groups run side by side only where their goals are strictly independent.
+//!
+//! Stands on `ap_patterns` for what a table says, and on `ap_cge` for annotated programs. The crates above use one
+//! contract: at each group that a search of a query within the scope comes to, each check of the group's full condition
+//! that isn't written holds.
+#![tactic(auto)]
+
+mod bodies;
+mod certified;
+mod coverage;
+mod faults;
+mod groups;
+pub mod laws;
+mod without_groups;
+
+pub use certified::{Certified, Scope};
+pub use faults::CertErr;
+pub use without_groups::plain;
+
+#[cfg(test)]
+mod tests;

@@ -1,0 +1,6 @@
+pub mod Agree
+pub mod Marks
+pub mod Stands
+pub mod Tried
+pub mod Walked
+pub mod Ways

@@ -1,0 +1,176 @@
+//! What is known at a place, as the check keeps it.
+
+ghost use Rattle.std.specs.Prelude.{◌≡◌, ℕ, ◌<◌, ◌^◌, true, false, Some, None, OnOk, vec_len};
+ghost use Rattle.ap_instr.specs.Runs.{set};
+ghost use Rattle.ap_codecheck.specs.Shape.{unset, entry, is_set, write, behind_argument, after};
+ghost use Rattle.ap_codecheck.specs.Marks.{marked};
+
+use ap_instr::{Instr, Slot};
+use ap_term::NoMemory;
+use std::alloc::Global;
+
+/// A register's mark says whether it is set; one past the marks isn't.
+#[derive(Drop)]
+pub struct Shape {
+    pub x: Vec<bool>,
+    pub y: Vec<bool>,
+    pub room: Option<u8>,
+    pub pending: u8,
+    pub target: Option<u32>,
+}
+
+fn widen(marks: &mut Vec<bool>, at: usize) -> Result<(), NoMemory>
+    requires { at < 2 ^ 32 }
+    ensures room { OnOk result (at < vec_len marks.new) }
+    ensures same { OnOk result (marked marks.new.items ≡ marked marks.old.items) }
+{
+    if marks.len() <= at {
+        marks.resize(at + 1, false)?;
+    }
+    Ok(())
+}
+
+fn put(marks: &mut Vec<bool>, at: usize, value: bool) -> Result<(), NoMemory>
+    requires { at < 2 ^ 32 }
+    ensures { OnOk result (marked marks.new.items ≡ set (marked marks.old.items) at value) }
+{
+    widen(marks, at)?;
+    marks[at] = value;
+    Ok(())
+}
+
+fn put_arguments(marks: &mut Vec<bool>, arity: u8) -> Result<(), NoMemory>
+    ensures { OnOk result (marked marks.new.items ≡ (entry arity).x) }
+{
+    marks.clear();
+    marks.resize(arity as usize + 1, true)?;
+    marks[0] = false;
+    Ok(())
+}
+
+fn is_marked(marks: &[bool], at: usize) -> bool
+    ensures { result ≡ marked marks.now at }
+{
+    match marks.get(at) {
+        Some(mark) => *mark,
+        None => false,
+    }
+}
+
+impl Shape {
+    ghost use Rattle.ap_codecheck.specs.Held.{shape_of};
+
+    pub fn new(alloc: Global) -> Shape {
+        Shape {
+            x: Vec::new(alloc),
+            y: Vec::new(alloc),
+            room: None,
+            pending: 0,
+            target: None,
+        }
+    }
+
+    /// As a clause of a predicate with so many arguments begins.
+    pub fn enter(&mut self, arity: u8) -> Result<(), NoMemory>
+        ensures { OnOk result (shape_of self.new ≡ entry arity) }
+    {
+        put_arguments(&mut self.x, arity)?;
+        self.y.clear();
+        self.room = None;
+        self.pending = 0;
+        self.target = None;
+        Ok(())
+    }
+
+    pub fn is_set(&self, v: Slot) -> bool
+        ensures { result ≡ is_set (shape_of self.now) v }
+    {
+        match v {
+            Slot::X(n) => is_marked(&self.x, n as usize),
+            Slot::Y(n) => is_marked(&self.y, n as usize),
+        }
+    }
+
+    fn write(&mut self, v: Slot) -> Result<(), NoMemory>
+        ensures { OnOk result (shape_of self.new ≡ write v (shape_of self.old)) }
+    {
+        match v {
+            Slot::X(n) => put(&mut self.x, n as usize, true),
+            Slot::Y(n) => put(&mut self.y, n as usize, true),
+        }
+    }
+
+    fn pass_argument(&mut self) -> Result<(), NoMemory>
+        ensures { OnOk result (shape_of self.new ≡ behind_argument (shape_of self.old)) }
+    {
+        if self.pending != 1 {
+            self.pending = self.pending.saturating_sub(1);
+            return Ok(());
+        }
+        if let Some(a) = self.target {
+            put(&mut self.x, a as usize, true)?;
+        }
+        self.pending = 0;
+        self.target = None;
+        Ok(())
+    }
+
+    fn build(&mut self, arity: u8, a: u32) -> Result<(), NoMemory>
+        ensures { OnOk result (shape_of self.new ≡ record { x = set (shape_of self.old).x a false; y = (shape_of self.old).y; room = self.old.room; pending = arity; target = Some a }) }
+    {
+        put(&mut self.x, a as usize, false)?;
+        self.pending = arity;
+        self.target = Some(a);
+        Ok(())
+    }
+
+    fn read_structure(&mut self, arity: u8)
+        ensures { shape_of self.new ≡ record { x = (shape_of self.old).x; y = (shape_of self.old).y; room = self.old.room; pending = arity; target = None } }
+    {
+        self.pending = arity;
+        self.target = None;
+    }
+
+    fn set_room(&mut self, room: Option<u8>)
+        ensures { shape_of self.new ≡ record { x = (shape_of self.old).x; y = unset; room = room; pending = self.old.pending; target = self.old.target } }
+    {
+        self.y.clear();
+        self.room = room;
+    }
+
+    fn lose_registers(&mut self)
+        ensures { shape_of self.new ≡ record { x = unset; y = (shape_of self.old).y; room = self.old.room; pending = self.old.pending; target = self.old.target } }
+    {
+        self.x.clear();
+    }
+
+    /// As it is behind an instruction.
+    pub fn advance(&mut self, instr: &Instr) -> Result<(), NoMemory>
+        ensures { OnOk result (shape_of self.new ≡ after instr.now (shape_of self.old)) }
+    {
+        match *instr {
+            Instr::GetVariable(v, _) => self.write(v)?,
+            Instr::GetStructure(_, n, _) => self.read_structure(n),
+            Instr::PutVariable(v, a) => {
+                self.write(v)?;
+                self.write(Slot::X(a))?
+            }
+            Instr::PutValue(_, a) => self.write(Slot::X(a))?,
+            Instr::PutConstant(_, a) => self.write(Slot::X(a))?,
+            Instr::PutInteger(_, a) => self.write(Slot::X(a))?,
+            Instr::PutStructure(_, n, a) => self.build(n, a)?,
+            Instr::UnifyVariable(v) => {
+                self.write(v)?;
+                self.pass_argument()?
+            }
+            Instr::UnifyValue(_) => self.pass_argument()?,
+            Instr::UnifyConstant(_) => self.pass_argument()?,
+            Instr::UnifyInteger(_) => self.pass_argument()?,
+            Instr::Allocate(n) => self.set_room(Some(n)),
+            Instr::Deallocate => self.set_room(None),
+            Instr::Call(_) => self.lose_registers(),
+            _ => {}
+        }
+        Ok(())
+    }
+}

@@ -1,0 +1,106 @@
+//! Code that keeps every rule.
+
+ghost use Rattle.std.specs.Prelude.{◌≡◌, ℕ, ◌<◌, Some, IsSome, IfOk, OnOk, IfErr, IfSome, length, slice_get};
+ghost use Rattle.ap_codecheck.specs.Rules.{IsSound};
+ghost use Rattle.ap_codecheck.specs.Judged.{KeepsAll, KeepsAllAt, BreaksIn, Breaks};
+
+use crate::operands::check_operands;
+use crate::paths::check_paths;
+use crate::rule::{CodeErr, Rule};
+use crate::shape::Shape;
+use ap_instr::{Code, Predicate};
+use std::alloc::Global;
+use std::marker::Model;
+
+/// Code that keeps every rule at every place.
+#[derive(Drop)]
+pub struct Sound {
+    code: Code,
+}
+
+impl Model for Sound {
+    ghost use Rattle.ap_instr.specs.Code.{Compiled};
+    ghost use Rattle.ap_codecheck.specs.Rules.{IsSound};
+
+    ghost Value = { Compiled };
+
+    ghost view = { λ a. a.code };
+
+    ghost invariant = { λ a. IsSound a.code };
+}
+
+fn check_query(code: &Code) -> Result<(), CodeErr>
+    ensures ok { OnOk result (IfSome code.now.query (λ q. q < length code.now.predicates)) }
+    ensures bad { IfErr result (Breaks code.now) }
+{
+    if let Some(q) = code.query() {
+        if q as usize >= code.predicates().len() {
+            return Err(CodeErr::Bad {
+                at: code.instructions().len(),
+                rule: Rule::Called,
+            });
+        }
+    }
+    Ok(())
+}
+
+fn check_predicate(code: &Code, p: &Predicate, shape: &mut Shape) -> Result<(), CodeErr>
+    ensures ok { OnOk result (KeepsAll code.now p.now) }
+    ensures bad { IfErr result (BreaksIn code.now p.now) }
+{
+    check_operands(code, p)?;
+    check_paths(code, p, shape)
+}
+
+fn check_numbered(code: &Code, number: usize, shape: &mut Shape) -> Result<(), CodeErr>
+    requires { number < length code.now.predicates }
+    ensures ok { OnOk result (KeepsAllAt code.now number) }
+    ensures bad { IfErr result (Breaks code.now) }
+{
+    let p = code.predicates()[number];
+    check_predicate(code, &p, shape)
+}
+
+fn check_predicates(alloc: Global, code: &Code) -> Result<(), CodeErr>
+    ensures ok { OnOk result ((number : ℕ) → KeepsAllAt code.now number) }
+    ensures bad { IfErr result (Breaks code.now) }
+{
+    let mut shape = Shape::new(alloc);
+    for number in 0..code.predicates().len() {
+        check_numbered(code, number, &mut shape)?;
+    }
+    Ok(())
+}
+
+/// The code, if no place of it breaks a rule; else a place and a rule that it breaks.
+pub fn check(alloc: Global, code: Code) -> Result<Sound, CodeErr>
+    ensures same { IfOk result (λ sound. sound ≡ code) }
+    ensures sound { OnOk result (IsSound code) }
+    ensures bad { IfErr result (Breaks code) }
+{
+    check_query(&code)?;
+    check_predicates(alloc, &code)?;
+    Ok(Sound { code })
+}
+
+impl Sound {
+    /// The code that was checked.
+    pub fn code(&self) -> &Code
+        ensures same { result.now ≡ self.now }
+        ensures sound { IsSound self.now }
+    {
+        &self.code
+    }
+
+    /// The number of the query's predicate.
+    pub fn query(&self) -> u32
+        requires { IsSome self.now.query }
+        ensures same { self.now.query ≡ Some result }
+        ensures known { result < length self.now.predicates }
+    {
+        match self.code.query() {
+            Some(number) => number,
+            None => unreachable!(),
+        }
+    }
+}

@@ -1,0 +1,84 @@
+-- Tables that grow, and what instructions say by them.
+use Rattle.std.proofs.Common.{◌≡◌, ℕ, zero, suc, ◌+◌, ◌<◌, ◌≤◌, ℤ, Bool, true, false, ◌&&◌, ◌==◌, if◌then◌else◌, List, [], ◌∷◌, ◌++◌, map, length, drop, take, get_or, slice_get, Option, Some, None, refl, ap, sym, ◌∙◌, subst, arith, append_assoc}
+use Rattle.std.proofs.lemmas.Bool.{false≢true}
+use Rattle.std.proofs.lemmas.Bool.Decides.{Decides-eqb, Decides-int_eq}
+use Rattle.std.proofs.lemmas.List.{map-append, drop_more}
+use Rattle.std.specs.Ordering.{int_eq}
+use Rattle.ap_term.specs.Tree.{Tree, int}
+use Rattle.ap_instr.specs.declared.instruction.Instr.{Instr}
+use Rattle.ap_instr.specs.declared.compiled.Predicate.{Predicate}
+use Rattle.ap_instr.specs.Code.{Compiled}
+use Rattle.ap_instr.specs.Step.{Step, with_integer, with_predicate, step_of as said_by, steps_of as said}
+use Rattle.ap_codegen.specs.declared.steps.Step.{Step as Emitted}
+use Rattle.ap_codegen.specs.Emitted.{step_of, steps_of}
+use Rattle.ap_codegen.specs.Assembled.{Numbered, Keeps, Grows, Holds}
+use Rattle.ap_codegen.proofs.Registers.{both_true}
+
+-- ---- tables
+
+keeps_append : {A : Type 0} (xs ys : List A) → Keeps xs (xs ++ ys)
+keeps_append [] ys i x e = cc
+keeps_append (x ∷ xs) ys zero y e = e
+keeps_append (x ∷ xs) ys (suc i) y e = keeps_append xs ys i y e
+
+pub keeps_insert : {A : Type 0} (b : Bool) (xs new : List A) (x : A) → new ≡ (if b then xs else xs ++ x ∷ []) → Keeps xs new
+keeps_insert true xs new x e i y h = ap (λ l. slice_get l i) e ∙ h
+keeps_insert false xs new x e i y h = ap (λ l. slice_get l i) e ∙ keeps_append xs (x ∷ []) i y h
+
+pub grows_same : (s : Numbered) → Grows s s
+grows_same s = record { integers = λ i x e. e; predicates = λ i x e. e }
+
+pub grows_on : (s t u : Numbered) → Grows s t → Grows t u → Grows s u
+grows_on s t u g h = record {
+  integers = λ i x e. h.integers i x (g.integers i x e);
+  predicates = λ i x e. h.predicates i x (g.predicates i x e);
+}
+
+pub holds_less : (s t : Numbered) (code : Compiled) → Grows s t → Holds t code → Holds s code
+holds_less s t code g h = record {
+  integers = λ i x e. h.integers i x (g.integers i x e);
+  predicates = λ i k e. h.predicates i k (g.predicates i k e);
+}
+
+pub stored_integer : (xs : List ℤ) (i : ℕ) (z k : ℤ) → slice_get xs i ≡ Some k → int_eq z k ≡ true → slice_get xs i ≡ Some z
+stored_integer xs i z k e d = e ∙ ap Some (sym ((Decides-int_eq z k).0 d))
+
+pub stored_pair : (xs : List (ℕ × ℕ)) (i a n : ℕ) (k : ℕ × ℕ) → slice_get xs i ≡ Some k → ((a == k.0) && (n == k.1)) ≡ true → slice_get xs i ≡ Some (a, n)
+stored_pair xs i a n k e d =
+    let b = both_true (a == k.0) (n == k.1) d in
+    e ∙ ap (λ a. Some (a, k.1)) (sym ((Decides-eqb a k.0).0 b.0)) ∙ ap (λ n. Some (a, n)) (sym ((Decides-eqb n k.1).0 b.1))
+
+-- ---- instructions
+
+pub says_integer : (code : Compiled) (t : Numbered) (i : ℕ) (z : ℤ) (f : Tree → Step) → Holds t code → slice_get t.integers i ≡ Some z → with_integer (slice_get code.integers i) f ≡ f (int z)
+says_integer code t i z f h e = ap (λ o. with_integer o f) (h.integers i z e)
+
+pub says_predicate : (code : Compiled) (t : Numbered) (i a n : ℕ) (f : ℕ → ℕ → Step) → Holds t code → slice_get t.predicates i ≡ Some (a, n) → with_predicate (slice_get code.predicates i) f ≡ f a n
+says_predicate code t i a n f h e =
+    let p = h.predicates i (a, n) e in
+    ap (λ o. with_predicate o f) p.1 ∙ ap (λ a. f a p.0.arity) p.2 ∙ ap (f a) p.3
+
+-- one more instruction
+pub said_turn : (code : Compiled) (steps : List Emitted) (i : ℕ) (step : Emitted) (o0 o1 : List Instr) (instr : Instr) (w : List Step) → i < length steps → step ≡ get_or steps i step
+    → o1 ≡ o0 ++ instr ∷ [] → said_by code instr ≡ step_of step → said code o0 ++ steps_of (drop i steps) ≡ w → said code o1 ++ steps_of (drop (i + 1) steps) ≡ w
+said_turn code steps i step o0 o1 instr w l e o s r =
+    ap (λ o. said code o ++ steps_of (drop (i + 1) steps)) o
+    ∙ ap (λ q. q ++ steps_of (drop (i + 1) steps)) (map-append _ o0 (instr ∷ []))
+    ∙ append_assoc (said code o0) (said_by code instr ∷ []) (steps_of (drop (i + 1) steps))
+    ∙ ap (λ q. said code o0 ++ (q ∷ steps_of (drop (i + 1) steps))) (s ∙ ap step_of e)
+    ∙ ap (λ q. said code o0 ++ q) (sym (ap steps_of (drop_more steps i step l)))
+    ∙ r
+
+-- no instruction is left
+pub said_end : (a w : List Step) (steps : List Emitted) (i : ℕ) → length steps ≤ i → a ++ steps_of (drop i steps) ≡ w → a ≡ w
+said_end a w steps i l r = sym (append_nil a) ∙ ap (λ ds. a ++ steps_of ds) (sym (drop_all steps i l)) ∙ r
+  where
+    append_nil : (a : List Step) → a ++ [] ≡ a
+    append_nil [] = refl
+    append_nil (x ∷ xs) = ap (λ l. x ∷ l) (append_nil xs)
+
+    drop_all : (xs : List Emitted) (i : ℕ) → length xs ≤ i → drop i xs ≡ []
+    drop_all [] zero l = refl
+    drop_all [] (suc i) l = refl
+    drop_all (x ∷ xs) zero l = absurd (omega arith)
+    drop_all (x ∷ xs) (suc i) l = drop_all xs i (omega arith)

@@ -1,0 +1,198 @@
+-- Predicates made one after another.
+use Rattle.std.proofs.Common.{◌≡◌, ℕ, zero, suc, ◌+◌, ◌<◌, ◌≤◌, ◌==◌, ℤ, Bool, true, false, ◌&&◌, if◌then◌else◌, ◌⊎◌, inl, inr, List, [], ◌∷◌, ◌++◌, map, length, drop, take, get_or, slice_get, Option, Some, None, refl, ap, sym, ◌∙◌, subst, arith, append_assoc}
+use Rattle.std.specs.List.{AllZip, filter}
+use Rattle.std.proofs.lemmas.List.{map-append, take_more}
+use Rattle.ap_term.specs.Tree.{Tree, var, int, atom, node}
+use Rattle.ap_term.specs.Goals.{Clause, Program}
+use Rattle.ap_instr.specs.declared.instruction.Instr.{Instr}
+use Rattle.ap_instr.specs.declared.compiled.Predicate.{Predicate}
+use Rattle.ap_instr.specs.Code.{Compiled}
+use Rattle.ap_instr.specs.StandsFor.{is_head_of, clauses_of, ReadsAt, alternatives, clause_places}
+use Rattle.ap_codegen.specs.Assembled.{Numbered, Keeps, Grows, Holds, AreCoded, chosen, choices, together, heads, clauses_for, IsMade, StandsBeside}
+use Rattle.ap_instr.specs.Step.{Step, steps_of as said}
+use Rattle.ap_instr.specs.Runs.{Reads}
+use Rattle.ap_codegen.proofs.Growing.{grows_on, holds_less}
+use Rattle.ap_codegen.proofs.Placed.{drop_append, block_read}
+
+push_get : {A : Type 0} (xs : List A) (y x : A) (n : ℕ) → slice_get (xs ++ y ∷ []) n ≡ Some x → (slice_get xs n ≡ Some x) ⊎ ((n ≡ length xs) × (y ≡ x))
+push_get [] y x zero e = inr (refl, cc)
+push_get [] y x (suc n) e = cc
+push_get (z ∷ xs) y x zero e = inl e
+push_get (z ∷ xs) y x (suc n) e = elim (push_get xs y x n e) [ inl h ↦ inl h | inr h ↦ inr (ap suc h.0, h.1) ]
+
+get_some : {A : Type 0} (xs : List A) (i : ℕ) → i < length xs → (x : A) × (slice_get xs i ≡ Some x)
+get_some [] i l = absurd (omega arith)
+get_some (x ∷ xs) zero l = (x, refl)
+get_some (x ∷ xs) (suc i) l = get_some xs i (omega arith)
+
+none_beyond : {A : Type 0} (xs : List A) (n i : ℕ) → slice_get xs n ≡ None → n ≤ i → slice_get xs i ≡ None
+none_beyond [] n i e l = refl
+none_beyond (x ∷ xs) zero i e l = cc
+none_beyond (x ∷ xs) (suc n) zero e l = absurd (omega arith)
+none_beyond (x ∷ xs) (suc n) (suc i) e l = none_beyond xs n i e (omega arith)
+
+same_head : (q : Predicate) (t : Tree) → is_head_of q t ≡ heads (q.name, q.arity) t
+same_head q (var x) = refl
+same_head q (int z) = refl
+same_head q (atom a) = refl
+same_head q (node a ts) = refl
+
+same_clauses : (q : Predicate) (k : ℕ × ℕ) (p : Program) → q.name ≡ k.0 → q.arity ≡ k.1 → clauses_of q p ≡ clauses_for k p
+same_clauses q k p n a =
+    let e : clauses_of q p ≡ clauses_for (q.name, q.arity) p = λ i. filter (λ c. same_head q c.head i) p in
+    e ∙ ap (λ m. clauses_for (m, q.arity) p) n ∙ ap (λ m. clauses_for (k.0, m) p) a
+
+-- one more predicate
+pub made_more : (t u : Numbered) (is is' : List Instr) (qs qs' : List Predicate) (q : Predicate) (k : ℕ × ℕ) (bs : List (List Instr)) (p : Program)
+    → Grows t u → ((code : Compiled) → Holds u code → AreCoded code bs (clauses_for k p))
+    → is' ≡ is ++ (choices (length is + chosen (length bs)) bs ++ together bs) → q.name ≡ k.0 → q.arity ≡ k.1 → q.start ≡ length is → qs' ≡ qs ++ q ∷ []
+    → slice_get t.predicates (length qs) ≡ Some k → IsMade t is qs p → IsMade u is' qs' p
+made_more t u is is' qs qs' q k bs p g coded ei n a s eq here made = record { named = named; placed = placed }
+  where
+    at : (m : ℕ) (r : Predicate) → slice_get qs' m ≡ Some r → (slice_get qs m ≡ Some r) ⊎ ((m ≡ length qs) × (q ≡ r))
+    at m r e = push_get qs q r m (ap (λ l. slice_get l m) (sym eq) ∙ e)
+
+    key : k ≡ (q.name, q.arity)
+    key = ap (λ m. (m, k.1)) (sym n) ∙ ap (λ m. (q.name, m)) (sym a)
+
+    named : (m : ℕ) (r : Predicate) → slice_get qs' m ≡ Some r → slice_get u.predicates m ≡ Some (r.name, r.arity)
+    named m r e = elim (at m r e) [
+      | inl h ↦ g.predicates m (r.name, r.arity) (made.named m r h)
+      | inr h ↦ ap (slice_get u.predicates) h.0 ∙ g.predicates (length qs) k here ∙ ap Some key ∙ ap (λ r. Some (r.name, r.arity)) h.1
+    ]
+
+    placed : (code : Compiled) (later : List Instr) → Holds u code → code.instructions ≡ is' ++ later → (m : ℕ) (r : Predicate) → slice_get qs' m ≡ Some r → AllZip (ReadsAt code) (clause_places code r) (clauses_of r p)
+    placed code later h e m r d = go (at m r d)
+      where
+        whole : code.instructions ≡ is ++ ((choices (length is + chosen (length bs)) bs ++ together bs) ++ later)
+        whole = e ∙ ap (λ l. l ++ later) ei ∙ append_assoc is (choices (length is + chosen (length bs)) bs ++ together bs) later
+
+        behind : drop (length is) code.instructions ≡ choices (length is + chosen (length bs)) bs ++ (together bs ++ later)
+        behind = ap (drop (length is)) whole ∙ drop_append is ((choices (length is + chosen (length bs)) bs ++ together bs) ++ later) ∙ append_assoc (choices (length is + chosen (length bs)) bs) (together bs) later
+
+        last : AllZip (ReadsAt code) (clause_places code q) (clauses_of q p)
+        last =
+            subst (λ at. AllZip (ReadsAt code) (alternatives at (drop at code.instructions)) (clauses_of q p)) (sym s)
+            (subst (λ cs. AllZip (ReadsAt code) (alternatives (length is) (drop (length is) code.instructions)) cs) (sym (same_clauses q k p n a))
+            (block_read code (length is) (length is + chosen (length bs)) bs later (clauses_for k p) (coded code h) refl behind))
+
+        go : (slice_get qs m ≡ Some r) ⊎ ((m ≡ length qs) × (q ≡ r)) → AllZip (ReadsAt code) (clause_places code r) (clauses_of r p)
+        go (inl f) = made.placed code ((choices (length is + chosen (length bs)) bs ++ together bs) ++ later) (holds_less t u code g h) whole m r f
+        go (inr f) = subst (λ r. AllZip (ReadsAt code) (clause_places code r) (clauses_of r p)) f.1 last
+
+pub made_none : (t : Numbered) (p : Program) (is : List Instr) (qs : List Predicate) → is ≡ [] → qs ≡ [] → IsMade t is qs p
+made_none t p is qs e f = record {
+  named = λ n q g. let d : slice_get [] n ≡ Some q = ap (λ l. slice_get l n) (sym f) ∙ g in cc;
+  placed = λ code later h c n q g. let d : slice_get [] n ≡ Some q = ap (λ l. slice_get l n) (sym f) ∙ g in cc;
+}
+
+-- where all predicates are made, the code stands for the program
+pub made_all : (t : Numbered) (is : List Instr) (qs : List Predicate) (p : Program) (code : Compiled) (m : ℕ) (k : ℕ × ℕ) → IsMade t is qs p → slice_get t.predicates (length qs) ≡ None
+    → slice_get t.predicates m ≡ Some k → code.instructions ≡ is → code.integers ≡ t.integers → code.predicates ≡ qs → code.query ≡ Some m → StandsBeside code k p
+made_all t is qs p code m k made none at ei ez eq em = record {
+  number = m;
+  predicate = q.0;
+  is_query = em;
+  held = q.1;
+  named = q.2;
+  arity = q.3;
+  stands = λ n r e. made.placed code [] holds (ei ∙ sym (append_nil is)) n r (ap (λ l. slice_get l n) (sym eq) ∙ e);
+}
+  where
+    append_nil : {A : Type 0} (xs : List A) → xs ++ [] ≡ xs
+    append_nil [] = refl
+    append_nil (x ∷ xs) = ap (λ l. x ∷ l) (append_nil xs)
+
+    below : (i : ℕ) (j : ℕ × ℕ) → slice_get t.predicates i ≡ Some j → i < length qs
+    below i j e = go (le_or_lt (length qs) i)
+      where
+        le_or_lt : (a b : ℕ) → (a ≤ b) ⊎ (b < a)
+        le_or_lt zero b = inl (omega arith)
+        le_or_lt (suc a) zero = inr (omega arith)
+        le_or_lt (suc a) (suc b) = elim (le_or_lt a b) [ inl h ↦ inl (omega arith) | inr h ↦ inr (omega arith) ]
+
+        go : (length qs ≤ i) ⊎ (i < length qs) → i < length qs
+        go (inl h) = absurd (let d : slice_get t.predicates i ≡ None = none_beyond t.predicates (length qs) i none h in cc)
+        go (inr h) = h
+
+    entry : (i : ℕ) (j : ℕ × ℕ) → slice_get t.predicates i ≡ Some j → (q : Predicate) × (slice_get code.predicates i ≡ Some q) × (q.name ≡ j.0) × (q.arity ≡ j.1)
+    entry i j e =
+        let q = get_some qs i (below i j e) in
+        let d : Some j ≡ Some (q.0.name, q.0.arity) = sym e ∙ made.named i q.0 q.1 in
+        let f : j ≡ (q.0.name, q.0.arity) = cc in
+        (q.0, ap (λ l. slice_get l i) eq ∙ q.1, sym (ap (λ k. k.0) f), sym (ap (λ k. k.1) f))
+
+    holds : Holds t code
+    holds = record { integers = λ i z e. ap (λ l. slice_get l i) ez ∙ e; predicates = entry }
+
+    q : (q : Predicate) × (slice_get code.predicates m ≡ Some q) × (q.name ≡ k.0) × (q.arity ≡ k.1)
+    q = entry m k at
+
+-- ---- the codes of a predicate's clauses
+
+zip_push : {A B : Type 0} (R : A → B → Type 0) (xs : List A) (ys : List B) (x : A) (y : B) → AllZip R xs ys → R x y → AllZip R (xs ++ x ∷ []) (ys ++ y ∷ [])
+zip_push R [] [] x y h r = (r, tt)
+zip_push R [] (b ∷ ys) x y h r = absurd h
+zip_push R (a ∷ xs) [] x y h r = absurd h
+zip_push R (a ∷ xs) (b ∷ ys) x y h r = (h.0, zip_push R xs ys x y h.1 r)
+
+filter_push : {A : Type 0} (p : A → Bool) (xs : List A) (x : A) → filter p (xs ++ x ∷ []) ≡ (if p x then filter p xs ++ x ∷ [] else filter p xs)
+filter_push p [] x = refl
+filter_push p (y ∷ xs) x = go (p y) (p x) (filter_push p xs x)
+  where
+    go : (b c : Bool) → filter p (xs ++ x ∷ []) ≡ (if c then filter p xs ++ x ∷ [] else filter p xs)
+        → (if b then y ∷ filter p (xs ++ x ∷ []) else filter p (xs ++ x ∷ [])) ≡ (if c then (if b then y ∷ filter p xs else filter p xs) ++ x ∷ [] else (if b then y ∷ filter p xs else filter p xs))
+    go true true e = ap (λ l. y ∷ l) e
+    go true false e = ap (λ l. y ∷ l) e
+    go false true e = e
+    go false false e = e
+
+clauses_take : (k : ℕ × ℕ) (cs : Program) (i : ℕ) (c : Clause) (b : Bool) → i < length cs → c ≡ get_or cs i c → heads k c.head ≡ b
+    → clauses_for k (take (i + 1) cs) ≡ (if b then clauses_for k (take i cs) ++ c ∷ [] else clauses_for k (take i cs))
+clauses_take k cs i c b l e h =
+    ap (clauses_for k) (take_more cs i c l)
+    ∙ ap (λ d. clauses_for k (take i cs ++ d ∷ [])) (sym e)
+    ∙ filter_push (λ c. heads k c.head) (take i cs) c
+    ∙ ap (λ b. if b then clauses_for k (take i cs) ++ c ∷ [] else clauses_for k (take i cs)) h
+
+module _ {V : Type 0} (now : V → List Instr) where
+  pub codes_more : (k : ℕ × ℕ) (cs : Program) (i : ℕ) (c : Clause) (s t u u' : Numbered) (vs new new' : List V) (v : V) (b : Bool) (h : Tree) → i < length cs → c ≡ get_or cs i c
+      → b ≡ heads k h → b ≡ true → h ≡ c.head → Grows s t → Grows t u → u' ≡ u → new ≡ vs ++ v ∷ [] → new' ≡ new
+      → ((code : Compiled) (rest : List Step) → Holds u code → Reads (said code (now v) ++ rest) c)
+      → ((code : Compiled) → Holds t code → AreCoded code (map now vs) (clauses_for k (take i cs)))
+      → Grows s u' × ((code : Compiled) → Holds u' code → AreCoded code (map now new') (clauses_for k (take (i + 1) cs)))
+  codes_more k cs i c s t u u' vs new new' v b h l e q o d f g eu en en' r a =
+      let P : Numbered → Type 0 = λ u'. Grows s u' × ((code : Compiled) → Holds u' code → AreCoded code (map now new') (clauses_for k (take (i + 1) cs))) in
+      subst P (sym eu) (grows_on s t u f g, coded)
+    where
+      codes : map now new' ≡ map now vs ++ now v ∷ []
+      codes = ap (map now) (en' ∙ en) ∙ map-append now vs (v ∷ [])
+
+      clauses : clauses_for k (take (i + 1) cs) ≡ clauses_for k (take i cs) ++ c ∷ []
+      clauses = clauses_take k cs i c true l e (ap (heads k) (sym d) ∙ sym q ∙ o)
+
+      coded : (code : Compiled) → Holds u code → AreCoded code (map now new') (clauses_for k (take (i + 1) cs))
+      coded code x =
+          subst (λ bs. AreCoded code bs (clauses_for k (take (i + 1) cs))) (sym codes)
+          (subst (AreCoded code (map now vs ++ now v ∷ [])) (sym clauses)
+          (zip_push (λ is c. (rest : List Step) → Reads (said code is ++ rest) c) (map now vs) (clauses_for k (take i cs)) (now v) c (a code (holds_less t u code g x)) (λ rest. r code rest x)))
+
+  pub codes_same : (k : ℕ × ℕ) (cs : Program) (i : ℕ) (c : Clause) (s t t' : Numbered) (vs vs' : List V) (b : Bool) (h : Tree) → i < length cs → c ≡ get_or cs i c
+      → b ≡ heads k h → b ≡ false → h ≡ c.head → Grows s t → t' ≡ t → vs' ≡ vs
+      → ((code : Compiled) → Holds t code → AreCoded code (map now vs) (clauses_for k (take i cs)))
+      → Grows s t' × ((code : Compiled) → Holds t' code → AreCoded code (map now vs') (clauses_for k (take (i + 1) cs)))
+  codes_same k cs i c s t t' vs vs' b h l e q o d f et ev a =
+      let P : Numbered → Type 0 = λ t'. Grows s t' × ((code : Compiled) → Holds t' code → AreCoded code (map now vs') (clauses_for k (take (i + 1) cs))) in
+      let Q : List V → Type 0 = λ vs'. (code : Compiled) → Holds t code → AreCoded code (map now vs') (clauses_for k (take (i + 1) cs)) in
+      let clauses : clauses_for k (take (i + 1) cs) ≡ clauses_for k (take i cs) = clauses_take k cs i c false l e (ap (heads k) (sym d) ∙ sym q ∙ o) in
+      subst P (sym et) (f, subst Q (sym ev) (λ code x. subst (AreCoded code (map now vs)) (sym clauses) (a code x)))
+
+  length_codes : (vs : List V) → length (map now vs) ≡ length vs
+  length_codes [] = refl
+  length_codes (v ∷ vs) = ap suc (length_codes vs)
+
+  pub laid_is : (slice codes : List V) (is is' : List Instr) → slice ≡ codes → is' ≡ is ++ (choices (length is + chosen (length slice)) (map now slice) ++ together (map now slice))
+      → is' ≡ is ++ (choices (length is + chosen (length (map now codes))) (map now codes) ++ together (map now codes))
+  laid_is slice codes is is' e f =
+      f ∙ ap (λ vs. is ++ (choices (length is + chosen (length vs)) (map now vs) ++ together (map now vs))) e
+      ∙ ap (λ n. is ++ (choices (length is + chosen n) (map now codes) ++ together (map now codes))) (sym (length_codes codes))

@@ -1,0 +1,119 @@
+-- Clauses one behind another, with choice instructions before them, are read in order.
+use Rattle.std.proofs.Common.{◌≡◌, ℕ, zero, suc, ◌+◌, ◌<◌, ◌≤◌, ◌==◌, Bool, true, false, if◌then◌else◌, List, [], ◌∷◌, ◌++◌, map, length, drop, take, get_or, slice_get, Option, Some, refl, ap, sym, ◌∙◌, subst, arith, append_assoc}
+use Rattle.std.specs.List.{AllZip, flat_map}
+use Rattle.std.proofs.lemmas.List.{map-append}
+use Rattle.std.proofs.lemmas.Bool.Decides.{Decides-eqb}
+use Rattle.ap_term.specs.Tree.{Tree, Trees, var, none, more, count_trees}
+use Rattle.ap_term.specs.Substitution.{instance_all}
+use Rattle.ap_term.specs.Goals.{Clause}
+use Rattle.ap_laws.specs.Plain.{plain_goals}
+use Rattle.ap_instr.specs.declared.instruction.Instr.{Instr}
+use Rattle.ap_instr.specs.declared.instruction.Instr.TheVariants.{GetVariable, GetValue, GetConstant, GetInteger, GetStructure, PutVariable, PutValue, PutConstant, PutInteger, PutStructure, UnifyVariable, UnifyValue, UnifyConstant, UnifyInteger, Allocate, Deallocate, Call, Execute, Proceed, Builtin, Jump, Fail, Try, Retry, Trust}
+use Rattle.ap_instr.specs.Code.{Compiled}
+use Rattle.ap_instr.specs.Step.{Step, other, steps_of as said}
+use Rattle.ap_instr.specs.Runs.{Runs, Reads, Asks, set, spread, arguments}
+use Rattle.ap_instr.specs.StandsFor.{tried, alternatives, ReadsAt}
+use Rattle.ap_codegen.specs.Assembled.{AreCoded, places, retries, choices, chosen, together}
+use Rattle.ap_codegen.proofs.Registers.{set_here}
+
+pub drop_append : {A : Type 0} (xs ys : List A) → drop (length xs) (xs ++ ys) ≡ ys
+drop_append [] ys = refl
+drop_append (x ∷ xs) ys = drop_append xs ys
+
+drop_twice : {A : Type 0} (m n : ℕ) (xs : List A) → drop (m + n) xs ≡ drop n (drop m xs)
+drop_twice zero n xs = let e : 0 + n ≡ n = omega arith in ap (λ k. drop k xs) e
+drop_twice (suc m) n [] = drop_nil (suc m + n) ∙ sym (drop_nil n)
+  where
+    drop_nil : {A : Type 0} (k : ℕ) → drop {A = A} k [] ≡ []
+    drop_nil zero = refl
+    drop_nil (suc k) = refl
+drop_twice (suc m) n (x ∷ xs) = let e : suc m + n ≡ suc (m + n) = omega arith in ap (λ k. drop k (x ∷ xs)) e ∙ drop_twice m n xs
+
+-- ---- code that reads as a clause begins with an instruction of it
+
+set_above : (r : ℕ → Tree) (p w : ℕ) (t : Tree) → p < w → set r p t w ≡ r w
+set_above r p w t l = go (w == p) refl
+  where
+    go : (b : Bool) → (w == p) ≡ b → (if b then t else r w) ≡ r w
+    go true e = absurd (let k : w ≡ p = (Decides-eqb w p).0 e in omega arith)
+    go false e = refl
+
+spread_agree : (k l : ℕ → Tree) (p n : ℕ) → ((w : ℕ) → p ≤ w → k w ≡ l w) → spread k p n ≡ spread l p n
+spread_agree k l p zero h = refl
+spread_agree k l p (suc n) h = ap (λ t. more t (spread k (p + 1) n)) (h p (omega arith)) ∙ ap (more (l p)) (spread_agree k l (p + 1) n (λ w i. h w (omega arith)))
+
+-- registers that hold these terms from number p on
+abbrev loaded : ℕ → Trees → ℕ → Tree
+loaded p none w = var 0
+loaded p (more t ts) w = set (loaded (p + 1) ts) p t w
+
+spread_loaded : (p : ℕ) (ts : Trees) → spread (loaded p ts) p (count_trees ts) ≡ ts
+spread_loaded p none = refl
+spread_loaded p (more t ts) =
+    let e : count_trees ts + 1 ≡ suc (count_trees ts) = omega arith in
+    ap (spread (loaded p (more t ts)) p) e
+    ∙ ap (λ u. more u (spread (loaded p (more t ts)) (p + 1) (count_trees ts))) (set_here (loaded (p + 1) ts) p t)
+    ∙ ap (more t) (spread_agree (loaded p (more t ts)) (loaded (p + 1) ts) (p + 1) (count_trees ts) (λ w i. set_above (loaded (p + 1) ts) p w t (omega arith)) ∙ spread_loaded (p + 1) ts)
+
+count_instance : (f : ℕ → Tree) (ts : Trees) → count_trees (instance_all f ts) ≡ count_trees ts
+count_instance f none = refl
+count_instance f (more t ts) = ap (λ n. n + 1) (count_instance f ts)
+
+not_other : (is : List Step) (c : Clause) → Reads (other ∷ is) c → ⊥
+not_other is c r =
+    let ts : Trees = instance_all var (arguments c.head) in
+    r.each (loaded 1 ts) (λ w. var 0) (instance_all var (plain_goals c.body)) (var, ap (spread (loaded 1 ts) 1) (sym (count_instance var (arguments c.head))) ∙ spread_loaded 1 ts, refl)
+
+single : (code : Compiled) (at : ℕ) (is : List Instr) (c : Clause) → Reads (said code is) c → alternatives at is ≡ at ∷ []
+single code at [] c r = refl
+single code at (Try l ∷ is) c r = absurd (not_other (said code is) c r)
+single code at (Fail ∷ is) c r = absurd (not_other (said code is) c r)
+single code at (i ∷ is) c r = refl
+
+-- ---- places
+
+tried_retries : (at : ℕ) (is : List Instr) (bs : List (List Instr)) (later : List Instr) → tried (retries at (is ∷ bs) ++ later) ≡ places at (is ∷ bs)
+tried_retries at is [] later = refl
+tried_retries at is (b ∷ bs) later = ap (λ l. at ∷ l) (tried_retries (at + length is) b bs later)
+
+length_retries : (at : ℕ) (bs : List (List Instr)) → length (retries at bs) ≡ length bs
+length_retries at [] = refl
+length_retries at (is ∷ []) = refl
+length_retries at (is ∷ b ∷ bs) = ap suc (length_retries (at + length is) (b ∷ bs))
+
+places_read : (code : Compiled) (at : ℕ) (bs : List (List Instr)) (later : List Instr) (cs : List Clause) → AreCoded code bs cs → drop at code.instructions ≡ together bs ++ later → AllZip (ReadsAt code) (places at bs) cs
+places_read code at [] later [] h e = tt
+places_read code at [] later (c ∷ cs) h e = h
+places_read code at (is ∷ bs) later [] h e = h
+places_read code at (is ∷ bs) later (c ∷ cs) h e =
+    let d : drop at code.instructions ≡ is ++ (together bs ++ later) = e ∙ append_assoc is (together bs) later in
+    let f : said code (drop at code.instructions) ≡ said code is ++ said code (together bs ++ later) = ap (said code) d ∙ map-append _ is (together bs ++ later) in (
+      subst (λ q. Reads q c) (sym f) (h.0 (said code (together bs ++ later))),
+      places_read code (at + length is) bs later cs h.1 (drop_twice at (length is) code.instructions ∙ ap (drop (length is)) d ∙ drop_append is (together bs ++ later)),
+    )
+
+chosen_many : (n : ℕ) → chosen (suc (suc n)) ≡ suc (suc n)
+chosen_many n = go (1 == suc (suc n)) refl
+  where
+    go : (b : Bool) → (1 == suc (suc n)) ≡ b → (if b then 0 else suc (suc n)) ≡ suc (suc n)
+    go true e = absurd (let k : 1 ≡ suc (suc n) = (Decides-eqb 1 (suc (suc n))).0 e in omega arith)
+    go false e = refl
+
+-- the clauses of a predicate whose instructions begin at a place
+pub block_read : (code : Compiled) (start base : ℕ) (bs : List (List Instr)) (later : List Instr) (cs : List Clause) → AreCoded code bs cs
+    → base ≡ start + chosen (length bs) → drop start code.instructions ≡ choices base bs ++ (together bs ++ later)
+    → AllZip (ReadsAt code) (alternatives start (drop start code.instructions)) cs
+block_read code start base [] later [] h b e = subst (λ is. AllZip (ReadsAt code) (alternatives start is) []) (sym e) tt
+block_read code start base [] later (c ∷ cs) h b e = absurd h
+block_read code start base (is ∷ []) later [] h b e = absurd h
+block_read code start base (is ∷ []) later (c ∷ cs) h b e =
+    let r = places_read code start (is ∷ []) later (c ∷ cs) h e in
+    subst (λ l. AllZip (ReadsAt code) l (c ∷ cs)) (sym (single code start (drop start code.instructions) c r.0)) r
+block_read code start base (is ∷ i ∷ bs) later cs h b e =
+    let ks : List Instr = retries (base + length is) (i ∷ bs) in
+    let n : base ≡ start + suc (length ks) = b ∙ ap (λ n. start + n) (chosen_many (length bs)) ∙ ap (λ n. start + suc n) (sym (length_retries (base + length is) (i ∷ bs))) in
+    let d : drop base code.instructions ≡ together (is ∷ i ∷ bs) ++ later =
+    ap (λ k. drop k code.instructions) n ∙ drop_twice start (suc (length ks)) code.instructions ∙ ap (drop (suc (length ks))) e ∙ drop_append (choices base (is ∷ i ∷ bs)) (together (is ∷ i ∷ bs) ++ later) in
+    let p : alternatives start (drop start code.instructions) ≡ places base (is ∷ i ∷ bs) =
+    ap (alternatives start) e ∙ ap (λ l. base ∷ l) (tried_retries (base + length is) i bs (together (is ∷ i ∷ bs) ++ later)) in
+    subst (λ l. AllZip (ReadsAt code) l cs) (sym p) (places_read code base (is ∷ i ∷ bs) later cs h d)

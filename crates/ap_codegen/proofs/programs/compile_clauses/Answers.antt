@@ -1,0 +1,17 @@
+use Rattle.std.proofs.Common.{◌≡◌, Vec, Global, Some, ap, ◌∙◌}
+use Rattle.ap_instr.specs.declared.instruction.Instr.{Instr}
+use Rattle.ap_instr.specs.declared.compiled.Predicate.{Predicate}
+use Rattle.ap_instr.specs.Code.{Compiled}
+use Rattle.ap_term.specs.declared.fixed.TheConstants.{QUERY}
+use Rattle.ap_codegen.proofs.Making.{made_all}
+use Rattle.ap_codegen.proofs.programs.compile_clauses.Goals as goal
+
+pub returns : goal.returns
+returns c =
+    let instructions = ap (λ (r : Compiled). r.instructions) c.new.ensures in
+    let predicates = ap (λ (r : Compiled). r.predicates) c.new.ensures in
+    let own_instructions = ap (λ (v : Vec Instr Global). v.items) c.in_ok-instructions.instructions-is in
+    let own_predicates = ap (λ (v : Vec Predicate Global). v.items) c.in_ok-instructions.predicates-is in
+    made_all c.predicates.new.tables c.in_ok-instructions.field-0.instructions.items c.in_ok-instructions.field-0.predicates.items c.args.clauses.now c.new.result c.in_ok-query.query (QUERY, c.args.arity) c.in_ok-instructions.ensures.made
+    c.in_ok-instructions.ensures.all (c.in_ok-instructions.ensures.grows.predicates c.in_ok-query.query (QUERY, c.args.arity) (c.in_ok-query.ensures.number ∙ ap (λ a. Some (a, c.args.arity)) c.at.ensures))
+    (cc) (ap (λ r. r.integers) c.new.ensures ∙ c.in_ok-integers.ensures.items ∙ c.integers.ensures) (cc) (ap (λ r. r.query) c.new.ensures)

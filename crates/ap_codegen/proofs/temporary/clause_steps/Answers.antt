@@ -1,0 +1,13 @@
+use Rattle.std.proofs.Common.{◌≡◌, true, ◌++◌, map, ap, sym, ◌∙◌, subst}
+use Rattle.ap_instr.specs.Runs.{Reads}
+use Rattle.ap_codegen.specs.Emitted.{steps_of}
+use Rattle.ap_codegen.specs.Temporary.{moved, all_fit}
+use Rattle.ap_codegen.proofs.Moved.{moved_reads}
+use Rattle.ap_codegen.proofs.temporary.clause_steps.Goals as goal
+
+pub returns-then-all_fit : goal.returns-then-all_fit
+returns-then-all_fit c rest =
+    let own : steps_of c.as_slice-own.result.now ≡ steps_of c.in_ok-steps.steps.items = ap steps_of c.as_slice-own.ensures.value in
+    let f : all_fit c.greatest_of-k.result (steps_of c.in_ok-steps.steps.items) ≡ true = ap (all_fit c.greatest_of-k.result) (sym own) ∙ sym c.all_fit.ensures ∙ c.if-all_fit.true in
+    let e : steps_of c.in_ok-moved.moved.items ≡ map (moved c.greatest_of-k.result) (steps_of c.in_ok-steps.steps.items) = c.in_ok-moved.ensures ∙ ap (map (moved c.greatest_of-k.result)) own in
+    subst (λ q. Reads (q ++ rest) c.args.clause.now) (sym e) (moved_reads c.greatest_of-k.result (steps_of c.in_ok-steps.steps.items) c.args.clause.now f c.in_ok-steps.ensures rest)

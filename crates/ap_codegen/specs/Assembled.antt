@@ -1,0 +1,84 @@
+-- Code as it is put together: what its tables hold so far, and what it says wherever they hold that.
+use Rattle.std.specs.Prelude.{◌≡◌, ℕ, ◌+◌, Bool, false, ◌&&◌, ◌==◌, if◌then◌else◌, ℤ, List, [], ◌∷◌, ◌++◌, length, slice_get, Option, Some}
+use Rattle.std.specs.List.{AllZip, filter, flat_map}
+use Rattle.ap_term.specs.Tree.{Tree, atom, node, count_trees}
+use Rattle.ap_term.specs.Goals.{Clause, Program}
+use Rattle.ap_instr.specs.declared.instruction.Instr.{Instr}
+use Rattle.ap_instr.specs.declared.instruction.Instr.TheVariants.{Fail, Try, Retry, Trust}
+use Rattle.ap_instr.specs.declared.compiled.Predicate.{Predicate}
+use Rattle.ap_instr.specs.Code.{Compiled}
+use Rattle.ap_instr.specs.Step.{Step, steps_of as said}
+use Rattle.ap_instr.specs.Runs.{Reads}
+use Rattle.ap_instr.specs.StandsFor.{ReadsAt, clause_places, clauses_of, StandsFor}
+
+-- the integers, and the names and arities of predicates, each at its number
+pub record Numbered : Type 0 where
+  pub integers : List ℤ
+  pub predicates : List (ℕ × ℕ)
+
+-- what stands in a list stays at its place
+abbrev pub Keeps : {A : Type 0} → List A → List A → Type 0
+Keeps {A} old new = (i : ℕ) (x : A) → slice_get old i ≡ Some x → slice_get new i ≡ Some x
+
+pub record Grows (s t : Numbered) : Type 0 where
+  pub integers : Keeps s.integers t.integers
+  pub predicates : Keeps s.predicates t.predicates
+
+-- code whose tables hold at least this
+pub record Holds (t : Numbered) (code : Compiled) : Type 0 where
+  pub integers : Keeps t.integers code.integers
+  pub predicates : (i : ℕ) (k : ℕ × ℕ) → slice_get t.predicates i ≡ Some k → (q : Predicate) × (slice_get code.predicates i ≡ Some q) × (q.name ≡ k.0) × (q.arity ≡ k.1)
+
+-- each code reads as its clause, whatever stands behind it
+abbrev pub AreCoded : Compiled → List (List Instr) → List Clause → Type 0
+AreCoded code bs cs = AllZip (λ is c. (rest : List Step) → Reads (said code is ++ rest) c) bs cs
+
+-- where clauses begin that stand one behind another from a place on
+abbrev pub places : ℕ → List (List Instr) → List ℕ
+places at [] = []
+places at (is ∷ bs) = at ∷ places (at + length is) bs
+
+-- what stands behind a `try` for these clauses, the first of which begins at a place
+abbrev pub retries : ℕ → List (List Instr) → List Instr
+retries at [] = []
+retries at (is ∷ []) = Trust at ∷ []
+retries at (is ∷ b ∷ bs) = Retry at ∷ retries (at + length is) (b ∷ bs)
+
+-- what stands before the clauses of a predicate
+abbrev pub choices : ℕ → List (List Instr) → List Instr
+choices at [] = Fail ∷ []
+choices at (is ∷ []) = []
+choices at (is ∷ b ∷ bs) = Try at ∷ retries (at + length is) (b ∷ bs)
+
+-- how many choice instructions stand before so many clauses, where there are any
+abbrev pub chosen : ℕ → ℕ
+chosen n = if 1 == n then 0 else n
+
+abbrev pub together : List (List Instr) → List Instr
+together bs = flat_map (λ is. is) bs
+
+-- whether a head is of this name and arity
+abbrev pub heads : ℕ × ℕ → Tree → Bool
+heads k (atom a) = (a == k.0) && (k.1 == 0)
+heads k (node a ts) = (a == k.0) && (count_trees ts == k.1)
+heads k _ = false
+
+abbrev pub clauses_for : ℕ × ℕ → Program → Program
+clauses_for k p = filter (λ c. heads k c.head) p
+
+-- The first predicates of tables are made: wherever the instructions are followed by others, each is read as the program's
+-- clauses for it.
+pub record IsMade (t : Numbered) (is : List Instr) (qs : List Predicate) (p : Program) : Type 0 where
+  pub named : (n : ℕ) (q : Predicate) → slice_get qs n ≡ Some q → slice_get t.predicates n ≡ Some (q.name, q.arity)
+  pub placed : (code : Compiled) (later : List Instr) → Holds t code → code.instructions ≡ is ++ later
+      → (n : ℕ) (q : Predicate) → slice_get qs n ≡ Some q → AllZip (ReadsAt code) (clause_places code q) (clauses_of q p)
+
+-- code for a program, with the query's predicate in its table
+pub record StandsBeside (code : Compiled) (k : ℕ × ℕ) (p : Program) : Type 0 where
+  pub number : ℕ
+  pub predicate : Predicate
+  pub is_query : code.query ≡ Some number
+  pub held : slice_get code.predicates number ≡ Some predicate
+  pub named : predicate.name ≡ k.0
+  pub arity : predicate.arity ≡ k.1
+  pub stands : StandsFor code p

@@ -1,0 +1,53 @@
+//! From a clause's instructions to those of code, which have numbers of its tables.
+
+ghost use Rattle.std.specs.Prelude.{◌≡◌, [], ◌∷◌, ◌++◌, IfOk, OnOk};
+ghost use Rattle.ap_instr.specs.Code.{Compiled};
+ghost use Rattle.ap_instr.specs.Step.{step_of as said_by, steps_of as said};
+ghost use Rattle.ap_codegen.specs.Assembled.{Grows, Holds};
+ghost use Rattle.ap_codegen.specs.Emitted.{step_of, steps_of};
+
+use crate::steps::Step;
+use crate::tables::Tables;
+use ap_instr::Instr;
+use ap_term::NoMemory;
+
+/// The instruction, with numbers for what the tables hold.
+fn numbered(tables: &mut Tables, step: Step) -> Result<Instr, NoMemory>
+    ensures grows { OnOk result (Grows tables.old tables.new) }
+    ensures said { IfOk result (λ instr. (code : Compiled) → Holds tables.new code → said_by code instr ≡ step_of step) }
+{
+    match step {
+        Step::GetVariable(v, a) => Ok(Instr::GetVariable(v, a)),
+        Step::GetValue(v, a) => Ok(Instr::GetValue(v, a)),
+        Step::GetConstant(c, a) => Ok(Instr::GetConstant(c, a)),
+        Step::GetInteger(z, a) => Ok(Instr::GetInteger(tables.integer(z)?, a)),
+        Step::GetStructure(f, n, a) => Ok(Instr::GetStructure(f, n, a)),
+        Step::PutVariable(v, a, _) => Ok(Instr::PutVariable(v, a)),
+        Step::PutValue(v, a) => Ok(Instr::PutValue(v, a)),
+        Step::PutConstant(c, a) => Ok(Instr::PutConstant(c, a)),
+        Step::PutInteger(z, a) => Ok(Instr::PutInteger(tables.integer(z)?, a)),
+        Step::PutStructure(f, n, a) => Ok(Instr::PutStructure(f, n, a)),
+        Step::UnifyVariable(v) => Ok(Instr::UnifyVariable(v)),
+        Step::UnifyValue(v) => Ok(Instr::UnifyValue(v)),
+        Step::UnifyConstant(c) => Ok(Instr::UnifyConstant(c)),
+        Step::UnifyInteger(z) => Ok(Instr::UnifyInteger(tables.integer(z)?)),
+        Step::Call(p, n) => Ok(Instr::Call(tables.predicate(p, n)?)),
+        Step::Execute(p, n) => Ok(Instr::Execute(tables.predicate(p, n)?)),
+        Step::Builtin(b) => Ok(Instr::Builtin(b)),
+        Step::Proceed => Ok(Instr::Proceed),
+        Step::Allocate(n) => Ok(Instr::Allocate(n)),
+        Step::Deallocate => Ok(Instr::Deallocate),
+    }
+}
+
+/// The instructions of a clause.
+pub fn assemble(tables: &mut Tables, steps: &[Step], out: &mut Vec<Instr>) -> Result<(), NoMemory>
+    ensures grows { OnOk result (Grows tables.old tables.new) }
+    ensures said { OnOk result ((code : Compiled) → Holds tables.new code → said code out.new.items ≡ said code out.old.items ++ steps_of steps.now) }
+{
+    for step in steps {
+        let instr = numbered(tables, *step)?;
+        out.push(instr)?;
+    }
+    Ok(())
+}

@@ -1,0 +1,43 @@
+//! Which goals an instruction runs.
+
+ghost use Rattle.std.specs.Prelude.{◌≡◌, true, false, MatchOption};
+ghost use Rattle.ap_term.specs.Tree.{count_trees, atom};
+ghost use Rattle.ap_term.specs.TermView.{tree_of};
+ghost use Rattle.ap_instr.specs.Builtin.{builtin_name, builtin_arity};
+ghost use Rattle.ap_instr.specs.Runs.{arguments};
+ghost use Rattle.ap_codegen.specs.Permanent.{name, is_builtin};
+
+use ap_instr::Builtin;
+use ap_term::{Atom, Relation, Term, fixed};
+
+fn of_atom(a: Atom) -> Option<Builtin>
+    ensures { MatchOption result (is_builtin (atom a) ≡ false) (λ b. (is_builtin (atom a) ≡ true) × (builtin_name b ≡ a) × (builtin_arity b ≡ 0)) }
+{
+    if a.number() == fixed::TRUE {
+        return Some(Builtin::True);
+    }
+    if a.number() == fixed::FAIL {
+        return Some(Builtin::Fail);
+    }
+    None
+}
+
+/// The built-in goal that an instruction runs, where the goal is one.
+#[tactic(auto, using(crate::proofs::BuiltinGoals::relation_back))]
+pub fn builtin_of(goal: &Term) -> Option<Builtin>
+    ensures { MatchOption result (is_builtin (tree_of goal.now) ≡ false) (λ b. (is_builtin (tree_of goal.now) ≡ true) × (builtin_name b ≡ name (tree_of goal.now)) × (builtin_arity b ≡ count_trees (arguments (tree_of goal.now)))) }
+{
+    match goal {
+        Term::Var(_) | Term::Int(_) => None,
+        Term::Atom(a) => of_atom(*a),
+        Term::Node(p, args) => {
+            if args.len() != 2 {
+                return None;
+            }
+            match Relation::named(*p) {
+                Some(relation) => Some(Builtin::Relation(relation)),
+                None => None,
+            }
+        }
+    }
+}

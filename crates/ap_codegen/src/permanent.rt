@@ -1,0 +1,288 @@
+//! The code of a clause each of whose variables has a place of its own in the environment.
+
+ghost use Rattle.std.specs.Prelude.{◌≡◌, ◌+◌, ◌≤◌, [], ◌∷◌, ◌++◌, map, IfOk, OnOk};
+ghost use Rattle.ap_term.specs.Tree.{count_trees, none, more, node};
+ghost use Rattle.ap_term.specs.TermView.{tree_of, trees_of};
+ghost use Rattle.ap_term.specs.Vars.{add_vars, add_all_vars};
+ghost use Rattle.ap_instr.specs.declared.instruction.Slot.TheVariants.{X, Y};
+ghost use Rattle.ap_instr.specs.Runs.{arguments};
+ghost use Rattle.ap_instr.specs.Step.{get_structure, get_value};
+ghost use Rattle.ap_codegen.specs.Emitted.{step_of, steps_of};
+ghost use Rattle.ap_codegen.specs.Permanent.{name, inits, inits_all, fill, fills, build, nested, puts, goal_code, fresh, takes, get, gets};
+
+use crate::builtin_goals::builtin_of;
+use crate::steps::{Step, add};
+use ap_instr::Slot;
+use ap_term::{Args, Atom, NoMemory, Term, add_vars};
+use std::alloc::Global;
+
+/// The register n above another, where there is one.
+pub fn above(m: u32, n: usize) -> Result<u32, NoMemory>
+    ensures { IfOk result (λ k. k ≡ m + n) }
+{
+    if n > 4294967295 {
+        return Err(NoMemory);
+    }
+    match m.checked_add(n as u32) {
+        Some(k) => Ok(k),
+        None => Err(NoMemory),
+    }
+}
+
+/// How many arguments there are, where an instruction can say it.
+pub fn count(args: &Args) -> Result<u8, NoMemory>
+    ensures { IfOk result (λ n. n ≡ count_trees args.now) }
+{
+    let n = args.len();
+    if n > 255 {
+        return Err(NoMemory);
+    }
+    Ok(n as u8)
+}
+
+/// The place of a variable.
+fn home(v: u64) -> Result<Slot, NoMemory>
+    ensures { IfOk result (λ s. s ≡ Y v) }
+{
+    if v > 255 {
+        return Err(NoMemory);
+    }
+    Ok(Slot::Y(v as u8))
+}
+
+/// Makes the variables of a term that weren't seen yet.
+#[cycle(inits)]
+fn inits(code: &mut Vec<Step>, t: &Term, seen: &mut Vec<u64>, m: u32) -> Result<(), NoMemory>
+    ensures code { OnOk result (steps_of code.new.items ≡ steps_of code.old.items ++ inits (tree_of t.now) seen.old.items m) }
+    ensures seen { OnOk result (seen.new.items ≡ add_vars (tree_of t.now) seen.old.items) }
+{
+    match t {
+        Term::Var(v) => {
+            if !seen.contains(v) {
+                add(code, Step::PutVariable(home(*v)?, m, *v))?;
+                seen.push(*v)?;
+            }
+            Ok(())
+        }
+        Term::Int(_) | Term::Atom(_) => Ok(()),
+        Term::Node(_, args) => inits_all(code, args, seen, m),
+    }
+}
+
+#[cycle(inits)]
+fn inits_all(code: &mut Vec<Step>, args: &Args, seen: &mut Vec<u64>, m: u32) -> Result<(), NoMemory>
+    ensures code { OnOk result (steps_of code.new.items ≡ steps_of code.old.items ++ inits_all args.now seen.old.items m) }
+    ensures seen { OnOk result (seen.new.items ≡ add_all_vars args.now seen.old.items) }
+{
+    for t in args.as_slice() {
+        inits(code, t, seen, m)?;
+    }
+    Ok(())
+}
+
+/// The instruction for one argument of a structure.
+fn fill(t: &Term, m: u32) -> Result<Step, NoMemory>
+    ensures { IfOk result (λ step. step_of step ≡ fill (tree_of t.now) m) }
+{
+    match t {
+        Term::Var(v) => Ok(Step::UnifyValue(home(*v)?)),
+        Term::Int(z) => Ok(Step::UnifyInteger(*z)),
+        Term::Atom(a) => Ok(Step::UnifyConstant(*a)),
+        Term::Node(_, _) => Ok(Step::UnifyValue(Slot::X(m))),
+    }
+}
+
+/// The arguments of a structure.
+fn fills(code: &mut Vec<Step>, args: &Args, m: u32) -> Result<(), NoMemory>
+    ensures { OnOk result (steps_of code.new.items ≡ steps_of code.old.items ++ fills args.now m) }
+{
+    let mut at = m;
+    for t in args.as_slice() {
+        add(code, fill(t, at)?)?;
+        at = above(at, 1)?;
+    }
+    Ok(())
+}
+
+/// Puts a term whose variables were seen into X a.
+#[cycle(build)]
+fn build(code: &mut Vec<Step>, t: &Term, a: u32, m: u32) -> Result<(), NoMemory>
+    ensures { OnOk result (steps_of code.new.items ≡ steps_of code.old.items ++ build (tree_of t.now) a m) }
+{
+    match t {
+        Term::Var(v) => add(code, Step::PutValue(home(*v)?, a)),
+        Term::Int(z) => add(code, Step::PutInteger(*z, a)),
+        Term::Atom(c) => add(code, Step::PutConstant(*c, a)),
+        Term::Node(f, args) => {
+            nested(code, args, m)?;
+            add(code, Step::PutStructure(*f, count(args)?, a))?;
+            fills(code, args, m)
+        }
+    }
+}
+
+#[cycle(build)]
+fn nested(code: &mut Vec<Step>, args: &Args, m: u32) -> Result<(), NoMemory>
+    ensures { OnOk result (steps_of code.new.items ≡ steps_of code.old.items ++ nested args.now m) }
+{
+    let mut at = m;
+    let end = above(m, args.len())?;
+    for t in args.as_slice() {
+        if let Term::Node(_, _) = t {
+            build(code, t, at, end)?;
+        }
+        at = above(at, 1)?;
+    }
+    Ok(())
+}
+
+/// Puts terms into X 1 and on.
+fn puts(code: &mut Vec<Step>, args: &Args, m: u32) -> Result<(), NoMemory>
+    ensures { OnOk result (steps_of code.new.items ≡ steps_of code.old.items ++ puts args.now 1 m) }
+{
+    let mut at = 1;
+    for t in args.as_slice() {
+        build(code, t, at, m)?;
+        at = above(at, 1)?;
+    }
+    Ok(())
+}
+
+/// The arguments of a structure of the head, constants and new variables alone.
+fn takes(code: &mut Vec<Step>, args: &Args) -> Result<(), NoMemory>
+    ensures { OnOk result (steps_of code.new.items ≡ steps_of code.old.items ++ takes args.now) }
+{
+    for t in args.as_slice() {
+        take(code, t)?;
+    }
+    Ok(())
+}
+
+fn take(code: &mut Vec<Step>, t: &Term) -> Result<(), NoMemory>
+    ensures { OnOk result (steps_of code.new.items ≡ steps_of code.old.items ++ takes (more (tree_of t.now) none)) }
+{
+    match t {
+        Term::Var(v) => add(code, Step::UnifyVariable(home(*v)?)),
+        Term::Int(z) => add(code, Step::UnifyInteger(*z)),
+        Term::Atom(a) => add(code, Step::UnifyConstant(*a)),
+        Term::Node(_, _) => Ok(()),
+    }
+}
+
+/// Whether there are constants and new variables alone, each once. Those that it finds stay in `known`.
+fn fresh(args: &Args, known: &mut Vec<u64>) -> Result<bool, NoMemory>
+    ensures { IfOk result (λ b. b ≡ fresh args.now known.old.items) }
+{
+    for t in args.as_slice() {
+        match t {
+            Term::Var(v) => {
+                if known.contains(v) {
+                    return Ok(false);
+                }
+                known.push(*v)?;
+            }
+            Term::Int(_) | Term::Atom(_) => {}
+            Term::Node(_, _) => return Ok(false),
+        }
+    }
+    Ok(true)
+}
+
+fn see(args: &Args, seen: &mut Vec<u64>) -> Result<(), NoMemory>
+    ensures { OnOk result (seen.new.items ≡ add_all_vars args.now seen.old.items) }
+{
+    for t in args.as_slice() {
+        add_vars(t, seen)?;
+    }
+    Ok(())
+}
+
+/// An argument of the head in X a.
+fn get(code: &mut Vec<Step>, t: &Term, a: u32, seen: &mut Vec<u64>, m: u32) -> Result<(), NoMemory>
+    ensures code { OnOk result (steps_of code.new.items ≡ steps_of code.old.items ++ get (tree_of t.now) a seen.old.items m) }
+    ensures seen { OnOk result (seen.new.items ≡ add_vars (tree_of t.now) seen.old.items) }
+{
+    match t {
+        Term::Var(v) => {
+            if seen.contains(v) {
+                add(code, Step::GetValue(home(*v)?, a))
+            } else {
+                add(code, Step::GetVariable(home(*v)?, a))?;
+                seen.push(*v)?;
+                Ok(())
+            }
+        }
+        Term::Int(z) => add(code, Step::GetInteger(*z, a)),
+        Term::Atom(c) => add(code, Step::GetConstant(*c, a)),
+        Term::Node(f, args) => {
+            let mut known = seen.clone()?;
+            if fresh(args, &mut known)? {
+                get_structure(code, *f, args, a)?;
+                see(args, seen)
+            } else {
+                get_built(code, t, args, a, seen, m)
+            }
+        }
+    }
+}
+
+/// A structure of constants and new variables.
+fn get_structure(code: &mut Vec<Step>, f: Atom, args: &Args, a: u32) -> Result<(), NoMemory>
+    ensures { OnOk result (steps_of code.new.items ≡ steps_of code.old.items ++ get_structure f (count_trees args.now) a ∷ takes args.now) }
+{
+    add(code, Step::GetStructure(f, count(args)?, a))?;
+    takes(code, args)
+}
+
+/// A structure of which a variable was seen, or which has structures in it.
+fn get_built(
+    code: &mut Vec<Step>,
+    t: &Term,
+    args: &Args,
+    a: u32,
+    seen: &mut Vec<u64>,
+    m: u32,
+) -> Result<(), NoMemory>
+    ensures code { OnOk result (steps_of code.new.items ≡ steps_of code.old.items ++ (inits_all args.now seen.old.items m ++ (build (tree_of t.now) m (m + 1) ++ get_value (X m) a ∷ []))) }
+    ensures seen { OnOk result (seen.new.items ≡ add_all_vars args.now seen.old.items) }
+{
+    let next = above(m, 1)?;
+    inits_all(code, args, seen, m)?;
+    build(code, t, m, next)?;
+    add(code, Step::GetValue(Slot::X(m), a))
+}
+
+/// The arguments of the head.
+pub fn gets(code: &mut Vec<Step>, args: &Args, seen: &mut Vec<u64>, m: u32) -> Result<(), NoMemory>
+    ensures code { OnOk result (steps_of code.new.items ≡ steps_of code.old.items ++ gets args.now 1 seen.old.items m) }
+    ensures seen { OnOk result (seen.new.items ≡ add_all_vars args.now seen.old.items) }
+{
+    let mut at = 1;
+    for t in args.as_slice() {
+        get(code, t, at, seen, m)?;
+        at = above(at, 1)?;
+    }
+    Ok(())
+}
+
+/// A goal's arguments in X, and what it calls.
+pub fn goal(code: &mut Vec<Step>, t: &Term, seen: &mut Vec<u64>) -> Result<(Atom, u8), NoMemory>
+    ensures code { IfOk result (λ _. steps_of code.new.items ≡ steps_of code.old.items ++ goal_code (tree_of t.now) seen.old.items) }
+    ensures seen { IfOk result (λ _. seen.new.items ≡ add_vars (tree_of t.now) seen.old.items) }
+    ensures called { IfOk result (λ r. (r.0 ≡ name (tree_of t.now)) × (r.1 ≡ count_trees (arguments (tree_of t.now)))) }
+{
+    match t {
+        Term::Var(_) | Term::Int(_) => {
+            inits(code, t, seen, 1)?;
+            Ok((Atom::at(0), 0))
+        }
+        Term::Atom(p) => Ok((*p, 0)),
+        Term::Node(p, args) => {
+            let n = count(args)?;
+            let m = u32::from(n) + 1;
+            inits_all(code, args, seen, m)?;
+            puts(code, args, m)?;
+            Ok((*p, n))
+        }
+    }
+}

@@ -1,0 +1,176 @@
+//! Code for a whole program beside a query.
+
+ghost use Rattle.std.specs.Prelude.{◌≡◌, ℕ, ◌+◌, [], ◌∷◌, ◌++◌, List, map, length, slice_get, Some, None, IfOk, OnOk};
+ghost use Rattle.ap_term.specs.declared.fixed.TheConstants.{QUERY};
+ghost use Rattle.ap_term.specs.TermView.{tree_of};
+ghost use Rattle.ap_instr.specs.Code.{Compiled};
+ghost use Rattle.ap_instr.specs.Step.{Step as Said, steps_of as said};
+ghost use Rattle.ap_instr.specs.Runs.{Reads};
+ghost use Rattle.ap_instr.specs.StandsFor.{StandsForQuery};
+ghost use Rattle.ap_codegen.specs.Assembled.{Grows, Holds, AreCoded, heads, clauses_for, IsMade, StandsBeside};
+
+use crate::asking::asked_program;
+use crate::assembly::assemble;
+use crate::layout::lay;
+use crate::permanent::{above, count};
+use crate::tables::Tables;
+use crate::temporary::clause_steps;
+use ap_instr::{Code, Instr, Predicate};
+use ap_term::{Atom, Clause, NoMemory, Program, Query, Term, fixed};
+use std::alloc::Global;
+
+/// Whether a head has this name and arity.
+fn is_head(t: &Term, name: u32, arity: u8) -> bool
+    ensures { result ≡ heads (name, arity) (tree_of t.now) }
+{
+    match t {
+        Term::Var(_) | Term::Int(_) => false,
+        Term::Atom(a) => a.number() == name && arity == 0,
+        Term::Node(a, args) => a.number() == name && args.len() == usize::from(arity),
+    }
+}
+
+/// The code of a clause, whatever stands behind it.
+fn clause_code(alloc: Global, tables: &mut Tables, clause: &Clause) -> Result<Vec<Instr>, NoMemory>
+    ensures grows { OnOk result (Grows tables.old tables.new) }
+    ensures code { IfOk result (λ is. (code : Compiled) (rest : List Said) → Holds tables.new code → Reads (said code is.items ++ rest) clause.now) }
+{
+    let steps = clause_steps(alloc, clause)?;
+    let mut out = Vec::new(alloc);
+    assemble(tables, steps.as_slice(), &mut out)?;
+    Ok(out)
+}
+
+/// The codes of a predicate's clauses, in order.
+fn clause_codes(
+    alloc: Global,
+    tables: &mut Tables,
+    clauses: &[Clause],
+    name: u32,
+    arity: u8,
+) -> Result<Vec<Vec<Instr>>, NoMemory>
+    ensures grows { OnOk result (Grows tables.old tables.new) }
+    ensures codes { IfOk result (λ codes. (code : Compiled) → Holds tables.new code → AreCoded code (map (λ v. v.items) codes.items) (clauses_for (name, arity) clauses.now)) }
+{
+    let mut codes = Vec::new(alloc);
+    for clause in clauses {
+        if is_head(clause.head(), name, arity) {
+            let code = clause_code(alloc, tables, clause)?;
+            codes.push(code)?;
+        }
+    }
+    Ok(codes)
+}
+
+/// Instructions and predicates so far.
+#[derive(Drop)]
+struct Made {
+    instructions: Vec<Instr>,
+    predicates: Vec<Predicate>,
+}
+
+/// The predicate of the next number, which calls name or clauses have.
+fn add_predicate(
+    alloc: Global,
+    tables: &mut Tables,
+    clauses: &[Clause],
+    name: u32,
+    arity: u8,
+    is_listed: bool,
+    made: &mut Made,
+) -> Result<(), NoMemory>
+    ensures grows { OnOk result (Grows tables.old tables.new) }
+    ensures count { OnOk result (length made.new.predicates.items ≡ length made.old.predicates.items + 1) }
+    ensures made { OnOk result (slice_get tables.old.predicates (length made.old.predicates.items) ≡ Some (name, arity) → IsMade tables.old made.old.instructions.items made.old.predicates.items clauses.now → IsMade tables.new made.new.instructions.items made.new.predicates.items clauses.now) }
+{
+    let start = above(0, made.instructions.len())?;
+    let codes = clause_codes(alloc, tables, clauses, name, arity)?;
+    lay(codes.as_slice(), &mut made.instructions)?;
+    let end = above(0, made.instructions.len())?;
+    made.predicates.push(Predicate {
+        name: Atom::at(name),
+        arity,
+        start,
+        end,
+        is_listed,
+    })?;
+    Ok(())
+}
+
+/// Numbers for the predicates of clauses, in order.
+fn add_heads(tables: &mut Tables, clauses: &[Clause]) -> Result<(), NoMemory> {
+    for clause in clauses {
+        match clause.head() {
+            Term::Var(_) | Term::Int(_) => {}
+            Term::Atom(a) => {
+                tables.predicate(*a, 0)?;
+            }
+            Term::Node(a, args) => {
+                let arity = count(args)?;
+                tables.predicate(*a, arity)?;
+            }
+        }
+    }
+    Ok(())
+}
+
+/// All predicates that clauses have or calls name, of which so many are listed.
+fn predicates(
+    alloc: Global,
+    tables: &mut Tables,
+    clauses: &[Clause],
+    listed: usize,
+) -> Result<Made, NoMemory>
+    ensures grows { OnOk result (Grows tables.old tables.new) }
+    ensures all { IfOk result (λ made. slice_get tables.new.predicates (length made.predicates.items) ≡ None) }
+    ensures made { IfOk result (λ made. IsMade tables.new made.instructions.items made.predicates.items clauses.now) }
+{
+    let mut made = Made {
+        instructions: Vec::new(alloc),
+        predicates: Vec::new(alloc),
+    };
+    for number in 0..4294967295usize {
+        let Some((name, arity)) = tables.predicate_at(number) else {
+            return Ok(made);
+        };
+        let is_listed = number < listed;
+        add_predicate(alloc, tables, clauses, name, arity, is_listed, &mut made)?;
+    }
+    Err(NoMemory)
+}
+
+/// Code for clauses, the query's among them, whose head has so many arguments. The predicates of `own` are listed.
+fn compile_clauses(
+    alloc: Global,
+    clauses: &[Clause],
+    own: &[Clause],
+    arity: u8,
+) -> Result<Code, NoMemory>
+    ensures { IfOk result (λ code. StandsBeside code (QUERY, arity) clauses.now) }
+{
+    let mut tables = Tables::new(alloc);
+    add_heads(&mut tables, own)?;
+    let listed = tables.predicate_count();
+    add_heads(&mut tables, clauses)?;
+    let query = tables.predicate(Atom::at(fixed::QUERY), arity)?;
+    let Made {
+        instructions,
+        predicates,
+    } = predicates(alloc, &mut tables, clauses, listed)?;
+    let integers = Vec::from_slice(alloc, tables.integers())?;
+    Ok(Code::new(instructions, integers, predicates, Some(query)))
+}
+
+/// Code for a program beside a query. Its predicates are those of the program in order of first clause, then the query's,
+/// `?-` on the query's variables, and then those that are called and have no clause, whose code is `fail`. A clause's code is
+/// Warren's (An Abstract Prolog Instruction Set, 1983); a head structure in which a variable stands again is built and
+/// unified, so that the occurs check is never missed. A group is compiled as its goals one after another. A structure of more
+/// than 255 arguments, and more than 4,294,967,295 places or registers, are want of memory.
+pub fn compile(alloc: Global, program: &Program, query: &Query) -> Result<Code, NoMemory>
+    ensures { IfOk result (λ code. StandsForQuery code program.now query.now) }
+{
+    let all = asked_program(alloc, program, query)?;
+    let arity = query.question().vars() as u8;
+    let code = compile_clauses(alloc, all.as_slice(), program.as_slice(), arity)?;
+    Ok(code)
+}

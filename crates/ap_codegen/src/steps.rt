@@ -1,0 +1,41 @@
+//! The instructions of one clause, with integers and predicates in place of their numbers in the code's tables.
+
+ghost use Rattle.std.specs.Prelude.{◌≡◌, [], ◌∷◌, ◌++◌, OnOk};
+ghost use Rattle.ap_codegen.specs.Emitted.{step_of, steps_of};
+
+use ap_instr::{Builtin, Slot};
+use ap_term::{Atom, NoMemory};
+
+/// An instruction of a clause. `PutVariable` has the clause's variable that it makes, too; a call its predicate's name and
+/// arity.
+#[derive(Clone, Copy)]
+pub enum Step {
+    GetVariable(Slot, u32),
+    GetValue(Slot, u32),
+    GetConstant(Atom, u32),
+    GetInteger(i64, u32),
+    GetStructure(Atom, u8, u32),
+    PutVariable(Slot, u32, u64),
+    PutValue(Slot, u32),
+    PutConstant(Atom, u32),
+    PutInteger(i64, u32),
+    PutStructure(Atom, u8, u32),
+    UnifyVariable(Slot),
+    UnifyValue(Slot),
+    UnifyConstant(Atom),
+    UnifyInteger(i64),
+    Call(Atom, u8),
+    Execute(Atom, u8),
+    Builtin(Builtin),
+    Proceed,
+    Allocate(u8),
+    Deallocate,
+}
+
+/// One more instruction.
+pub fn add(code: &mut Vec<Step>, step: Step) -> Result<(), NoMemory>
+    ensures { OnOk result (steps_of code.new.items ≡ steps_of code.old.items ++ step_of step ∷ []) }
+{
+    code.push(step)?;
+    Ok(())
+}

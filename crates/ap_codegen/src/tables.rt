@@ -1,0 +1,82 @@
+//! The numbers of integers and predicates, and instructions that have them.
+
+ghost use Rattle.std.specs.Prelude.{◌≡◌, [], length, slice_get, Some, IfOk};
+
+use ap_term::{Atom, NoMemory};
+use indexmap::IndexSet;
+use std::alloc::Global;
+use std::marker::Model;
+
+/// The integers of code, and the names and arities of its predicates, each at its number.
+#[derive(Drop)]
+pub struct Tables {
+    integers: IndexSet<i64>,
+    predicates: IndexSet<(u32, u8)>,
+}
+
+impl Model for Tables {
+    ghost use Rattle.ap_codegen.specs.Assembled.{Numbered};
+
+    ghost Value = { Numbered };
+
+    ghost view = { λ a. record { integers = a.integers.keys; predicates = a.predicates.keys } };
+}
+
+impl Tables {
+    ghost use Rattle.ap_codegen.specs.Assembled.{Grows};
+
+    pub fn new(alloc: Global) -> Tables
+        ensures { result ≡ record { integers = []; predicates = [] } }
+    {
+        Tables {
+            integers: IndexSet::new(alloc),
+            predicates: IndexSet::new(alloc),
+        }
+    }
+
+    /// The number of an integer.
+    pub fn integer(&mut self, z: i64) -> Result<u32, NoMemory>
+        ensures number { IfOk result (λ i. slice_get self.new.integers i ≡ Some z) }
+        ensures grows { IfOk result (λ _. Grows self.old self.new) }
+    {
+        let (i, _) = self.integers.insert_full(z)?;
+        if i > 4294967295 {
+            return Err(NoMemory);
+        }
+        Ok(i as u32)
+    }
+
+    /// The number of a predicate.
+    pub fn predicate(&mut self, name: Atom, arity: u8) -> Result<u32, NoMemory>
+        ensures number { IfOk result (λ i. slice_get self.new.predicates i ≡ Some (name, arity)) }
+        ensures grows { IfOk result (λ _. Grows self.old self.new) }
+    {
+        let (i, _) = self.predicates.insert_full((name.number(), arity))?;
+        if i > 4294967295 {
+            return Err(NoMemory);
+        }
+        Ok(i as u32)
+    }
+
+    /// The predicate of a number.
+    pub fn predicate_at(&self, number: usize) -> Option<(u32, u8)>
+        ensures { result ≡ slice_get self.now.predicates number }
+    {
+        match self.predicates.get_index(number) {
+            Some(key) => Some(*key),
+            None => None,
+        }
+    }
+
+    pub fn predicate_count(&self) -> usize
+        ensures { result ≡ length self.now.predicates }
+    {
+        self.predicates.len()
+    }
+
+    pub fn integers(&self) -> &[i64]
+        ensures { result.now ≡ self.now.integers }
+    {
+        self.integers.as_slice()
+    }
+}

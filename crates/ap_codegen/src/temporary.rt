@@ -1,0 +1,173 @@
+//! A clause that calls nothing but its last goal has its variables in X registers and no environment.
+
+ghost use Rattle.std.specs.Prelude.{◌≡◌, [], ◌∷◌, ◌++◌, List, map, IfOk};
+ghost use Rattle.ap_instr.specs.declared.instruction.Slot.{Slot};
+ghost use Rattle.ap_instr.specs.Builtin.{builtin_arity};
+ghost use Rattle.ap_instr.specs.Step.{Step as Said};
+ghost use Rattle.ap_instr.specs.Runs.{Reads};
+ghost use Rattle.ap_codegen.specs.Emitted.{step_of, steps_of};
+ghost use Rattle.ap_codegen.specs.Temporary.{moved_slot, moved, fits_slot, fits, ends, all_fit};
+
+use crate::bodies::permanent_code;
+use crate::permanent::above;
+use crate::steps::Step;
+use ap_instr::{Builtin, Slot};
+use ap_term::{Clause, NoMemory};
+use std::alloc::Global;
+
+/// The number of an X register, or 0.
+fn number(v: Slot) -> u32 {
+    match v {
+        Slot::X(n) => n,
+        Slot::Y(_) => 0,
+    }
+}
+
+fn arity(builtin: Builtin) -> u32
+    ensures { result ≡ builtin_arity builtin }
+{
+    match builtin {
+        Builtin::True | Builtin::Fail => 0,
+        Builtin::Relation(_) => 2,
+    }
+}
+
+/// The greatest number of an X register that a step uses.
+fn greatest(step: Step) -> u32 {
+    match step {
+        Step::GetVariable(v, a) => number(v).max(a),
+        Step::GetValue(v, a) => number(v).max(a),
+        Step::PutVariable(v, a, _) => number(v).max(a),
+        Step::PutValue(v, a) => number(v).max(a),
+        Step::UnifyVariable(v) => number(v),
+        Step::UnifyValue(v) => number(v),
+        Step::GetConstant(_, a) => a,
+        Step::GetInteger(_, a) => a,
+        Step::GetStructure(_, _, a) => a,
+        Step::PutConstant(_, a) => a,
+        Step::PutInteger(_, a) => a,
+        Step::PutStructure(_, _, a) => a,
+        Step::Execute(_, n) => u32::from(n),
+        Step::Builtin(builtin) => arity(builtin),
+        _ => 0,
+    }
+}
+
+fn fits_slot(v: Slot, k: u32) -> bool
+    ensures { result ≡ fits_slot k v }
+{
+    match v {
+        Slot::X(n) => n <= k,
+        Slot::Y(n) => 1 <= n,
+    }
+}
+
+/// Whether a step uses X registers up to k alone, and loses none.
+fn fits(step: Step, k: u32) -> bool
+    ensures { result ≡ fits k (step_of step) }
+{
+    match step {
+        Step::GetVariable(v, a) => fits_slot(v, k) && a <= k,
+        Step::GetValue(v, a) => fits_slot(v, k) && a <= k,
+        Step::PutVariable(v, a, _) => fits_slot(v, k) && a <= k,
+        Step::PutValue(v, a) => fits_slot(v, k) && a <= k,
+        Step::UnifyVariable(v) => fits_slot(v, k),
+        Step::UnifyValue(v) => fits_slot(v, k),
+        Step::GetConstant(_, a) => a <= k,
+        Step::GetInteger(_, a) => a <= k,
+        Step::GetStructure(_, _, a) => a <= k,
+        Step::PutConstant(_, a) => a <= k,
+        Step::PutInteger(_, a) => a <= k,
+        Step::PutStructure(_, _, a) => a <= k,
+        Step::UnifyConstant(_) => true,
+        Step::UnifyInteger(_) => true,
+        Step::Call(_, _) => false,
+        Step::Execute(_, n) => u32::from(n) <= k,
+        Step::Builtin(builtin) => arity(builtin) <= k,
+        Step::Proceed => true,
+        Step::Allocate(_) => true,
+        Step::Deallocate => true,
+    }
+}
+
+/// Whether nothing behind a step runs.
+fn ends(step: Step) -> bool
+    ensures { result ≡ ends (step_of step) }
+{
+    match step {
+        Step::Execute(_, _) => true,
+        Step::Proceed => true,
+        _ => false,
+    }
+}
+
+fn all_fit(steps: &[Step], k: u32) -> bool
+    ensures { result ≡ all_fit k (steps_of steps.now) }
+{
+    for step in steps {
+        if !fits(*step, k) {
+            return false;
+        }
+        if ends(*step) {
+            return true;
+        }
+    }
+    false
+}
+
+fn moved_slot(v: Slot, k: u32) -> Result<Slot, NoMemory>
+    ensures { IfOk result (λ u. u ≡ moved_slot k v) }
+{
+    match v {
+        Slot::X(n) => Ok(Slot::X(n)),
+        Slot::Y(n) => Ok(Slot::X(above(k, usize::from(n))?)),
+    }
+}
+
+/// A step, its permanent variable behind X k.
+fn moved(step: Step, k: u32) -> Result<Step, NoMemory>
+    ensures { IfOk result (λ s. step_of s ≡ moved k (step_of step)) }
+{
+    match step {
+        Step::GetVariable(v, a) => Ok(Step::GetVariable(moved_slot(v, k)?, a)),
+        Step::GetValue(v, a) => Ok(Step::GetValue(moved_slot(v, k)?, a)),
+        Step::PutVariable(v, a, w) => Ok(Step::PutVariable(moved_slot(v, k)?, a, w)),
+        Step::PutValue(v, a) => Ok(Step::PutValue(moved_slot(v, k)?, a)),
+        Step::UnifyVariable(v) => Ok(Step::UnifyVariable(moved_slot(v, k)?)),
+        Step::UnifyValue(v) => Ok(Step::UnifyValue(moved_slot(v, k)?)),
+        other => Ok(other),
+    }
+}
+
+fn all_moved(alloc: Global, steps: &[Step], k: u32) -> Result<Vec<Step>, NoMemory>
+    ensures { IfOk result (λ out. steps_of out.items ≡ map (moved k) (steps_of steps.now)) }
+{
+    let mut out = Vec::new(alloc);
+    for step in steps {
+        out.push(moved(*step, k)?)?;
+    }
+    Ok(out)
+}
+
+fn greatest_of(steps: &[Step]) -> u32 {
+    let mut k = 0;
+    for step in steps {
+        k = greatest(*step).max(k);
+    }
+    k
+}
+
+/// The code of a clause, whatever stands behind it: with no environment where it calls nothing but its last goal.
+pub fn clause_steps(alloc: Global, clause: &Clause) -> Result<Vec<Step>, NoMemory>
+    ensures { IfOk result (λ code. (rest : List Said) → Reads (steps_of code.items ++ rest) clause.now) }
+{
+    let steps = permanent_code(alloc, clause, false)?;
+    let own = steps.as_slice();
+    let k = greatest_of(own);
+    if all_fit(own, k) {
+        let moved = all_moved(alloc, own, k)?;
+        return Ok(moved);
+    }
+    let framed = permanent_code(alloc, clause, true)?;
+    Ok(framed)
+}

@@ -1,0 +1,4 @@
+pub mod FullCondition
+pub mod GoalSets
+pub mod Simplified
+pub mod Laws

@@ -1,0 +1,15 @@
+pub mod Unplaced
+pub mod Variables
+pub mod Atoms
+pub mod Trees
+pub mod Terms
+pub mod Phrases
+pub mod PhraseTexts
+pub mod Renaming
+pub mod Pieces
+pub mod Bodies
+pub mod Rules
+pub mod Counts
+pub mod Clauses
+pub mod Programs
+pub mod Numbers
