@@ -1,13 +1,13 @@
 -- A structure that is built: its arguments, and then its own cell.
-use Rattle.std.proofs.Common.{◌≡◌, ℕ, zero, suc, ◌+◌, ◌-◌, ◌<◌, ◌≤◌, ◌==◌, Bool, true, false, if◌then◌else◌, List, [], ◌∷◌, length, refl, ap, sym, ◌∙◌, subst, arith}
+use Rattle.std.proofs.Common.{◌≡◌, ℕ, zero, suc, ◌+◌, ◌-◌, ◌<◌, ◌≤◌, ◌==◌, Bool, true, false, if◌then◌else◌, List, ◌∷◌, length, refl, ap, sym, ◌∙◌, subst, arith}
 use Rattle.std.proofs.lemmas.Bool.Decides.{Decides-eqb}
 use Rattle.ap_term.specs.Tree.{Tree, Trees, node, none, more, count_trees}
 use Rattle.ap_cells.specs.declared.cells.Raw.{Raw}
 use Rattle.ap_instr.specs.Step.{Step, put_structure}
 use Rattle.ap_instr.specs.Runs.{Runs, set, spread}
-use Rattle.ap_match.specs.Fits.{Fits, Agree, Becomes}
+use Rattle.ap_match.specs.Fits.{Fits, Agree}
 use Rattle.ap_match.proofs.Maps.{fits-agree, set-here, set-below}
-use Rattle.ap_section.specs.Moves.{Asked, Moves, IsStuck}
+use Rattle.ap_section.specs.Moves.{Asked, Moves}
 use Rattle.ap_section.specs.Arguments.{AskedInside, Built, BuiltOr, BuiltAll, IsStuckInside}
 use Rattle.ap_section.proofs.RegisterMaps.{set-of}
 use Rattle.ap_section.proofs.Steps.{same-held}

@@ -1,4 +1,4 @@
-use Rattle.std.proofs.Common.{◌≡◌, ℕ, false, List, slice_get, Some, None, sym, ◌∙◌, subst, rules, w64}
+use Rattle.std.proofs.Common.{◌≡◌, false, slice_get, Some, None, sym, ◌∙◌, subst, rules, w64}
 use Rattle.std.specs.Prelude.{FitsSigned}
 use Rattle.std.proofs.lemmas.Int.{to_z-of_z}
 use Rattle.ap_term.specs.Tree.{int}
