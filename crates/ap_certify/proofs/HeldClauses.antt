@@ -1,10 +1,10 @@
 -- What a clause's form gives to the calls on its parts.
-use Rattle.std.proofs.Common.{◌≡◌, ℕ, ◌+◌, ◌≤◌, ◌&&◌, nat_le, IsTrue, List, [], ◌∷◌, ap, sym, ◌∙◌, subst, refl, arith}
+use Rattle.std.proofs.Common.{ℕ, ◌+◌, ◌≤◌, ◌&&◌, nat_le, IsTrue, List, [], ◌∷◌, refl, arith}
 use Rattle.std.specs.List.{list_all}
 use Rattle.std.proofs.lemmas.Bool.{and_parts, and_from, leb-true, le-leb}
 use Rattle.ap_term.specs.declared.clauses.Check.{Check}
 use Rattle.ap_term.specs.declared.clauses.Check.TheVariants.{Ground, Indep}
-use Rattle.ap_term.specs.Tree.{Tree, Trees, none, more, count_trees}
+use Rattle.ap_term.specs.Tree.{Tree, none, more, count_trees}
 use Rattle.ap_term.specs.Goals.{Part, call, group, Clause}
 use Rattle.ap_term.specs.WellFormed.{in_range, callable, all_callable, numbered, numbered_all, numbered_check, well_formed_part, IsClause}
 use Rattle.ap_patterns.specs.Places.{arguments}

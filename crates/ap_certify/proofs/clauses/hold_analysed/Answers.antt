@@ -1,4 +1,4 @@
-use Rattle.std.proofs.Common.{◌≡◌, ◌++◌, ◌∙◌, List, IsTrue, map, ap, ap₂, sym, subst}
+use Rattle.std.proofs.Common.{◌≡◌, ◌∙◌, List, IsTrue, map, ap₂, sym, subst}
 use Rattle.std.specs.List.{list_all}
 use Rattle.ap_term.specs.GoalView.{part_of}
 use Rattle.ap_term.specs.TermView.{tree_of}
