@@ -9,3 +9,4 @@ pub mod Strict
 pub mod Untracked
 pub mod HeldGoals
 pub mod HeldParts
+pub mod HeldClauses

@@ -7,6 +7,7 @@
 
 mod bodies;
 mod certified;
+mod clauses;
 mod coverage;
 mod faults;
 mod groups;

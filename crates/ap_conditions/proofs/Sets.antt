@@ -1,21 +1,20 @@
 -- The sets of a group's goals say which variables its goals share.
 use Rattle.std.proofs.Common.{◌≡◌, ℕ, ◌+◌, ◌<◌, Bool, true, false, not, ◌||◌, ◌&&◌, nat_lt, if◌then◌else◌, ◌⊎◌, inl, inr, List, [], ◌∷◌, ◌++◌, map, take, drop, get_or, length, append_assoc, append-nil, refl, ap, ap₂, sym, ◌∙◌}
-use Rattle.std.specs.List.{filter, list_any, flat_map}
+use Rattle.std.specs.List.{filter, flat_map}
 use Rattle.std.proofs.lemmas.List.{drop_more}
 use Rattle.std.proofs.lemmas.Bool.{false≢true}
 use Rattle.std.proofs.lemmas.List.Folds.{list_any-append}
-use Rattle.ap_term.specs.declared.clauses.Check.{Check}
 use Rattle.ap_term.specs.declared.clauses.Check.TheVariants.{Ground, Indep}
-use Rattle.ap_term.specs.Tree.{Tree, Trees, none, more}
+use Rattle.ap_term.specs.Tree.{Trees, none, more}
 use Rattle.ap_term.specs.Vars.{occurs, occurs_all}
 use Rattle.ap_term.specs.Independence.{shared, of_two_goals}
 use Rattle.ap_term.proofs.TermLists.{trees_of-drop_more}
-use Rattle.ap_sharing.specs.VarSet.{has, empty, union, both, without}
-use Rattle.ap_sharing.proofs.Elements.{has-empty, has-union, has-both, has-without, union_assoc, empty-union}
+use Rattle.ap_sharing.specs.VarSet.{has, empty, union, both}
+use Rattle.ap_sharing.proofs.Elements.{has-empty, has-union, has-both, union_assoc, empty-union}
 use Rattle.ap_absunify.specs.TermSets.{var_set}
 use Rattle.ap_absunify.proofs.TermSets.{has-var_set}
 use Rattle.ap_absunify.proofs.Vars.{or_cases, and_both, or_none}
-use Rattle.ap_conditions.specs.FullCondition.{numbers, is_pair, grounds, indeps_of, full_condition}
+use Rattle.ap_conditions.specs.FullCondition.{numbers, is_pair, indeps_of, full_condition}
 use Rattle.ap_conditions.specs.GoalSets.{goal_sets, in_one, in_two, others, indeps_with, indeps_among}
 use Rattle.ap_conditions.proofs.Numbers.{filter_same, filter_none, joined_same}
 

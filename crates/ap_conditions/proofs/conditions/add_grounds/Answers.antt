@@ -1,4 +1,4 @@
-use Rattle.std.proofs.Common.{◌≡◌, ◌+◌, ◌∙◌, ◌++◌, ◌∷◌, [], if◌then◌else◌, map, append_assoc, append-nil, ap, ap₂, sym, arith}
+use Rattle.std.proofs.Common.{◌+◌, ◌∙◌, ◌++◌, ◌∷◌, [], if◌then◌else◌, map, append_assoc, append-nil, ap, ap₂, sym}
 use Rattle.std.specs.List.{filter}
 use Rattle.ap_term.specs.declared.clauses.Check.TheVariants.{Ground}
 use Rattle.ap_sharing.specs.VarSet.{has}

@@ -1,4 +1,4 @@
-use Rattle.std.proofs.Common.{◌≡◌, ◌+◌, ◌∙◌, ◌++◌, [], if◌then◌else◌, append_assoc, append-nil, ap, ap₂, sym, arith}
+use Rattle.std.proofs.Common.{◌+◌, ◌∙◌, ◌++◌, [], if◌then◌else◌, append_assoc, append-nil, ap, ap₂, sym}
 use Rattle.std.specs.List.{flat_map}
 use Rattle.ap_sharing.specs.VarSet.{both}
 use Rattle.ap_conditions.specs.FullCondition.{numbers}

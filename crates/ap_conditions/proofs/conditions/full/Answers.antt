@@ -1,4 +1,4 @@
-use Rattle.std.proofs.Common.{◌≡◌, ◌∙◌, ◌++◌, ◌&&◌, not, map, ap, ap₂, sym}
+use Rattle.std.proofs.Common.{◌≡◌, ◌∙◌, ◌++◌, ◌&&◌, not, map, ap, ap₂}
 use Rattle.std.specs.List.{filter, flat_map}
 use Rattle.ap_term.specs.TermView.{trees_of}
 use Rattle.ap_term.specs.declared.clauses.Check.TheVariants.{Ground}

@@ -1,6 +1,6 @@
-use Rattle.std.proofs.Common.{◌≡◌, ◌+◌, ◌∙◌, ap, sym, drop, refl, arith}
+use Rattle.std.proofs.Common.{◌+◌, ◌∙◌, ap, sym, drop}
 use Rattle.std.proofs.lemmas.List.{drop_all}
-use Rattle.ap_sharing.specs.VarSet.{union, empty}
+use Rattle.ap_sharing.specs.VarSet.{union}
 use Rattle.ap_sharing.proofs.Elements.{empty-union, union-empty}
 use Rattle.ap_conditions.specs.GoalSets.{others}
 use Rattle.ap_conditions.proofs.Sets.{others-passed, others-taken}

@@ -1,6 +1,6 @@
-use Rattle.std.proofs.Common.{◌≡◌, ◌+◌, ◌∙◌, ◌||◌, ◌&&◌, ◌++◌, ◌∷◌, [], not, ap, ap₂, sym, take, refl, arith}
+use Rattle.std.proofs.Common.{◌≡◌, ◌+◌, ◌∙◌, ◌||◌, ◌&&◌, ◌++◌, ◌∷◌, [], not, ap, ap₂, sym, take}
 use Rattle.std.proofs.lemmas.List.{take_more, take_all}
-use Rattle.ap_sharing.specs.VarSet.{has, both}
+use Rattle.ap_sharing.specs.VarSet.{has}
 use Rattle.ap_sharing.proofs.Elements.{has-empty, has-union, has-both, has-without}
 use Rattle.ap_conditions.specs.GoalSets.{in_one, in_two}
 use Rattle.ap_conditions.proofs.Sets.{in_one-more, in_two-more}
