@@ -1,23 +1,20 @@
 -- Rounds that go through the clauses again that read a changed pattern are the rounds of the definition.
-use Rattle.std.proofs.Common.{◌≡◌, ℕ, zero, suc, ◌+◌, ◌⊎◌, inl, inr, Bool, true, false, cond, List, [], ◌∷◌, ◌++◌, length, refl, ap, ap₂, sym, ◌∙◌, subst, arith, IsTrue}
+use Rattle.std.proofs.Common.{◌≡◌, ℕ, zero, suc, ◌+◌, ◌⊎◌, inl, inr, Bool, true, false, cond, List, [], ◌∷◌, length, refl, ap, ap₂, sym, ◌∙◌, subst, arith}
 use Rattle.std.specs.List.{flat_map, All}
 use Rattle.std.proofs.Math.Path.{fun_ext}
-use Rattle.std.proofs.lemmas.List.Elements.{All-from_recursion}
 use Rattle.ap_term.specs.Goals.{Program, Clause}
-use Rattle.ap_absunify.specs.declared.states.State.{State}
 use Rattle.ap_patterns.specs.declared.tables.Row.{Row}
 use Rattle.ap_patterns.specs.declared.slots.Slot.{Slot}
 use Rattle.ap_patterns.specs.declared.slots.Slot.TheVariants.{Call, Success}
 use Rattle.ap_patterns.specs.declared.slots.Given.{Given}
 use Rattle.ap_patterns.specs.declared.entries.Entries.{Entries}
 use Rattle.ap_patterns.specs.Given.{Patterns, patterns, given, given_by_entries, given_by_clause}
-use Rattle.ap_patterns.specs.Covered.{is_covered, IsHeld, IsClosed}
+use Rattle.ap_patterns.specs.Covered.{IsHeld, IsClosed}
 use Rattle.ap_patterns.proofs.Coverings.{Below, covered-Below}
-use Rattle.ap_fixpoint.specs.Fix.{united, first, next, table, IsFix}
+use Rattle.ap_fixpoint.specs.Fix.{first, next, table, IsFix}
 use Rattle.ap_fixpoint.specs.Reads.{is_among, reads, given_if_read}
 use Rattle.ap_fixpoint.specs.Rounds.{steps, changed}
 use Rattle.ap_fixpoint.proofs.Members.{Has, Has-left, Has-right, Has-cases, Has-flat_map, Has-from}
-use Rattle.ap_fixpoint.proofs.Order.{Below_refl}
 use Rattle.ap_fixpoint.proofs.Joins.{AllKept, united_holds, united-kept, united-fewer}
 use Rattle.ap_fixpoint.proofs.Stepping.{steps-united, unchanged}
 use Rattle.ap_fixpoint.proofs.Reading.{unread}

@@ -1,17 +1,14 @@
 -- A pattern united with all that is given to it.
-use Rattle.std.proofs.Common.{◌≡◌, ◌⊎◌, inl, inr, Bool, true, false, ◌==◌, cond, List, [], ◌∷◌, refl, ap, ap₂, sym, ◌∙◌, subst}
-use Rattle.std.proofs.lemmas.Bool.{false≢true, and_parts}
-use Rattle.std.proofs.Math.Path.{fun_ext}
+use Rattle.std.proofs.Common.{◌≡◌, ◌⊎◌, inl, inr, Bool, true, false, cond, List, [], ◌∷◌, refl, ap, sym, ◌∙◌, subst}
+use Rattle.std.proofs.lemmas.Bool.{false≢true}
 use Rattle.ap_absunify.specs.declared.states.State.{State}
-use Rattle.ap_absunify.specs.declared.states.State.TheVariants.{Unreachable, Reachable}
 use Rattle.ap_patterns.specs.declared.slots.Slot.{Slot}
 use Rattle.ap_patterns.specs.declared.slots.Slot.TheVariants.{Call, Success}
 use Rattle.ap_patterns.specs.declared.slots.Given.{Given}
 use Rattle.ap_patterns.specs.Given.{Patterns}
-use Rattle.ap_patterns.specs.Covered.{is_covered}
-use Rattle.ap_patterns.proofs.Coverings.{Below, Below-covered, covered-Below}
+use Rattle.ap_patterns.proofs.Coverings.{Below}
 use Rattle.ap_patterns.proofs.Rows.{same_predicate-true, same_predicate-refl}
-use Rattle.ap_fixpoint.specs.Fix.{same_slot, joined, joined_all, kept, united}
+use Rattle.ap_fixpoint.specs.Fix.{same_slot, joined, joined_all, united}
 use Rattle.ap_fixpoint.proofs.Members.{Has}
 use Rattle.ap_fixpoint.proofs.Order.{Below_refl, Below_trans, joined_left, joined_right, joined_least, InOrder, joined_in_order, Kept, kept-Kept, Kept-same, Kept_in_order, kept_above, kept_same}
 

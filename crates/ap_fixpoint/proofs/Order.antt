@@ -1,14 +1,14 @@
 -- Patterns by what they allow: a joined state is the least that allows what each of both does.
-use Rattle.std.proofs.Common.{◌≡◌, ℕ, ◌⊎◌, inl, inr, Bool, true, false, not, ◌||◌, ◌&&◌, cond, nat_eq, List, [], ◌∷◌, refl, ap, ap₂, sym, ◌∙◌}
+use Rattle.std.proofs.Common.{◌≡◌, ℕ, ◌⊎◌, inl, inr, Bool, true, false, not, ◌&&◌, cond, nat_eq, List, [], ◌∷◌, refl, ap, ap₂, sym, ◌∙◌}
 use Rattle.std.proofs.lemmas.Bool.{false≢true, or_left, or_right, or_cases, and_parts, and_from}
-use Rattle.std.specs.List.{filter, list_all}
+use Rattle.std.specs.List.{filter}
 use Rattle.std.proofs.lemmas.List.Kept.{IsStrictlySortedBy-filter}
 use Rattle.std.specs.Ordering.{nat_cmp}
 use Rattle.ap_sharing.specs.VarSet.{has, empty, union, both, within}
 use Rattle.ap_sharing.specs.Sets.{Is, IsAscending, listed, join_sets, sets_of, all_of, too_many}
 use Rattle.ap_sharing.specs.Share.{Share, IsNormal, nonground, is_member, dropped, limited, widen, norm}
-use Rattle.ap_sharing.proofs.Elements.{same_bool, clash, same_set, has-union, has-both, within-at, within-made, both_left}
-use Rattle.ap_sharing.proofs.Lists.{Elem, Elem-listed, listed-Elem, In-filter, In-weaken, listed-join, listed-filter, In-all_of, one_list, ascending-join, ascending-none}
+use Rattle.ap_sharing.proofs.Elements.{same_bool, same_set, has-union, has-both, within-at, within-made, both_left}
+use Rattle.ap_sharing.proofs.Lists.{Elem-listed, listed-Elem, In-filter, In-weaken, listed-join, listed-filter, In-all_of, one_list, ascending-join, ascending-none}
 use Rattle.ap_sharing.proofs.Covers.{normal-norm, norm-normal}
 use Rattle.ap_absunify.specs.declared.states.State.{State}
 use Rattle.ap_absunify.specs.declared.states.State.TheVariants.{Unreachable, Reachable}

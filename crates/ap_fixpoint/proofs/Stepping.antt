@@ -1,7 +1,6 @@
 -- A round step by step is the round at once.
 use Rattle.std.proofs.Common.{◌≡◌, ℕ, ◌+◌, ◌<◌, ◌≤◌, length, drop, get_or, append_assoc, append-nil, ap₂, ◌⊎◌, inl, inr, Bool, true, false, cond, List, [], ◌∷◌, ◌++◌, refl, ap, sym, ◌∙◌, subst}
-use Rattle.std.proofs.lemmas.Bool.{false≢true, or_from}
-use Rattle.std.specs.List.{list_any}
+use Rattle.std.proofs.lemmas.Bool.{false≢true}
 use Rattle.std.proofs.Math.Path.{fun_ext}
 use Rattle.std.proofs.lemmas.List.{drop_more, drop_all}
 use Rattle.ap_absunify.specs.declared.states.State.{State}
@@ -16,7 +15,7 @@ use Rattle.ap_fixpoint.specs.Rounds.{put, step, steps, changed, changed_slot}
 use Rattle.ap_fixpoint.proofs.Members.{Has}
 use Rattle.ap_fixpoint.proofs.Order.{Below_refl, Below_trans}
 use Rattle.ap_fixpoint.proofs.Reading.{neither}
-use Rattle.ap_fixpoint.proofs.Joins.{same_slot-true, same_slot-refl, AllKept, Holds, united_above, united_holds, united-same}
+use Rattle.ap_fixpoint.proofs.Joins.{same_slot-true, same_slot-refl, AllKept, united_above, united_holds, united-same}
 
 -- each pattern is as it was, or united
 abbrev Between : List Given → Patterns → Patterns → Type 0

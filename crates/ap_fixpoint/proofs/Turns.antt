@@ -1,12 +1,11 @@
 -- The walks over goals, parts and clauses, one after another.
-use Rattle.std.proofs.Common.{◌≡◌, ℕ, ◌+◌, ◌<◌, ◌≤◌, List, [], ◌∷◌, ◌++◌, length, drop, get_or, map, append_assoc, append-nil, refl, ap, sym, ◌∙◌}
+use Rattle.std.proofs.Common.{◌≡◌, ℕ, ◌+◌, ◌<◌, ◌≤◌, List, ◌∷◌, ◌++◌, length, drop, get_or, map, append_assoc, append-nil, ap, sym, ◌∙◌}
 use Rattle.std.proofs.lemmas.List.{drop_more, drop_all}
 use Rattle.std.specs.List.{flat_map}
 use Rattle.ap_term.specs.Goals.{Clause}
 use Rattle.ap_patterns.specs.declared.slots.Given.{Given}
 use Rattle.ap_term.specs.declared.clauses.Part.{Part}
 use Rattle.ap_term.specs.GoalView.{part_of}
-use Rattle.ap_term.proofs.TermLists.{trees_of-drop_more}
 
 pub parts-drop_more : (ps : List Part) (i : ℕ) (p : Part) → i < length ps → p ≡ get_or ps i p → map part_of (drop i ps) ≡ part_of p ∷ map part_of (drop (i + 1) ps)
 parts-drop_more ps i p h e = ap (map part_of) (drop_more ps i p h) ∙ ap (λ q. part_of q ∷ map part_of (drop (i + 1) ps)) (sym e)

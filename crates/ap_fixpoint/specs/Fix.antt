@@ -1,20 +1,19 @@
 -- The table of a program: in the first one every pattern is unreachable, and in the next one each pattern is united
 -- with all that the table before gives to it, as one operation.
-use Rattle.std.specs.Prelude.{◌≡◌, ℕ, zero, suc, Bool, true, false, ◌&&◌, if◌then◌else◌, List, [], ◌∷◌}
+use Rattle.std.specs.Prelude.{◌≡◌, ℕ, zero, suc, Bool, false, if◌then◌else◌, List, [], ◌∷◌}
 use Rattle.ap_term.specs.Goals.{Program}
 use Rattle.ap_sharing.specs.VarSet.{union, both}
 use Rattle.ap_sharing.specs.Sets.{join_sets, sets_of}
-use Rattle.ap_sharing.specs.Share.{Share, norm}
+use Rattle.ap_sharing.specs.Share.{norm}
 use Rattle.ap_absunify.specs.declared.states.State.{State}
 use Rattle.ap_absunify.specs.declared.states.State.TheVariants.{Unreachable, Reachable}
 use Rattle.ap_absunify.specs.State.{made}
-use Rattle.ap_patterns.specs.declared.tables.Row.{Row}
 use Rattle.ap_patterns.specs.declared.slots.Slot.{Slot}
 use Rattle.ap_patterns.specs.declared.slots.Slot.TheVariants.{Call, Success}
 use Rattle.ap_patterns.specs.declared.slots.Given.{Given}
 use Rattle.ap_patterns.specs.declared.entries.Entries.{Entries}
 use Rattle.ap_patterns.specs.Table.{same_predicate}
-use Rattle.ap_patterns.specs.Given.{Patterns, patterns, given}
+use Rattle.ap_patterns.specs.Given.{Patterns, given}
 
 abbrev pub same_slot : Slot → Slot → Bool
 same_slot (Call p) (Call q) = same_predicate p q

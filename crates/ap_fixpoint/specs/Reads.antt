@@ -1,7 +1,7 @@
 -- On which patterns of a table it turns what a clause gives.
-use Rattle.std.specs.Prelude.{Bool, false, ◌||◌, if◌then◌else◌, List, [], ◌∷◌, ◌++◌, Option, Some, None}
-use Rattle.std.specs.List.{flat_map, list_any}
-use Rattle.ap_term.specs.Tree.{Tree, Trees, none, more}
+use Rattle.std.specs.Prelude.{Bool, false, ◌||◌, if◌then◌else◌, List, [], Option, Some, None}
+use Rattle.std.specs.List.{list_any}
+use Rattle.ap_term.specs.Tree.{Trees, none, more}
 use Rattle.ap_term.specs.Goals.{Part, call, group, Clause}
 use Rattle.ap_patterns.specs.declared.tables.Predicate.{Predicate}
 use Rattle.ap_patterns.specs.declared.slots.Slot.{Slot}

@@ -1,6 +1,6 @@
 use Rattle.std.proofs.Common.{arith}
 use Rattle.std.specs.List.{flat_map}
-use Rattle.ap_patterns.specs.Given.{patterns, given_by_clause, given}
+use Rattle.ap_patterns.specs.Given.{patterns}
 use Rattle.ap_fixpoint.specs.Reads.{given_if_read}
 use Rattle.ap_fixpoint.proofs.Turns.{clauses-turn}
 use Rattle.ap_fixpoint.proofs.programs.given_by_readers.Goals as goal

@@ -1,7 +1,7 @@
 use Rattle.std.proofs.Common.{arith}
 use Rattle.ap_patterns.specs.Given.{patterns}
 use Rattle.ap_fixpoint.specs.Rounds.{steps, changed}
-use Rattle.ap_fixpoint.proofs.Stepping.{slots-turn, table-turn, table-done, slots-done}
+use Rattle.ap_fixpoint.proofs.Stepping.{slots-turn, table-turn, table-done}
 use Rattle.ap_fixpoint.proofs.tables.unite_all.Goals as goal
 
 pub loop-g-preserved : goal.loop-g-preserved
