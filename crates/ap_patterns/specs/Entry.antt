@@ -11,7 +11,7 @@ use Rattle.ap_absunify.specs.State.{made}
 use Rattle.ap_patterns.specs.declared.entries.Mark.{Mark}
 use Rattle.ap_patterns.specs.declared.entries.Mark.TheVariants.{Ground, Free, Any}
 use Rattle.ap_patterns.specs.declared.entries.Entries.{Entries}
-use Rattle.ap_patterns.specs.declared.entries.Entries.TheVariants.{All, One, Query}
+use Rattle.ap_patterns.specs.declared.entries.Entries.TheVariants.{One}
 use Rattle.ap_patterns.specs.Places.{argument}
 
 -- the mark of place j, where the first has place i

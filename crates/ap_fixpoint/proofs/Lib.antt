@@ -1,0 +1,9 @@
+pub mod Formed
+pub mod Members
+pub mod Order
+pub mod Joins
+pub mod Stepping
+pub mod Reading
+pub mod Fixing
+pub mod Turns
+pub mod Puts

@@ -1,0 +1,28 @@
+-- A round as it is done: what is covered already is left alone, and the other patterns are united one after another.
+use Rattle.std.specs.Prelude.{if◌then◌else◌, List, [], ◌∷◌, ◌++◌}
+use Rattle.ap_absunify.specs.declared.states.State.{State}
+use Rattle.ap_patterns.specs.declared.slots.Slot.{Slot}
+use Rattle.ap_patterns.specs.declared.slots.Given.{Given}
+use Rattle.ap_patterns.specs.Given.{Patterns}
+use Rattle.ap_patterns.specs.Covered.{is_covered}
+use Rattle.ap_fixpoint.specs.Fix.{same_slot, united}
+
+abbrev pub put : Slot → State → Patterns → Patterns
+put y s t x = if same_slot y x then s else t x
+
+-- of all that is given, gs, the slot of g
+abbrev pub step : List Given → Given → Patterns → Patterns
+step gs g t = if is_covered g.pattern (t g.slot) then t else put g.slot (united gs t g.slot) t
+
+abbrev pub steps : List Given → List Given → Patterns → Patterns
+steps gs [] t = t
+steps gs (g ∷ rest) t = steps gs rest (step gs g t)
+
+-- the slot of g, if its pattern changes
+abbrev pub changed_slot : Given → Patterns → List Slot
+changed_slot g t = if is_covered g.pattern (t g.slot) then [] else g.slot ∷ []
+
+-- the slots whose patterns change
+abbrev pub changed : List Given → List Given → Patterns → List Slot
+changed gs [] t = []
+changed gs (g ∷ rest) t = changed_slot g t ++ changed gs rest (step gs g t)

@@ -1,0 +1,34 @@
+//! The table of a program, round by round.
+
+ghost use Rattle.std.specs.Prelude.{IfOk};
+ghost use Rattle.ap_patterns.specs.Given.{patterns};
+ghost use Rattle.ap_patterns.specs.Entry.{IsMarked};
+ghost use Rattle.ap_fixpoint.specs.Fix.{IsFix};
+
+use crate::programs::{given_at_start, given_by_readers};
+use crate::tables::unite_all;
+use ap_cge::Annotated;
+use ap_patterns::{Entries, Table};
+use ap_term::NoMemory;
+use std::alloc::Global;
+
+/// The table of a program that is entered so. Past the first round only those clauses are gone through again that read
+/// a pattern which has changed: what the others give is covered already. No run lives to see as many rounds as are
+/// allowed here.
+pub fn analyse(alloc: Global, annotated: &Annotated, entries: &Entries) -> Result<Table, NoMemory>
+    requires { IsMarked entries.now }
+    ensures { IfOk result (λ t. IsFix entries.now annotated.now (patterns t)) }
+{
+    let program = annotated.program();
+    let mut table = Table::new(alloc);
+    let mut given = given_at_start(alloc, entries, program, &table)?;
+    for _round in 0..u64::MAX {
+        let changed = unite_all(alloc, &mut table, given.as_slice())?;
+        let slots = changed.as_slice();
+        if slots.is_empty() {
+            return Ok(table);
+        }
+        given = given_by_readers(alloc, program, &table, slots)?;
+    }
+    Err(NoMemory)
+}

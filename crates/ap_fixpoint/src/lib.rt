@@ -1,0 +1,15 @@
+//! The table of an annotated program: what the calls and the answers of each predicate are known to be.
+//!
+//! Stands on ap_patterns' definitions of what clauses give to a table. What the crates above use: `analyse` answers the
+//! first table that is equal to its next, and it is closed.
+#![tactic(auto)]
+
+mod analysis;
+mod bodies;
+mod clauses;
+pub mod laws;
+mod programs;
+mod sums;
+mod tables;
+
+pub use analysis::analyse;

@@ -1,0 +1,77 @@
+//! One round: each pattern of a table united with what is given to it.
+
+ghost use Rattle.std.specs.Prelude.{◌≡◌, ◌++◌, IfOk, OnOk, MatchOption};
+ghost use Rattle.ap_absunify.specs.declared.states.State.TheVariants.{Unreachable};
+ghost use Rattle.ap_patterns.specs.Given.{patterns};
+ghost use Rattle.ap_fixpoint.specs.Rounds.{put, step, steps, changed, changed_slot};
+
+use crate::sums::united;
+use ap_absunify::State;
+use ap_patterns::{Given, Pattern, Slot, Table, is_covered};
+use ap_term::NoMemory;
+use std::alloc::Global;
+
+/// The pattern of a slot, where the table has one.
+fn pattern(table: &Table, slot: Slot) -> Option<&Pattern>
+    ensures { MatchOption result (patterns table.now slot ≡ Unreachable) (λ r. patterns table.now slot ≡ r.now) }
+{
+    match slot {
+        Slot::Call(predicate) => Some(&table.row(predicate)?.call),
+        Slot::Success(predicate) => Some(&table.row(predicate)?.success),
+    }
+}
+
+/// The pattern of a slot.
+fn current<'a>(table: &'a Table, slot: Slot, unreachable: &'a Pattern) -> &'a Pattern
+    requires { unreachable.now ≡ Unreachable }
+    ensures { result.now ≡ patterns table.now slot }
+{
+    match pattern(table, slot) {
+        Some(pattern) => pattern,
+        None => unreachable,
+    }
+}
+
+/// Puts a pattern in.
+fn put(table: &mut Table, slot: Slot, pattern: Pattern) -> Result<(), NoMemory>
+    ensures { OnOk result (patterns table.new ≡ put slot pattern (patterns table.old)) }
+{
+    match slot {
+        Slot::Call(predicate) => table.set_call(predicate, pattern),
+        Slot::Success(predicate) => table.set_success(predicate, pattern),
+    }
+}
+
+/// Unites the slot's pattern with all that is given to it, unless it covers this pattern. Notes what has changed.
+fn unite(
+    alloc: Global,
+    table: &mut Table,
+    given: &[Given],
+    g: &Given,
+    changed: &mut Vec<Slot>,
+) -> Result<(), NoMemory>
+    ensures changed { OnOk result (changed.new.items ≡ changed.old.items ++ changed_slot g.now (patterns table.old)) }
+    ensures table { OnOk result (patterns table.new ≡ step given.now g.now (patterns table.old)) }
+{
+    let unreachable = State::Unreachable;
+    let was = current(table, g.slot, &unreachable);
+    if is_covered(&g.pattern, was) {
+        return Ok(());
+    }
+    let now = united(alloc, was, &g.slot, given)?;
+    put(table, g.slot, now)?;
+    changed.push(g.slot)?;
+    Ok(())
+}
+
+/// Unites each pattern of the table with all that is given to it, and answers the slots that have changed.
+pub fn unite_all(alloc: Global, table: &mut Table, given: &[Given]) -> Result<Vec<Slot>, NoMemory>
+    ensures changed { IfOk result (λ r. r.items ≡ changed given.now given.now (patterns table.old)) }
+    ensures table { OnOk result (patterns table.new ≡ steps given.now given.now (patterns table.old)) }
+{
+    let mut changed = Vec::new(alloc);
+    for g in given {
+        unite(alloc, table, given, g, &mut changed)?;
+    }
+    Ok(changed)
+}
