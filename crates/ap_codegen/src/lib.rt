@@ -18,4 +18,3 @@ mod tables;
 mod temporary;
 
 pub use programs::compile;
-
