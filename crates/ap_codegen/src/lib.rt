@@ -1,9 +1,9 @@
 //! From clauses to instructions.
 //!
-//! Stands on `ap_instr` for instructions and what they mean, on `ap_term` for clauses. The one contract used above: a
-//! clause's code reads as the clause. It rests on a test that goes through the code once (`specs/Follow`) and on the law that
-//! what passes it reads as the clause, so that whoever writes the code is free in the choice of registers.
-#![tactic(auto, using(ap_term::proofs::TermLists::arguments, ap_term::proofs::TermLists::item_less_deep))]
+//! Stands on `ap_instr` for instructions and what they mean, on `ap_term` for clauses, on `indexmap` for the tables. The one
+//! contract used above: the code that `compile` makes stands for the program beside the query. A test of code whose registers
+//! are chosen more freely stands in `specs/Follow`, with its law.
+#![tactic(auto)]
 
 mod asking;
 mod assembly;

@@ -1,4 +1,5 @@
 //! The code of a clause each of whose variables has a place of its own in the environment.
+#![tactic(auto, using(ap_term::proofs::TermLists::arguments, ap_term::proofs::TermLists::item_less_deep))]
 
 ghost use Rattle.std.specs.Prelude.{◌≡◌, ◌+◌, ◌≤◌, [], ◌∷◌, ◌++◌, map, IfOk, OnOk};
 ghost use Rattle.ap_term.specs.Tree.{count_trees, none, more, node};
