@@ -1,5 +1,5 @@
 -- Predicates made one after another.
-use Rattle.std.proofs.Common.{◌≡◌, ℕ, zero, suc, ◌+◌, ◌<◌, ◌≤◌, ◌==◌, ℤ, Bool, true, false, ◌&&◌, if◌then◌else◌, ◌⊎◌, inl, inr, List, [], ◌∷◌, ◌++◌, map, length, drop, take, get_or, slice_get, Option, Some, None, refl, ap, sym, ◌∙◌, subst, arith, append_assoc}
+use Rattle.std.proofs.Common.{◌≡◌, ℕ, zero, suc, ◌+◌, ◌<◌, ◌≤◌, Bool, true, false, if◌then◌else◌, ◌⊎◌, inl, inr, List, [], ◌∷◌, ◌++◌, map, length, drop, take, get_or, slice_get, Some, None, refl, ap, sym, ◌∙◌, subst, arith, append_assoc}
 use Rattle.std.specs.List.{AllZip, filter}
 use Rattle.std.proofs.lemmas.List.{map-append, take_more}
 use Rattle.ap_term.specs.Tree.{Tree, var, int, atom, node}
@@ -8,7 +8,7 @@ use Rattle.ap_instr.specs.declared.instruction.Instr.{Instr}
 use Rattle.ap_instr.specs.declared.compiled.Predicate.{Predicate}
 use Rattle.ap_instr.specs.Code.{Compiled}
 use Rattle.ap_instr.specs.StandsFor.{is_head_of, clauses_of, ReadsAt, alternatives, clause_places}
-use Rattle.ap_codegen.specs.Assembled.{Numbered, Keeps, Grows, Holds, AreCoded, chosen, choices, together, heads, clauses_for, IsMade, StandsBeside}
+use Rattle.ap_codegen.specs.Assembled.{Numbered, Grows, Holds, AreCoded, chosen, choices, together, heads, clauses_for, IsMade, StandsBeside}
 use Rattle.ap_instr.specs.Step.{Step, steps_of as said}
 use Rattle.ap_instr.specs.Runs.{Reads}
 use Rattle.ap_codegen.proofs.Growing.{grows_on, holds_less}

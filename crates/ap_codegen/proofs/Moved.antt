@@ -1,14 +1,14 @@
 -- Code that loses no register asks for the same with its permanent variables in X registers.
-use Rattle.std.proofs.Common.{◌≡◌, ◌≢◌, ℕ, zero, suc, ◌+◌, ◌<◌, ◌≤◌, nat_le, ◌==◌, Bool, true, false, ◌&&◌, if◌then◌else◌, List, [], ◌∷◌, ◌++◌, map, refl, ap, sym, ◌∙◌, subst, arith}
+use Rattle.std.proofs.Common.{◌≡◌, ◌≢◌, ℕ, zero, suc, ◌+◌, ◌≤◌, nat_le, ◌==◌, Bool, true, false, ◌&&◌, if◌then◌else◌, List, [], ◌∷◌, ◌++◌, map, refl, ap, sym, ◌∙◌, subst, arith}
 use Rattle.std.proofs.lemmas.Bool.{false≢true}
 use Rattle.std.proofs.lemmas.Bool.Decides.{Decides-eqb, nat_tests}
-use Rattle.ap_term.specs.Tree.{Tree, Trees, node, none, more, count_trees}
+use Rattle.ap_term.specs.Tree.{Tree, Trees, node, none, more}
 use Rattle.ap_term.specs.Goals.{Clause}
 use Rattle.ap_instr.specs.declared.instruction.Slot.{Slot}
 use Rattle.ap_instr.specs.declared.instruction.Slot.TheVariants.{X, Y}
 use Rattle.ap_instr.specs.Step.{Step, get_variable, get_value, get_constant, get_structure, put_variable, put_value, put_constant, put_structure, unify_variable, unify_value, unify_constant, call, execute, builtin, proceed, frame, other}
-use Rattle.ap_instr.specs.Runs.{Runs, Asks, Reads, set, read, set_x, set_y, spread, applied}
-use Rattle.ap_codegen.specs.Temporary.{moved_slot, moved, fits_slot, fits, all_fit}
+use Rattle.ap_instr.specs.Runs.{Runs, Reads, set, read, set_x, set_y, spread, applied}
+use Rattle.ap_codegen.specs.Temporary.{moved_slot, moved, fits_slot, all_fit}
 use Rattle.ap_codegen.proofs.Registers.{both_true, set_here, set_other}
 
 below : (n k : ℕ) → nat_le n k ≡ true → n ≤ k

@@ -1,5 +1,5 @@
 -- The code of a clause whose variables stand in its environment reads as the clause, whatever stands behind it.
-use Rattle.std.proofs.Common.{◌≡◌, ◌≢◌, nat_eq, ℕ, zero, suc, ◌+◌, ◌<◌, ◌≤◌, ◌==◌, Bool, true, false, ◌||◌, not, if◌then◌else◌, List, [], ◌∷◌, ◌++◌, ◌⊎◌, inl, inr, refl, ap, sym, ◌∙◌, subst, arith, append_assoc}
+use Rattle.std.proofs.Common.{◌≡◌, ◌≢◌, nat_eq, ℕ, zero, suc, ◌+◌, ◌<◌, ◌≤◌, ◌==◌, Bool, true, false, ◌||◌, if◌then◌else◌, List, [], ◌∷◌, ◌++◌, ◌⊎◌, inl, inr, refl, ap, sym, ◌∙◌, subst, arith, append_assoc}
 use Rattle.std.proofs.lemmas.Bool.{false≢true}
 use Rattle.std.proofs.lemmas.Bool.Decides.{Decides-eqb}
 use Rattle.ap_term.specs.Tree.{Tree, Trees, var, int, atom, node, none, more, count_trees}
@@ -10,11 +10,10 @@ use Rattle.ap_term.specs.WellFormed.{callable, all_callable}
 use Rattle.ap_term.proofs.Solutions.{instance_agree, instance_all_agree, or_left, or_right, same_var, same_test}
 use Rattle.ap_term.proofs.Solvable.{has-add_vars, has-add_all_vars}
 use Rattle.ap_laws.specs.Plain.{plain_goals}
-use Rattle.ap_instr.specs.declared.instruction.Slot.{Slot}
 use Rattle.ap_instr.specs.declared.instruction.Slot.TheVariants.{X, Y}
-use Rattle.ap_instr.specs.Step.{Step, get_variable, get_value, get_constant, get_structure, put_variable, put_value, put_constant, put_structure, unify_variable, unify_value, unify_constant, call, execute, builtin, proceed, frame}
-use Rattle.ap_instr.specs.Runs.{Runs, Asks, Reads, set, read, set_x, set_y, spread, lost, applied, arguments}
-use Rattle.ap_codegen.specs.Permanent.{name, is_builtin, inits, inits_all, fill, fills, build, nested, puts, goal_code, frames, is_last_call, asking, body_code, fresh, takes, get, gets, clause_code}
+use Rattle.ap_instr.specs.Step.{Step, get_variable, get_value, get_structure, put_variable, put_structure, call, execute, builtin, proceed}
+use Rattle.ap_instr.specs.Runs.{Runs, Reads, set, spread, lost, applied, arguments}
+use Rattle.ap_codegen.specs.Permanent.{name, is_builtin, inits, inits_all, fills, build, nested, puts, goal_code, frames, is_last_call, asking, body_code, fresh, takes, get, gets, clause_code}
 use Rattle.ap_codegen.proofs.Registers.{both_true, set_here, has_more, has_first}
 
 or_cases : (a b : Bool) → (a || b) ≡ true → (a ≡ true) ⊎ (b ≡ true)

@@ -1,8 +1,7 @@
-use Rattle.std.proofs.Common.{◌≡◌, Bor, refl, ap, sym, ◌∙◌, arith, map}
+use Rattle.std.proofs.Common.{Bor, ap, ◌∙◌, arith, map}
 use Rattle.ap_term.specs.declared.terms.Term.{Term}
 use Rattle.ap_term.specs.TermView.{trees_of}
 use Rattle.ap_term.specs.GoalView.{part_of}
-use Rattle.ap_laws.specs.Plain.{append_trees, plain_goals}
 use Rattle.ap_codegen.proofs.BodyTurns.{part_turn, parts_end, call_pushed, group_added}
 use Rattle.ap_codegen.proofs.bodies.goals_of.Goals as goal
 use Rattle.ap_codegen.proofs.bodies.goals_of.Goals.{in-Call+in_ok-push-in-Call, in-Group+in_ok-add_goals-in-Group}

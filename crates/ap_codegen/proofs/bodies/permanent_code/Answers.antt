@@ -1,4 +1,4 @@
-use Rattle.std.proofs.Common.{Bor, ap, sym, ◌∙◌, map}
+use Rattle.std.proofs.Common.{Bor, ap, ◌∙◌, map}
 use Rattle.ap_term.specs.declared.terms.Term.{Term}
 use Rattle.ap_term.specs.TermView.{tree_of, trees_of}
 use Rattle.ap_laws.specs.Plain.{plain_goals}

@@ -1,8 +1,8 @@
-use Rattle.std.proofs.Common.{◌≡◌, ◌+◌, ◌≤◌, [], ◌∷◌, ◌++◌, ℕ, suc, ◌<◌, List, length, drop, arith, refl, ap, sym, ◌∙◌, append_assoc, length-drop, get_or}
+use Rattle.std.proofs.Common.{◌≡◌, ◌+◌, ◌++◌, ℕ, ◌<◌, List, length, drop, arith, refl, ap, sym, ◌∙◌, append_assoc, length-drop, get_or}
 use Rattle.ap_term.specs.declared.terms.Term.{Term}
 use Rattle.ap_term.specs.declared.terms.Term.TheVariants.{Var, Int, Atom, Node}
 use Rattle.ap_instr.specs.Step.{Step}
-use Rattle.ap_term.specs.Tree.{Trees, count_trees, none, more, node}
+use Rattle.ap_term.specs.Tree.{Trees, count_trees, more, node}
 use Rattle.ap_term.specs.TermView.{tree_of, trees_of}
 use Rattle.ap_term.proofs.TermLists.{trees_of-drop_more, count-trees_of}
 use Rattle.ap_codegen.specs.Emitted.{steps_of}

@@ -1,6 +1,5 @@
-use Rattle.std.proofs.Common.{◌≡◌, ◌+◌, ◌++◌, length, drop}
+use Rattle.std.proofs.Common.{◌≡◌, ◌++◌, drop}
 use Rattle.ap_term.specs.TermView.{trees_of}
-use Rattle.ap_term.specs.Vars.{add_all_vars}
 use Rattle.ap_codegen.specs.Emitted.{steps_of}
 use Rattle.ap_codegen.specs.Permanent.{fills}
 use Rattle.ap_codegen.proofs.permanent.fills.Given as goal

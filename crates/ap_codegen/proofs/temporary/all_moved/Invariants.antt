@@ -1,4 +1,4 @@
-use Rattle.std.proofs.Common.{◌≡◌, ◌++◌, map, take}
+use Rattle.std.proofs.Common.{◌≡◌, map, take}
 use Rattle.ap_codegen.specs.Emitted.{steps_of}
 use Rattle.ap_codegen.specs.Temporary.{moved}
 use Rattle.ap_codegen.proofs.temporary.all_moved.Given as goal
