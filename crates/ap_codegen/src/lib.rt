@@ -18,3 +18,6 @@ mod tables;
 mod temporary;
 
 pub use programs::compile;
+
+#[cfg(test)]
+mod tests;
