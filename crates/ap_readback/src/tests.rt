@@ -1,5 +1,6 @@
 //! Programs that are printed, read and printed once more.
 
+use crate::examples::EXAMPLES;
 use ap_cge::{hand_written, print};
 use ap_clause::program;
 use ap_outside::SteadySink;
@@ -45,21 +46,36 @@ fn text_of(alloc: Global, program: &Program, atoms: &Atoms) -> Result<Vec<u8>, F
     Ok(text)
 }
 
+/// What is printed of a text's program, and what is printed of that when it is read.
+fn printed_twice(alloc: Global, text: &str) -> Result<(Vec<u8>, Vec<u8>), Fail> {
+    let mut atoms = Atoms::new(alloc)?;
+    let first = program(alloc, text.as_bytes(), &mut atoms)
+        .ok()
+        .ok_or("refused")?;
+    let lines = text_of(alloc, &first, &atoms)?;
+    let second = program(alloc, lines.as_slice(), &mut atoms)
+        .ok()
+        .ok_or("refused again")?;
+    let again = text_of(alloc, &second, &atoms)?;
+    Ok((lines, again))
+}
+
 #[test]
 fn a_printed_program_is_read_as_the_same(rt: HostRuntime) -> Result<(), Fail> {
-    let alloc = rt.alloc();
     for (text, printed) in &PROGRAMS {
-        let mut atoms = Atoms::new(alloc)?;
-        let first = program(alloc, text.as_bytes(), &mut atoms)
-            .ok()
-            .ok_or(*text)?;
-        let lines = text_of(alloc, &first, &atoms)?;
+        let (lines, again) = printed_twice(rt.alloc(), text)?;
         assert!(rt; lines.as_slice() == printed.as_bytes(), "{text}");
-        let second = program(alloc, lines.as_slice(), &mut atoms)
-            .ok()
-            .ok_or(*printed)?;
-        let again = text_of(alloc, &second, &atoms)?;
         assert!(rt; again.as_slice() == printed.as_bytes(), "{text}");
+    }
+    Ok(())
+}
+
+#[test]
+fn the_examples_are_read_as_the_same(rt: HostRuntime) -> Result<(), Fail> {
+    for text in &EXAMPLES {
+        let (lines, again) = printed_twice(rt.alloc(), text)?;
+        assert!(rt; !lines.is_empty(), "{text}");
+        assert!(rt; lines.as_slice() == again.as_slice(), "{text}");
     }
     Ok(())
 }
