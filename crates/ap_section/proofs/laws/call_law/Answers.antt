@@ -1,5 +1,0 @@
-use Rattle.ap_section.proofs.Entry.{calls_are}
-use Rattle.ap_section.proofs.laws.call_law.Goals as goal
-
-pub returns : goal.returns
-returns c = calls_are

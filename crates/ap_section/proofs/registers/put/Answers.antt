@@ -1,5 +1,0 @@
-use Rattle.ap_section.proofs.RegisterMaps.{held-set}
-use Rattle.ap_section.proofs.registers.put.Goals as goal
-
-pub returns-clause-held : goal.returns-clause-held
-returns-clause-held c = held-set c.args.registers.now c.args.number c.args.place c.requires

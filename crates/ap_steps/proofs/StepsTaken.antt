@@ -1,0 +1,44 @@
+-- The steps that instructions take, by what their registers hold.
+use Rattle.std.proofs.Common.{◌≡◌, ℕ, true, List, length, refl, ap, sym, ◌∙◌, subst}
+use Rattle.ap_term.specs.Tree.{Tree}
+use Rattle.ap_cells.specs.declared.cells.Raw.{Raw}
+use Rattle.ap_instr.specs.declared.instruction.Slot.{Slot}
+use Rattle.ap_instr.specs.Step.{get_variable, put_variable, put_value, put_constant}
+use Rattle.ap_instr.specs.Runs.{set, read, set_x, set_y}
+use Rattle.ap_match.specs.Fits.{Fits, cell_tree, Becomes}
+use Rattle.ap_steps.specs.Moves.{held, HoldPlaces, Taken}
+use Rattle.ap_steps.proofs.RegisterMaps.{funext}
+use Rattle.ap_steps.proofs.Steps.{variable-taken, put_value-taken, put_constant-taken, put_variable-taken}
+
+-- a new cell that says which constant its place is
+pub becomes_constant : (cs ds : List Raw) (t : Tree) (p n : ℕ) (c : Raw) → p ≡ n → ((k : ℕ → Tree) → cell_tree k n c ≡ t) → Becomes cs ds (λ k. Unit {0}) (λ k. k p ≡ cell_tree k p c) → Becomes cs ds (λ k. Unit {0}) (λ k. k p ≡ t)
+becomes_constant cs ds t p n c e is b = record {
+  longer = b.longer;
+  only = λ k h. let o = b.only k h in (o.0, tt, o.2 ∙ ap (λ q. cell_tree k q c) e ∙ is k);
+  each = b.each;
+}
+
+pub got_variable : (cs : List Raw) (x x' y y' : List ℕ) (v : Slot) (a p : ℕ) → p ≡ held x a → ((w : ℕ) → held x' w ≡ set_x v p (held x) w) → ((w : ℕ) → held y' w ≡ set_y v p (held y) w)
+    → Taken cs (held x) (held y) (get_variable v a) cs (held x') (held y') true
+got_variable cs x x' y y' v a p e ex ey =
+    subst (λ u. Taken cs (held x) (held y) (get_variable v a) cs u (held y') true) (sym (funext (held x') (set_x v p (held x)) ex))
+    (subst (λ u. Taken cs (held x) (held y) (get_variable v a) cs (set_x v p (held x)) u true) (sym (funext (held y') (set_y v p (held y)) ey))
+    (subst (λ q. Taken cs (held x) (held y) (get_variable v a) cs (set_x v q (held x)) (set_y v q (held y)) true) (sym e) (variable-taken cs (held x) (held y) v a)))
+
+pub put_value_done : (cs : List Raw) (x x' y : List ℕ) (v : Slot) (a p : ℕ) → p ≡ read v (held x) (held y) → ((w : ℕ) → held x' w ≡ set (held x) a p w) → Taken cs (held x) (held y) (put_value v a) cs (held x') (held y) true
+put_value_done cs x x' y v a p e ex =
+    subst (λ u. Taken cs (held x) (held y) (put_value v a) cs u (held y) true) (sym (funext (held x') (set (held x) a p) ex))
+    (subst (λ q. Taken cs (held x) (held y) (put_value v a) cs (set (held x) a q) (held y) true) (sym e) (put_value-taken cs (held x) (held y) v a))
+
+pub put_constant_done : (cs ds : List Raw) (x x' y : List ℕ) → HoldPlaces (length cs) x → HoldPlaces (length cs) y → (t : Tree) (a p : ℕ) → Becomes cs ds (λ k. Unit {0}) (λ k. k p ≡ t) → ((w : ℕ) → held x' w ≡ set (held x) a p w)
+    → Taken cs (held x) (held y) (put_constant t a) ds (held x') (held y) true
+put_constant_done cs ds x x' y hx hy t a p b ex =
+    subst (λ u. Taken cs (held x) (held y) (put_constant t a) ds u (held y) true) (sym (funext (held x') (set (held x) a p) ex)) (put_constant-taken cs ds (held x) (held y) hx hy t a p b)
+
+pub put_variable_done : (cs ds : List Raw) (x xm x' y y' : List ℕ) → HoldPlaces (length cs) x → HoldPlaces (length cs) y → (v : Slot) (a p : ℕ) → p ≡ length cs → Becomes cs ds (λ k. Unit {0}) (λ k. k p ≡ k p) → ((k : ℕ → Tree) → Fits cs k → k p ≡ k p → Fits ds k)
+    → ((w : ℕ) → held xm w ≡ set_x v p (held x) w) → ((w : ℕ) → held x' w ≡ set (held xm) a p w) → ((w : ℕ) → held y' w ≡ set_y v p (held y) w) → Taken cs (held x) (held y) (put_variable v a) ds (held x') (held y') true
+put_variable_done cs ds x xm x' y y' hx hy v a p e b all em ex ey =
+    subst (λ u. Taken cs (held x) (held y) (put_variable v a) ds u (held y') true) (sym (funext (held x') (set (held xm) a p) ex))
+    (subst (λ u. Taken cs (held x) (held y) (put_variable v a) ds (set u a p) (held y') true) (sym (funext (held xm) (set_x v p (held x)) em))
+    (subst (λ u. Taken cs (held x) (held y) (put_variable v a) ds (set (set_x v p (held x)) a p) u true) (sym (funext (held y') (set_y v p (held y)) ey))
+    (put_variable-taken cs ds (held x) (held y) hx hy v a p e b.longer (λ k h. (b.only k h).0) (λ k h. all k h refl))))

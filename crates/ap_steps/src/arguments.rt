@@ -1,0 +1,138 @@
+//! Arguments of a structure that is built: each becomes the next cell.
+
+ghost use Rattle.std.specs.Prelude.{◌≡◌, ℕ, ◌+◌, ◌<◌, List, length, slice_get, true};
+ghost use Rattle.ap_term.specs.Tree.{Tree, atom, int};
+ghost use Rattle.ap_cells.specs.Raws.{raw_of};
+ghost use Rattle.ap_cells.specs.Store.{Keeps};
+ghost use Rattle.ap_cells.specs.Trees.{Within};
+ghost use Rattle.ap_instr.specs.Step.{unify_variable, unify_value, unify_constant, with_integer, step_of};
+ghost use Rattle.ap_instr.specs.Runs.{read};
+ghost use Rattle.ap_match.specs.Fits.{cell_tree};
+ghost use Rattle.ap_steps.specs.Moves.{held, HasRegister, HasTarget, HoldPlacesBut, constant_of};
+ghost use Rattle.ap_steps.specs.Arguments.{Built, BuiltOr};
+
+use crate::registers::{read, write};
+use ap_cells::{Cell, Cells};
+use ap_instr::{Code, Instr, Slot};
+use ap_match::push_new;
+use ap_term::Atom;
+
+/// `unify_variable V`: the register gets the argument's place, a new unbound cell.
+pub fn build_variable(cells: &mut Cells, x: &mut [u32], y: &mut [u32], v: Slot)
+    requires room { 0 < cells.old.spare }
+    requires has { HasRegister v x.old y.old }
+    ensures built { Built cells.old.cells (held x.old) (held y.old) (unify_variable v) cells.new.cells (held x.new) (held y.new) }
+    ensures x_len { length x.new ≡ length x.old }
+    ensures y_len { length y.new ≡ length y.old }
+    ensures spare { cells.new.spare + 1 ≡ cells.old.spare }
+    ensures keeps { Keeps cells.old cells.new }
+{
+    let places = cells.len();
+    let place = push_new(cells, Cell::Free);
+    prove!(place == places);
+    write(x, y, v, place as u32);
+}
+
+/// `unify_value V`: the argument is the register's term. False where the register holds `whole`, the place of the structure
+/// itself, which is to come.
+pub fn build_value(cells: &mut Cells, x: &[u32], y: &[u32], v: Slot) -> bool
+    requires room { 0 < cells.old.spare }
+    ensures built { (whole : ℕ) → ((read v (held x.now) (held y.now) ≡ whole → ⊥) → read v (held x.now) (held y.now) < length cells.old.cells) → BuiltOr whole cells.old.cells (held x.now) (held y.now) (unify_value v) cells.new.cells (held x.now) (held y.now) result }
+    ensures spare { result ≡ true → cells.new.spare + 1 ≡ cells.old.spare }
+    ensures keeps { Keeps cells.old cells.new }
+{
+    let place = read(x, y, v);
+    if place < cells.len() {
+        push_new(cells, Cell::Same(place));
+        true
+    } else {
+        false
+    }
+}
+
+/// The argument is a constant.
+fn build_cell(cells: &mut Cells, cell: Cell)
+    requires room { 0 < cells.old.spare }
+    requires constant { (k : ℕ → Tree) → cell_tree k (length cells.old.cells) (raw_of cell) ≡ constant_of cell }
+    requires within { Within (length cells.old.cells) (length cells.old.cells) (raw_of cell) }
+    ensures built { (xs ys : List ℕ) → Built cells.old.cells (held xs) (held ys) (unify_constant (constant_of cell)) cells.new.cells (held xs) (held ys) }
+    ensures spare { cells.new.spare + 1 ≡ cells.old.spare }
+    ensures keeps { Keeps cells.old cells.new }
+{
+    push_new(cells, cell);
+}
+
+/// `unify_constant C`: the argument is an atom.
+pub fn build_atom(cells: &mut Cells, name: Atom)
+    requires room { 0 < cells.old.spare }
+    ensures built { (xs ys : List ℕ) → Built cells.old.cells (held xs) (held ys) (unify_constant (atom name)) cells.new.cells (held xs) (held ys) }
+    ensures spare { cells.new.spare + 1 ≡ cells.old.spare }
+    ensures keeps { Keeps cells.old cells.new }
+{
+    build_cell(cells, Cell::Atom(name));
+}
+
+/// `unify_integer I`: the argument is an integer.
+pub fn build_integer(cells: &mut Cells, value: i64)
+    requires room { 0 < cells.old.spare }
+    ensures built { (xs ys : List ℕ) → Built cells.old.cells (held xs) (held ys) (unify_constant (int value)) cells.new.cells (held xs) (held ys) }
+    ensures spare { cells.new.spare + 1 ≡ cells.old.spare }
+    ensures keeps { Keeps cells.old cells.new }
+{
+    build_cell(cells, Cell::Int(value));
+}
+
+/// An integer of the code's table.
+fn integer_at(code: &Code, i: u32) -> Option<i64>
+    ensures { result ≡ slice_get code.now.integers i }
+{
+    code.integers().get(i as usize).copied()
+}
+
+/// `unify_integer I`: the argument is an integer of the code's table. False where the table doesn't have it.
+fn build_listed(cells: &mut Cells, code: &Code, i: u32) -> bool
+    requires room { 0 < cells.old.spare }
+    ensures built { (whole : ℕ) (xs ys : List ℕ) → BuiltOr whole cells.old.cells (held xs) (held ys) (with_integer (slice_get code.now.integers i) unify_constant) cells.new.cells (held xs) (held ys) result }
+    ensures spare { result ≡ true → cells.new.spare + 1 ≡ cells.old.spare }
+    ensures keeps { Keeps cells.old cells.new }
+{
+    match integer_at(code, i) {
+        Some(value) => {
+            build_integer(cells, value);
+            true
+        }
+        None => false,
+    }
+}
+
+/// An argument, by its instruction. False where the instruction is none of an argument's, or the argument would be the
+/// structure itself, whose place is to be `whole`.
+pub fn build_argument(
+    cells: &mut Cells,
+    x: &mut [u32],
+    y: &mut [u32],
+    code: &Code,
+    instr: Instr,
+) -> bool
+    requires room { 0 < cells.old.spare }
+    requires has { HasTarget instr x.old y.old }
+    ensures built { (whole : ℕ) → HoldPlacesBut whole (length cells.old.cells) x.old → HoldPlacesBut whole (length cells.old.cells) y.old → BuiltOr whole cells.old.cells (held x.old) (held y.old) (step_of code.now instr) cells.new.cells (held x.new) (held y.new) result }
+    ensures x_len { length x.new ≡ length x.old }
+    ensures y_len { length y.new ≡ length y.old }
+    ensures spare { result ≡ true → cells.new.spare + 1 ≡ cells.old.spare }
+    ensures keeps { Keeps cells.old cells.new }
+{
+    match instr {
+        Instr::UnifyVariable(v) => {
+            build_variable(cells, x, y, v);
+            true
+        }
+        Instr::UnifyValue(v) => build_value(cells, x, y, v),
+        Instr::UnifyConstant(name) => {
+            build_atom(cells, name);
+            true
+        }
+        Instr::UnifyInteger(i) => build_listed(cells, code, i),
+        _ => false,
+    }
+}
