@@ -5,3 +5,6 @@ pub mod Certificate
 pub mod GroupsGiven
 pub mod Laws
 pub mod Held
+pub mod Sights
+pub mod Refused
+pub mod Scopes

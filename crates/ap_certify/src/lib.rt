@@ -12,10 +12,13 @@ mod coverage;
 mod faults;
 mod groups;
 pub mod laws;
+mod programs;
+mod sights;
 mod without_groups;
 
 pub use certified::{Certified, Scope};
 pub use faults::CertErr;
+pub use programs::certify;
 pub use without_groups::plain;
 
 #[cfg(test)]
