@@ -1,7 +1,7 @@
 -- A closed table that gives what the groups leave out certifies the program.
 use Rattle.std.proofs.Common.{◌≡◌, ℕ, inl, inr, Bool, true, false, if◌then◌else◌, IsTrue, List, [], ◌∷◌, ◌++◌, Some, refl, ap, sym, ◌∙◌, subst}
 use Rattle.std.specs.List.{All, flat_map}
-use Rattle.std.proofs.lemmas.Bool.{and_parts}
+use Rattle.std.proofs.lemmas.Bool.{false≢true, and_parts}
 use Rattle.std.proofs.lemmas.List.Elements.{All-head, All-tail, All-nil, All-cons}
 use Rattle.ap_term.specs.declared.fixed.TheConstants.{QUERY}
 use Rattle.ap_term.specs.declared.clauses.Check.{Check}
@@ -31,8 +31,11 @@ use Rattle.ap_certify.specs.Entered.{HasClause, IsEntered}
 use Rattle.ap_certify.specs.Certificate.{AreMissingGiven}
 use Rattle.ap_certify.specs.GroupsGiven.{AreGiven, AreWritten, IsReached, IsGivenAs, IsClauseGiven, AreGroupsGiven}
 use Rattle.ap_certify.specs.declared.certified.Scope.TheVariants.{Of}
-use Rattle.ap_certify.proofs.Sights.{known, unknown, Missing, held_call, callable_instance, after_all, TurnHeld, ForkHeld, BodyHeld, after_parts, IsCalled, predicate, any-covers}
-use Rattle.ap_certify.proofs.Sound.{ClauseHeld, AllHeld, entry_as, end_pattern, body_callable, IsGood, goal_good}
+use Rattle.ap_certify.specs.declared.sights.Sight.TheVariants.{Known, Unknown}
+use Rattle.ap_certify.specs.Sights.{pattern_in, after_all, after_parts, entry_as}
+use Rattle.ap_certify.specs.Held.{AreHeldAtFork, AreHeldInTurn, GivesMissing, IsBodyHeld}
+use Rattle.ap_certify.proofs.Seen.{held_call, callable_instance, IsCalled, predicate, any-covers}
+use Rattle.ap_certify.proofs.Sound.{ClauseHeld, AllHeld, body_callable, IsGood, goal_good}
 use Rattle.ap_certify.proofs.Items.{IsSafe, one, bares, Reached, child_safe, first_good, reached_fork}
 
 -- ---- lists
@@ -57,25 +60,25 @@ each_given P g (y ∷ xs) h x (inr i) = each_given P g xs (right_all P (g y) (fl
 
 -- ---- what a clause gives is held
 
-after_known : (t : Patterns) (s : State) (gs : Trees) → after_all t (known s) gs ≡ known (after_goals t s gs)
+pub after_known : (t : Patterns) (s : State) (gs : Trees) → after_all t (Known s) gs ≡ Known (after_goals t s gs)
 after_known t s none = refl
 after_known t s (more g gs) = after_known t (after_goal t s g) gs
 
-after_unknown : (t : Patterns) (s : State) (gs : Trees) → after_all t (unknown s) gs ≡ unknown s
+pub after_unknown : (t : Patterns) (s : State) (gs : Trees) → after_all t (Unknown s) gs ≡ Unknown s
 after_unknown t s none = refl
 after_unknown t s (more g gs) = after_unknown t s gs
 
-fork_held : (t : Patterns) (s : State) (gs : Trees) → All (IsHeld t) (given_at_fork s gs) → ForkHeld t (known s) gs
+fork_held : (t : Patterns) (s : State) (gs : Trees) → All (IsHeld t) (given_at_fork s gs) → AreHeldAtFork t (Known s) gs
 fork_held t s none h = tt
 fork_held t s (more g gs) h = (left_all (IsHeld t) (given_by_goal s g) (given_at_fork s gs) h, fork_held t s gs (right_all (IsHeld t) (given_by_goal s g) (given_at_fork s gs) h))
 
-turn_held : (t : Patterns) (s : State) (gs : Trees) → All (IsHeld t) (given_in_turn t s gs) → TurnHeld t (known s) gs
+turn_held : (t : Patterns) (s : State) (gs : Trees) → All (IsHeld t) (given_in_turn t s gs) → AreHeldInTurn t (Known s) gs
 turn_held t s none h = tt
 turn_held t s (more g gs) h =
     let rest = given_in_turn t (after_goal t s g) gs in
     (left_all (IsHeld t) (given_by_goal s g) rest h, turn_held t (after_goal t s g) gs (right_all (IsHeld t) (given_by_goal s g) rest h))
 
-body_held : (t : Patterns) (s : State) (ps : List Part) → All (IsHeld t) (given_by_body t s ps) → AreGiven t s ps → BodyHeld t (known s) ps
+body_held : (t : Patterns) (s : State) (ps : List Part) → All (IsHeld t) (given_by_body t s ps) → AreGiven t s ps → IsBodyHeld t (Known s) ps
 body_held t s [] h m = tt
 body_held t s (call g ∷ ps) h m =
     let rest = given_by_body t (after_part t s (call g)) ps in
@@ -84,30 +87,32 @@ body_held t s (group cs gs ∷ ps) h m =
     let mine = given_at_fork s gs ++ given_in_turn t s gs in
     let rest = given_by_body t (after_goals t s gs) ps in
     let g = left_all (IsHeld t) mine rest h in (
-      m.0,
-      fork_held t s gs (left_all (IsHeld t) (given_at_fork s gs) (given_in_turn t s gs) g),
-      turn_held t s gs (right_all (IsHeld t) (given_at_fork s gs) (given_in_turn t s gs) g),
-      subst (λ z. BodyHeld t z ps) (sym (after_known t s gs)) (body_held t (after_goals t s gs) ps (right_all (IsHeld t) mine rest h) m.1),
+      (
+        m.0,
+        fork_held t s gs (left_all (IsHeld t) (given_at_fork s gs) (given_in_turn t s gs) g),
+        turn_held t s gs (right_all (IsHeld t) (given_at_fork s gs) (given_in_turn t s gs) g),
+      ),
+      subst (λ z. IsBodyHeld t z ps) (sym (after_known t s gs)) (body_held t (after_goals t s gs) ps (right_all (IsHeld t) mine rest h) m.1),
     )
 
-after_parts_known : (t : Patterns) (s : State) (ps : List Part) → after_parts t (known s) ps ≡ known (after_body t s ps)
+pub after_parts_known : (t : Patterns) (s : State) (ps : List Part) → after_parts t (Known s) ps ≡ Known (after_body t s ps)
 after_parts_known t s [] = refl
 after_parts_known t s (call g ∷ ps) = after_parts_known t (after_part t s (call g)) ps
 after_parts_known t s (group cs gs ∷ ps) = ap (λ z. after_parts t z ps) (after_known t s gs) ∙ after_parts_known t (after_goals t s gs) ps
 
-fork_anyhow : (t : Patterns) (s : State) (gs : Trees) → All (IsHeld t) (given_by_all s gs) → ForkHeld t (unknown s) gs
+fork_anyhow : (t : Patterns) (s : State) (gs : Trees) → All (IsHeld t) (given_by_all s gs) → AreHeldAtFork t (Unknown s) gs
 fork_anyhow t s none h = tt
 fork_anyhow t s (more g gs) h = (left_all (IsHeld t) (given_anyhow s g) (given_by_all s gs) h, fork_anyhow t s gs (right_all (IsHeld t) (given_anyhow s g) (given_by_all s gs) h))
 
-turn_anyhow : (t : Patterns) (s : State) (gs : Trees) → All (IsHeld t) (given_by_all s gs) → TurnHeld t (unknown s) gs
+turn_anyhow : (t : Patterns) (s : State) (gs : Trees) → All (IsHeld t) (given_by_all s gs) → AreHeldInTurn t (Unknown s) gs
 turn_anyhow t s none h = tt
 turn_anyhow t s (more g gs) h = (left_all (IsHeld t) (given_anyhow s g) (given_by_all s gs) h, turn_anyhow t s gs (right_all (IsHeld t) (given_anyhow s g) (given_by_all s gs) h))
 
-missing_anyhow : (s : State) (cs : List Check) (gs : Trees) → (IsReached s → (c : Check) → IsInFullCondition gs c → is_written c cs ≡ true) → Missing (unknown s) cs gs
-missing_anyhow Unreachable cs gs h = tt
-missing_anyhow (Reachable sh fr) cs gs h = h tt
+missing_anyhow : (s : State) (cs : List Check) (gs : Trees) → (IsReached s → (c : Check) → IsInFullCondition gs c → is_written c cs ≡ true) → GivesMissing (Unknown s) cs gs
+missing_anyhow Unreachable cs gs h c i w = refl
+missing_anyhow (Reachable sh fr) cs gs h c i w = absurd (false≢true (sym w ∙ h tt c i))
 
-body_anyhow : (t : Patterns) (s : State) (ps : List Part) → All (IsHeld t) (flat_map (given_by_any_part s) ps) → (IsReached s → AreWritten ps) → BodyHeld t (unknown s) ps
+body_anyhow : (t : Patterns) (s : State) (ps : List Part) → All (IsHeld t) (flat_map (given_by_any_part s) ps) → (IsReached s → AreWritten ps) → IsBodyHeld t (Unknown s) ps
 body_anyhow t s [] h m = tt
 body_anyhow t s (call g ∷ ps) h m =
     let rest = flat_map (given_by_any_part s) ps in
@@ -115,13 +120,11 @@ body_anyhow t s (call g ∷ ps) h m =
 body_anyhow t s (group cs gs ∷ ps) h m =
     let rest = flat_map (given_by_any_part s) ps in
     let g = left_all (IsHeld t) (given_by_all s gs) rest h in (
-      missing_anyhow s cs gs (λ r. (m r).0),
-      fork_anyhow t s gs g,
-      turn_anyhow t s gs g,
-      subst (λ z. BodyHeld t z ps) (sym (after_unknown t s gs)) (body_anyhow t s ps (right_all (IsHeld t) (given_by_all s gs) rest h) (λ r. (m r).1)),
+      (missing_anyhow s cs gs (λ r. (m r).0), fork_anyhow t s gs g, turn_anyhow t s gs g),
+      subst (λ z. IsBodyHeld t z ps) (sym (after_unknown t s gs)) (body_anyhow t s ps (right_all (IsHeld t) (given_by_all s gs) rest h) (λ r. (m r).1)),
     )
 
-after_parts_unknown : (t : Patterns) (s : State) (ps : List Part) → after_parts t (unknown s) ps ≡ unknown s
+pub after_parts_unknown : (t : Patterns) (s : State) (ps : List Part) → after_parts t (Unknown s) ps ≡ Unknown s
 after_parts_unknown t s [] = refl
 after_parts_unknown t s (call g ∷ ps) = after_parts_unknown t s ps
 after_parts_unknown t s (group cs gs ∷ ps) = ap (λ z. after_parts t z ps) (after_unknown t s gs) ∙ after_parts_unknown t s ps
@@ -129,19 +132,19 @@ after_parts_unknown t s (group cs gs ∷ ps) = ap (λ z. after_parts t z ps) (af
 -- ---- clauses and entries
 
 clause_parts : (t : Patterns) (c : Clause) (b : Bool) → All (IsHeld t) (if b then given_from t (entered t c) c else given_unanalysed (call_at t (predicate_of c.head)) c) → IsGivenAs b t c
-    → BodyHeld t (entry_as b t c) c.body × All (IsHeld t) (to_success (predicate_of c.head) (end_pattern (after_parts t (entry_as b t c) c.body) c.head))
+    → IsBodyHeld t (entry_as b t c) c.body × All (IsHeld t) (to_success (predicate_of c.head) (pattern_in (after_parts t (entry_as b t c) c.body) c.head))
 clause_parts t c true h m =
     let mine = given_by_body t (entered t c) c.body in
-    let last = to_success (predicate_of c.head) (end_pattern (known (after_body t (entered t c) c.body)) c.head) in (
+    let last = to_success (predicate_of c.head) (pattern_in (Known (after_body t (entered t c) c.body)) c.head) in (
       body_held t (entered t c) c.body (left_all (IsHeld t) mine last h) m,
-      subst (λ z. All (IsHeld t) (to_success (predicate_of c.head) (end_pattern z c.head))) (sym (after_parts_known t (entered t c) c.body)) (right_all (IsHeld t) mine last h),
+      subst (λ z. All (IsHeld t) (to_success (predicate_of c.head) (pattern_in z c.head))) (sym (after_parts_known t (entered t c) c.body)) (right_all (IsHeld t) mine last h),
     )
 clause_parts t c false h m =
     let s = call_at t (predicate_of c.head) in
     let mine = flat_map (given_by_any_part s) c.body in
     let last = to_success (predicate_of c.head) (anything s c.head) in (
       body_anyhow t s c.body (left_all (IsHeld t) mine last h) m,
-      subst (λ z. All (IsHeld t) (to_success (predicate_of c.head) (end_pattern z c.head))) (sym (after_parts_unknown t s c.body)) (right_all (IsHeld t) mine last h),
+      subst (λ z. All (IsHeld t) (to_success (predicate_of c.head) (pattern_in z c.head))) (sym (after_parts_unknown t s c.body)) (right_all (IsHeld t) mine last h),
     )
 
 clause_held : (t : Patterns) (c : Clause) → IsClause c → All (IsHeld t) (given_by_clause t c) → IsClauseGiven t c → ClauseHeld t c

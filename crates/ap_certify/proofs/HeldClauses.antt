@@ -54,3 +54,14 @@ clause-head c h = let r = and_parts (callable c.head) (numbered c.vars c.head) h
 
 pub analysed-few : (c : Clause) → IsTrue (is_analysed c) → c.vars + count_trees (arguments c.head) ≤ 255
 analysed-few c h = let k = leb-true (c.vars + count_trees (arguments c.head)) 64 h in omega arith
+
+pub callable-head : (c : Clause) → IsClause c → IsTrue (callable c.head)
+callable-head c h = (clause-head c h).0
+
+pub numbered-head : (c : Clause) → IsClause c → IsTrue (numbered c.vars c.head)
+numbered-head c h = (clause-head c h).1
+
+pub numbered-head-255 : (c : Clause) → IsClause c → IsTrue (numbered 255 c.head)
+numbered-head-255 c h = (clause-head c h).2
+
+pub ruleset rules_of_clauses = (clause-body, callable-head, numbered-head, numbered-head-255, analysed-few)

@@ -1,87 +1,31 @@
--- What is covered one by one is covered together.
-use Rattle.std.proofs.Common.{◌≡◌, ℕ, ◌+◌, ◌<◌, ◌≤◌, inl, inr, Bool, true, false, ◌||◌, if◌then◌else◌, IsTrue, List, [], ◌∷◌, ◌++◌, Option, Some, None, length, drop, get_or, ap, sym, ◌∙◌, subst}
-use Rattle.std.specs.List.{list_all}
+-- One goal more, called at the fork or after the goals before it.
+use Rattle.std.proofs.Common.{◌≡◌, ℕ, ◌+◌, ◌<◌, ◌≤◌, inl, inr, Bool, true, false, ◌||◌, if◌then◌else◌, IsTrue, List, [], ◌∷◌, length, drop, get_or, refl, ap, sym, ◌∙◌, subst}
+use Rattle.std.specs.List.{All, list_all}
 use Rattle.std.proofs.lemmas.Bool.{and_parts}
 use Rattle.std.proofs.lemmas.List.{drop_all}
-use Rattle.std.proofs.lemmas.List.Elements.{All-nil, All-cons, All-append}
+use Rattle.std.proofs.lemmas.List.Elements.{All-nil}
 use Rattle.ap_term.specs.declared.terms.Term.{Term}
 use Rattle.ap_term.specs.declared.clauses.Check.{Check}
-use Rattle.ap_term.specs.Tree.{Tree, Trees}
+use Rattle.ap_term.specs.Tree.{Tree, Trees, none}
 use Rattle.ap_term.specs.TermView.{tree_of, trees_of}
 use Rattle.ap_term.specs.WellFormed.{callable, all_callable, numbered, numbered_all}
+use Rattle.ap_term.specs.Independence.{IsInFullCondition}
 use Rattle.ap_term.proofs.TermLists.{trees_of-drop_more}
-use Rattle.ap_absunify.specs.declared.states.State.{State}
-use Rattle.ap_patterns.specs.declared.tables.Predicate.{Predicate}
-use Rattle.ap_patterns.specs.declared.slots.Slot.TheVariants.{Call, Success}
 use Rattle.ap_patterns.specs.declared.slots.Given.{Given}
-use Rattle.ap_patterns.specs.Places.{call_pattern}
 use Rattle.ap_patterns.specs.Table.{predicate_of}
-use Rattle.ap_patterns.specs.Given.{Patterns, call_at, success_at, to_call, to_success, is_builtin, after_goal, after_goals, given_by_goal, given_at_fork, given_in_turn}
-use Rattle.ap_patterns.specs.Covered.{is_covered, IsHeld}
+use Rattle.ap_patterns.specs.Given.{Patterns, to_call, is_builtin}
+use Rattle.ap_patterns.specs.Covered.{IsHeld}
 use Rattle.ap_conditions.specs.FullCondition.{full_condition}
 use Rattle.ap_conditions.specs.Laws.{IsIn}
-use Rattle.ap_conditions.specs.Simplified.{gives}
 use Rattle.ap_conditions.proofs.Listed.{full-listed}
+use Rattle.ap_certify.specs.declared.sights.Sight.{Sight}
 use Rattle.ap_certify.specs.Written.{is_written}
-use Rattle.ap_certify.specs.GroupsGiven.{IsGroupGiven}
-use Rattle.ap_certify.specs.Held.{AreHeld}
+use Rattle.ap_certify.specs.Sights.{pattern_in, gives, after, after_all}
+use Rattle.ap_certify.specs.Held.{IsGoalHeld, AreHeldAtFork, AreHeldInTurn, GivesMissing}
+use Rattle.ap_certify.specs.Refused.{GoalGives, EachGives, TurnGives}
 
-pub held-none : (t : Patterns) → AreHeld t []
-unfolding AreHeld
-held-none t = All-nil (IsHeld t)
-
-pub held-both : (t : Patterns) (xs ys : List Given) → AreHeld t xs → AreHeld t ys → AreHeld t (xs ++ ys)
-unfolding AreHeld
-held-both t xs ys h k = All-append (IsHeld t) xs ys h k
-
-held-one : (t : Patterns) (g : Given) → is_covered g.pattern (t g.slot) ≡ true → AreHeld t (g ∷ [])
-unfolding AreHeld
-held-one t g h = All-cons (IsHeld t) g [] h (All-nil (IsHeld t))
-
-pub held-call : (t : Patterns) (o : Option Predicate) (s : State) → is_covered s (call_at t o) ≡ true → AreHeld t (to_call o s)
-held-call t None s h = held-none t
-held-call t (Some p) s h = held-one t (record { slot = Call p; pattern = s }) h
-
-pub held-success : (t : Patterns) (o : Option Predicate) (s : State) → is_covered s (success_at t o) ≡ true → AreHeld t (to_success o s)
-held-success t None s h = held-none t
-held-success t (Some p) s h = held-one t (record { slot = Success p; pattern = s }) h
-
-pub held-builtin : (t : Patterns) (s : State) (g : Tree) → is_builtin g ≡ true → AreHeld t (given_by_goal s g)
-held-builtin t s g e = subst (λ b. AreHeld t (if b then [] else to_call (predicate_of g) (call_pattern s g))) (sym e) (held-none t)
-
-pub held-goal : (t : Patterns) (s : State) (g : Tree) → is_builtin g ≡ false → AreHeld t (to_call (predicate_of g) (call_pattern s g)) → AreHeld t (given_by_goal s g)
-held-goal t s g e h = subst (λ b. AreHeld t (if b then [] else to_call (predicate_of g) (call_pattern s g))) (sym e) h
-
--- ---- one goal more
-
-pub fork-turn : (t : Patterns) (s : State) (i : ℕ) (g : Term) (goals : List Term) → i < length goals → g ≡ get_or goals i g → AreHeld t (given_by_goal s (tree_of g))
-    → (AreHeld t (given_at_fork s (trees_of (drop i goals))) → AreHeld t (given_at_fork s (trees_of goals)))
-    → AreHeld t (given_at_fork s (trees_of (drop (i + 1) goals))) → AreHeld t (given_at_fork s (trees_of goals))
-fork-turn t s i g goals l e h k r =
-    k (subst (λ ts. AreHeld t (given_at_fork s ts)) (sym (trees_of-drop_more goals i g l e)) (held-both t (given_by_goal s (tree_of g)) (given_at_fork s (trees_of (drop (i + 1) goals))) h r))
-
-pub fork-done : (t : Patterns) (s : State) (i : ℕ) (goals : List Term) → length goals ≤ i
-    → (AreHeld t (given_at_fork s (trees_of (drop i goals))) → AreHeld t (given_at_fork s (trees_of goals))) → AreHeld t (given_at_fork s (trees_of goals))
-fork-done t s i goals l k = k (subst (λ ts. AreHeld t (given_at_fork s (trees_of ts))) (sym (drop_all i goals l)) (held-none t))
-
-pub turn-turn : (t : Patterns) (whole now : State) (i : ℕ) (g : Term) (goals : List Term) → i < length goals → g ≡ get_or goals i g → AreHeld t (given_by_goal now (tree_of g))
-    → (AreHeld t (given_in_turn t now (trees_of (drop i goals))) → AreHeld t (given_in_turn t whole (trees_of goals)))
-    → AreHeld t (given_in_turn t (after_goal t now (tree_of g)) (trees_of (drop (i + 1) goals))) → AreHeld t (given_in_turn t whole (trees_of goals))
-turn-turn t whole now i g goals l e h k r =
-    k (subst (λ ts. AreHeld t (given_in_turn t now ts)) (sym (trees_of-drop_more goals i g l e))
-    (held-both t (given_by_goal now (tree_of g)) (given_in_turn t (after_goal t now (tree_of g)) (trees_of (drop (i + 1) goals))) h r))
-
-pub turn-done : (t : Patterns) (whole now : State) (i : ℕ) (goals : List Term) → length goals ≤ i
-    → (AreHeld t (given_in_turn t now (trees_of (drop i goals))) → AreHeld t (given_in_turn t whole (trees_of goals))) → AreHeld t (given_in_turn t whole (trees_of goals))
-turn-done t whole now i goals l k = k (subst (λ ts. AreHeld t (given_in_turn t now (trees_of ts))) (sym (drop_all i goals l)) (held-none t))
-
-pub after-turn : (t : Patterns) (whole now : State) (i : ℕ) (g : Term) (goals : List Term) → i < length goals → g ≡ get_or goals i g
-    → after_goals t now (trees_of (drop i goals)) ≡ after_goals t whole (trees_of goals) → after_goals t (after_goal t now (tree_of g)) (trees_of (drop (i + 1) goals)) ≡ after_goals t whole (trees_of goals)
-after-turn t whole now i g goals l e k = sym (ap (after_goals t now) (trees_of-drop_more goals i g l e)) ∙ k
-
-pub after-done : (t : Patterns) (whole now : State) (i : ℕ) (goals : List Term) → length goals ≤ i
-    → after_goals t now (trees_of (drop i goals)) ≡ after_goals t whole (trees_of goals) → now ≡ after_goals t whole (trees_of goals)
-after-done t whole now i goals l k = sym (ap (λ ts. after_goals t now (trees_of ts)) (drop_all i goals l)) ∙ k
+pub held-builtin : (t : Patterns) (s : Sight) (g : Tree) → is_builtin g ≡ true → IsGoalHeld t s g
+held-builtin t s g e = subst (λ b. All (IsHeld t) (if b then [] else to_call (predicate_of g) (pattern_in s g))) (sym e) (All-nil (IsHeld t))
 
 pub rest-callable : (i : ℕ) (g : Term) (goals : List Term) → i < length goals → g ≡ get_or goals i g → IsTrue (all_callable (trees_of (drop i goals))) → IsTrue (all_callable (trees_of (drop (i + 1) goals)))
 rest-callable i g goals l e h =
@@ -91,6 +35,53 @@ pub rest-numbered : (i : ℕ) (g : Term) (goals : List Term) → i < length goal
 rest-numbered i g goals l e h =
     (and_parts (numbered 255 (tree_of g)) (numbered_all 255 (trees_of (drop (i + 1) goals))) (subst (λ ts. IsTrue (numbered_all 255 ts)) (trees_of-drop_more goals i g l e) h)).1
 
+-- ---- at the fork
+
+pub fork-turn : (t : Patterns) (s : Sight) (i : ℕ) (g : Term) (goals : List Term) → i < length goals → g ≡ get_or goals i g → IsGoalHeld t s (tree_of g)
+    → (AreHeldAtFork t s (trees_of (drop i goals)) → AreHeldAtFork t s (trees_of goals))
+    → AreHeldAtFork t s (trees_of (drop (i + 1) goals)) → AreHeldAtFork t s (trees_of goals)
+fork-turn t s i g goals l e h k r = k (subst (AreHeldAtFork t s) (sym (trees_of-drop_more goals i g l e)) (h, r))
+
+pub fork-done : (t : Patterns) (s : Sight) (i : ℕ) (goals : List Term) → length goals ≤ i
+    → (AreHeldAtFork t s (trees_of (drop i goals)) → AreHeldAtFork t s (trees_of goals)) → AreHeldAtFork t s (trees_of goals)
+fork-done t s i goals l k = k (subst (λ ts. AreHeldAtFork t s (trees_of ts)) (sym (drop_all i goals l)) tt)
+
+-- what the goal from i on gives, and what those behind it give, is given by all from i on
+pub each-first : (s : Sight) (n i : ℕ) (g : Term) (goals : List Term) → i < length goals → g ≡ get_or goals i g → (m : ℕ) (x : Given) → GoalGives s n (tree_of g) m x
+    → EachGives s n (trees_of (drop i goals)) m x
+each-first s n i g goals l e m x h = subst (λ ts. EachGives s n ts m x) (sym (trees_of-drop_more goals i g l e)) (inl h)
+
+pub each-rest : (s : Sight) (n i : ℕ) (g : Term) (goals : List Term) → i < length goals → g ≡ get_or goals i g → (m : ℕ) (x : Given) → EachGives s (n + 1) (trees_of (drop (i + 1) goals)) m x
+    → EachGives s n (trees_of (drop i goals)) m x
+each-rest s n i g goals l e m x h = subst (λ ts. EachGives s n ts m x) (sym (trees_of-drop_more goals i g l e)) (inr h)
+
+-- ---- one after another
+
+pub turn-turn : (t : Patterns) (whole now : Sight) (i : ℕ) (g : Term) (goals : List Term) → i < length goals → g ≡ get_or goals i g → IsGoalHeld t now (tree_of g)
+    → (AreHeldInTurn t now (trees_of (drop i goals)) → AreHeldInTurn t whole (trees_of goals))
+    → AreHeldInTurn t (after t now (tree_of g)) (trees_of (drop (i + 1) goals)) → AreHeldInTurn t whole (trees_of goals)
+turn-turn t whole now i g goals l e h k r = k (subst (AreHeldInTurn t now) (sym (trees_of-drop_more goals i g l e)) (h, r))
+
+pub turn-done : (t : Patterns) (whole now : Sight) (i : ℕ) (goals : List Term) → length goals ≤ i
+    → (AreHeldInTurn t now (trees_of (drop i goals)) → AreHeldInTurn t whole (trees_of goals)) → AreHeldInTurn t whole (trees_of goals)
+turn-done t whole now i goals l k = k (subst (λ ts. AreHeldInTurn t now (trees_of ts)) (sym (drop_all i goals l)) tt)
+
+pub turn-first : (t : Patterns) (s : Sight) (n i : ℕ) (g : Term) (goals : List Term) → i < length goals → g ≡ get_or goals i g → (m : ℕ) (x : Given) → GoalGives s n (tree_of g) m x
+    → TurnGives t s n (trees_of (drop i goals)) m x
+turn-first t s n i g goals l e m x h = subst (λ ts. TurnGives t s n ts m x) (sym (trees_of-drop_more goals i g l e)) (inl h)
+
+pub turn-rest : (t : Patterns) (s : Sight) (n i : ℕ) (g : Term) (goals : List Term) → i < length goals → g ≡ get_or goals i g → (m : ℕ) (x : Given)
+    → TurnGives t (after t s (tree_of g)) (n + 1) (trees_of (drop (i + 1) goals)) m x → TurnGives t s n (trees_of (drop i goals)) m x
+turn-rest t s n i g goals l e m x h = subst (λ ts. TurnGives t s n ts m x) (sym (trees_of-drop_more goals i g l e)) (inr h)
+
+pub after-turn : (t : Patterns) (whole now : Sight) (i : ℕ) (g : Term) (goals : List Term) → i < length goals → g ≡ get_or goals i g
+    → after_all t now (trees_of (drop i goals)) ≡ after_all t whole (trees_of goals) → after_all t (after t now (tree_of g)) (trees_of (drop (i + 1) goals)) ≡ after_all t whole (trees_of goals)
+after-turn t whole now i g goals l e k = sym (ap (after_all t now) (trees_of-drop_more goals i g l e)) ∙ k
+
+pub after-done : (t : Patterns) (whole now : Sight) (i : ℕ) (goals : List Term) → length goals ≤ i
+    → after_all t now (trees_of (drop i goals)) ≡ after_all t whole (trees_of goals) → now ≡ after_all t whole (trees_of goals)
+after-done t whole now i goals l k = sym (ap (λ ts. after_all t now (trees_of ts)) (drop_all i goals l)) ∙ k
+
 -- ---- groups
 
 each_passes : (p : Check → Bool) (cs : List Check) → list_all p cs ≡ true → (c : Check) → IsIn c cs → p c ≡ true
@@ -98,7 +89,7 @@ each_passes p [] h c i = absurd i
 each_passes p (k ∷ cs) h c (inl e) = ap p e ∙ (and_parts (p k) (list_all p cs) h).0
 each_passes p (k ∷ cs) h c (inr i) = each_passes p cs (and_parts (p k) (list_all p cs) h).1 c i
 
-pub group-given : (s : State) (cs : List Check) (gs : Trees) → IsTrue (numbered_all 255 gs) → list_all (λ c. is_written c cs || gives s c) (full_condition gs) ≡ true → IsGroupGiven s cs gs
+pub group-given : (s : Sight) (cs : List Check) (gs : Trees) → IsTrue (numbered_all 255 gs) → list_all (λ c. is_written c cs || gives s c) (full_condition gs) ≡ true → GivesMissing s cs gs
 group-given s cs gs w h c i e =
     ap (λ b. b || gives s c) (sym e) ∙ each_passes (λ k. is_written k cs || gives s k) (full_condition gs) h c (full-listed gs c w i)
 

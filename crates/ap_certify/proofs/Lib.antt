@@ -1,7 +1,7 @@
 pub mod NoGroups
 pub mod Runs
 pub mod Tame
-pub mod Sights
+pub mod Seen
 pub mod Sound
 pub mod Items
 pub mod Closed
@@ -10,3 +10,5 @@ pub mod Untracked
 pub mod HeldGoals
 pub mod HeldParts
 pub mod HeldClauses
+pub mod Errors
+pub mod Listed

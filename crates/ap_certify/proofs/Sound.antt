@@ -33,7 +33,11 @@ use Rattle.ap_certify.specs.Forks.{Fork, IsOneOf, IsGoalOf}
 use Rattle.ap_certify.specs.Certificate.{MissingHold}
 use Rattle.ap_certify.proofs.Runs.{after_head, Ans, answered, by, Body, done, goal, joined, CallFork, within, BodyFork, first, sequence, past_group, in_goal, past_goal}
 use Rattle.ap_certify.proofs.Tame.{Tame, ans_tame, body_tame, own_wider, below, numbered-range, in_range-bounds}
-use Rattle.ap_certify.proofs.Sights.{Sight, known, unknown, Sees, after, Held, after_all, TurnHeld, ForkHeld, Missing, BodyHeld, after_parts, sees_same, IsCalled, called, held_success, Bounded, goal_bounded, Of_f, next_bounded, returned, answered-sees, argument_instance, arguments_instance, callable_instance, predicate_instance, count_instance, predicate, any-covers}
+use Rattle.ap_certify.specs.declared.sights.Sight.{Sight}
+use Rattle.ap_certify.specs.declared.sights.Sight.TheVariants.{Known, Unknown}
+use Rattle.ap_certify.specs.Sights.{pattern_in, after, after_all, after_parts, entry_as, entry}
+use Rattle.ap_certify.specs.Held.{IsGoalHeld, AreHeldAtFork, AreHeldInTurn, GivesMissing, IsBodyHeld}
+use Rattle.ap_certify.proofs.Seen.{Sees, sees_same, IsCalled, called, held_success, Bounded, goal_bounded, Of_f, next_bounded, returned, answered-sees, argument_instance, arguments_instance, callable_instance, predicate_instance, count_instance, predicate, any-covers}
 
 -- ---- bodies whose goals can be called
 
@@ -62,7 +66,7 @@ goal_callable g none i h = absurd i
 goal_callable g (more e gs) (inl i) h = subst (λ d. IsTrue (callable d)) (sym i) (and_parts (callable e) (all_callable gs) h).0
 goal_callable g (more e gs) (inr i) h = goal_callable g gs i (and_parts (callable e) (all_callable gs) h).1
 
-held_calls : (t : Patterns) (s : Sight) (gs : Trees) → TurnHeld t s gs → BodyHeld t s (calls gs)
+held_calls : (t : Patterns) (s : Sight) (gs : Trees) → AreHeldInTurn t s gs → IsBodyHeld t s (calls gs)
 held_calls t s none h = tt
 held_calls t s (more g gs) h = (h.0, held_calls t (after t s g) gs h.1)
 
@@ -70,32 +74,19 @@ after_calls : (t : Patterns) (s : Sight) (gs : Trees) → after_parts t s (calls
 after_calls t s none = refl
 after_calls t s (more g gs) = after_calls t (after t s g) gs
 
-fork_goal : (t : Patterns) (s : Sight) (g : Tree) (gs : Trees) → IsGoalOf g gs → ForkHeld t s gs → Held t s g
+fork_goal : (t : Patterns) (s : Sight) (g : Tree) (gs : Trees) → IsGoalOf g gs → AreHeldAtFork t s gs → IsGoalHeld t s g
 fork_goal t s g none i h = absurd i
-fork_goal t s g (more e gs) (inl i) h = subst (Held t s) (sym i) h.0
+fork_goal t s g (more e gs) (inl i) h = subst (IsGoalHeld t s) (sym i) h.0
 fork_goal t s g (more e gs) (inr i) h = fork_goal t s g gs i h.1
 
 -- ---- clauses
-
--- what is known where a clause is entered
-abbrev pub entry_as : Bool → Patterns → Clause → Sight
-entry_as true t c = known (entered t c)
-entry_as false t c = unknown (call_at t (predicate_of c.head))
-
-abbrev pub entry : Patterns → Clause → Sight
-entry t c = entry_as (is_analysed c) t c
-
--- what a clause answers, from what is known at its end
-abbrev pub end_pattern : Sight → Tree → State
-end_pattern (known s) head = call_pattern s head
-end_pattern (unknown s) head = anything s head
 
 pub record ClauseHeld (t : Patterns) (c : Clause) : Type 0 where
   pub head : IsTrue (callable c.head)
   pub numbers : IsTrue (numbered c.vars c.head)
   pub goals : BodyCallable c.body
-  pub body : BodyHeld t (entry t c) c.body
-  pub success : All (IsHeld t) (to_success (predicate_of c.head) (end_pattern (after_parts t (entry t c) c.body) c.head))
+  pub body : IsBodyHeld t (entry t c) c.body
+  pub success : All (IsHeld t) (to_success (predicate_of c.head) (pattern_in (after_parts t (entry t c) c.body) c.head))
 
 abbrev pub AllHeld : Patterns → Program → Type 0
 AllHeld t A = (c : Clause) → IsOneOf c A → ClauseHeld t c
@@ -144,7 +135,7 @@ entry_sees t c h g n u cg lt m d = go (is_analysed c)
     covered : Covers (call_at t (predicate_of c.head)) (argument 1 (arguments g))
     covered = subst (λ o. Covers (call_at t o) (argument 1 (arguments g))) (same_head g c.head n u cg h.head m) d
 
-    reached : (s : State) → Covers s (argument 1 (arguments g)) → Sees (unknown s) (after_head c n u)
+    reached : (s : State) → Covers s (argument 1 (arguments g)) → Sees (Unknown s) (after_head c n u)
     reached Unreachable k = k
     reached (Reachable sh fr) k = tt
 
@@ -159,10 +150,10 @@ entry_bounded : (c : Clause) → IsTrue (numbered c.vars c.head) → (g : Tree) 
 entry_bounded c nh g n u lt m x r o =
     below (λ r. occurs r g ≡ true) n (n + (c.vars + 1)) (omega arith) lt r (own_wider (λ r. occurs r g ≡ true) g n c u (λ r o. o) m nh x r o)
 
-end_covers : (s : Sight) (head : Tree) (f : ℕ → Tree) → IsTrue (callable head) → Sees s f → Covers (end_pattern s head) (λ j. instance f (argument 1 (arguments head) j))
-end_covers (known s) head f ch c = call_pattern-covers s head f c
-end_covers (unknown Unreachable) head f ch c = c
-end_covers (unknown (Reachable sh fr)) head f ch c =
+end_covers : (s : Sight) (head : Tree) (f : ℕ → Tree) → IsTrue (callable head) → Sees s f → Covers (pattern_in s head) (λ j. instance f (argument 1 (arguments head) j))
+end_covers (Known s) head f ch c = call_pattern-covers s head f c
+end_covers (Unknown Unreachable) head f ch c = c
+end_covers (Unknown (Reachable sh fr)) head f ch c =
     Covers-same (any_pattern (count_trees (arguments head))) (argument 1 (arguments (instance f head))) (λ j. instance f (argument 1 (arguments head) j))
     (λ j. ap (λ ts. argument 1 ts j) (arguments_instance f head ch) ∙ sym (argument_instance f 1 (arguments head) j))
     (any-covers (count_trees (arguments head)) (arguments (instance f head)) (ap count_trees (arguments_instance f head ch) ∙ count_instance f (arguments head)))
@@ -177,10 +168,10 @@ pub record IsGood (t : Patterns) (h : Fork) : Type 0 where
   pub missing : MissingHold h
   pub goals : (g : Tree) → IsGoalOf g h.goals → IsTrue (callable g) × IsCalled t (instance h.own g)
 
-missing_holds : (s : Sight) (cs : List Check) (gs : Trees) (f : ℕ → Tree) → Missing s cs gs → Sees s f → (c : Check) → IsInFullCondition gs c → is_written c cs ≡ false → Holds f c
-missing_holds (known s) cs gs f m v c i w = given-holds s c f v (m c i w)
-missing_holds (unknown Unreachable) cs gs f m v c i w = absurd v
-missing_holds (unknown (Reachable sh fr)) cs gs f m v c i w = absurd (false≢true (sym w ∙ m c i))
+missing_holds : (s : Sight) (cs : List Check) (gs : Trees) (f : ℕ → Tree) → GivesMissing s cs gs → Sees s f → (c : Check) → IsInFullCondition gs c → is_written c cs ≡ false → Holds f c
+missing_holds (Known s) cs gs f m v c i w = given-holds s c f v (m c i w)
+missing_holds (Unknown Unreachable) cs gs f m v c i w = absurd v
+missing_holds (Unknown (Reachable sh fr)) cs gs f m v c i w = absurd (false≢true (m c i w))
 
 module _ (A : Program) (t : Patterns) (held : AllHeld t A) where
   heads : (c : Clause) → IsOneOf c A → IsTrue (numbered c.vars c.head)
@@ -214,10 +205,10 @@ module _ (A : Program) (t : Patterns) (held : AllHeld t A) where
         (Covers-same (success_at t (predicate_of c.head)) (λ j. instance (λ x. instance s (after_head c n u x)) (argument 1 (arguments c.head) j)) (λ j. instance (λ x. instance s (u x)) (argument 1 (arguments g) j))
         (head_is c g n u s cg h.head h.numbers m)
         (let p = predicate c.head h.head in
-        held_success t (predicate_of c.head) p.here (end_pattern (after_parts t (entry t c) c.body) c.head) (λ j. instance (λ x. instance s (after_head c n u x)) (argument 1 (arguments c.head) j)) p.is h.success
+        held_success t (predicate_of c.head) p.here (pattern_in (after_parts t (entry t c) c.body) c.head) (λ j. instance (λ x. instance s (after_head c n u x)) (argument 1 (arguments c.head) j)) p.is h.success
         (end_covers (after_parts t (entry t c) c.body) c.head (λ x. instance s (after_head c n u x)) h.head body)))
 
-    pub body_sees : {ps : List Part} {f s : ℕ → Tree} {n l : ℕ} → Body A ps f n s l → BodyCallable ps → Bounded f n → (st : Sight) → BodyHeld t st ps → Sees st f
+    pub body_sees : {ps : List Part} {f s : ℕ → Tree} {n l : ℕ} → Body A ps f n s l → BodyCallable ps → Bounded f n → (st : Sight) → IsBodyHeld t st ps → Sees st f
         → Sees (after_parts t st ps) (λ x. instance s (f x))
     body_sees {f = f} done cb bd st h c = sees_same st f (λ x. instance (λ y. var y) (f x)) (λ x. sym (instance_var (f x))) c
     body_sees {n = n} (goal {g = g} {ps = ps} {f = f} k s m a b) cb bd st h c =
@@ -228,7 +219,7 @@ module _ (A : Program) (t : Patterns) (held : AllHeld t A) where
     body_sees {n = n} (joined {gs = gs} {ps = ps} {f = f} k s m a b) cb bd st h c =
         composed (after_parts t (after_all t st gs) ps) f k s
         (body_sees b cb.1 (next_bounded f k n m bd (body_tame A heads a (Of_f f) (λ x r o. (x, o)) (λ r v. bd v.0 r v.1)))
-        (after_all t st gs) h.3 (group_sees gs f k st (body_sees a (calls_callable gs cb.0) bd st (held_calls t st gs h.2) c)))
+        (after_all t st gs) h.1 (group_sees gs f k st (body_sees a (calls_callable gs cb.0) bd st (held_calls t st gs h.0.2) c)))
 
   mutual
     pub call_fork_good : {g : Tree} {n : ℕ} {h : Fork} → CallFork A g n h → IsTrue (callable g) → ((r : ℕ) → occurs r g ≡ true → r < n) → IsCalled t g → IsGood t h
@@ -236,15 +227,15 @@ module _ (A : Program) (t : Patterns) (held : AllHeld t A) where
         let h = held c i in
         body_fork_good b h.goals (entry_bounded c h.numbers g n u lt m) (entry t c) h.body (entry_sees t c h g n u cg lt m (d q))
 
-    pub body_fork_good : {ps : List Part} {f : ℕ → Tree} {n : ℕ} {h : Fork} → BodyFork A ps f n h → BodyCallable ps → Bounded f n → (st : Sight) → BodyHeld t st ps → Sees st f → IsGood t h
+    pub body_fork_good : {ps : List Part} {f : ℕ → Tree} {n : ℕ} {h : Fork} → BodyFork A ps f n h → BodyCallable ps → Bounded f n → (st : Sight) → IsBodyHeld t st ps → Sees st f → IsGood t h
     body_fork_good (first {cs = cs} {gs = gs} {f = f}) cb bd st h c = record {
-      missing = missing_holds st cs gs f h.0 c;
-      goals = λ g i. let cg = goal_callable g gs i cb.0 in (cg, called t st g f cg (fork_goal t st g gs i h.1) c);
+      missing = missing_holds st cs gs f h.0.0 c;
+      goals = λ g i. let cg = goal_callable g gs i cb.0 in (cg, called t st g f cg (fork_goal t st g gs i h.0.1) c);
     }
-    body_fork_good (sequence {gs = gs} a) cb bd st h c = body_fork_good a (calls_callable gs cb.0) bd st (held_calls t st gs h.2) c
+    body_fork_good (sequence {gs = gs} a) cb bd st h c = body_fork_good a (calls_callable gs cb.0) bd st (held_calls t st gs h.0.2) c
     body_fork_good {n = n} (past_group {gs = gs} {f = f} k m a b) cb bd st h c =
         body_fork_good b cb.1 (next_bounded f k n m bd (body_tame A heads a (Of_f f) (λ x r o. (x, o)) (λ r v. bd v.0 r v.1)))
-        (after_all t st gs) h.3 (group_sees gs f k st (body_sees a (calls_callable gs cb.0) bd st (held_calls t st gs h.2) c))
+        (after_all t st gs) h.1 (group_sees gs f k st (body_sees a (calls_callable gs cb.0) bd st (held_calls t st gs h.0.2) c))
     body_fork_good {n = n} (in_goal {g = g} {f = f} a) cb bd st h c = call_fork_good a (callable_instance f g cb.0) (goal_bounded f n g bd) (called t st g f cb.0 h.0 c)
     body_fork_good {n = n} (past_goal {g = g} {f = f} k m a b) cb bd st h c =
         body_fork_good b cb.1 (next_bounded f k n m bd (goal_tame g f k n m bd a)) (after t st g) h.1

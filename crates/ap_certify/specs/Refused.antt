@@ -32,30 +32,36 @@ abbrev pub goals_of : Part → ℕ
 goals_of (call g) = 1
 goals_of (group cs gs) = count_trees gs
 
+-- given at goal k, which is goal n
+abbrev pub GoalGives : Sight → ℕ → Tree → ℕ → Given → Type 0
+GoalGives s n e k g = (k ≡ n) × IsOneOf g (given_in s e)
+
 -- given at goal k, where goals from goal n on are each called from one place
 abbrev pub EachGives : Sight → ℕ → Trees → ℕ → Given → Type 0
 EachGives s n none k g = ⊥
-EachGives s n (more e es) k g = ((k ≡ n) × IsOneOf g (given_in s e)) ⊎ EachGives s (n + 1) es k g
+EachGives s n (more e es) k g = GoalGives s n e k g ⊎ EachGives s (n + 1) es k g
 
 -- the same where they are called one after another
 abbrev pub TurnGives : Patterns → Sight → ℕ → Trees → ℕ → Given → Type 0
 TurnGives t s n none k g = ⊥
-TurnGives t s n (more e es) k g = ((k ≡ n) × IsOneOf g (given_in s e)) ⊎ TurnGives t (after t s e) (n + 1) es k g
+TurnGives t s n (more e es) k g = GoalGives s n e k g ⊎ TurnGives t (after t s e) (n + 1) es k g
 
 -- the goals of a group are called from the fork, and one after another
 abbrev pub PartGives : Patterns → Sight → ℕ → Part → ℕ → Given → Type 0
-PartGives t s n (call e) k g = (k ≡ n) × IsOneOf g (given_in s e)
+PartGives t s n (call e) k g = GoalGives s n e k g
 PartGives t s n (group cs gs) k g = EachGives s n gs k g ⊎ TurnGives t s n gs k g
 
 abbrev pub BodyGives : Patterns → Sight → ℕ → List Part → ℕ → Given → Type 0
 BodyGives t s n [] k g = ⊥
 BodyGives t s n (p ∷ ps) k g = PartGives t s n p k g ⊎ BodyGives t (after_part t s p) (n + goals_of p) ps k g
 
+-- given by the success of a clause of the head, where s is known at the end of its body
+abbrev pub given_at_end : Sight → Tree → List Given
+given_at_end s head = to_success (predicate_of head) (pattern_in s head)
+
 -- given at place k of a clause, by its success or by a goal
 abbrev pub ClauseGives : Patterns → Clause → ℕ → Given → Type 0
-ClauseGives t c k g =
-    ((k ≡ 0) × IsOneOf g (to_success (predicate_of c.head) (pattern_in (after_parts t (entry t c) c.body) c.head)))
-    ⊎ BodyGives t (entry t c) 1 c.body k g
+ClauseGives t c k g = ((k ≡ 0) × IsOneOf g (given_at_end (after_parts t (entry t c) c.body) c.head)) ⊎ BodyGives t (entry t c) 1 c.body k g
 
 -- ---- what is given by the entries
 
@@ -109,6 +115,30 @@ abbrev pub IsMissingAt : Program → Patterns → ℕ → ℕ → Check → Type
 IsMissingAt A t i k check = (c : Clause) × IsNumber i c A × BodyLeavesOut t (entry t c) 1 c.body k check
 
 -- ---- refusals
+
+-- an error of clause i: at its places P is given, and Q is left out
+abbrev pub IsFault : ℕ → Patterns → (ℕ → Given → Type 0) → (ℕ → Check → Type 0) → CertErr → Type 0
+IsFault i t P Q (NotClosed clause place was now) =
+    (clause ≡ i) × ((g : Given) × (was ≡ t g.slot) × (now ≡ g.pattern) × P place g × (is_covered g.pattern (t g.slot) ≡ false))
+IsFault i t P Q (MissingCheck clause place check) = (clause ≡ i) × Q place check
+IsFault i t P Q NoMemory = Unit {0}
+
+abbrev pub NoCheck : ℕ → Check → Type 0
+NoCheck k c = ⊥
+
+-- a fault of one clause of a program
+abbrev pub IsFaultOfClause : Patterns → Program → CertErr → Type 0
+IsFaultOfClause t A e = (i : ℕ) × (c : Clause) × IsNumber i c A × IsFault i t (ClauseGives t c) (BodyLeavesOut t (entry t c) 1 c.body) e
+
+-- a fault where what is given is listed, all at one place
+abbrev pub IsOpen : ℕ → ℕ → Patterns → List Given → CertErr → Type 0
+IsOpen clause place t gs e = IsFault clause t (λ k g. (k ≡ place) × IsOneOf g gs) NoCheck e
+
+-- a fault of a group whose first goal is goal n
+abbrev pub IsLeftOutAt : ℕ → ℕ → Sight → List Check → Trees → CertErr → Type 0
+IsLeftOutAt i n s cs gs (NotClosed clause place was now) = ⊥
+IsLeftOutAt i n s cs gs (MissingCheck clause place check) = (clause ≡ i) × (place ≡ n) × IsLeftOut s cs gs check
+IsLeftOutAt i n s cs gs NoMemory = Unit {0}
 
 -- what an error says is so
 abbrev pub IsRefusedBy : Entries → Program → Patterns → CertErr → Type 0

@@ -1,67 +1,66 @@
-//! Whether a table covers what an analysed clause gives to it.
+//! Whether a table covers what the clauses of a program give to it.
 
-ghost use Rattle.std.specs.Prelude.{◌≡◌, IfOk, IsTrue, MatchOption};
+ghost use Rattle.std.specs.Prelude.{◌≡◌, ℕ, IfOk, IfErr, IsTrue};
+ghost use Rattle.std.specs.List.{All, flat_map};
 ghost use Rattle.ap_term.specs.TermView.{tree_of};
-ghost use Rattle.ap_absunify.specs.declared.states.State.TheVariants.{Unreachable};
-ghost use Rattle.ap_patterns.specs.Table.{predicate_of};
-ghost use Rattle.ap_patterns.specs.Given.{patterns, call_at, success_at, to_success, entered, given_from, is_analysed};
-ghost use Rattle.ap_certify.specs.GroupsGiven.{AreGiven};
-ghost use Rattle.ap_certify.specs.Held.{AreHeld};
+ghost use Rattle.ap_term.specs.WellFormed.{callable, numbered, IsProgram};
+ghost use Rattle.ap_patterns.specs.Given.{patterns, given_by_clause};
+ghost use Rattle.ap_patterns.specs.Covered.{IsHeld};
+ghost use Rattle.ap_certify.specs.Sights.{entry};
+ghost use Rattle.ap_certify.specs.GroupsGiven.{IsClauseGiven, AreGroupsGiven};
+ghost use Rattle.ap_certify.specs.Refused.{IsFault, NoCheck, IsOpen, given_at_end, ClauseGives, BodyLeavesOut, IsFaultOfClause};
 
 use crate::bodies::hold_body;
 use crate::faults::{CertErr, Place, hold};
-use ap_absunify::State;
-use ap_patterns::{Pattern, Predicate, Table, call_at, call_pattern, enter};
-use ap_term::{Clause, NoMemory, Term};
+use crate::sights::Sight;
+use ap_patterns::{Given, Predicate, Slot, Table};
+use ap_term::{Clause, Term};
 use std::alloc::Global;
 
-/// The pattern of the answers of a head's predicate, where the table has one.
-fn success_at<'a>(table: &'a Table, head: &Term) -> Option<&'a Pattern>
-    ensures { MatchOption result (success_at (patterns table.now) (predicate_of (tree_of head.now)) ≡ Unreachable) (λ r. success_at (patterns table.now) (predicate_of (tree_of head.now)) ≡ r.now) }
-{
-    let predicate = Predicate::of(head)?;
-    let row = table.row(predicate)?;
-    Some(&row.success)
-}
-
 /// Whether a clause's success is one that the table has.
-fn hold_success(at: Place, table: &Table, head: &Term, now: Pattern) -> Result<(), CertErr>
-    ensures { IfOk result (λ _. AreHeld (patterns table.now) (to_success (predicate_of (tree_of head.now)) now)) }
+fn hold_success(
+    alloc: Global,
+    clause: u64,
+    table: &Table,
+    end: &Sight,
+    head: &Term,
+) -> Result<(), CertErr>
+    requires can_be_called { IsTrue (callable (tree_of head.now)) }
+    requires variables { IsTrue (numbered 255 (tree_of head.now)) }
+    ensures held { IfOk result (λ _. All (IsHeld (patterns table.now)) (given_at_end end.now (tree_of head.now))) }
+    ensures open { IfErr result (IsOpen clause 0 (patterns table.now) (given_at_end end.now (tree_of head.now))) }
 {
-    let Some(was) = success_at(table, head) else {
-        hold(at, &State::Unreachable, now)?;
+    let Some(predicate) = Predicate::of(head) else {
         return Ok(());
     };
-    hold(at, was, now)?;
+    let pattern = end.pattern(alloc, head)?;
+    let slot = Slot::Success(predicate);
+    let at = Place { clause, goal: 0 };
+    hold(at, table, &Given { slot, pattern })?;
     Ok(())
 }
 
-/// The state in which a clause is entered.
-fn entered(alloc: Global, table: &Table, clause: &Clause) -> Result<State, NoMemory>
-    requires { IsTrue (is_analysed clause.now) }
-    ensures { IfOk result (λ r. r ≡ entered (patterns table.now) clause.now) }
+/// Whether the table covers the calls and the success of a clause, and gives what its groups leave out.
+#[tactic(auto, using(crate::proofs::HeldClauses::rules_of_clauses))]
+fn hold_clause(alloc: Global, number: u64, table: &Table, clause: &Clause) -> Result<(), CertErr>
+    ensures held { IfOk result (λ _. All (IsHeld (patterns table.now)) (given_by_clause (patterns table.now) clause.now)) }
+    ensures given { IfOk result (λ _. IsClauseGiven (patterns table.now) clause.now) }
+    ensures fault { IfErr result (IsFault number (patterns table.now) (ClauseGives (patterns table.now) clause.now) (BodyLeavesOut (patterns table.now) (entry (patterns table.now) clause.now) 1 clause.now.body)) }
 {
-    let head = clause.head();
-    let Some(called) = call_at(table, head) else {
-        return enter(alloc, clause.vars(), head, &State::Unreachable);
-    };
-    enter(alloc, clause.vars(), head, called)
+    let start = Sight::entry(alloc, table, clause)?;
+    let end = hold_body(alloc, number, table, start, clause.body().as_slice())?;
+    hold_success(alloc, number, table, &end, clause.head())?;
+    Ok(())
 }
 
-/// Whether the table covers the calls and the success of a clause, and gives what its groups leave out.
-fn hold_analysed(alloc: Global, number: u64, table: &Table, clause: &Clause) -> Result<(), CertErr>
-    requires { IsTrue (is_analysed clause.now) }
-    ensures held { IfOk result (λ _. AreHeld (patterns table.now) (given_from (patterns table.now) (entered (patterns table.now) clause.now) clause.now)) }
-    ensures given { IfOk result (λ _. AreGiven (patterns table.now) (entered (patterns table.now) clause.now) clause.now.body) }
+/// The same of each clause of a program.
+pub fn hold_clauses(alloc: Global, table: &Table, clauses: &[Clause]) -> Result<(), CertErr>
+    ensures held { IfOk result (λ _. All (IsHeld (patterns table.now)) (flat_map (given_by_clause (patterns table.now)) clauses.now)) }
+    ensures given { IfOk result (λ _. AreGroupsGiven (patterns table.now) clauses.now) }
+    ensures fault { IfErr result (IsFaultOfClause (patterns table.now) clauses.now) }
 {
-    let start = entered(alloc, table, clause)?;
-    let end = hold_body(alloc, number, table, start, clause.body().as_slice())?;
-    let head = clause.head();
-    let now = call_pattern(alloc, &end, head)?;
-    let at = Place {
-        clause: number,
-        goal: 0,
-    };
-    hold_success(at, table, head, now)?;
+    for i in 0..clauses.len() {
+        hold_clause(alloc, i as u64 + 1, table, &clauses[i])?;
+    }
     Ok(())
 }

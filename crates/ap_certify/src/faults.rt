@@ -1,13 +1,16 @@
 //! Why a program isn't certified, and where.
 
-ghost use Rattle.std.specs.Prelude.{◌≡◌, true, IfOk};
-ghost use Rattle.ap_patterns.specs.Covered.{is_covered};
+ghost use Rattle.std.specs.Prelude.{◌≡◌, ◌+◌, ◌∷◌, [], IfOk, IfErr};
+ghost use Rattle.ap_patterns.specs.Covered.{IsHeld};
+ghost use Rattle.ap_patterns.specs.Given.{patterns};
+ghost use Rattle.ap_certify.specs.Refused.{IsOpen};
 
-use ap_patterns::{Pattern, is_covered};
-use ap_term::{Check, NoMemory, Part};
+use ap_absunify::State;
+use ap_patterns::{Given, Pattern, Table, is_covered, pattern_at};
+use ap_term::{Check, NoMemory};
 
-/// Why a program isn't certified. Clauses, and the goals of a clause, count from 1. Place 0 is the clause's success;
-/// clause 0 is an entry, and place then its number.
+/// Why a program isn't certified. Clauses, and the goals of a clause, count from 1; the goals of a group are goals of the
+/// clause. Place 0 is the clause's success; clause 0 is an entry, and place then its number.
 #[derive(Drop)]
 pub enum CertErr {
     /// The table's pattern doesn't cover what is called or answered there.
@@ -17,7 +20,7 @@ pub enum CertErr {
         was: Pattern,
         now: Pattern,
     },
-    /// A check of the full condition is neither written nor given by the table.
+    /// A check of a group's full condition is neither written nor given by the table. The place is the group's first goal.
     MissingCheck {
         clause: u64,
         place: u64,
@@ -39,36 +42,25 @@ pub struct Place {
     pub goal: u64,
 }
 
-impl Place {
-    /// The next goal of the clause.
-    pub fn next(self) -> Place {
-        Place {
-            clause: self.clause,
-            goal: self.goal.saturating_add(1),
-        }
-    }
-
-    /// The first goal behind a part of the body.
-    pub fn past(self, part: &Part) -> Place {
-        let goals = match part {
-            Part::Call(_) => 1,
-            Part::Group { calls, .. } => calls.len() as u64,
-        };
-        Place {
-            clause: self.clause,
-            goal: self.goal.saturating_add(goals),
-        }
-    }
+/// The number of the goal behind as many goals. No memory holds more of them than a number counts.
+pub fn past(number: u64, goals: usize) -> Result<u64, NoMemory>
+    ensures { IfOk result (λ n. n ≡ number + goals) }
+{
+    number.checked_add(goals as u64).ok_or(NoMemory)
 }
 
-/// Whether the table's pattern covers what is given to it.
-pub fn hold(at: Place, was: &Pattern, now: Pattern) -> Result<(), CertErr>
-    ensures { IfOk result (λ _. is_covered now was.now ≡ true) }
+/// Whether the table covers what is given to it.
+pub fn hold(at: Place, table: &Table, given: &Given) -> Result<(), CertErr>
+    ensures held { IfOk result (λ _. IsHeld (patterns table.now) given.now) }
+    ensures open { IfErr result (IsOpen at.clause at.goal (patterns table.now) (given.now ∷ [])) }
 {
-    if is_covered(&now, was) {
+    let unreachable = State::Unreachable;
+    let was = pattern_at(table, given.slot, &unreachable);
+    if is_covered(&given.pattern, was) {
         return Ok(());
     }
     let was = was.copy()?;
+    let now = given.pattern.copy()?;
     Err(CertErr::NotClosed {
         clause: at.clause,
         place: at.goal,

@@ -1,13 +1,14 @@
-//! Whether a state gives the checks that a group leaves out.
+//! Whether what is known at a fork gives the checks that a group leaves out.
 
-ghost use Rattle.std.specs.Prelude.{◌≡◌, IfOk, IsTrue};
+ghost use Rattle.std.specs.Prelude.{◌≡◌, IfOk, IfErr, IsTrue};
 ghost use Rattle.ap_term.specs.WellFormed.{numbered_all};
 ghost use Rattle.ap_certify.specs.Written.{same_check, is_written};
-ghost use Rattle.ap_certify.specs.GroupsGiven.{IsGroupGiven};
+ghost use Rattle.ap_certify.specs.Held.{GivesMissing};
+ghost use Rattle.ap_certify.specs.Refused.{IsLeftOutAt};
 
 use crate::faults::{CertErr, Place};
-use ap_absunify::State;
-use ap_conditions::{full, gives};
+use crate::sights::Sight;
+use ap_conditions::full;
 use ap_term::{Args, Check, Checks};
 use std::alloc::Global;
 
@@ -27,20 +28,21 @@ pub fn is_written(check: &Check, checks: &[Check]) -> bool
     checks.iter().any(|written| same_check(check, written))
 }
 
-/// Whether each check of the group's full condition is written or given by the state at the fork.
+/// Whether each check of the group's full condition is written or given at the fork.
 pub fn give_group(
     alloc: Global,
     at: Place,
-    s: &State,
+    s: &Sight,
     checks: &Checks,
     goals: &Args,
 ) -> Result<(), CertErr>
     requires { IsTrue (numbered_all 255 goals.now) }
-    ensures { IfOk result (λ _. IsGroupGiven s.now checks.now goals.now) }
+    ensures given { IfOk result (λ _. GivesMissing s.now checks.now goals.now) }
+    ensures fault { IfErr result (IsLeftOutAt at.clause at.goal s.now checks.now goals.now) }
 {
     let condition = full(alloc, goals.as_slice())?;
     for check in condition.as_slice() {
-        let is_there = is_written(check, checks.as_slice()) || gives(s, check);
+        let is_there = is_written(check, checks.as_slice()) || s.gives(check);
         if !is_there {
             return Err(CertErr::MissingCheck {
                 clause: at.clause,

@@ -9,6 +9,7 @@ mod bodies;
 mod certified;
 mod clauses;
 mod coverage;
+mod entered;
 mod faults;
 mod groups;
 pub mod laws;

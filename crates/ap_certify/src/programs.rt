@@ -8,7 +8,9 @@ ghost use Rattle.ap_certify.specs.GroupsGiven.{AreGroupsGiven};
 ghost use Rattle.ap_certify.specs.Refused.{IsRefusedBy};
 ghost use Rattle.ap_certify.specs.Scopes.{IsScopeOf};
 
-use crate::certified::Certified;
+use crate::certified::{Certified, Scope};
+use crate::clauses::hold_clauses;
+use crate::entered::{copy, hold_entries};
 use crate::faults::CertErr;
 use ap_cge::Annotated;
 use ap_patterns::{Entries, Table};
@@ -30,6 +32,8 @@ pub fn certify(
     ensures given { IfOk result (λ _. AreGroupsGiven (patterns table.now) annotated) }
     ensures refused { IfErr result (IsRefusedBy entries.now annotated (patterns table.now)) }
 {
-    let _ = (annotated, table, entries);
-    Err(CertErr::NoMemory)
+    hold_entries(alloc, table, entries, annotated.program())?;
+    hold_clauses(alloc, table, annotated.program().as_slice())?;
+    let kept = copy(entries)?;
+    Ok(Certified::new(annotated, Scope::Of(kept)))
 }

@@ -1,6 +1,6 @@
 //! What a clause gives to the patterns of a table.
 
-ghost use Rattle.std.specs.Prelude.{◌≡◌, ◌++◌, map, OnOk, IsTrue, ◌≤◌};
+ghost use Rattle.std.specs.Prelude.{◌≡◌, ◌++◌, map, OnOk, IsTrue};
 ghost use Rattle.std.specs.List.{flat_map, list_all};
 ghost use Rattle.ap_term.specs.Tree.{count_trees};
 ghost use Rattle.ap_term.specs.TermView.{tree_of, trees_of};
@@ -15,51 +15,12 @@ ghost use Rattle.ap_patterns.specs.Table.{predicate_of};
 
 use crate::bodies::add_body;
 use ap_absunify::State;
-use ap_freeness::Free;
 use ap_patterns::{
-    Given, Pattern, Predicate, Slot, Table, call_at, call_pattern, enter, is_builtin,
+    Given, Pattern, Predicate, Slot, Table, anything, call_at, call_pattern, enter, is_analysed,
+    is_builtin,
 };
-use ap_sharing::{Sets, Share, VarSet};
 use ap_term::{Clause, NoMemory, Part, Term};
 use std::alloc::Global;
-
-/// How many variables and arguments of the head an analysed clause has at most.
-const MOST: u64 = 64;
-
-/// How many arguments a goal has.
-pub fn arity(goal: &Term) -> u64
-    ensures { result ≡ count_trees (arguments (tree_of goal.now)) }
-{
-    match goal {
-        Term::Node(_, args) => args.len() as u64,
-        _ => 0,
-    }
-}
-
-/// What is known of n arguments that may be anything.
-pub fn any_pattern(alloc: Global, n: u64) -> Pattern
-    requires { n ≤ 255 }
-    ensures { result ≡ any_pattern n }
-{
-    let mut any = VarSet::new();
-    for x in 0..n {
-        any.insert(x + 1);
-    }
-    let share = Share::new(Sets::new(alloc), any);
-    let free = Free::new(VarSet::new());
-    State::Reachable { share, free }
-}
-
-/// What is known of the arguments of a goal that is called with anything, where the clause is called at all.
-fn anything(alloc: Global, called: &Pattern, goal: &Term) -> Pattern
-    requires { IsTrue (callable (tree_of goal.now)) }
-    ensures { result ≡ anything called.now (tree_of goal.now) }
-{
-    match called {
-        State::Unreachable => State::Unreachable,
-        State::Reachable { .. } => any_pattern(alloc, arity(goal)),
-    }
-}
 
 /// Puts in that a goal is called with anything.
 fn add_anyhow(
@@ -199,7 +160,7 @@ pub fn add_clause(
     let head = clause.head();
     let unreachable = State::Unreachable;
     let called = called(table, head, &unreachable);
-    if clause.vars() + arity(head) <= MOST {
+    if is_analysed(clause) {
         add_analysed(alloc, table, called, clause, given)
     } else {
         add_unanalysed(alloc, called, clause, given)

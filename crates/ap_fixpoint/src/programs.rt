@@ -11,10 +11,10 @@ ghost use Rattle.ap_term.specs.declared.fixed.TheConstants.{QUERY};
 ghost use Rattle.ap_patterns.specs.Entry.{IsMarked};
 ghost use Rattle.ap_fixpoint.specs.Reads.{is_among, is_success_among, reads_any, part_reads, reads, given_if_read};
 
-use crate::clauses::{add_clause, any_pattern, arity};
+use crate::clauses::add_clause;
 use crate::sums::is_same;
-use ap_patterns::{Entries, Given, Predicate, Slot, Table};
-use ap_term::{Atom, Clause, NoMemory, Part, Program, Term, fixed};
+use ap_patterns::{Entries, Given, Predicate, Slot, Table, any_pattern, arity, query_call};
+use ap_term::{Clause, NoMemory, Part, Program, Term};
 use std::alloc::Global;
 
 /// Puts in a call with anything of the head's predicate.
@@ -42,16 +42,6 @@ fn add_heads(alloc: Global, clauses: &[Clause], given: &mut Vec<Given>) -> Resul
     Ok(())
 }
 
-/// The call of the query.
-fn query() -> Slot
-    ensures { result ≡ Call (record { name = QUERY; arity = 0 }) }
-{
-    Slot::Call(Predicate {
-        name: Atom::at(fixed::QUERY),
-        arity: 0,
-    })
-}
-
 /// The calls with which a program is entered.
 fn given_by_entries(
     alloc: Global,
@@ -68,15 +58,11 @@ fn given_by_entries(
             Ok(given)
         }
         Entries::One(entry) => {
-            let pattern = entry.pattern(alloc)?;
-            let slot = Slot::Call(entry.predicate);
-            given.push(Given { slot, pattern })?;
+            given.push(entry.call(alloc)?)?;
             Ok(given)
         }
         Entries::Query => {
-            let pattern = any_pattern(alloc, 0);
-            let slot = query();
-            given.push(Given { slot, pattern })?;
+            given.push(query_call(alloc))?;
             Ok(given)
         }
     }

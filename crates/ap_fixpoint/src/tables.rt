@@ -7,30 +7,9 @@ ghost use Rattle.ap_fixpoint.specs.Rounds.{put, step, steps, changed, changed_sl
 
 use crate::sums::united;
 use ap_absunify::State;
-use ap_patterns::{Given, Pattern, Slot, Table, is_covered};
+use ap_patterns::{Given, Pattern, Slot, Table, is_covered, pattern_at};
 use ap_term::NoMemory;
 use std::alloc::Global;
-
-/// The pattern of a slot, where the table has one.
-fn pattern(table: &Table, slot: Slot) -> Option<&Pattern>
-    ensures { MatchOption result (patterns table.now slot ≡ Unreachable) (λ r. patterns table.now slot ≡ r.now) }
-{
-    match slot {
-        Slot::Call(predicate) => Some(&table.row(predicate)?.call),
-        Slot::Success(predicate) => Some(&table.row(predicate)?.success),
-    }
-}
-
-/// The pattern of a slot.
-fn current<'a>(table: &'a Table, slot: Slot, unreachable: &'a Pattern) -> &'a Pattern
-    requires { unreachable.now ≡ Unreachable }
-    ensures { result.now ≡ patterns table.now slot }
-{
-    match pattern(table, slot) {
-        Some(pattern) => pattern,
-        None => unreachable,
-    }
-}
 
 /// Puts a pattern in.
 fn put(table: &mut Table, slot: Slot, pattern: Pattern) -> Result<(), NoMemory>
@@ -54,7 +33,7 @@ fn unite(
     ensures table { OnOk result (patterns table.new ≡ step given.now g.now (patterns table.old)) }
 {
     let unreachable = State::Unreachable;
-    let was = current(table, g.slot, &unreachable);
+    let was = pattern_at(table, g.slot, &unreachable);
     if is_covered(&g.pattern, was) {
         return Ok(());
     }

@@ -3,15 +3,20 @@
 ghost use Rattle.std.specs.Prelude.{◌≡◌, ◌≤◌, IfOk, length, if◌then◌else◌};
 ghost use Rattle.ap_sharing.specs.VarSet.{empty};
 ghost use Rattle.ap_sharing.specs.Sets.{sets_of};
+ghost use Rattle.ap_term.specs.declared.fixed.TheConstants.{QUERY};
+ghost use Rattle.ap_patterns.specs.declared.slots.Slot.TheVariants.{Call};
+ghost use Rattle.ap_patterns.specs.Given.{any_pattern};
 ghost use Rattle.ap_patterns.specs.Entry.{is_free_mark, is_any_mark, free_sets, free_marks, any_marks, marked_pattern};
 
 use crate::calls::Pattern;
 use crate::places::only_if;
+use crate::slots::{Given, Slot};
 use crate::tables::Predicate;
+use crate::unknown::any_pattern;
 use ap_absunify::made;
 use ap_freeness::Free;
 use ap_sharing::{Sets, Share, VarSet};
-use ap_term::NoMemory;
+use ap_term::{Atom, NoMemory, fixed};
 use std::alloc::Global;
 
 /// What an argument of a query is known to be.
@@ -105,4 +110,27 @@ impl Entry {
         let share = Share::new(sets, any_marks(marks));
         Ok(made(share, Free::new(free_marks(marks))))
     }
+
+    /// The call of such a query.
+    pub fn call(&self, alloc: Global) -> Result<Given, NoMemory>
+        requires { length self.now.marks.items ≤ 255 }
+        ensures { IfOk result (λ r. r ≡ record { slot = Call self.now.predicate; pattern = marked_pattern self.now.marks.items }) }
+    {
+        let pattern = self.pattern(alloc)?;
+        let slot = Slot::Call(self.predicate);
+        Ok(Given { slot, pattern })
+    }
+}
+
+/// The call of the query that a program has.
+pub fn query_call(alloc: Global) -> Given
+    ensures { result ≡ record { slot = Call (record { name = QUERY; arity = 0 }); pattern = any_pattern 0 } }
+{
+    let predicate = Predicate {
+        name: Atom::at(fixed::QUERY),
+        arity: 0,
+    };
+    let slot = Slot::Call(predicate);
+    let pattern = any_pattern(alloc, 0);
+    Given { slot, pattern }
 }

@@ -12,10 +12,12 @@ mod places;
 mod returns;
 mod slots;
 mod tables;
+mod unknown;
 
 pub use calls::{Pattern, call_pattern};
 pub use clauses::enter;
-pub use entries::{Entries, Entry, Mark};
+pub use entries::{Entries, Entry, Mark, query_call};
 pub use returns::after_call;
-pub use slots::{Given, Slot, after_goal, call_at, is_builtin, is_covered};
+pub use slots::{Given, Slot, after_goal, call_at, is_builtin, is_covered, pattern_at, success_at};
 pub use tables::{Predicate, Row, Table};
+pub use unknown::{any_pattern, anything, arity, is_analysed};

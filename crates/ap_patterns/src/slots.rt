@@ -30,6 +30,23 @@ pub struct Given {
     pub pattern: Pattern,
 }
 
+/// The pattern of a slot; unreachable where the table has none.
+pub fn pattern_at<'a>(table: &'a Table, slot: Slot, unreachable: &'a Pattern) -> &'a Pattern
+    requires { unreachable.now ≡ Unreachable }
+    ensures { result.now ≡ patterns table.now slot }
+{
+    match slot {
+        Slot::Call(predicate) => match table.row(predicate) {
+            Some(row) => &row.call,
+            None => unreachable,
+        },
+        Slot::Success(predicate) => match table.row(predicate) {
+            Some(row) => &row.success,
+            None => unreachable,
+        },
+    }
+}
+
 /// Whether a goal is built in.
 pub fn is_builtin(goal: &Term) -> bool
     ensures { result ≡ is_builtin (tree_of goal.now) }
@@ -42,7 +59,7 @@ pub fn is_builtin(goal: &Term) -> bool
 }
 
 /// The pattern of the answers of a goal's predicate, where the table has one.
-fn success_at<'a>(table: &'a Table, goal: &Term) -> Option<&'a Pattern>
+pub fn success_at<'a>(table: &'a Table, goal: &Term) -> Option<&'a Pattern>
     ensures { MatchOption result (success_at (patterns table.now) (predicate_of (tree_of goal.now)) ≡ Unreachable) (λ r. success_at (patterns table.now) (predicate_of (tree_of goal.now)) ≡ r.now) }
 {
     let predicate = Predicate::of(goal)?;

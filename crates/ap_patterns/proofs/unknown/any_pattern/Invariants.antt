@@ -1,6 +1,6 @@
 use Rattle.std.proofs.Common.{◌≡◌}
 use Rattle.ap_patterns.specs.Entering.{own}
-use Rattle.ap_fixpoint.proofs.clauses.any_pattern.Given as goal
+use Rattle.ap_patterns.proofs.unknown.any_pattern.Given as goal
 
 abbrev pub invariant-loop-x : goal.invariant-loop-x
 invariant-loop-x l = l.any ≡ own l.x

@@ -1,4 +1,4 @@
--- What the analysis knows at a place of a body, and that it covers what is called and what comes back from there.
+-- What is known at a place of a body, and that it covers what is called and what comes back from there.
 use Rattle.std.proofs.Common.{◌≡◌, ℕ, suc, ◌+◌, ◌<◌, ◌≤◌, ◌⊎◌, inl, inr, Bool, true, false, ◌&&◌, ◌==◌, cond, if◌then◌else◌, is_some, IsTrue, nat_eq, nat_le, List, [], ◌∷◌, Option, Some, None, refl, ap, sym, ◌∙◌, subst, arith}
 use Rattle.std.specs.List.{All}
 use Rattle.std.proofs.lemmas.Bool.{false≢true, leb-true, leb-false}
@@ -33,8 +33,10 @@ use Rattle.ap_patterns.proofs.Coverings.{covered-covers, builtin-test}
 use Rattle.ap_patterns.proofs.CallPatterns.{call_pattern-covers}
 use Rattle.ap_patterns.proofs.AfterCall.{after_call-covers}
 use Rattle.ap_patterns.proofs.Entering.{own-has, argument_low, argument_high}
-use Rattle.ap_certify.specs.Written.{is_written}
-use Rattle.ap_certify.specs.GroupsGiven.{IsGroupGiven}
+use Rattle.ap_certify.specs.declared.sights.Sight.{Sight}
+use Rattle.ap_certify.specs.declared.sights.Sight.TheVariants.{Known, Unknown}
+use Rattle.ap_certify.specs.Sights.{after}
+use Rattle.ap_certify.specs.Held.{IsGoalHeld}
 use Rattle.ap_certify.proofs.Tame.{Tame, tame_keeps, below}
 
 -- ---- goals and their instances
@@ -112,58 +114,15 @@ any-covers n ts e = (λ u x o. inr (λ y k. go u y k (decide (nat_le 1 y)) (deci
 
 -- ---- what is known
 
--- a state of the clause, or for a clause that isn't analysed only the pattern of its predicate's calls
-pub data Sight : Type 0 where
-  known : State → Sight
-  unknown : State → Sight
-
 abbrev pub Sees : Sight → (ℕ → Tree) → Type 0
-Sees (known s) f = Covers s f
-Sees (unknown Unreachable) f = ⊥
-Sees (unknown (Reachable sh fr)) f = Unit {0}
-
-abbrev pub after : Patterns → Sight → Tree → Sight
-after t (known s) g = known (after_goal t s g)
-after t (unknown s) g = unknown s
-
-abbrev pub given_in : Sight → Tree → List Given
-given_in (known s) g = given_by_goal s g
-given_in (unknown s) g = given_anyhow s g
-
-abbrev pub Held : Patterns → Sight → Tree → Type 0
-Held t s g = All (IsHeld t) (given_in s g)
-
-abbrev pub after_all : Patterns → Sight → Trees → Sight
-after_all t s none = s
-after_all t s (more g gs) = after_all t (after t s g) gs
-
-abbrev pub TurnHeld : Patterns → Sight → Trees → Type 0
-TurnHeld t s none = Unit {0}
-TurnHeld t s (more g gs) = Held t s g × TurnHeld t (after t s g) gs
-
-abbrev pub ForkHeld : Patterns → Sight → Trees → Type 0
-ForkHeld t s none = Unit {0}
-ForkHeld t s (more g gs) = Held t s g × ForkHeld t s gs
-
-abbrev pub Missing : Sight → List Check → Trees → Type 0
-Missing (known s) cs gs = IsGroupGiven s cs gs
-Missing (unknown Unreachable) cs gs = Unit {0}
-Missing (unknown (Reachable sh fr)) cs gs = (c : Check) → IsInFullCondition gs c → is_written c cs ≡ true
-
-abbrev pub BodyHeld : Patterns → Sight → List Part → Type 0
-BodyHeld t s [] = Unit {0}
-BodyHeld t s (call g ∷ ps) = Held t s g × BodyHeld t (after t s g) ps
-BodyHeld t s (group cs gs ∷ ps) = Missing s cs gs × ForkHeld t s gs × TurnHeld t s gs × BodyHeld t (after_all t s gs) ps
-
-abbrev pub after_parts : Patterns → Sight → List Part → Sight
-after_parts t s [] = s
-after_parts t s (call g ∷ ps) = after_parts t (after t s g) ps
-after_parts t s (group cs gs ∷ ps) = after_parts t (after_all t s gs) ps
+Sees (Known s) f = Covers s f
+Sees (Unknown Unreachable) f = ⊥
+Sees (Unknown (Reachable sh fr)) f = Unit {0}
 
 pub sees_same : (s : Sight) (f g : ℕ → Tree) → ((x : ℕ) → f x ≡ g x) → Sees s f → Sees s g
-sees_same (known s) f g e c = Covers-same s f g e c
-sees_same (unknown Unreachable) f g e c = c
-sees_same (unknown (Reachable sh fr)) f g e c = tt
+sees_same (Known s) f g e c = Covers-same s f g e c
+sees_same (Unknown Unreachable) f g e c = c
+sees_same (Unknown (Reachable sh fr)) f g e c = tt
 
 -- ---- calls
 
@@ -186,8 +145,8 @@ pub held_success : (t : Patterns) (o : Option Predicate) (p : Predicate) (s : St
 held_success t None p s f e h c = absurd (cc)
 held_success t (Some q) p s f e h c = covered-covers s (t (Success q)) f (All-head (IsHeld t) (record { slot = Success q; pattern = s }) [] h) c
 
-pub called : (t : Patterns) (s : Sight) (g : Tree) (f : ℕ → Tree) → IsTrue (callable g) → Held t s g → Sees s f → IsCalled t (instance f g)
-called t (known s) g f cg h c e =
+pub called : (t : Patterns) (s : Sight) (g : Tree) (f : ℕ → Tree) → IsTrue (callable g) → IsGoalHeld t s g → Sees s f → IsCalled t (instance f g)
+called t (Known s) g f cg h c e =
     let p = predicate g cg in
     let held : All (IsHeld t) (to_call (predicate_of g) (call_pattern s g)) =
     subst (λ b. All (IsHeld t) (if b then [] else to_call (predicate_of g) (call_pattern s g))) (not_builtin f g cg e) h in
@@ -195,8 +154,8 @@ called t (known s) g f cg h c e =
     (Covers-same (call_at t (predicate_of g)) (λ j. instance f (argument 1 (arguments g) j)) (argument 1 (arguments (instance f g)))
     (λ j. argument_instance f 1 (arguments g) j ∙ ap (λ ts. argument 1 ts j) (sym (arguments_instance f g cg)))
     (held_call t (predicate_of g) p.here (call_pattern s g) (λ j. instance f (argument 1 (arguments g) j)) p.is held (call_pattern-covers s g f c)))
-called t (unknown Unreachable) g f cg h c e = absurd c
-called t (unknown (Reachable sh fr)) g f cg h c e =
+called t (Unknown Unreachable) g f cg h c e = absurd c
+called t (Unknown (Reachable sh fr)) g f cg h c e =
     let p = predicate g cg in
     let held : All (IsHeld t) (to_call (predicate_of g) (any_pattern (count_trees (arguments g)))) =
     subst (λ b. All (IsHeld t) (if b then [] else to_call (predicate_of g) (any_pattern (count_trees (arguments g))))) (not_builtin f g cg e) h in
@@ -237,20 +196,20 @@ answers_of f k n m g cg h t = record {
 pub returned : (t : Patterns) (s : Sight) (g : Tree) (f k : ℕ → Tree) (n m : ℕ) → IsTrue (callable g) → builtin (instance f g) ≡ None → Bounded f n
     → Tame (λ r. occurs r (instance f g) ≡ true) n k m → Sees s f
     → Covers (success_at t (predicate_of (instance f g))) (λ j. instance k (argument 1 (arguments (instance f g)) j)) → Sees (after t s g) (λ x. instance k (f x))
-returned t (known s) g f k n m cg e bd ta c d =
+returned t (Known s) g f k n m cg e bd ta c d =
     subst (λ b. Covers (if b then after_builtin s g else after_call s g (success_at t (predicate_of g))) (λ x. instance k (f x))) (sym (not_builtin f g cg e))
     (after_call-covers s (success_at t (predicate_of g)) g f k c
     (Covers-same (success_at t (predicate_of g)) (λ j. instance k (argument 1 (arguments (instance f g)) j)) (λ j. instance k (instance f (argument 1 (arguments g) j)))
     (λ j. ap (instance k) (ap (λ ts. argument 1 ts j) (arguments_instance f g cg) ∙ sym (argument_instance f 1 (arguments g) j)))
     (subst (λ o. Covers (success_at t o) (λ j. instance k (argument 1 (arguments (instance f g)) j))) (predicate_instance f g cg) d))
     (answers_of f k n m g cg bd ta))
-returned t (unknown Unreachable) g f k n m cg e bd ta c d = c
-returned t (unknown (Reachable sh fr)) g f k n m cg e bd ta c d = tt
+returned t (Unknown Unreachable) g f k n m cg e bd ta c d = c
+returned t (Unknown (Reachable sh fr)) g f k n m cg e bd ta c d = tt
 
 -- an answer of a built-in goal
 pub answered-sees : (t : Patterns) (s : Sight) (g : Tree) (f : ℕ → Tree) (b : Subst) → IsTrue (callable g) → builtin (instance f g) ≡ Some (Some b) → Sees s f → Sees (after t s g) (λ x. instance (value b) (f x))
-answered-sees t (known s) g f b cg e c =
+answered-sees t (Known s) g f b cg e c =
     subst (λ p. Covers (if p then after_builtin s g else after_call s g (success_at t (predicate_of g))) (λ x. instance (value b) (f x))) (sym (is_built_in f g (Some b) cg e))
     (after_builtin-covers s g f b cg c e)
-answered-sees t (unknown Unreachable) g f b cg e c = c
-answered-sees t (unknown (Reachable sh fr)) g f b cg e c = tt
+answered-sees t (Unknown Unreachable) g f b cg e c = c
+answered-sees t (Unknown (Reachable sh fr)) g f b cg e c = tt

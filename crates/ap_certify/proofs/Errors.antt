@@ -1,0 +1,25 @@
+-- What an error of a part says is an error of the whole.
+use Rattle.std.proofs.Common.{◌≡◌, ℕ, inl, inr, false, List, [], ◌∷◌, refl}
+use Rattle.ap_term.specs.declared.clauses.Check.{Check}
+use Rattle.ap_term.specs.Tree.{Trees}
+use Rattle.ap_term.specs.Goals.{Part, group}
+use Rattle.ap_patterns.specs.declared.slots.Given.{Given}
+use Rattle.ap_patterns.specs.Given.{Patterns}
+use Rattle.ap_patterns.specs.Covered.{is_covered}
+use Rattle.ap_certify.specs.declared.faults.CertErr.{CertErr}
+use Rattle.ap_certify.specs.declared.faults.CertErr.TheVariants.{NotClosed, MissingCheck, NoMemory}
+use Rattle.ap_certify.specs.declared.sights.Sight.{Sight}
+use Rattle.ap_certify.specs.Refused.{IsFault, IsLeftOutAt, PartGives, PartLeavesOut}
+
+pub fault-more : (i : ℕ) (t : Patterns) (P P2 : ℕ → Given → Type 0) (Q Q2 : ℕ → Check → Type 0) → ((k : ℕ) (g : Given) → P k g → P2 k g) → ((k : ℕ) (c : Check) → Q k c → Q2 k c)
+    → (e : CertErr) → IsFault i t P Q e → IsFault i t P2 Q2 e
+fault-more i t P P2 Q Q2 f h (NotClosed clause place was now) (a, (g, w, n, p, u)) = (a, (g, w, n, f place g p, u))
+fault-more i t P P2 Q Q2 f h (MissingCheck clause place check) (a, q) = (a, h place check q)
+fault-more i t P P2 Q Q2 f h NoMemory v = tt
+
+-- a fault of a group's checks is one of the part
+pub left-out-fault : (i : ℕ) (t : Patterns) (s : Sight) (n : ℕ) (cs : List Check) (gs : Trees) (e : CertErr) → IsLeftOutAt i n s cs gs e
+    → IsFault i t (PartGives t s n (group cs gs)) (PartLeavesOut s n (group cs gs)) e
+left-out-fault i t s n cs gs (NotClosed clause place was now) h = absurd h
+left-out-fault i t s n cs gs (MissingCheck clause place check) h = (h.0, (h.1, h.2))
+left-out-fault i t s n cs gs NoMemory h = tt
