@@ -40,11 +40,11 @@ use Rattle.ap_certify.proofs.Items.{IsSafe, one, bares, Reached, child_safe, fir
 
 -- ---- lists
 
-left_all : {X : Type 0} (P : X → Type 0) (xs ys : List X) → All P (xs ++ ys) → All P xs
+pub left_all : {X : Type 0} (P : X → Type 0) (xs ys : List X) → All P (xs ++ ys) → All P xs
 left_all P [] ys h = All-nil P
 left_all P (x ∷ xs) ys h = All-cons P x xs (All-head P x (xs ++ ys) h) (left_all P xs ys (All-tail P x (xs ++ ys) h))
 
-right_all : {X : Type 0} (P : X → Type 0) (xs ys : List X) → All P (xs ++ ys) → All P ys
+pub right_all : {X : Type 0} (P : X → Type 0) (xs ys : List X) → All P (xs ++ ys) → All P ys
 right_all P [] ys h = h
 right_all P (x ∷ xs) ys h = right_all P xs ys (All-tail P x (xs ++ ys) h)
 
@@ -153,11 +153,11 @@ clause_held t c w h m =
     let p = clause_parts t c (is_analysed c) h m in
     record { head = r.0; numbers = r.1; goals = body_callable c.vars c.body w.body; body = p.0; success = p.1 }
 
-all_held : (E : Entries) (A : Program) (t : Patterns) → IsProgram A → IsClosed E A t → AreGroupsGiven t A → AllHeld t A
+pub all_held : (E : Entries) (A : Program) (t : Patterns) → IsProgram A → IsClosed E A t → AreGroupsGiven t A → AllHeld t A
 all_held E A t w h m c i =
     clause_held t c (each IsClause A w c i) (each_given (IsHeld t) (given_by_clause t) A (right_all (IsHeld t) (given_by_entries E A) (flat_map (given_by_clause t) A) h) c i) (each (IsClauseGiven t) A m c i)
 
-arity_of : (g : Tree) (p : Predicate) → predicate_of g ≡ Some p → p.arity ≡ count_trees (arguments g)
+pub arity_of : (g : Tree) (p : Predicate) → predicate_of g ≡ Some p → p.arity ≡ count_trees (arguments g)
 arity_of (var x) p e = absurd (cc)
 arity_of (int z) p e = absurd (cc)
 arity_of (atom a) p e = let q : record { name = a; arity = 0 } ≡ p = cc in ap (λ r. r.arity) (sym q)

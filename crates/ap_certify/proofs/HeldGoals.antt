@@ -1,15 +1,14 @@
 -- One goal more, called at the fork or after the goals before it.
-use Rattle.std.proofs.Common.{◌≡◌, ℕ, ◌+◌, ◌<◌, ◌≤◌, inl, inr, Bool, true, false, ◌||◌, if◌then◌else◌, IsTrue, List, [], ◌∷◌, length, drop, get_or, refl, ap, sym, ◌∙◌, subst}
+use Rattle.std.proofs.Common.{◌≡◌, ℕ, zero, suc, ◌+◌, ◌<◌, ◌≤◌, inl, inr, Bool, true, false, ◌||◌, if◌then◌else◌, IsTrue, List, [], ◌∷◌, length, drop, get_or, refl, ap, sym, ◌∙◌, subst, arith}
 use Rattle.std.specs.List.{All, list_all}
-use Rattle.std.proofs.lemmas.Bool.{and_parts}
+use Rattle.std.proofs.lemmas.Bool.{and_parts, or_parts}
 use Rattle.std.proofs.lemmas.List.{drop_all}
 use Rattle.std.proofs.lemmas.List.Elements.{All-nil}
 use Rattle.ap_term.specs.declared.terms.Term.{Term}
 use Rattle.ap_term.specs.declared.clauses.Check.{Check}
-use Rattle.ap_term.specs.Tree.{Tree, Trees, none}
+use Rattle.ap_term.specs.Tree.{Tree, Trees}
 use Rattle.ap_term.specs.TermView.{tree_of, trees_of}
 use Rattle.ap_term.specs.WellFormed.{callable, all_callable, numbered, numbered_all}
-use Rattle.ap_term.specs.Independence.{IsInFullCondition}
 use Rattle.ap_term.proofs.TermLists.{trees_of-drop_more}
 use Rattle.ap_patterns.specs.declared.slots.Given.{Given}
 use Rattle.ap_patterns.specs.Table.{predicate_of}
@@ -17,12 +16,12 @@ use Rattle.ap_patterns.specs.Given.{Patterns, to_call, is_builtin}
 use Rattle.ap_patterns.specs.Covered.{IsHeld}
 use Rattle.ap_conditions.specs.FullCondition.{full_condition}
 use Rattle.ap_conditions.specs.Laws.{IsIn}
-use Rattle.ap_conditions.proofs.Listed.{full-listed}
+use Rattle.ap_conditions.proofs.Listed.{full-listed, listed-full}
 use Rattle.ap_certify.specs.declared.sights.Sight.{Sight}
 use Rattle.ap_certify.specs.Written.{is_written}
 use Rattle.ap_certify.specs.Sights.{pattern_in, gives, after, after_all}
 use Rattle.ap_certify.specs.Held.{IsGoalHeld, AreHeldAtFork, AreHeldInTurn, GivesMissing}
-use Rattle.ap_certify.specs.Refused.{GoalGives, EachGives, TurnGives}
+use Rattle.ap_certify.specs.Refused.{IsLeftOut, GoalGives, EachGives, TurnGives}
 
 pub held-builtin : (t : Patterns) (s : Sight) (g : Tree) → is_builtin g ≡ true → IsGoalHeld t s g
 held-builtin t s g e = subst (λ b. All (IsHeld t) (if b then [] else to_call (predicate_of g) (pattern_in s g))) (sym e) (All-nil (IsHeld t))
@@ -92,5 +91,18 @@ each_passes p (k ∷ cs) h c (inr i) = each_passes p cs (and_parts (p k) (list_a
 pub group-given : (s : Sight) (cs : List Check) (gs : Trees) → IsTrue (numbered_all 255 gs) → list_all (λ c. is_written c cs || gives s c) (full_condition gs) ≡ true → GivesMissing s cs gs
 group-given s cs gs w h c i e =
     ap (λ b. b || gives s c) (sym e) ∙ each_passes (λ k. is_written k cs || gives s k) (full_condition gs) h c (full-listed gs c w i)
+
+-- the check at an index of the full condition is one of it
+listed : (cs : List Check) (i : ℕ) (d : Check) → i < length cs → IsIn (get_or cs i d) cs
+listed [] i d l = absurd (omega arith)
+listed (c ∷ cs) zero d l = inl refl
+listed (c ∷ cs) (suc i) d l = inr (listed cs i d (omega arith))
+
+pub left-out : (s : Sight) (cs : List Check) (gs : Trees) (items : List Check) (i : ℕ) (d : Check) → items ≡ full_condition gs → i < length items
+    → (is_written (get_or items i d) cs || gives s (get_or items i d)) ≡ false → IsLeftOut s cs gs (get_or items i d)
+left-out s cs gs items i d e l h =
+    let c = get_or items i d in
+    let r = or_parts (is_written c cs) (gives s c) h in
+    record { full = listed-full gs c (subst (IsIn c) e (listed items i d l)); unwritten = r.0; ungiven = r.1 }
 
 pub ruleset rules_of_goals = (trees_of-drop_more)

@@ -12,3 +12,5 @@ pub mod HeldParts
 pub mod HeldClauses
 pub mod Errors
 pub mod Listed
+pub mod Predicates
+pub mod Unrefused

@@ -1,23 +1,22 @@
 -- What is held part by part is held as the definitions list it.
-use Rattle.std.proofs.Common.{◌≡◌, ℕ, ◌⊎◌, inl, inr, Bool, true, false, if◌then◌else◌, List, [], ◌∷◌, ◌++◌, refl, ap, sym, ◌∙◌, subst}
+use Rattle.std.proofs.Common.{◌≡◌, ◌⊎◌, inl, inr, Bool, true, false, if◌then◌else◌, List, [], ◌∷◌, ◌++◌, subst}
 use Rattle.std.specs.List.{All, flat_map}
 use Rattle.std.proofs.lemmas.Bool.{false≢true}
-use Rattle.std.proofs.lemmas.List.Elements.{All-nil, All-cons, All-append}
+use Rattle.std.proofs.lemmas.List.Elements.{All-nil, All-append}
 use Rattle.ap_term.specs.declared.clauses.Check.{Check}
-use Rattle.ap_term.specs.Tree.{Tree, Trees, none, more}
+use Rattle.ap_term.specs.Tree.{Trees, none, more}
 use Rattle.ap_term.specs.Independence.{IsInFullCondition}
-use Rattle.ap_term.specs.Goals.{Part, call, group, Clause, Program}
+use Rattle.ap_term.specs.Goals.{Part, call, group, Clause}
 use Rattle.ap_absunify.specs.declared.states.State.{State}
 use Rattle.ap_absunify.specs.declared.states.State.TheVariants.{Unreachable, Reachable}
 use Rattle.ap_absunify.proofs.Vars.{decide}
 use Rattle.ap_patterns.specs.Table.{predicate_of}
 use Rattle.ap_patterns.specs.Places.{call_pattern}
-use Rattle.ap_patterns.specs.Given.{Patterns, call_at, to_success, after_goal, after_goals, after_part, after_body, given_by_goal, given_at_fork, given_in_turn, given_by_part, given_by_body, given_from, given_anyhow, given_by_all, given_by_any_part, given_unanalysed, given_by_clause, anything, is_analysed, entered}
+use Rattle.ap_patterns.specs.Given.{Patterns, call_at, to_success, after_goal, after_goals, after_body, given_by_goal, given_at_fork, given_in_turn, given_by_body, given_from, given_anyhow, given_by_all, given_by_any_part, given_unanalysed, given_by_clause, anything, is_analysed, entered}
 use Rattle.ap_patterns.specs.Covered.{IsHeld}
-use Rattle.ap_certify.specs.declared.sights.Sight.{Sight}
 use Rattle.ap_certify.specs.declared.sights.Sight.TheVariants.{Known, Unknown}
 use Rattle.ap_certify.specs.Written.{is_written}
-use Rattle.ap_certify.specs.Sights.{pattern_in, gives, after_all, after_parts, entry_as, entry}
+use Rattle.ap_certify.specs.Sights.{after_parts, entry_as, entry}
 use Rattle.ap_certify.specs.Held.{AreHeldAtFork, AreHeldInTurn, GivesMissing, IsBodyHeld}
 use Rattle.ap_certify.specs.GroupsGiven.{AreGiven, AreWritten, IsReached, IsGivenAs, IsClauseGiven}
 use Rattle.ap_certify.specs.Refused.{given_at_end}

@@ -1,16 +1,13 @@
 -- What is known at a place of a body, and that it covers what is called and what comes back from there.
-use Rattle.std.proofs.Common.{◌≡◌, ℕ, suc, ◌+◌, ◌<◌, ◌≤◌, ◌⊎◌, inl, inr, Bool, true, false, ◌&&◌, ◌==◌, cond, if◌then◌else◌, is_some, IsTrue, nat_eq, nat_le, List, [], ◌∷◌, Option, Some, None, refl, ap, sym, ◌∙◌, subst, arith}
+use Rattle.std.proofs.Common.{◌≡◌, ℕ, suc, ◌+◌, ◌<◌, ◌≤◌, ◌⊎◌, inl, inr, Bool, true, false, ◌&&◌, ◌==◌, cond, if◌then◌else◌, is_some, IsTrue, nat_eq, nat_le, [], Option, Some, None, refl, ap, sym, ◌∙◌, subst, arith}
 use Rattle.std.specs.List.{All}
 use Rattle.std.proofs.lemmas.Bool.{false≢true, leb-true, leb-false}
 use Rattle.std.proofs.lemmas.List.Elements.{All-head}
-use Rattle.ap_term.specs.declared.clauses.Check.{Check}
 use Rattle.ap_term.specs.Tree.{Tree, Trees, var, int, atom, node, none, more, count_trees}
 use Rattle.ap_term.specs.Vars.{occurs, occurs_all}
 use Rattle.ap_term.specs.WellFormed.{callable}
 use Rattle.ap_term.specs.Substitution.{instance, instance_all, Subst, value}
 use Rattle.ap_term.specs.Builtins.{relation_named, builtin}
-use Rattle.ap_term.specs.Independence.{IsInFullCondition}
-use Rattle.ap_term.specs.Goals.{Part, call, group}
 use Rattle.ap_sharing.specs.VarSet.{has}
 use Rattle.ap_sharing.proofs.Elements.{clash, has-empty}
 use Rattle.ap_absunify.specs.declared.states.State.{State}
@@ -22,12 +19,11 @@ use Rattle.ap_absunify.proofs.Renamed.{Covers-same}
 use Rattle.ap_absunify.proofs.Vars.{decide, refuted, any_some, occurs_instance}
 use Rattle.ap_patterns.specs.declared.tables.Predicate.{Predicate}
 use Rattle.ap_patterns.specs.declared.slots.Slot.TheVariants.{Call, Success}
-use Rattle.ap_patterns.specs.declared.slots.Given.{Given}
 use Rattle.ap_patterns.specs.Places.{arguments, argument, call_pattern}
 use Rattle.ap_patterns.specs.Entering.{own}
 use Rattle.ap_patterns.specs.AfterCall.{after_call, Answers}
 use Rattle.ap_patterns.specs.Table.{predicate_of}
-use Rattle.ap_patterns.specs.Given.{Patterns, call_at, success_at, to_call, to_success, is_builtin, after_goal, given_by_goal, given_anyhow, any_pattern}
+use Rattle.ap_patterns.specs.Given.{Patterns, call_at, success_at, to_call, to_success, is_builtin, any_pattern}
 use Rattle.ap_patterns.specs.Covered.{IsHeld}
 use Rattle.ap_patterns.proofs.Coverings.{covered-covers, builtin-test}
 use Rattle.ap_patterns.proofs.CallPatterns.{call_pattern-covers}

@@ -20,10 +20,10 @@ use Rattle.ap_absunify.specs.declared.states.State.TheVariants.{Unreachable, Rea
 use Rattle.ap_absunify.specs.State.{Covers}
 use Rattle.ap_absunify.proofs.Renamed.{Covers-same}
 use Rattle.ap_absunify.proofs.Vars.{any_some, occurs_instance}
-use Rattle.ap_patterns.specs.Places.{arguments, argument, call_pattern}
+use Rattle.ap_patterns.specs.Places.{arguments, argument}
 use Rattle.ap_patterns.specs.Entering.{own, own_after}
 use Rattle.ap_patterns.specs.Table.{predicate_of}
-use Rattle.ap_patterns.specs.Given.{Patterns, call_at, success_at, to_success, is_analysed, entered, any_pattern, anything}
+use Rattle.ap_patterns.specs.Given.{Patterns, call_at, success_at, to_success, is_analysed, entered, any_pattern}
 use Rattle.ap_patterns.specs.Covered.{IsHeld}
 use Rattle.ap_patterns.proofs.CallPatterns.{call_pattern-covers}
 use Rattle.ap_patterns.proofs.Entering.{own-range, own-has, enter-covers}

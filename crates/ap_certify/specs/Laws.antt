@@ -7,13 +7,21 @@ use Rattle.ap_patterns.specs.declared.entries.Entries.{Entries}
 use Rattle.ap_patterns.specs.Given.{Patterns}
 use Rattle.ap_patterns.specs.Covered.{IsClosed}
 use Rattle.ap_certify.specs.declared.certified.Scope.TheVariants.{Of}
+use Rattle.ap_certify.specs.declared.faults.CertErr.{CertErr}
+use Rattle.ap_certify.specs.declared.faults.CertErr.TheVariants.{NoMemory}
 use Rattle.ap_certify.specs.Forks.{Fork, Tracked, untracked, children}
 use Rattle.ap_certify.specs.Certificate.{MissingHold, IsSafe, AreMissingGiven}
 use Rattle.ap_certify.specs.GroupsGiven.{AreGroupsGiven}
+use Rattle.ap_certify.specs.Refused.{IsRefusedBy}
 
 -- a table that covers all that is given to it, and gives what the groups leave out, makes the program sound
 abbrev pub SoundLaw : Type 0
 SoundLaw = (E : Entries) (A : Program) (t : Patterns) → IsProgram A → IsClosed E A t → AreGroupsGiven t A → AreMissingGiven A (Of E)
+
+-- a program is refused for want of memory alone where the table covers all that is given to it, and gives what the
+-- groups leave out
+abbrev pub UnrefusedLaw : Type 0
+UnrefusedLaw = (E : Entries) (A : Program) (t : Patterns) (e : CertErr) → IsProgram A → IsClosed E A t → AreGroupsGiven t A → IsRefusedBy E A t e → e ≡ NoMemory
 
 -- where the checks that aren't written hold, and the written ones do, the goals are strictly independent
 abbrev pub StrictLaw : Type 0

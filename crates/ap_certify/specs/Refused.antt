@@ -1,6 +1,6 @@
 -- With what right a program is refused, and where. Clauses, and the goals of a clause, count from 1; the goals of a group
 -- are goals of their clause. Place 0 is the clause's success. Clause 0 is an entry, and place then its number.
-use Rattle.std.specs.Prelude.{◌≡◌, ℕ, ◌+◌, Bool, false, ◌⊎◌, if◌then◌else◌, List, [], ◌∷◌, ◌++◌, map, Option, Some, None, slice_get}
+use Rattle.std.specs.Prelude.{◌≡◌, ℕ, ◌+◌, false, ◌⊎◌, if◌then◌else◌, List, [], ◌∷◌, ◌++◌, map, Option, Some, None, slice_get}
 use Rattle.std.specs.List.{list_any}
 use Rattle.ap_term.specs.declared.clauses.Check.{Check}
 use Rattle.ap_term.specs.Tree.{Tree, Trees, none, more, count_trees}
@@ -67,7 +67,7 @@ ClauseGives t c k g = ((k ≡ 0) × IsOneOf g (given_at_end (after_parts t (entr
 
 abbrev pub with_new : Option Predicate → List Predicate → List Predicate
 with_new None ps = ps
-with_new (Some p) ps = if list_any (same_predicate p) ps then ps else ps ++ p ∷ []
+with_new (Some p) ps = if list_any (λ q. same_predicate q p) ps then ps else ps ++ p ∷ []
 
 -- the predicates behind others that have a clause, in order of their first clause
 abbrev pub predicates_behind : List Predicate → Program → List Predicate

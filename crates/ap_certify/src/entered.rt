@@ -15,11 +15,17 @@ use ap_patterns::{Entries, Entry, Given, Predicate, Slot, Table, any_pattern, qu
 use ap_term::{Clause, NoMemory, Program};
 use std::alloc::Global;
 
+fn is_among(predicate: &Predicate, predicates: &[Predicate]) -> bool
+    ensures { result ≡ list_any (λ p. same_predicate p predicate.now) predicates.now }
+{
+    predicates.iter().any(|p| *p == *predicate)
+}
+
 /// Puts in a predicate that isn't there yet.
 fn insert(predicate: Predicate, predicates: &mut Vec<Predicate>) -> Result<(), NoMemory>
     ensures { OnOk result (predicates.new.items ≡ with_new (Some predicate) predicates.old.items) }
 {
-    if !predicates.iter().any(|p| *p == predicate) {
+    if !is_among(&predicate, predicates.as_slice()) {
         predicates.push(predicate)?;
     }
     Ok(())
@@ -53,11 +59,7 @@ fn calls_of_any(alloc: Global, predicates: &[Predicate]) -> Result<Vec<Given>, N
 }
 
 /// The calls with which a program is entered, in order.
-fn entry_calls(
-    alloc: Global,
-    entries: &Entries,
-    program: &Program,
-) -> Result<Vec<Given>, NoMemory>
+fn entry_calls(alloc: Global, entries: &Entries, program: &Program) -> Result<Vec<Given>, NoMemory>
     requires { IsMarked entries.now }
     ensures { IfOk result (λ r. r.items ≡ entry_calls entries.now program.now) }
 {
@@ -85,14 +87,22 @@ fn hold_calls(table: &Table, calls: &[Given]) -> Result<(), CertErr>
     ensures fault { IfErr result (IsFault 0 (patterns table.now) (λ k g. IsNumber k g calls.now) NoCheck) }
 {
     for i in 0..calls.len() {
-        let at = Place { clause: 0, goal: i as u64 + 1 };
+        let at = Place {
+            clause: 0,
+            goal: i as u64 + 1,
+        };
         hold(at, table, &calls[i])?;
     }
     Ok(())
 }
 
 /// Whether the table covers the calls with which a program is entered.
-pub fn hold_entries(alloc: Global, table: &Table, entries: &Entries, program: &Program) -> Result<(), CertErr>
+pub fn hold_entries(
+    alloc: Global,
+    table: &Table,
+    entries: &Entries,
+    program: &Program,
+) -> Result<(), CertErr>
     requires { IsMarked entries.now }
     ensures held { IfOk result (λ _. All (IsHeld (patterns table.now)) (entry_calls entries.now program.now)) }
     ensures fault { IfErr result (IsFault 0 (patterns table.now) (λ k g. IsNumber k g (entry_calls entries.now program.now)) NoCheck) }
@@ -110,7 +120,10 @@ pub fn copy(entries: &Entries) -> Result<Entries, NoMemory>
         Entries::All => Ok(Entries::All),
         Entries::One(entry) => {
             let marks = entry.marks.clone()?;
-            Ok(Entries::One(Entry { predicate: entry.predicate, marks }))
+            Ok(Entries::One(Entry {
+                predicate: entry.predicate,
+                marks,
+            }))
         }
         Entries::Query => Ok(Entries::Query),
     }

@@ -30,6 +30,10 @@ pub enum CertErr {
 }
 
 impl From<NoMemory> for CertErr {
+    ghost use Rattle.ap_certify.specs.declared.faults.CertErr.TheVariants.{NoMemory as OutOfMemory};
+
+    ghost from_gives = { λ _ e. e ≡ OutOfMemory };
+
     fn from(_error: NoMemory) -> CertErr {
         CertErr::NoMemory
     }

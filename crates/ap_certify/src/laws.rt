@@ -1,10 +1,16 @@
 //! Laws of the definitions. Each is the contract of a function that does nothing.
 
-ghost use Rattle.ap_certify.specs.Laws.{SoundLaw, StrictLaw, TrackedLaw};
+ghost use Rattle.ap_certify.specs.Laws.{SoundLaw, UnrefusedLaw, StrictLaw, TrackedLaw};
 
 /// A table that covers all that is given to it, and gives what the groups leave out, makes the program sound.
 pub fn sound_law()
     ensures { SoundLaw }
+{}
+
+/// A program is refused for want of memory alone where the table covers all that is given to it, and gives what the
+/// groups leave out.
+pub fn unrefused_law()
+    ensures { UnrefusedLaw }
 {}
 
 /// Where the checks that aren't written hold, and the written ones do, the goals are strictly independent.

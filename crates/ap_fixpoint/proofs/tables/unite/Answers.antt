@@ -6,9 +6,9 @@ use Rattle.ap_fixpoint.proofs.tables.unite.Goals as goal
 
 pub returns-then-is_covered-clause-table : goal.returns-then-is_covered-clause-table
 returns-then-is_covered-clause-table c =
-    step-covered c.args.given.now c.args.g.now (patterns c.args.table.now) (ap (is_covered c.args.g.now.pattern) (sym c.current-was.ensures) ∙ sym c.is_covered.ensures ∙ c.if-is_covered.true)
+    step-covered c.args.given.now c.args.g.now (patterns c.args.table.now) (ap (is_covered c.args.g.now.pattern) (sym c.pattern_at-was.ensures) ∙ sym c.is_covered.ensures ∙ c.if-is_covered.true)
 
 pub returns-clause-table : goal.returns-clause-table
 returns-clause-table c =
-    step-put c.args.given.now c.args.g.now (patterns c.args.table.now) (patterns c.put.new.table) c.in_ok-now.now c.current-was.result.now
-    (ap (is_covered c.args.g.now.pattern) (sym c.current-was.ensures) ∙ sym c.is_covered.ensures ∙ c.if-is_covered.false) c.current-was.ensures c.in_ok-now.ensures c.in_ok-put.ensures
+    step-put c.args.given.now c.args.g.now (patterns c.args.table.now) (patterns c.put.new.table) c.in_ok-now.now c.pattern_at-was.result.now
+    (ap (is_covered c.args.g.now.pattern) (sym c.pattern_at-was.ensures) ∙ sym c.is_covered.ensures ∙ c.if-is_covered.false) c.pattern_at-was.ensures c.in_ok-now.ensures c.in_ok-put.ensures
