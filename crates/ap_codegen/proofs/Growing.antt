@@ -1,15 +1,18 @@
 -- Tables that grow, and what instructions say by them.
-use Rattle.std.proofs.Common.{◌≡◌, ℕ, zero, suc, ◌+◌, ◌<◌, ◌≤◌, ℤ, Bool, true, false, ◌&&◌, ◌==◌, if◌then◌else◌, List, [], ◌∷◌, ◌++◌, length, drop, get_or, slice_get, Some, refl, ap, sym, ◌∙◌, arith, append_assoc}
+use Rattle.std.proofs.Common.{◌≡◌, ℕ, zero, suc, ◌+◌, ◌<◌, ◌≤◌, ℤ, Bool, true, false, ◌&&◌, ◌==◌, if◌then◌else◌, ◌⊎◌, inl, inr, List, [], ◌∷◌, ◌++◌, length, drop, get_or, slice_get, Some, refl, ap, sym, ◌∙◌, arith, append_assoc}
 use Rattle.std.proofs.lemmas.Bool.Decides.{Decides-eqb, Decides-int_eq}
 use Rattle.std.proofs.lemmas.List.{map-append, drop_more}
 use Rattle.std.specs.Ordering.{int_eq}
+use Rattle.std.specs.List.{list_all}
 use Rattle.ap_term.specs.Tree.{Tree, int}
 use Rattle.ap_instr.specs.declared.instruction.Instr.{Instr}
 use Rattle.ap_instr.specs.Code.{Compiled}
 use Rattle.ap_instr.specs.Step.{Step, with_integer, with_predicate, step_of as said_by, steps_of as said}
 use Rattle.ap_codegen.specs.declared.steps.Step.{Step as Emitted}
 use Rattle.ap_codegen.specs.Emitted.{step_of, steps_of}
-use Rattle.ap_codegen.specs.Assembled.{Numbered, Keeps, Grows, Holds}
+use Rattle.ap_codegen.specs.Permanent.{is_builtin_key}
+use Rattle.ap_codegen.specs.CodeOf.{calls_apart}
+use Rattle.ap_codegen.specs.Assembled.{Numbered, AreApart, Keeps, Grows, Holds}
 use Rattle.ap_codegen.proofs.Registers.{both_true}
 
 -- ---- tables
@@ -22,6 +25,20 @@ keeps_append (x ∷ xs) ys (suc i) y e = keeps_append xs ys i y e
 pub keeps_insert : {A : Type 0} (b : Bool) (xs new : List A) (x : A) → new ≡ (if b then xs else xs ++ x ∷ []) → Keeps xs new
 keeps_insert true xs new x e i y h = ap (λ l. slice_get l i) e ∙ h
 keeps_insert false xs new x e i y h = ap (λ l. slice_get l i) e ∙ keeps_append xs (x ∷ []) i y h
+
+pub push_get : {A : Type 0} (xs : List A) (y x : A) (n : ℕ) → slice_get (xs ++ y ∷ []) n ≡ Some x → (slice_get xs n ≡ Some x) ⊎ ((n ≡ length xs) × (y ≡ x))
+push_get [] y x zero e = inr (refl, cc)
+push_get [] y x (suc n) e = cc
+push_get (z ∷ xs) y x zero e = inl e
+push_get (z ∷ xs) y x (suc n) e = elim (push_get xs y x n e) [ inl h ↦ inl h | inr h ↦ inr (ap suc h.0, h.1) ]
+
+-- what is put in is the key of no built-in goals
+pub apart_insert : (b : Bool) (xs new : List (ℕ × ℕ)) (a m n : ℕ) → new ≡ (if b then xs else xs ++ (m, n) ∷ []) → m ≡ a → is_builtin_key (a, n) ≡ false → AreApart xs → AreApart new
+apart_insert true xs new a m n e q d h i k f = h i k (ap (λ l. slice_get l i) (sym e) ∙ f)
+apart_insert false xs new a m n e q d h i k f = elim (push_get xs (m, n) k i (ap (λ l. slice_get l i) (sym e) ∙ f)) [
+  | inl g ↦ h i k g
+  | inr g ↦ ap is_builtin_key (sym g.1) ∙ ap (λ m. is_builtin_key (m, n)) q ∙ d
+]
 
 pub grows_same : (s : Numbered) → Grows s s
 grows_same s = record { integers = λ i x e. e; predicates = λ i x e. e }
@@ -55,6 +72,12 @@ pub says_predicate : (code : Compiled) (t : Numbered) (i a n : ℕ) (f : ℕ →
 says_predicate code t i a n f h e =
     let p = h.predicates i (a, n) e in
     ap (λ o. with_predicate o f) p.1 ∙ ap (λ a. f a p.0.arity) p.2 ∙ ap (f a) p.3
+
+-- a step of those that call no built-in goals
+pub step_apart : (steps : List Emitted) (i : ℕ) (step : Emitted) → i < length steps → step ≡ get_or steps i step → list_all calls_apart (steps_of steps) ≡ true → calls_apart (step_of step) ≡ true
+step_apart [] i step l e h = absurd (omega arith)
+step_apart (s ∷ steps) zero step l e h = ap (λ s. calls_apart (step_of s)) e ∙ (both_true (calls_apart (step_of s)) (list_all calls_apart (steps_of steps)) h).0
+step_apart (s ∷ steps) (suc i) step l e h = step_apart steps i step (omega arith) e (both_true (calls_apart (step_of s)) (list_all calls_apart (steps_of steps)) h).1
 
 -- one more instruction
 pub said_turn : (code : Compiled) (steps : List Emitted) (i : ℕ) (step : Emitted) (o0 o1 : List Instr) (instr : Instr) (w : List Step) → i < length steps → step ≡ get_or steps i step

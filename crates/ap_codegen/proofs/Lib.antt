@@ -3,6 +3,8 @@ pub mod Only
 pub mod Each
 pub mod Followed
 pub mod PermanentReads
+pub mod Open
+pub mod Framing
 pub mod BodyTurns
 pub mod Placed
 pub mod Moved

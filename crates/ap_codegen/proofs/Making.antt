@@ -1,24 +1,25 @@
 -- Predicates made one after another.
-use Rattle.std.proofs.Common.{◌≡◌, ℕ, zero, suc, ◌+◌, ◌<◌, ◌≤◌, Bool, true, false, if◌then◌else◌, ◌⊎◌, inl, inr, List, [], ◌∷◌, ◌++◌, map, length, drop, take, get_or, slice_get, Some, None, refl, ap, sym, ◌∙◌, subst, arith, append_assoc}
+use Rattle.std.proofs.Common.{◌≡◌, ℕ, zero, suc, ◌+◌, ◌<◌, ◌≤◌, Bool, true, false, ◌==◌, ◌&&◌, ◌||◌, is_some, if◌then◌else◌, Option, ◌⊎◌, inl, inr, List, [], ◌∷◌, ◌++◌, map, length, drop, take, get_or, slice_get, Some, None, refl, ap, sym, ◌∙◌, subst, arith, append_assoc}
 use Rattle.std.specs.List.{AllZip, filter}
 use Rattle.std.proofs.lemmas.List.{map-append, take_more}
-use Rattle.ap_term.specs.Tree.{Tree, var, int, atom, node}
+use Rattle.std.proofs.lemmas.Bool.{false≢true}
+use Rattle.ap_term.specs.declared.builtins.Relation.{Relation}
+use Rattle.ap_term.specs.declared.fixed.TheConstants.{TRUE, FAIL}
+use Rattle.ap_term.specs.Tree.{Tree, Trees, var, int, atom, node, none, more, count_trees}
+use Rattle.ap_term.specs.Substitution.{Subst}
+use Rattle.ap_term.specs.Builtins.{relation_named, named_answer, builtin}
 use Rattle.ap_term.specs.Goals.{Clause, Program}
 use Rattle.ap_instr.specs.declared.instruction.Instr.{Instr}
 use Rattle.ap_instr.specs.declared.compiled.Predicate.{Predicate}
 use Rattle.ap_instr.specs.Code.{Compiled}
 use Rattle.ap_instr.specs.StandsFor.{is_head_of, clauses_of, ReadsAt, alternatives, clause_places}
 use Rattle.ap_codegen.specs.Assembled.{Numbered, Grows, Holds, AreCoded, chosen, choices, together, heads, clauses_for, IsMade, StandsBeside}
-use Rattle.ap_instr.specs.Step.{Step, steps_of as said}
-use Rattle.ap_instr.specs.Runs.{Reads}
-use Rattle.ap_codegen.proofs.Growing.{grows_on, holds_less}
+use Rattle.ap_instr.specs.Step.{steps_of as said}
+use Rattle.ap_instr.specs.Runs.{applied}
+use Rattle.ap_codegen.specs.Permanent.{is_builtin_key}
+use Rattle.ap_codegen.specs.CodeOf.{IsCodeOf}
+use Rattle.ap_codegen.proofs.Growing.{push_get, grows_on, holds_less}
 use Rattle.ap_codegen.proofs.Placed.{drop_append, block_read}
-
-push_get : {A : Type 0} (xs : List A) (y x : A) (n : ℕ) → slice_get (xs ++ y ∷ []) n ≡ Some x → (slice_get xs n ≡ Some x) ⊎ ((n ≡ length xs) × (y ≡ x))
-push_get [] y x zero e = inr (refl, cc)
-push_get [] y x (suc n) e = cc
-push_get (z ∷ xs) y x zero e = inl e
-push_get (z ∷ xs) y x (suc n) e = elim (push_get xs y x n e) [ inl h ↦ inl h | inr h ↦ inr (ap suc h.0, h.1) ]
 
 get_some : {A : Type 0} (xs : List A) (i : ℕ) → i < length xs → (x : A) × (slice_get xs i ≡ Some x)
 get_some [] i l = absurd (omega arith)
@@ -46,8 +47,8 @@ same_clauses q k p n a =
 pub made_more : (t u : Numbered) (is is' : List Instr) (qs qs' : List Predicate) (q : Predicate) (k : ℕ × ℕ) (bs : List (List Instr)) (p : Program)
     → Grows t u → ((code : Compiled) → Holds u code → AreCoded code bs (clauses_for k p))
     → is' ≡ is ++ (choices (length is + chosen (length bs)) bs ++ together bs) → q.name ≡ k.0 → q.arity ≡ k.1 → q.start ≡ length is → qs' ≡ qs ++ q ∷ []
-    → slice_get t.predicates (length qs) ≡ Some k → IsMade t is qs p → IsMade u is' qs' p
-made_more t u is is' qs qs' q k bs p g coded ei n a s eq here made = record { named = named; placed = placed }
+    → slice_get t.predicates (length qs) ≡ Some k → is_builtin_key k ≡ false → IsMade t is qs p → IsMade u is' qs' p
+made_more t u is is' qs qs' q k bs p g coded ei n a s eq here away made = record { named = named; apart = apart; placed = placed }
   where
     at : (m : ℕ) (r : Predicate) → slice_get qs' m ≡ Some r → (slice_get qs m ≡ Some r) ⊎ ((m ≡ length qs) × (q ≡ r))
     at m r e = push_get qs q r m (ap (λ l. slice_get l m) (sym eq) ∙ e)
@@ -59,6 +60,12 @@ made_more t u is is' qs qs' q k bs p g coded ei n a s eq here made = record { na
     named m r e = elim (at m r e) [
       | inl h ↦ g.predicates m (r.name, r.arity) (made.named m r h)
       | inr h ↦ ap (slice_get u.predicates) h.0 ∙ g.predicates (length qs) k here ∙ ap Some key ∙ ap (λ r. Some (r.name, r.arity)) h.1
+    ]
+
+    apart : (m : ℕ) (r : Predicate) → slice_get qs' m ≡ Some r → is_builtin_key (r.name, r.arity) ≡ false
+    apart m r e = elim (at m r e) [
+      | inl h ↦ made.apart m r h
+      | inr h ↦ ap (λ r. is_builtin_key (r.name, r.arity)) (sym h.1) ∙ ap is_builtin_key (sym key) ∙ away
     ]
 
     placed : (code : Compiled) (later : List Instr) → Holds u code → code.instructions ≡ is' ++ later → (m : ℕ) (r : Predicate) → slice_get qs' m ≡ Some r → AllZip (ReadsAt code) (clause_places code r) (clauses_of r p)
@@ -83,20 +90,44 @@ made_more t u is is' qs qs' q k bs p g coded ei n a s eq here made = record { na
 pub made_none : (t : Numbered) (p : Program) (is : List Instr) (qs : List Predicate) → is ≡ [] → qs ≡ [] → IsMade t is qs p
 made_none t p is qs e f = record {
   named = λ n q g. let d : slice_get [] n ≡ Some q = ap (λ l. slice_get l n) (sym f) ∙ g in cc;
+  apart = λ n q g. let d : slice_get [] n ≡ Some q = ap (λ l. slice_get l n) (sym f) ∙ g in cc;
   placed = λ code later h c n q g. let d : slice_get [] n ≡ Some q = ap (λ l. slice_get l n) (sym f) ∙ g in cc;
 }
+
+abbrev control_answer : Bool → Bool → Option (Option Subst)
+control_answer b d = if b then Some (Some []) else (if d then Some None else None)
+
+-- a goal whose name and number of arguments are none of built-in goals is none
+no_builtin : (a : ℕ) (ts : Trees) → is_builtin_key (a, count_trees ts) ≡ false → builtin (applied a ts) ≡ None
+no_builtin a none e = go (a == TRUE) (a == FAIL) (is_some (relation_named a)) e
+  where
+    go : (b d k : Bool) → (((b || d) && true) || (k && false)) ≡ false → control_answer b d ≡ None
+    go true d k e = absurd (false≢true (sym e))
+    go false true k e = absurd (false≢true (sym e))
+    go false false k e = refl
+no_builtin a (more t none) e = refl
+no_builtin a (more t (more u none)) e = go (relation_named a) ((a == TRUE) || (a == FAIL)) e
+  where
+    go : (o : Option Relation) (b : Bool) → ((b && false) || (is_some o && true)) ≡ false → named_answer o t u ≡ None
+    go None b e = refl
+    go (Some r) true e = absurd (false≢true (sym e))
+    go (Some r) false e = absurd (false≢true (sym e))
+no_builtin a (more t (more u (more v ts))) e = refl
 
 -- where all predicates are made, the code stands for the program
 pub made_all : (t : Numbered) (is : List Instr) (qs : List Predicate) (p : Program) (code : Compiled) (m : ℕ) (k : ℕ × ℕ) → IsMade t is qs p → slice_get t.predicates (length qs) ≡ None
     → slice_get t.predicates m ≡ Some k → code.instructions ≡ is → code.integers ≡ t.integers → code.predicates ≡ qs → code.query ≡ Some m → StandsBeside code k p
-made_all t is qs p code m k made none at ei ez eq em = record {
+made_all t is qs p code m k made ended at ei ez eq em = record {
   number = m;
   predicate = q.0;
   is_query = em;
   held = q.1;
   named = q.2;
   arity = q.3;
-  stands = λ n r e. made.placed code [] holds (ei ∙ sym (append_nil is)) n r (ap (λ l. slice_get l n) (sym eq) ∙ e);
+  stands = record {
+    reads = λ n r e. made.placed code [] holds (ei ∙ sym (append_nil is)) n r (ap (λ l. slice_get l n) (sym eq) ∙ e);
+    apart = λ n r ts e c. no_builtin r.name ts (ap (λ m. is_builtin_key (r.name, m)) c ∙ made.apart n r (ap (λ l. slice_get l n) (sym eq) ∙ e));
+  };
 }
   where
     append_nil : {A : Type 0} (xs : List A) → xs ++ [] ≡ xs
@@ -112,7 +143,7 @@ made_all t is qs p code m k made none at ei ez eq em = record {
         le_or_lt (suc a) (suc b) = elim (le_or_lt a b) [ inl h ↦ inl (omega arith) | inr h ↦ inr (omega arith) ]
 
         go : (length qs ≤ i) ⊎ (i < length qs) → i < length qs
-        go (inl h) = absurd (let d : slice_get t.predicates i ≡ None = none_beyond t.predicates (length qs) i none h in cc)
+        go (inl h) = absurd (let d : slice_get t.predicates i ≡ None = none_beyond t.predicates (length qs) i ended h in cc)
         go (inr h) = h
 
     entry : (i : ℕ) (j : ℕ × ℕ) → slice_get t.predicates i ≡ Some j → (q : Predicate) × (slice_get code.predicates i ≡ Some q) × (q.name ≡ j.0) × (q.arity ≡ j.1)
@@ -158,7 +189,7 @@ clauses_take k cs i c b l e h =
 module _ {V : Type 0} (now : V → List Instr) where
   pub codes_more : (k : ℕ × ℕ) (cs : Program) (i : ℕ) (c : Clause) (s t u u' : Numbered) (vs new new' : List V) (v : V) (b : Bool) (h : Tree) → i < length cs → c ≡ get_or cs i c
       → b ≡ heads k h → b ≡ true → h ≡ c.head → Grows s t → Grows t u → u' ≡ u → new ≡ vs ++ v ∷ [] → new' ≡ new
-      → ((code : Compiled) (rest : List Step) → Holds u code → Reads (said code (now v) ++ rest) c)
+      → ((code : Compiled) → Holds u code → IsCodeOf c (said code (now v)))
       → ((code : Compiled) → Holds t code → AreCoded code (map now vs) (clauses_for k (take i cs)))
       → Grows s u' × ((code : Compiled) → Holds u' code → AreCoded code (map now new') (clauses_for k (take (i + 1) cs)))
   codes_more k cs i c s t u u' vs new new' v b h l e q o d f g eu en en' r a =
@@ -175,7 +206,7 @@ module _ {V : Type 0} (now : V → List Instr) where
       coded code x =
           subst (λ bs. AreCoded code bs (clauses_for k (take (i + 1) cs))) (sym codes)
           (subst (AreCoded code (map now vs ++ now v ∷ [])) (sym clauses)
-          (zip_push (λ is c. (rest : List Step) → Reads (said code is ++ rest) c) (map now vs) (clauses_for k (take i cs)) (now v) c (a code (holds_less t u code g x)) (λ rest. r code rest x)))
+          (zip_push (λ is c. IsCodeOf c (said code is)) (map now vs) (clauses_for k (take i cs)) (now v) c (a code (holds_less t u code g x)) (r code x)))
 
   pub codes_same : (k : ℕ × ℕ) (cs : Program) (i : ℕ) (c : Clause) (s t t' : Numbered) (vs vs' : List V) (b : Bool) (h : Tree) → i < length cs → c ≡ get_or cs i c
       → b ≡ heads k h → b ≡ false → h ≡ c.head → Grows s t → t' ≡ t → vs' ≡ vs

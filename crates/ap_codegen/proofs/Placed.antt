@@ -11,7 +11,7 @@ use Rattle.ap_instr.specs.declared.instruction.Instr.{Instr}
 use Rattle.ap_instr.specs.declared.instruction.Instr.TheVariants.{Fail, Try}
 use Rattle.ap_instr.specs.Code.{Compiled}
 use Rattle.ap_instr.specs.Step.{Step, other, steps_of as said}
-use Rattle.ap_instr.specs.Runs.{Reads, set, spread, arguments}
+use Rattle.ap_instr.specs.Runs.{Reads, AsksOpenly, set, spread, arguments}
 use Rattle.ap_instr.specs.StandsFor.{tried, alternatives, ReadsAt}
 use Rattle.ap_codegen.specs.Assembled.{AreCoded, places, retries, choices, chosen, together}
 use Rattle.ap_codegen.proofs.Registers.{set_here}
@@ -88,7 +88,10 @@ places_read code at (is ∷ bs) later [] h e = h
 places_read code at (is ∷ bs) later (c ∷ cs) h e =
     let d : drop at code.instructions ≡ is ++ (together bs ++ later) = e ∙ append_assoc is (together bs) later in
     let f : said code (drop at code.instructions) ≡ said code is ++ said code (together bs ++ later) = ap (said code) d ∙ map-append _ is (together bs ++ later) in (
-      subst (λ q. Reads q c) (sym f) (h.0 (said code (together bs ++ later))),
+      record {
+        reads = subst (λ q. Reads q c) (sym f) (h.0.reads (said code (together bs ++ later)));
+        openly = subst AsksOpenly (sym f) (h.0.openly (said code (together bs ++ later)));
+      },
       places_read code (at + length is) bs later cs h.1 (drop_twice at (length is) code.instructions ∙ ap (drop (length is)) d ∙ drop_append is (together bs ++ later)),
     )
 
@@ -108,7 +111,7 @@ block_read code start base [] later (c ∷ cs) h b e = absurd h
 block_read code start base (is ∷ []) later [] h b e = absurd h
 block_read code start base (is ∷ []) later (c ∷ cs) h b e =
     let r = places_read code start (is ∷ []) later (c ∷ cs) h e in
-    subst (λ l. AllZip (ReadsAt code) l (c ∷ cs)) (sym (single code start (drop start code.instructions) c r.0)) r
+    subst (λ l. AllZip (ReadsAt code) l (c ∷ cs)) (sym (single code start (drop start code.instructions) c r.0.reads)) r
 block_read code start base (is ∷ i ∷ bs) later cs h b e =
     let ks : List Instr = retries (base + length is) (i ∷ bs) in
     let n : base ≡ start + suc (length ks) = b ∙ ap (λ n. start + n) (chosen_many (length bs)) ∙ ap (λ n. start + suc n) (sym (length_retries (base + length is) (i ∷ bs))) in

@@ -7,14 +7,19 @@ use Rattle.ap_instr.specs.declared.instruction.Instr.{Instr}
 use Rattle.ap_instr.specs.declared.instruction.Instr.TheVariants.{Fail, Try, Retry, Trust}
 use Rattle.ap_instr.specs.declared.compiled.Predicate.{Predicate}
 use Rattle.ap_instr.specs.Code.{Compiled}
-use Rattle.ap_instr.specs.Step.{Step, steps_of as said}
-use Rattle.ap_instr.specs.Runs.{Reads}
+use Rattle.ap_instr.specs.Step.{steps_of as said}
 use Rattle.ap_instr.specs.StandsFor.{ReadsAt, clause_places, clauses_of, StandsFor}
+use Rattle.ap_codegen.specs.Permanent.{is_builtin_key}
+use Rattle.ap_codegen.specs.CodeOf.{IsCodeOf}
 
 -- the integers, and the names and arities of predicates, each at its number
 pub record Numbered : Type 0 where
   pub integers : List ℤ
   pub predicates : List (ℕ × ℕ)
+
+-- none is the name and arity of built-in goals
+abbrev pub AreApart : List (ℕ × ℕ) → Type 0
+AreApart ks = (i : ℕ) (k : ℕ × ℕ) → slice_get ks i ≡ Some k → is_builtin_key k ≡ false
 
 -- what stands in a list stays at its place
 abbrev pub Keeps : {A : Type 0} → List A → List A → Type 0
@@ -29,9 +34,9 @@ pub record Holds (t : Numbered) (code : Compiled) : Type 0 where
   pub integers : Keeps t.integers code.integers
   pub predicates : (i : ℕ) (k : ℕ × ℕ) → slice_get t.predicates i ≡ Some k → (q : Predicate) × (slice_get code.predicates i ≡ Some q) × (q.name ≡ k.0) × (q.arity ≡ k.1)
 
--- each code reads as its clause, whatever stands behind it
+-- each is its clause's code
 abbrev pub AreCoded : Compiled → List (List Instr) → List Clause → Type 0
-AreCoded code bs cs = AllZip (λ is c. (rest : List Step) → Reads (said code is ++ rest) c) bs cs
+AreCoded code bs cs = AllZip (λ is c. IsCodeOf c (said code is)) bs cs
 
 -- where clauses begin that stand one behind another from a place on
 abbrev pub places : ℕ → List (List Instr) → List ℕ
@@ -70,6 +75,7 @@ clauses_for k p = filter (λ c. heads k c.head) p
 -- clauses for it.
 pub record IsMade (t : Numbered) (is : List Instr) (qs : List Predicate) (p : Program) : Type 0 where
   pub named : (n : ℕ) (q : Predicate) → slice_get qs n ≡ Some q → slice_get t.predicates n ≡ Some (q.name, q.arity)
+  pub apart : (n : ℕ) (q : Predicate) → slice_get qs n ≡ Some q → is_builtin_key (q.name, q.arity) ≡ false
   pub placed : (code : Compiled) (later : List Instr) → Holds t code → code.instructions ≡ is ++ later
       → (n : ℕ) (q : Predicate) → slice_get qs n ≡ Some q → AllZip (ReadsAt code) (clause_places code q) (clauses_of q p)
 

@@ -1,10 +1,12 @@
 //! From a clause's instructions to those of code, which have numbers of its tables.
 
-ghost use Rattle.std.specs.Prelude.{◌≡◌, [], ◌∷◌, ◌++◌, IfOk, OnOk};
+ghost use Rattle.std.specs.Prelude.{◌≡◌, true, [], ◌∷◌, ◌++◌, IfOk, OnOk};
+ghost use Rattle.std.specs.List.{list_all};
 ghost use Rattle.ap_instr.specs.Code.{Compiled};
 ghost use Rattle.ap_instr.specs.Step.{step_of as said_by, steps_of as said};
 ghost use Rattle.ap_codegen.specs.Assembled.{Grows, Holds};
 ghost use Rattle.ap_codegen.specs.Emitted.{step_of, steps_of};
+ghost use Rattle.ap_codegen.specs.CodeOf.{calls_apart};
 
 use crate::steps::Step;
 use crate::tables::Tables;
@@ -13,6 +15,7 @@ use ap_term::NoMemory;
 
 /// The instruction, with numbers for what the tables hold.
 fn numbered(tables: &mut Tables, step: Step) -> Result<Instr, NoMemory>
+    requires { calls_apart (step_of step) ≡ true }
     ensures grows { OnOk result (Grows tables.old tables.new) }
     ensures said { IfOk result (λ instr. (code : Compiled) → Holds tables.new code → said_by code instr ≡ step_of step) }
 {
@@ -42,6 +45,7 @@ fn numbered(tables: &mut Tables, step: Step) -> Result<Instr, NoMemory>
 
 /// The instructions of a clause.
 pub fn assemble(tables: &mut Tables, steps: &[Step], out: &mut Vec<Instr>) -> Result<(), NoMemory>
+    requires { list_all calls_apart (steps_of steps.now) ≡ true }
     ensures grows { OnOk result (Grows tables.old tables.new) }
     ensures said { OnOk result ((code : Compiled) → Holds tables.new code → said code out.new.items ≡ said code out.old.items ++ steps_of steps.now) }
 {

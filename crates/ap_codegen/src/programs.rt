@@ -1,16 +1,18 @@
 //! Code for a whole program beside a query.
 
-ghost use Rattle.std.specs.Prelude.{◌≡◌, ℕ, ◌+◌, [], ◌∷◌, ◌++◌, List, map, length, slice_get, Some, None, IfOk, OnOk};
+ghost use Rattle.std.specs.Prelude.{◌≡◌, ◌+◌, false, map, length, slice_get, Some, None, IfOk, OnOk};
 ghost use Rattle.ap_term.specs.declared.fixed.TheConstants.{QUERY};
 ghost use Rattle.ap_term.specs.TermView.{tree_of};
 ghost use Rattle.ap_instr.specs.Code.{Compiled};
-ghost use Rattle.ap_instr.specs.Step.{Step as Said, steps_of as said};
-ghost use Rattle.ap_instr.specs.Runs.{Reads};
+ghost use Rattle.ap_instr.specs.Step.{steps_of as said};
 ghost use Rattle.ap_instr.specs.StandsFor.{StandsForQuery};
 ghost use Rattle.ap_codegen.specs.Assembled.{Grows, Holds, AreCoded, heads, clauses_for, IsMade, StandsBeside};
+ghost use Rattle.ap_codegen.specs.Permanent.{is_builtin_key};
+ghost use Rattle.ap_codegen.specs.CodeOf.{IsCodeOf};
 
 use crate::asking::asked_program;
 use crate::assembly::assemble;
+use crate::builtin_goals::is_apart;
 use crate::layout::lay;
 use crate::permanent::{above, count};
 use crate::tables::Tables;
@@ -30,10 +32,10 @@ fn is_head(t: &Term, name: u32, arity: u8) -> bool
     }
 }
 
-/// The code of a clause, whatever stands behind it.
+/// The code of a clause.
 fn clause_code(alloc: Global, tables: &mut Tables, clause: &Clause) -> Result<Vec<Instr>, NoMemory>
     ensures grows { OnOk result (Grows tables.old tables.new) }
-    ensures code { IfOk result (λ is. (code : Compiled) (rest : List Said) → Holds tables.new code → Reads (said code is.items ++ rest) clause.now) }
+    ensures code { IfOk result (λ is. (code : Compiled) → Holds tables.new code → IsCodeOf clause.now (said code is.items)) }
 {
     let steps = clause_steps(alloc, clause)?;
     let mut out = Vec::new(alloc);
@@ -79,6 +81,7 @@ fn add_predicate(
     is_listed: bool,
     made: &mut Made,
 ) -> Result<(), NoMemory>
+    requires { is_builtin_key (name, arity) ≡ false }
     ensures grows { OnOk result (Grows tables.old tables.new) }
     ensures count { OnOk result (length made.new.predicates.items ≡ length made.old.predicates.items + 1) }
     ensures made { OnOk result (slice_get tables.old.predicates (length made.old.predicates.items) ≡ Some (name, arity) → IsMade tables.old made.old.instructions.items made.old.predicates.items clauses.now → IsMade tables.new made.new.instructions.items made.new.predicates.items clauses.now) }
@@ -97,17 +100,23 @@ fn add_predicate(
     Ok(())
 }
 
+/// A number for the predicate of this name and arity, unless it is that of built-in goals, which no clause answers.
+fn add_head(tables: &mut Tables, name: Atom, arity: u8) -> Result<(), NoMemory> {
+    if is_apart(name, arity) {
+        tables.predicate(name, arity)?;
+    }
+    Ok(())
+}
+
 /// Numbers for the predicates of clauses, in order.
 fn add_heads(tables: &mut Tables, clauses: &[Clause]) -> Result<(), NoMemory> {
     for clause in clauses {
         match clause.head() {
             Term::Var(_) | Term::Int(_) => {}
-            Term::Atom(a) => {
-                tables.predicate(*a, 0)?;
-            }
+            Term::Atom(a) => add_head(tables, *a, 0)?,
             Term::Node(a, args) => {
                 let arity = count(args)?;
-                tables.predicate(*a, arity)?;
+                add_head(tables, *a, arity)?;
             }
         }
     }

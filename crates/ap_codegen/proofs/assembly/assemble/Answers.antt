@@ -1,7 +1,10 @@
 use Rattle.std.proofs.Common.{arith}
 use Rattle.ap_instr.specs.Step.{steps_of as said}
-use Rattle.ap_codegen.proofs.Growing.{grows_on, holds_less, said_turn, said_end}
+use Rattle.ap_codegen.proofs.Growing.{grows_on, holds_less, step_apart, said_turn, said_end}
 use Rattle.ap_codegen.proofs.assembly.assemble.Goals as goal
+
+pub numbered-requires : goal.numbered-requires
+numbered-requires c = step_apart c.args.steps.now c.loop-step.step-index c.step-item.result (omega arith) c.step-item.is c.requires
 
 pub loop-step-preserved : goal.loop-step-preserved
 loop-step-preserved c = (
