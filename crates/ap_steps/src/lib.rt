@@ -4,6 +4,9 @@
 #![tactic(auto)]
 
 pub mod arguments;
+pub mod found;
 pub mod instructions;
 pub mod laws;
 pub mod registers;
+pub mod structures;
+mod tables;

@@ -1,0 +1,57 @@
+-- The instructions from a place of code on.
+use Rattle.std.proofs.Common.{◌≡◌, ℕ, zero, suc, ◌+◌, Bool, true, false, if◌then◌else◌, List, [], ◌∷◌, drop, slice_get, Some, None, refl, ap, ◌∙◌, subst, arith}
+use borrow.Author.Count.{below_more}
+use Rattle.ap_instr.specs.declared.instruction.Instr.{Instr}
+use Rattle.ap_instr.specs.Code.{Compiled}
+use Rattle.ap_instr.specs.Step.{step_of, steps_of}
+use Rattle.ap_steps.specs.Moves.{HasTargets}
+use Rattle.ap_steps.specs.Ways.{is_control, count_before, NoneOfControl, AllHaveTargets, steps_from}
+
+pub drop-here : (is : List Instr) (at : ℕ) (i : Instr) → slice_get is at ≡ Some i → drop at is ≡ i ∷ drop (at + 1) is
+drop-here [] at i e = cc
+drop-here (j ∷ js) zero i e = let q : j ≡ i = cc in ap (λ v. v ∷ js) q
+drop-here (j ∷ js) (suc n) i e = drop-here js n i e ∙ ap (λ m. i ∷ drop m (j ∷ js)) (let q : suc (n + 1) ≡ suc n + 1 = omega arith in q)
+
+drop-past : (is : List Instr) (at : ℕ) → slice_get is at ≡ None → drop at is ≡ []
+drop-past [] zero e = refl
+drop-past [] (suc n) e = refl
+drop-past (j ∷ js) zero e = cc
+drop-past (j ∷ js) (suc n) e = drop-past js n e
+
+pub steps-here : (code : Compiled) (at : ℕ) (i : Instr) → slice_get code.instructions at ≡ Some i → steps_from code at ≡ step_of code i ∷ steps_from code (at + 1)
+steps-here code at i e = ap (steps_of code) (drop-here code.instructions at i e)
+
+pub steps-past : (code : Compiled) (at : ℕ) → slice_get code.instructions at ≡ None → steps_from code at ≡ []
+steps-past code at e = ap (steps_of code) (drop-past code.instructions at e)
+
+pub targets-here : (is : List Instr) (at xs ys : ℕ) (i : Instr) → slice_get is at ≡ Some i → AllHaveTargets (drop at is) xs ys → HasTargets i xs ys × (is_control i ≡ false → AllHaveTargets (drop (at + 1) is) xs ys)
+targets-here is at xs ys i e h = subst (λ js. AllHaveTargets js xs ys) (drop-here is at i e) h
+
+pub count-here : (is_kind : Instr → Bool) (is : List Instr) (at : ℕ) (i : Instr) → slice_get is at ≡ Some i → is_kind i ≡ false → count_before is_kind (drop at is) ≡ suc (count_before is_kind (drop (at + 1) is))
+count-here is_kind is at i e absent = ap (count_before is_kind) (drop-here is at i e) ∙ ap (λ b. if b then 0 else suc (count_before is_kind (drop (at + 1) is))) absent
+
+pub count-none : (is_kind : Instr → Bool) (is : List Instr) (at : ℕ) (i : Instr) → slice_get is at ≡ Some i → is_kind i ≡ true → count_before is_kind (drop at is) ≡ 0
+count-none is_kind is at i e present = ap (count_before is_kind) (drop-here is at i e) ∙ ap (λ b. if b then 0 else suc (count_before is_kind (drop (at + 1) is))) present
+
+-- ---- behind instructions none of which is of control
+
+pub none-more : (is : List Instr) (at n : ℕ) (i : Instr) → NoneOfControl is at n → slice_get is (at + n) ≡ Some i → is_control i ≡ false → NoneOfControl is at (n + 1)
+none-more is at n i before e plain = λ k l. below_more (λ k. (i : Instr) × (slice_get is (at + k) ≡ Some i) × (is_control i ≡ false)) n before (i, e, plain) k l
+
+pub none-targets : (is : List Instr) (at n xs ys : ℕ) → NoneOfControl is at n → AllHaveTargets (drop at is) xs ys → AllHaveTargets (drop (at + n) is) xs ys
+none-targets is at zero xs ys none h = let q : at ≡ at + 0 = omega arith in subst (λ m. AllHaveTargets (drop m is) xs ys) q h
+none-targets is at (suc n) xs ys none h =
+    let last = none n (omega arith) in
+    let before : AllHaveTargets (drop (at + n) is) xs ys = none-targets is at n xs ys (λ k l. none k (omega arith)) h in
+    let q : at + n + 1 ≡ at + suc n = omega arith in
+    subst (λ m. AllHaveTargets (drop m is) xs ys) q ((targets-here is (at + n) xs ys last.0 last.1 before).1 last.2)
+
+pub none-count : (is_kind : Instr → Bool) → ((i : Instr) → is_control i ≡ false → is_kind i ≡ false) → (is : List Instr) (at n : ℕ) → NoneOfControl is at n → count_before is_kind (drop at is) ≡ n + count_before is_kind (drop (at + n) is)
+none-count is_kind less is at zero none = let q : at ≡ at + 0 = omega arith in ap (λ m. count_before is_kind (drop m is)) q ∙ (let r : count_before is_kind (drop (at + 0) is) ≡ 0 + count_before is_kind (drop (at + 0) is) = omega arith in r)
+none-count is_kind less is at (suc n) none =
+    let last = none n (omega arith) in
+    let before : count_before is_kind (drop at is) ≡ n + count_before is_kind (drop (at + n) is) = none-count is_kind less is at n (λ k l. none k (omega arith)) in
+    let here : count_before is_kind (drop (at + n) is) ≡ suc (count_before is_kind (drop (at + n + 1) is)) = count-here is_kind is (at + n) last.0 last.1 (less last.0 last.2) in
+    let q : at + n + 1 ≡ at + suc n = omega arith in
+    let moved : count_before is_kind (drop (at + n + 1) is) ≡ count_before is_kind (drop (at + suc n) is) = ap (λ m. count_before is_kind (drop m is)) q in
+    omega arith
