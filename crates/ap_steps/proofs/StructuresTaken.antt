@@ -9,13 +9,13 @@ use Rattle.ap_match.specs.Fits.{Fits, Becomes, Answered}
 use Rattle.ap_steps.specs.Moves.{IsStuck}
 use Rattle.ap_steps.specs.Arguments.{BuiltAll, IsStuckInside}
 use Rattle.ap_steps.specs.Found.{MatchedAll}
-use Rattle.ap_steps.specs.Ways.{steps_from, StructureTaken}
+use Rattle.ap_steps.specs.Ways.{steps_from, StepTaken}
 use Rattle.ap_steps.proofs.RegisterMaps.{funext}
 use Rattle.ap_steps.proofs.StructureSteps.{node-args, node-name, spread-count, structure-built, structure-stuck, structure-found, found-stuck, another-stuck, got-apart, got-built}
 
 module _ (code : Compiled) (at f n a : ℕ) (cs : List Raw) (x y : ℕ → ℕ) where
   -- an argument's term that is there
-  pub found-taken : (p : ℕ) → ((k : ℕ → Tree) → Fits cs k → k (x a) ≡ node f (spread k p n)) → (ds : List Raw) (x' y' : ℕ → ℕ) (b : Bool) → MatchedAll code at p n cs x y ds x' y' b → StructureTaken code (get_structure f n a) at n cs x y ds x' y' b
+  pub found-taken : (p : ℕ) → ((k : ℕ → Tree) → Fits cs k → k (x a) ≡ node f (spread k p n)) → (ds : List Raw) (x' y' : ℕ → ℕ) (b : Bool) → MatchedAll code at p n cs x y ds x' y' b → StepTaken code (get_structure f n a) at n cs x y ds x' y' b
   found-taken p found ds x' y' true m = structure-found cs x y f n a (steps_from code at) p found ds x' y' (steps_from code (at + n)) (p + n) m
   found-taken p found ds x' y' false m = found-stuck cs x y f n a (steps_from code at) p found m
 
@@ -32,10 +32,10 @@ module _ (code : Compiled) (at f n a : ℕ) (cs : List Raw) (x y : ℕ → ℕ) 
   -- one that is built
   module _ (inside_x : (w : ℕ) → x w < length cs) (inside_y : (w : ℕ) → y w < length cs) (place first : ℕ) (is_first : first ≡ length cs) (is_place : x a ≡ place) where
     pub built-taken : (ds es : List Raw) (x' y' : ℕ → ℕ) → BuiltAll n cs x y (steps_from code at) ds x' y' (steps_from code (at + n)) → ((w : ℕ) → x' w < length ds) → ((w : ℕ) → y' w < length ds) → (b : Bool)
-        → Answered ds es (λ k. k place ≡ node f (spread k first n)) b → StructureTaken code (get_structure f n a) at n cs x y es x' y' b
+        → Answered ds es (λ k. k place ≡ node f (spread k first n)) b → StepTaken code (get_structure f n a) at n cs x y es x' y' b
     built-taken ds es x' y' built in_x in_y b answer = go b (subst (λ q. Answered ds es (λ k. k (x a) ≡ node f (spread k q n)) b) is_first (subst (λ q. Answered ds es (λ k. k q ≡ node f (spread k first n)) b) (sym is_place) answer))
       where
-        go : (b : Bool) → Answered ds es (λ k. k (x a) ≡ node f (spread k (length cs) n)) b → StructureTaken code (get_structure f n a) at n cs x y es x' y' b
+        go : (b : Bool) → Answered ds es (λ k. k (x a) ≡ node f (spread k (length cs) n)) b → StepTaken code (get_structure f n a) at n cs x y es x' y' b
         go true becomes = got-built cs x y f n a (steps_from code at) inside_x inside_y ds es x' y' (steps_from code (at + n)) built in_x in_y becomes
         go false never = got-apart cs x y f n a (steps_from code at) inside_x inside_y ds es x' y' (steps_from code (at + n)) built never
 
@@ -45,7 +45,7 @@ module _ (code : Compiled) (at f n a : ℕ) (cs : List Raw) (x y : ℕ → ℕ) 
     registers = funext xa (set x a whole) put
 
     pub put-taken : (ds es : List Raw) (x' y' : ℕ → ℕ) (p : ℕ) → BuiltAll n cs xa y (steps_from code at) ds x' y' (steps_from code (at + n)) → p ≡ length ds → Becomes ds es (λ k. Unit {0}) (λ k. k p ≡ node f (spread k first n))
-        → ((k : ℕ → Tree) → Fits ds k → k p ≡ node f (spread k first n) → Fits es k) → StructureTaken code (put_structure f n a) at n cs x y es x' y' true
+        → ((k : ℕ → Tree) → Fits ds k → k p ≡ node f (spread k first n) → Fits es k) → StepTaken code (put_structure f n a) at n cs x y es x' y' true
     put-taken ds es x' y' p built is_p becomes fits =
         structure-built cs x y inside_x inside_y f n a whole is_whole (steps_from code at) ds es x' y' (steps_from code (at + n)) (subst (λ u. BuiltAll n cs u y (steps_from code at) ds x' y' (steps_from code (at + n))) registers built) becomes.longer
         (λ l h. let o = becomes.only l h in (o.0, subst (λ q. l q ≡ node f (spread l (length cs) n)) place (subst (λ q. l p ≡ node f (spread l q n)) is_first o.2)))

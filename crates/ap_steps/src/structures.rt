@@ -4,7 +4,7 @@ ghost use Rattle.std.specs.Prelude.{◌≡◌, ℕ, ◌+◌, ◌<◌, ◌≤◌,
 ghost use Rattle.ap_cells.specs.Store.{Keeps};
 ghost use Rattle.ap_instr.specs.Step.{get_structure, put_structure};
 ghost use Rattle.ap_steps.specs.Moves.{held, HoldPlaces};
-ghost use Rattle.ap_steps.specs.Ways.{NoneOfControl, AllHaveTargets, StructureTaken};
+ghost use Rattle.ap_steps.specs.Ways.{NoneOfControl, AllHaveTargets, StepTaken};
 
 use crate::arguments::build_arguments;
 use crate::found::match_arguments;
@@ -42,7 +42,7 @@ pub fn put_structure(
     requires targets { AllHaveTargets (drop at code.now.instructions) (length x.old) (length y.old) }
     requires holds_x { HoldPlaces (length cells.old.cells) x.old }
     requires holds_y { HoldPlaces (length cells.old.cells) y.old }
-    ensures taken { IfOk result (λ b. StructureTaken code.now (put_structure name count a) at count cells.old.cells (held x.old) (held y.old) cells.new.cells (held x.new) (held y.new) b) }
+    ensures taken { IfOk result (λ b. StepTaken code.now (put_structure name count a) at count cells.old.cells (held x.old) (held y.old) cells.new.cells (held x.new) (held y.new) b) }
     ensures passed { IfOk result (λ b. b ≡ true → NoneOfControl code.now.instructions at count) }
     ensures holds_x { IfOk result (λ b. b ≡ true → HoldPlaces (length cells.new.cells) x.new) }
     ensures holds_y { IfOk result (λ b. b ≡ true → HoldPlaces (length cells.new.cells) y.new) }
@@ -79,7 +79,7 @@ fn build_structure(
     requires holds_x { HoldPlaces (length cells.old.cells) x.old }
     requires holds_y { HoldPlaces (length cells.old.cells) y.old }
     requires place { place < length cells.old.cells }
-    ensures taken { IfOk result (λ b. (a : ℕ) → held x.old a ≡ place → StructureTaken code.now (get_structure name count a) at count cells.old.cells (held x.old) (held y.old) cells.new.cells (held x.new) (held y.new) b) }
+    ensures taken { IfOk result (λ b. (a : ℕ) → held x.old a ≡ place → StepTaken code.now (get_structure name count a) at count cells.old.cells (held x.old) (held y.old) cells.new.cells (held x.new) (held y.new) b) }
     ensures passed { IfOk result (λ b. b ≡ true → NoneOfControl code.now.instructions at count) }
     ensures holds_x { IfOk result (λ b. b ≡ true → HoldPlaces (length cells.new.cells) x.new) }
     ensures holds_y { IfOk result (λ b. b ≡ true → HoldPlaces (length cells.new.cells) y.new) }
@@ -122,7 +122,7 @@ pub fn get_structure(
     requires targets { AllHaveTargets (drop at code.now.instructions) (length x.old) (length y.old) }
     requires holds_x { HoldPlaces (length cells.old.cells) x.old }
     requires holds_y { HoldPlaces (length cells.old.cells) y.old }
-    ensures taken { IfOk result (λ b. StructureTaken code.now (get_structure name count a) at count cells.old.cells (held x.old) (held y.old) cells.new.cells (held x.new) (held y.new) b) }
+    ensures taken { IfOk result (λ b. StepTaken code.now (get_structure name count a) at count cells.old.cells (held x.old) (held y.old) cells.new.cells (held x.new) (held y.new) b) }
     ensures passed { IfOk result (λ b. b ≡ true → NoneOfControl code.now.instructions at count) }
     ensures holds_x { IfOk result (λ b. b ≡ true → HoldPlaces (length cells.new.cells) x.new) }
     ensures holds_y { IfOk result (λ b. b ≡ true → HoldPlaces (length cells.new.cells) y.new) }
