@@ -1,0 +1,4 @@
+pub mod LongestRuns
+pub mod Bodies
+pub mod Lists
+pub mod Annotations
