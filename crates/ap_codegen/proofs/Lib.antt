@@ -12,3 +12,4 @@ pub mod Growing
 pub mod Making
 pub mod AskedClause
 pub mod BuiltinGoals
+pub mod Pacing
