@@ -13,3 +13,5 @@ pub mod Making
 pub mod AskedClause
 pub mod BuiltinGoals
 pub mod Pacing
+pub mod MovedPaces
+pub mod Walking

@@ -13,12 +13,10 @@ use Rattle.ap_instr.specs.declared.instruction.Instr.{Instr}
 use Rattle.ap_instr.specs.declared.compiled.Predicate.{Predicate}
 use Rattle.ap_instr.specs.Code.{Compiled}
 use Rattle.ap_instr.specs.StandsFor.{is_head_of, clauses_of, ReadsAt, alternatives, clause_places}
-use Rattle.ap_codegen.specs.Assembled.{Numbered, Grows, Holds, AreCoded, chosen, choices, together, heads, clauses_for, IsMade, StandsBeside}
-use Rattle.ap_instr.specs.Step.{steps_of as said}
+use Rattle.ap_codegen.specs.Assembled.{Numbered, Grows, Holds, AreInstructionsOf, AreCoded, chosen, choices, together, heads, clauses_for, IsMade, StandsBeside}
 use Rattle.ap_instr.specs.Runs.{applied}
 use Rattle.ap_codegen.specs.Permanent.{is_builtin_key}
-use Rattle.ap_codegen.specs.CodeOf.{IsCodeOf}
-use Rattle.ap_codegen.proofs.Growing.{push_get, grows_on, holds_less}
+use Rattle.ap_codegen.proofs.Growing.{push_get, grows_on, holds_less, zip_push}
 use Rattle.ap_codegen.proofs.Placed.{drop_append, block_read}
 
 get_some : {A : Type 0} (xs : List A) (i : ℕ) → i < length xs → (x : A) × (slice_get xs i ≡ Some x)
@@ -161,12 +159,6 @@ made_all t is qs p code m k made ended at ei ez eq em = record {
 
 -- ---- the codes of a predicate's clauses
 
-zip_push : {A B : Type 0} (R : A → B → Type 0) (xs : List A) (ys : List B) (x : A) (y : B) → AllZip R xs ys → R x y → AllZip R (xs ++ x ∷ []) (ys ++ y ∷ [])
-zip_push R [] [] x y h r = (r, tt)
-zip_push R [] (b ∷ ys) x y h r = absurd h
-zip_push R (a ∷ xs) [] x y h r = absurd h
-zip_push R (a ∷ xs) (b ∷ ys) x y h r = (h.0, zip_push R xs ys x y h.1 r)
-
 filter_push : {A : Type 0} (p : A → Bool) (xs : List A) (x : A) → filter p (xs ++ x ∷ []) ≡ (if p x then filter p xs ++ x ∷ [] else filter p xs)
 filter_push p [] x = refl
 filter_push p (y ∷ xs) x = go (p y) (p x) (filter_push p xs x)
@@ -189,7 +181,7 @@ clauses_take k cs i c b l e h =
 module _ {V : Type 0} (now : V → List Instr) where
   pub codes_more : (k : ℕ × ℕ) (cs : Program) (i : ℕ) (c : Clause) (s t u u' : Numbered) (vs new new' : List V) (v : V) (b : Bool) (h : Tree) → i < length cs → c ≡ get_or cs i c
       → b ≡ heads k h → b ≡ true → h ≡ c.head → Grows s t → Grows t u → u' ≡ u → new ≡ vs ++ v ∷ [] → new' ≡ new
-      → ((code : Compiled) → Holds u code → IsCodeOf c (said code (now v)))
+      → ((code : Compiled) → Holds u code → AreInstructionsOf code c (now v))
       → ((code : Compiled) → Holds t code → AreCoded code (map now vs) (clauses_for k (take i cs)))
       → Grows s u' × ((code : Compiled) → Holds u' code → AreCoded code (map now new') (clauses_for k (take (i + 1) cs)))
   codes_more k cs i c s t u u' vs new new' v b h l e q o d f g eu en en' r a =
@@ -206,7 +198,7 @@ module _ {V : Type 0} (now : V → List Instr) where
       coded code x =
           subst (λ bs. AreCoded code bs (clauses_for k (take (i + 1) cs))) (sym codes)
           (subst (AreCoded code (map now vs ++ now v ∷ [])) (sym clauses)
-          (zip_push (λ is c. IsCodeOf c (said code is)) (map now vs) (clauses_for k (take i cs)) (now v) c (a code (holds_less t u code g x)) (r code x)))
+          (zip_push (λ is c. AreInstructionsOf code c is) (map now vs) (clauses_for k (take i cs)) (now v) c (a code (holds_less t u code g x)) (r code x)))
 
   pub codes_same : (k : ℕ × ℕ) (cs : Program) (i : ℕ) (c : Clause) (s t t' : Numbered) (vs vs' : List V) (b : Bool) (h : Tree) → i < length cs → c ≡ get_or cs i c
       → b ≡ heads k h → b ≡ false → h ≡ c.head → Grows s t → t' ≡ t → vs' ≡ vs

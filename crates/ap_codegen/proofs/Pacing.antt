@@ -1,22 +1,22 @@
 -- The code of a clause keeps the rules of code one by one.
-use Rattle.std.proofs.Common.{◌≡◌, ◌≢◌, ℕ, zero, suc, ◌+◌, ◌-◌, ◌<◌, ◌≤◌, nat_le, nat_eq, ◌==◌, Bool, true, false, ◌&&◌, ◌||◌, if◌then◌else◌, is_some, List, [], ◌∷◌, ◌++◌, ◌⊎◌, inl, inr, Option, Some, None, refl, ap, sym, ◌∙◌, subst, arith, append_assoc}
+use Rattle.std.proofs.Common.{◌≡◌, ℕ, zero, suc, ◌+◌, ◌-◌, ◌<◌, ◌≤◌, nat_le, nat_eq, ◌==◌, Bool, true, false, ◌&&◌, if◌then◌else◌, is_some, List, [], ◌∷◌, ◌++◌, ◌⊎◌, inl, inr, Option, Some, None, refl, ap, sym, ◌∙◌, subst, arith, append_assoc}
 use Rattle.std.proofs.lemmas.Bool.{false≢true}
 use Rattle.std.proofs.lemmas.Bool.Decides.{Decides-eqb, nat_tests}
 use Rattle.ap_term.specs.Tree.{Tree, Trees, var, int, atom, node, none, more, count_trees}
 use Rattle.ap_term.specs.Vars.{has, add_vars, add_all_vars, occurs, occurs_all}
 use Rattle.ap_term.specs.WellFormed.{in_range, numbered, numbered_all}
 use Rattle.ap_term.proofs.Solutions.{or_left, or_right, same_test}
-use Rattle.ap_term.proofs.Solvable.{has-add_vars, has-add_all_vars}
+use Rattle.ap_term.proofs.Solvable.{has-add_all_vars}
 use Rattle.ap_instr.specs.declared.instruction.Slot.TheVariants.{X, Y}
-use Rattle.ap_instr.specs.declared.instruction.Instr.TheVariants.{GetStructure, PutVariable, PutStructure, Call}
-use Rattle.ap_instr.specs.Step.{Step, get_variable, get_value, get_structure, put_variable, put_structure, call, execute, builtin, proceed}
+use Rattle.ap_instr.specs.declared.instruction.Instr.TheVariants.{PutStructure, Call}
+use Rattle.ap_instr.specs.Step.{Step, get_variable, get_value, get_structure, put_variable, put_structure, call, execute, builtin}
 use Rattle.ap_instr.specs.Runs.{set, arguments}
-use Rattle.ap_codecheck.specs.Shape.{Shape, entry, unset, write, passed, behind_argument, after}
-use Rattle.ap_codecheck.specs.Rules.{IsSet, ArgumentsSet, IsRoomFor}
+use Rattle.ap_codecheck.specs.Shape.{Shape, write, passed, behind_argument, after}
+use Rattle.ap_codecheck.specs.Rules.{ArgumentsSet, IsRoomFor}
 use Rattle.ap_codegen.specs.Permanent.{name, is_builtin, inits, inits_all, fill, fills, build, nested, puts, goal_code, is_last_call, asking, body_code, fresh, takes, get, gets, clause_code}
 use Rattle.ap_codegen.specs.Paces.{IsSlot, Paces, inside}
 use Rattle.ap_codegen.proofs.Registers.{both_true, set_here, set_other}
-use Rattle.ap_codegen.proofs.PermanentReads.{has-push, fresh_var, unseen_add, here, grows, grows_all}
+use Rattle.ap_codegen.proofs.PermanentReads.{has-push, fresh_var, unseen_add}
 
 -- outside of structures, in an environment for n variables
 record Fine (n : ℕ) (s : Shape) : Type 0 where
@@ -53,7 +53,7 @@ temps_keep (more (int v) ts) m x z k t = temps_keep ts (m + 1) x z (λ w l. k w 
 temps_keep (more (atom v) ts) m x z k t = temps_keep ts (m + 1) x z (λ w l. k w (omega arith)) t
 temps_keep (more (node a us) ts) m x z k t = (k m (omega arith) t.0, temps_keep ts (m + 1) x z (λ w l. k w (omega arith)) t.1)
 
-set_true : (x : ℕ → Bool) (a w : ℕ) → x w ≡ true → set x a true w ≡ true
+pub set_true : (x : ℕ → Bool) (a w : ℕ) → x w ≡ true → set x a true w ≡ true
 set_true x a w e = go (w == a)
   where
     go : (b : Bool) → (if b then true else x w) ≡ true

@@ -89,8 +89,8 @@ places_read code at (is ∷ bs) later (c ∷ cs) h e =
     let d : drop at code.instructions ≡ is ++ (together bs ++ later) = e ∙ append_assoc is (together bs) later in
     let f : said code (drop at code.instructions) ≡ said code is ++ said code (together bs ++ later) = ap (said code) d ∙ map-append _ is (together bs ++ later) in (
       record {
-        reads = subst (λ q. Reads q c) (sym f) (h.0.reads (said code (together bs ++ later)));
-        openly = subst AsksOpenly (sym f) (h.0.openly (said code (together bs ++ later)));
+        reads = subst (λ q. Reads q c) (sym f) (h.0.says.reads (said code (together bs ++ later)));
+        openly = subst AsksOpenly (sym f) (h.0.says.openly (said code (together bs ++ later)));
       },
       places_read code (at + length is) bs later cs h.1 (drop_twice at (length is) code.instructions ∙ ap (drop (length is)) d ∙ drop_append is (together bs ++ later)),
     )

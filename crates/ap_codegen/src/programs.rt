@@ -4,11 +4,9 @@ ghost use Rattle.std.specs.Prelude.{◌≡◌, ◌+◌, false, map, length, slic
 ghost use Rattle.ap_term.specs.declared.fixed.TheConstants.{QUERY};
 ghost use Rattle.ap_term.specs.TermView.{tree_of};
 ghost use Rattle.ap_instr.specs.Code.{Compiled};
-ghost use Rattle.ap_instr.specs.Step.{steps_of as said};
 ghost use Rattle.ap_instr.specs.StandsFor.{StandsForQuery};
-ghost use Rattle.ap_codegen.specs.Assembled.{Grows, Holds, AreCoded, heads, clauses_for, IsMade, StandsBeside};
+ghost use Rattle.ap_codegen.specs.Assembled.{Grows, Holds, AreInstructionsOf, AreCoded, heads, clauses_for, IsMade, StandsBeside};
 ghost use Rattle.ap_codegen.specs.Permanent.{is_builtin_key};
-ghost use Rattle.ap_codegen.specs.CodeOf.{IsCodeOf};
 
 use crate::asking::asked_program;
 use crate::assembly::assemble;
@@ -35,11 +33,10 @@ fn is_head(t: &Term, name: u32, arity: u8) -> bool
 /// The code of a clause.
 fn clause_code(alloc: Global, tables: &mut Tables, clause: &Clause) -> Result<Vec<Instr>, NoMemory>
     ensures grows { OnOk result (Grows tables.old tables.new) }
-    ensures code { IfOk result (λ is. (code : Compiled) → Holds tables.new code → IsCodeOf clause.now (said code is.items)) }
+    ensures code { IfOk result (λ is. (code : Compiled) → Holds tables.new code → AreInstructionsOf code clause.now is.items) }
 {
     let steps = clause_steps(alloc, clause)?;
-    let mut out = Vec::new(alloc);
-    assemble(tables, steps.as_slice(), &mut out)?;
+    let out = assemble(alloc, tables, steps.as_slice())?;
     Ok(out)
 }
 
