@@ -7,6 +7,7 @@ pub mod Open
 pub mod Framing
 pub mod BodyTurns
 pub mod Placed
+pub mod Laying
 pub mod Moved
 pub mod Growing
 pub mod Making

@@ -176,9 +176,9 @@ module _ (n : ℕ) where
     p,
     f.settled,
     subst (Paces (fills (more u us) m ++ rest)) (sym (begun s g a (count_trees us)))
-    (fills_paces u us m rest (set s.x a false) s.y s.room a (omega arith) i k
-    (temps_keep (more u us) m s.x (set s.x a false) (λ w j e. set_other s.x a false w (λ q. absurd (omega arith)) ∙ e) t) f.room
-    (c (set (set s.x a false) a true) (λ w e. set_twice s.x a w false e) (set_here (set s.x a false) a true))),
+        (fills_paces u us m rest (set s.x a false) s.y s.room a (omega arith) i k
+        (temps_keep (more u us) m s.x (set s.x a false) (λ w j e. set_other s.x a false w (λ q. absurd (omega arith)) ∙ e) t) f.room
+        (c (set (set s.x a false) a true) (λ w e. set_twice s.x a w false e) (set_here (set s.x a false) a true))),
   )
 
   mutual
@@ -305,7 +305,7 @@ module _ (n : ℕ) where
         slot_of n v (taking x y r (count_trees ts + 1)) b.0 e,
         omega arith,
         subst (Paces (takes ts ++ rest)) (sym (behind_taking x (set y v true) r (count_trees ts)))
-        (takes_paces ts x (set y v true) r rest (seen ++ v ∷ []) k.1 b.1 e (sees_more seen y v o) (λ z s. c z (subst (λ q. Sees (add_all_vars ts q) z) (sym (unseen_add seen v k.0)) s))),
+            (takes_paces ts x (set y v true) r rest (seen ++ v ∷ []) k.1 b.1 e (sees_more seen y v o) (λ z s. c z (subst (λ q. Sees (add_all_vars ts q) z) (sym (unseen_add seen v k.0)) s))),
       )
   takes_paces (more (int z) ts) x y r rest seen f i e o c = (omega arith, subst (Paces (takes ts ++ rest)) (sym (behind_taking x y r (count_trees ts))) (takes_paces ts x y r rest seen f i e o c))
   takes_paces (more (atom a) ts) x y r rest seen f i e o c = (omega arith, subst (Paces (takes ts ++ rest)) (sym (behind_taking x y r (count_trees ts))) (takes_paces ts x y r rest seen f i e o c))

@@ -10,8 +10,8 @@ use Rattle.ap_instr.specs.Code.{Compiled}
 use Rattle.ap_instr.specs.Step.{step_of as said_by, steps_of as said}
 use Rattle.ap_instr.specs.Runs.{arguments}
 use Rattle.ap_codecheck.specs.Shape.{entry}
-use Rattle.ap_codecheck.specs.Walk.{Walks}
-use Rattle.ap_codecheck.specs.Rules.{InRange, GoesInside, CallsKnown}
+use Rattle.ap_codecheck.specs.Walk.{Walks, IsLaid}
+use Rattle.ap_codecheck.specs.Rules.{InRange, GoesInside, CallsKnown, IsSound}
 use Rattle.ap_codegen.specs.declared.steps.Step.{Step as Emitted}
 use Rattle.ap_codegen.specs.declared.steps.Step.TheVariants.{Allocate as EnterStep, Deallocate as LeaveStep}
 use Rattle.ap_codegen.specs.Emitted.{step_of}
@@ -109,14 +109,15 @@ abbrev pub clauses_for : ℕ × ℕ → Program → Program
 clauses_for k p = filter (λ c. heads k c.head) p
 
 -- The first predicates of tables are made: wherever the instructions are followed by others, each is read as the program's
--- clauses for it.
+-- clauses for it, and is laid out as code has to be.
 pub record IsMade (t : Numbered) (is : List Instr) (qs : List Predicate) (p : Program) : Type 0 where
   pub named : (n : ℕ) (q : Predicate) → slice_get qs n ≡ Some q → slice_get t.predicates n ≡ Some (q.name, q.arity)
   pub apart : (n : ℕ) (q : Predicate) → slice_get qs n ≡ Some q → is_builtin_key (q.name, q.arity) ≡ false
   pub placed : (code : Compiled) (later : List Instr) → Holds t code → code.instructions ≡ is ++ later
       → (n : ℕ) (q : Predicate) → slice_get qs n ≡ Some q → AllZip (ReadsAt code) (clause_places code q) (clauses_of q p)
+  pub laid : (code : Compiled) (later : List Instr) → Holds t code → code.instructions ≡ is ++ later → (n : ℕ) (q : Predicate) → slice_get qs n ≡ Some q → IsLaid code q
 
--- code for a program, with the query's predicate in its table
+-- sound code for a program, with the query's predicate in its table
 pub record StandsBeside (code : Compiled) (k : ℕ × ℕ) (p : Program) : Type 0 where
   pub number : ℕ
   pub predicate : Predicate
@@ -125,3 +126,4 @@ pub record StandsBeside (code : Compiled) (k : ℕ × ℕ) (p : Program) : Type 
   pub named : predicate.name ≡ k.0
   pub arity : predicate.arity ≡ k.1
   pub stands : StandsFor code p
+  pub sound : IsSound code

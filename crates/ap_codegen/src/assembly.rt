@@ -46,11 +46,7 @@ fn numbered(tables: &mut Tables, step: Step) -> Result<Instr, NoMemory>
 }
 
 /// The instructions of a clause.
-pub fn assemble(
-    alloc: Global,
-    tables: &mut Tables,
-    steps: &[Step],
-) -> Result<Vec<Instr>, NoMemory>
+pub fn assemble(alloc: Global, tables: &mut Tables, steps: &[Step]) -> Result<Vec<Instr>, NoMemory>
     requires { list_all calls_apart (steps_of steps.now) ≡ true }
     ensures grows { OnOk result (Grows tables.old tables.new) }
     ensures said { IfOk result (λ out. (code : Compiled) → Holds tables.new code → AllZip (IsSaid code) steps.now out.items) }

@@ -5,6 +5,7 @@ ghost use Rattle.ap_term.specs.declared.fixed.TheConstants.{QUERY};
 ghost use Rattle.ap_term.specs.TermView.{tree_of};
 ghost use Rattle.ap_instr.specs.Code.{Compiled};
 ghost use Rattle.ap_instr.specs.StandsFor.{StandsForQuery};
+ghost use Rattle.ap_codecheck.specs.Rules.{IsSound};
 ghost use Rattle.ap_codegen.specs.Assembled.{Grows, Holds, AreInstructionsOf, AreCoded, heads, clauses_for, IsMade, StandsBeside};
 ghost use Rattle.ap_codegen.specs.Permanent.{is_builtin_key};
 
@@ -173,7 +174,8 @@ fn compile_clauses(
 /// unified, so that the occurs check is never missed. A group is compiled as its goals one after another. A structure of more
 /// than 255 arguments, and more than 4,294,967,295 places or registers, are want of memory.
 pub fn compile(alloc: Global, program: &Program, query: &Query) -> Result<Code, NoMemory>
-    ensures { IfOk result (λ code. StandsForQuery code program.now query.now) }
+    ensures stands { IfOk result (λ code. StandsForQuery code program.now query.now) }
+    ensures sound { IfOk result (λ code. IsSound code) }
 {
     let all = asked_program(alloc, program, query)?;
     let arity = query.question().vars() as u8;
