@@ -16,8 +16,9 @@ use crate::layout::lay;
 use crate::permanent::{above, count};
 use crate::tables::Tables;
 use crate::temporary::clause_steps;
+use ap_certify::Certified;
 use ap_instr::{Code, Instr, Predicate};
-use ap_term::{Atom, Clause, NoMemory, Program, Query, Term, fixed};
+use ap_term::{Atom, Clause, NoMemory, Query, Term, fixed};
 use std::alloc::Global;
 
 /// Whether a head has this name and arity.
@@ -173,12 +174,13 @@ fn compile_clauses(
 /// Warren's (An Abstract Prolog Instruction Set, 1983); a head structure in which a variable stands again is built and
 /// unified, so that the occurs check is never missed. A group is compiled as its goals one after another. A structure of more
 /// than 255 arguments, and more than 4,294,967,295 places or registers, are want of memory.
-pub fn compile(alloc: Global, program: &Program, query: &Query) -> Result<Code, NoMemory>
-    ensures stands { IfOk result (λ code. StandsForQuery code program.now query.now) }
+pub fn compile(alloc: Global, program: &Certified, query: &Query) -> Result<Code, NoMemory>
+    ensures stands { IfOk result (λ code. StandsForQuery code program.now.program query.now) }
     ensures sound { IfOk result (λ code. IsSound code) }
 {
-    let all = asked_program(alloc, program, query)?;
+    let own = program.clauses();
+    let all = asked_program(alloc, own, query)?;
     let arity = query.question().vars() as u8;
-    let code = compile_clauses(alloc, all.as_slice(), program.as_slice(), arity)?;
+    let code = compile_clauses(alloc, all.as_slice(), own, arity)?;
     Ok(code)
 }
