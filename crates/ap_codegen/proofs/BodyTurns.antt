@@ -19,7 +19,9 @@ use Rattle.ap_instr.specs.Runs.{arguments}
 use Rattle.ap_codegen.specs.CodeOf.{IsCodeOf}
 use Rattle.ap_codegen.specs.Permanent.{name, is_builtin, goal_code, asking, is_last_call, body_code, gets, clause_code}
 use Rattle.ap_codegen.proofs.PermanentReads.{reads}
+use Rattle.ap_codegen.specs.Paces.{Paces, inside}
 use Rattle.ap_codegen.proofs.Open.{asks_openly, calls_are_apart}
+use Rattle.ap_codegen.proofs.Pacing.{clause_paces}
 use Rattle.ap_codegen.proofs.Registers.{both_true}
 
 module _ {R : Type 0} (now : R → Term) where
@@ -160,15 +162,42 @@ module _ {R : Type 0} (now : R → Term) where
 
 -- ---- the whole clause
 
-pub whole : (c : Clause) (k0 k1 k2 : List Step) (s0 s1 : List ℕ) (goals : Trees) (h : Tree) → IsClause c → k0 ≡ [] → s0 ≡ [] → h ≡ c.head
-    → k1 ≡ k0 ++ gets (arguments h) 1 s0 (count_trees (arguments h) + 1) → s1 ≡ add_all_vars (arguments h) s0 → goals ≡ plain_goals c.body → k2 ≡ k1 ++ body_code goals s1
-    → IsCodeOf c k2
-whole c k0 k1 k2 s0 s1 goals h i d0 e0 f d1 e1 g d2 =
-    let z : [] ++ gets (arguments c.head) 1 [] (count_trees (arguments c.head) + 1) ≡ gets (arguments c.head) 1 [] (count_trees (arguments c.head) + 1) = refl in
-    let whole : k2 ≡ clause_code c.head (plain_goals c.body) = cc in
-    let d = goals_callable c.vars c.body i.body in
-    subst (IsCodeOf c) (sym whole) (record {
-      reads = λ rest. reads rest c d;
-      openly = λ rest. asks_openly c.head (plain_goals c.body) rest d;
-      apart = calls_are_apart c.head (plain_goals c.body) d;
-    })
+goals_numbered : (n : ℕ) (ps : List Part) → list_all (well_formed_part n) ps ≡ true → numbered_all n (plain_goals ps) ≡ true
+goals_numbered n [] h = refl
+goals_numbered n (call t ∷ ps) h =
+    let b = both_true (well_formed_part n (call t)) (list_all (well_formed_part n) ps) h in
+    let d = both_true (callable t) (numbered n t) b.0 in
+    ap (λ c. c && numbered_all n (plain_goals ps)) d.1 ∙ goals_numbered n ps b.1
+goals_numbered n (group cs ts ∷ ps) h =
+    let b = both_true (well_formed_part n (group cs ts)) (list_all (well_formed_part n) ps) h in
+    let d = both_true (list_all (numbered_check n) cs) _ b.0 in
+    let e = both_true _ (all_callable ts && numbered_all n ts) d.1 in
+    let f = both_true (all_callable ts) (numbered_all n ts) e.1 in
+    append_numbered ts (plain_goals ps) f.1 (goals_numbered n ps b.1)
+  where
+    append_numbered : (ts us : Trees) → numbered_all n ts ≡ true → numbered_all n us ≡ true → numbered_all n (append_trees ts us) ≡ true
+    append_numbered none us h k = k
+    append_numbered (more t ts) us h k =
+        let b = both_true (numbered n t) (numbered_all n ts) h in
+        ap (λ c. c && numbered_all n (append_trees ts us)) b.0 ∙ append_numbered ts us b.1 k
+
+module _ (c : Clause) (k0 k1 k2 : List Step) (s0 s1 : List ℕ) (goals : Trees) (h : Tree) (d0 : k0 ≡ []) (e0 : s0 ≡ []) (f : h ≡ c.head)
+    (d1 : k1 ≡ k0 ++ gets (arguments h) 1 s0 (count_trees (arguments h) + 1)) (e1 : s1 ≡ add_all_vars (arguments h) s0) (g : goals ≡ plain_goals c.body) (d2 : k2 ≡ k1 ++ body_code goals s1) where
+  whole : k2 ≡ clause_code c.head (plain_goals c.body)
+  whole =
+      let z : [] ++ gets (arguments c.head) 1 [] (count_trees (arguments c.head) + 1) ≡ gets (arguments c.head) 1 [] (count_trees (arguments c.head) + 1) = refl in
+      cc
+
+  pub whole_code : IsClause c → IsCodeOf c k2
+  whole_code i =
+      let d = goals_callable c.vars c.body i.body in
+      subst (IsCodeOf c) (sym whole) (record {
+        reads = λ rest. reads rest c d;
+        openly = λ rest. asks_openly c.head (plain_goals c.body) rest d;
+        apart = calls_are_apart c.head (plain_goals c.body) d;
+      })
+
+  pub whole_paces : IsClause c → Paces k2 (inside c.vars (count_trees (arguments c.head)))
+  whole_paces i =
+      subst (λ q. Paces q (inside c.vars (count_trees (arguments c.head)))) (sym whole)
+      (clause_paces c.vars c.head (plain_goals c.body) (both_true (callable c.head) (numbered c.vars c.head) i.head).1 (goals_numbered c.vars c.body i.body))

@@ -1,7 +1,8 @@
 -- Predicates made one after another.
-use Rattle.std.proofs.Common.{◌≡◌, ℕ, zero, suc, ◌+◌, ◌<◌, ◌≤◌, Bool, true, false, ◌==◌, ◌&&◌, ◌||◌, is_some, if◌then◌else◌, Option, ◌⊎◌, inl, inr, List, [], ◌∷◌, ◌++◌, map, length, drop, take, get_or, slice_get, Some, None, refl, ap, sym, ◌∙◌, subst, arith, append_assoc}
+use Rattle.std.proofs.Common.{◌≡◌, ℕ, zero, suc, ◌+◌, ◌<◌, ◌≤◌, Bool, true, false, ◌==◌, ◌&&◌, ◌||◌, is_some, if◌then◌else◌, Option, ◌⊎◌, inl, inr, List, [], ◌∷◌, ◌++◌, map, length, drop, take, get_or, slice_get, Some, None, IfSome, refl, ap, sym, ◌∙◌, subst, arith, append_assoc}
 use Rattle.std.specs.List.{AllZip, filter}
 use Rattle.std.proofs.lemmas.List.{map-append, take_more}
+use Rattle.std.proofs.lemmas.Option.{slice_get_within}
 use Rattle.std.proofs.lemmas.Bool.{false≢true}
 use Rattle.ap_term.specs.declared.builtins.Relation.{Relation}
 use Rattle.ap_term.specs.declared.fixed.TheConstants.{TRUE, FAIL}
@@ -13,13 +14,14 @@ use Rattle.ap_instr.specs.declared.instruction.Instr.{Instr}
 use Rattle.ap_instr.specs.declared.compiled.Predicate.{Predicate}
 use Rattle.ap_instr.specs.Code.{Compiled}
 use Rattle.ap_instr.specs.StandsFor.{is_head_of, clauses_of, ReadsAt, alternatives, clause_places}
-use Rattle.ap_codegen.specs.Assembled.{Numbered, Grows, Holds, AreCoded, chosen, choices, together, heads, clauses_for, IsMade, StandsBeside}
-use Rattle.ap_instr.specs.Step.{steps_of as said}
+use Rattle.ap_codegen.specs.Assembled.{Numbered, Grows, Holds, AreInstructionsOf, AreCoded, chosen, choices, together, heads, clauses_for, IsMade, StandsBeside}
 use Rattle.ap_instr.specs.Runs.{applied}
 use Rattle.ap_codegen.specs.Permanent.{is_builtin_key}
-use Rattle.ap_codegen.specs.CodeOf.{IsCodeOf}
-use Rattle.ap_codegen.proofs.Growing.{push_get, grows_on, holds_less}
+use Rattle.ap_codegen.proofs.Growing.{push_get, grows_on, holds_less, zip_push}
+use Rattle.ap_codecheck.specs.Walk.{IsLaid}
+use Rattle.ap_codecheck.proofs.Walked.{laid-sound}
 use Rattle.ap_codegen.proofs.Placed.{drop_append, block_read}
+use Rattle.ap_codegen.proofs.Laying.{block_laid}
 
 get_some : {A : Type 0} (xs : List A) (i : ℕ) → i < length xs → (x : A) × (slice_get xs i ≡ Some x)
 get_some [] i l = absurd (omega arith)
@@ -46,9 +48,9 @@ same_clauses q k p n a =
 -- one more predicate
 pub made_more : (t u : Numbered) (is is' : List Instr) (qs qs' : List Predicate) (q : Predicate) (k : ℕ × ℕ) (bs : List (List Instr)) (p : Program)
     → Grows t u → ((code : Compiled) → Holds u code → AreCoded code bs (clauses_for k p))
-    → is' ≡ is ++ (choices (length is + chosen (length bs)) bs ++ together bs) → q.name ≡ k.0 → q.arity ≡ k.1 → q.start ≡ length is → qs' ≡ qs ++ q ∷ []
+    → is' ≡ is ++ (choices (length is + chosen (length bs)) bs ++ together bs) → q.name ≡ k.0 → q.arity ≡ k.1 → q.start ≡ length is → q.end ≡ length is' → qs' ≡ qs ++ q ∷ []
     → slice_get t.predicates (length qs) ≡ Some k → is_builtin_key k ≡ false → IsMade t is qs p → IsMade u is' qs' p
-made_more t u is is' qs qs' q k bs p g coded ei n a s eq here away made = record { named = named; apart = apart; placed = placed }
+made_more t u is is' qs qs' q k bs p g coded ei n a s en eq here away made = record { named = named; apart = apart; placed = placed; laid = laid }
   where
     at : (m : ℕ) (r : Predicate) → slice_get qs' m ≡ Some r → (slice_get qs m ≡ Some r) ⊎ ((m ≡ length qs) × (q ≡ r))
     at m r e = push_get qs q r m (ap (λ l. slice_get l m) (sym eq) ∙ e)
@@ -87,11 +89,25 @@ made_more t u is is' qs qs' q k bs p g coded ei n a s eq here away made = record
         go (inl f) = made.placed code ((choices (length is + chosen (length bs)) bs ++ together bs) ++ later) (holds_less t u code g h) whole m r f
         go (inr f) = subst (λ r. AllZip (ReadsAt code) (clause_places code r) (clauses_of r p)) f.1 last
 
+    laid : (code : Compiled) (later : List Instr) → Holds u code → code.instructions ≡ is' ++ later → (m : ℕ) (r : Predicate) → slice_get qs' m ≡ Some r → IsLaid code r
+    laid code later h e m r d = go (at m r d)
+      where
+        own : List Instr
+        own = choices (length is + chosen (length bs)) bs ++ together bs
+
+        whole : code.instructions ≡ is ++ (own ++ later)
+        whole = e ∙ ap (λ l. l ++ later) ei ∙ append_assoc is own later
+
+        go : (slice_get qs m ≡ Some r) ⊎ ((m ≡ length qs) × (q ≡ r)) → IsLaid code r
+        go (inl f) = made.laid code (own ++ later) (holds_less t u code g h) whole m r f
+        go (inr f) = subst (IsLaid code) f.1 (block_laid code q k is bs later p (coded code h) a s (en ∙ ap length ei) whole)
+
 pub made_none : (t : Numbered) (p : Program) (is : List Instr) (qs : List Predicate) → is ≡ [] → qs ≡ [] → IsMade t is qs p
 made_none t p is qs e f = record {
   named = λ n q g. let d : slice_get [] n ≡ Some q = ap (λ l. slice_get l n) (sym f) ∙ g in cc;
   apart = λ n q g. let d : slice_get [] n ≡ Some q = ap (λ l. slice_get l n) (sym f) ∙ g in cc;
   placed = λ code later h c n q g. let d : slice_get [] n ≡ Some q = ap (λ l. slice_get l n) (sym f) ∙ g in cc;
+  laid = λ code later h c n q g. let d : slice_get [] n ≡ Some q = ap (λ l. slice_get l n) (sym f) ∙ g in cc;
 }
 
 abbrev control_answer : Bool → Bool → Option (Option Subst)
@@ -128,6 +144,9 @@ made_all t is qs p code m k made ended at ei ez eq em = record {
     reads = λ n r e. made.placed code [] holds (ei ∙ sym (append_nil is)) n r (ap (λ l. slice_get l n) (sym eq) ∙ e);
     apart = λ n r ts e c. no_builtin r.name ts (ap (λ m. is_builtin_key (r.name, m)) c ∙ made.apart n r (ap (λ l. slice_get l n) (sym eq) ∙ e));
   };
+  sound =
+      laid-sound code (λ n r e. made.laid code [] holds (ei ∙ sym (append_nil is)) n r (ap (λ l. slice_get l n) (sym eq) ∙ e))
+      (subst (λ o. IfSome o (λ n. n < length code.predicates)) (sym em) (slice_get_within code.predicates m q.0 q.1));
 }
   where
     append_nil : {A : Type 0} (xs : List A) → xs ++ [] ≡ xs
@@ -161,12 +180,6 @@ made_all t is qs p code m k made ended at ei ez eq em = record {
 
 -- ---- the codes of a predicate's clauses
 
-zip_push : {A B : Type 0} (R : A → B → Type 0) (xs : List A) (ys : List B) (x : A) (y : B) → AllZip R xs ys → R x y → AllZip R (xs ++ x ∷ []) (ys ++ y ∷ [])
-zip_push R [] [] x y h r = (r, tt)
-zip_push R [] (b ∷ ys) x y h r = absurd h
-zip_push R (a ∷ xs) [] x y h r = absurd h
-zip_push R (a ∷ xs) (b ∷ ys) x y h r = (h.0, zip_push R xs ys x y h.1 r)
-
 filter_push : {A : Type 0} (p : A → Bool) (xs : List A) (x : A) → filter p (xs ++ x ∷ []) ≡ (if p x then filter p xs ++ x ∷ [] else filter p xs)
 filter_push p [] x = refl
 filter_push p (y ∷ xs) x = go (p y) (p x) (filter_push p xs x)
@@ -189,7 +202,7 @@ clauses_take k cs i c b l e h =
 module _ {V : Type 0} (now : V → List Instr) where
   pub codes_more : (k : ℕ × ℕ) (cs : Program) (i : ℕ) (c : Clause) (s t u u' : Numbered) (vs new new' : List V) (v : V) (b : Bool) (h : Tree) → i < length cs → c ≡ get_or cs i c
       → b ≡ heads k h → b ≡ true → h ≡ c.head → Grows s t → Grows t u → u' ≡ u → new ≡ vs ++ v ∷ [] → new' ≡ new
-      → ((code : Compiled) → Holds u code → IsCodeOf c (said code (now v)))
+      → ((code : Compiled) → Holds u code → AreInstructionsOf code c (now v))
       → ((code : Compiled) → Holds t code → AreCoded code (map now vs) (clauses_for k (take i cs)))
       → Grows s u' × ((code : Compiled) → Holds u' code → AreCoded code (map now new') (clauses_for k (take (i + 1) cs)))
   codes_more k cs i c s t u u' vs new new' v b h l e q o d f g eu en en' r a =
@@ -206,7 +219,7 @@ module _ {V : Type 0} (now : V → List Instr) where
       coded code x =
           subst (λ bs. AreCoded code bs (clauses_for k (take (i + 1) cs))) (sym codes)
           (subst (AreCoded code (map now vs ++ now v ∷ [])) (sym clauses)
-          (zip_push (λ is c. IsCodeOf c (said code is)) (map now vs) (clauses_for k (take i cs)) (now v) c (a code (holds_less t u code g x)) (r code x)))
+          (zip_push (λ is c. AreInstructionsOf code c is) (map now vs) (clauses_for k (take i cs)) (now v) c (a code (holds_less t u code g x)) (r code x)))
 
   pub codes_same : (k : ℕ × ℕ) (cs : Program) (i : ℕ) (c : Clause) (s t t' : Numbered) (vs vs' : List V) (b : Bool) (h : Tree) → i < length cs → c ≡ get_or cs i c
       → b ≡ heads k h → b ≡ false → h ≡ c.head → Grows s t → t' ≡ t → vs' ≡ vs

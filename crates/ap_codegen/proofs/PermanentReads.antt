@@ -156,7 +156,7 @@ module _ (y : ℕ → Tree) (bs : Trees) where
 abbrev AgreeOn : List ℕ → (ℕ → Tree) → (ℕ → Tree) → Type 0
 AgreeOn seen y h = (v : ℕ) → has seen v ≡ true → y v ≡ h v
 
-has-push : (xs : List ℕ) (v w : ℕ) → has (xs ++ v ∷ []) w ≡ true → (has xs w ≡ true) ⊎ (v ≡ w)
+pub has-push : (xs : List ℕ) (v w : ℕ) → has (xs ++ v ∷ []) w ≡ true → (has xs w ≡ true) ⊎ (v ≡ w)
 has-push [] v w h = elim (or_cases (nat_eq v w) false h) [ inl p ↦ inr (same_var v w p) | inr p ↦ absurd (false≢true p) ]
 has-push (x ∷ xs) v w h =
     elim (or_cases (nat_eq x w) (has (xs ++ v ∷ []) w) h) [
@@ -175,13 +175,13 @@ push_agrees seen y h v a w o = go (w == v) refl
     go true e = ap h (sym (same_var w v e))
     go false e = elim (has-push seen v w o) [ inl p ↦ a w p | inr p ↦ absurd (false≢true (sym e ∙ same_test w v (sym p))) ]
 
-here : (seen : List ℕ) (v : ℕ) → has (add_vars (var v) seen) v ≡ true
+pub here : (seen : List ℕ) (v : ℕ) → has (add_vars (var v) seen) v ≡ true
 here seen v = has-add_vars v (var v) seen (or_right (has seen v) (nat_eq v v) (same_test v v refl))
 
-grows : (t : Tree) (seen : List ℕ) (v : ℕ) → has seen v ≡ true → has (add_vars t seen) v ≡ true
+pub grows : (t : Tree) (seen : List ℕ) (v : ℕ) → has seen v ≡ true → has (add_vars t seen) v ≡ true
 grows t seen v h = has-add_vars v t seen (or_left (has seen v) (occurs v t) h)
 
-grows_all : (ts : Trees) (seen : List ℕ) (v : ℕ) → has seen v ≡ true → has (add_all_vars ts seen) v ≡ true
+pub grows_all : (ts : Trees) (seen : List ℕ) (v : ℕ) → has seen v ≡ true → has (add_all_vars ts seen) v ≡ true
 grows_all ts seen v h = has-add_all_vars v ts seen (or_left (has seen v) (occurs_all v ts) h)
 
 -- maps that agree on what was seen of a tree make the same of it
@@ -353,14 +353,14 @@ body-each h (more g gs) seen rest x y i a = go (λ x y i a. body-each h gs (add_
 
 -- ---- heads
 
-fresh_var : (seen : List ℕ) (v : ℕ) (ts : Trees) → fresh (more (var v) ts) seen ≡ true → (has seen v ≡ false) × (fresh ts (seen ++ v ∷ []) ≡ true)
+pub fresh_var : (seen : List ℕ) (v : ℕ) (ts : Trees) → fresh (more (var v) ts) seen ≡ true → (has seen v ≡ false) × (fresh ts (seen ++ v ∷ []) ≡ true)
 fresh_var seen v ts h = go (has seen v) refl h
   where
     go : (b : Bool) → has seen v ≡ b → (if b then false else fresh ts (seen ++ v ∷ [])) ≡ true → (has seen v ≡ false) × (fresh ts (seen ++ v ∷ []) ≡ true)
     go true e k = absurd (false≢true k)
     go false e k = (e, k)
 
-unseen_add : (seen : List ℕ) (v : ℕ) → has seen v ≡ false → add_vars (var v) seen ≡ seen ++ v ∷ []
+pub unseen_add : (seen : List ℕ) (v : ℕ) → has seen v ≡ false → add_vars (var v) seen ≡ seen ++ v ∷ []
 unseen_add seen v e = ap (λ b. if b then seen else seen ++ v ∷ []) e
 
 module _ (bs : Trees) (rest : List Step) (x : ℕ → Tree) where

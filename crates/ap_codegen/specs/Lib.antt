@@ -7,3 +7,4 @@ pub mod Assembled
 pub mod Temporary
 pub mod CodeOf
 pub mod Framed
+pub mod Paces

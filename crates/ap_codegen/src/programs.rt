@@ -4,11 +4,10 @@ ghost use Rattle.std.specs.Prelude.{◌≡◌, ◌+◌, false, map, length, slic
 ghost use Rattle.ap_term.specs.declared.fixed.TheConstants.{QUERY};
 ghost use Rattle.ap_term.specs.TermView.{tree_of};
 ghost use Rattle.ap_instr.specs.Code.{Compiled};
-ghost use Rattle.ap_instr.specs.Step.{steps_of as said};
 ghost use Rattle.ap_instr.specs.StandsFor.{StandsForQuery};
-ghost use Rattle.ap_codegen.specs.Assembled.{Grows, Holds, AreCoded, heads, clauses_for, IsMade, StandsBeside};
+ghost use Rattle.ap_codecheck.specs.Rules.{IsSound};
+ghost use Rattle.ap_codegen.specs.Assembled.{Grows, Holds, AreInstructionsOf, AreCoded, heads, clauses_for, IsMade, StandsBeside};
 ghost use Rattle.ap_codegen.specs.Permanent.{is_builtin_key};
-ghost use Rattle.ap_codegen.specs.CodeOf.{IsCodeOf};
 
 use crate::asking::asked_program;
 use crate::assembly::assemble;
@@ -17,8 +16,9 @@ use crate::layout::lay;
 use crate::permanent::{above, count};
 use crate::tables::Tables;
 use crate::temporary::clause_steps;
+use ap_certify::Certified;
 use ap_instr::{Code, Instr, Predicate};
-use ap_term::{Atom, Clause, NoMemory, Program, Query, Term, fixed};
+use ap_term::{Atom, Clause, NoMemory, Query, Term, fixed};
 use std::alloc::Global;
 
 /// Whether a head has this name and arity.
@@ -35,11 +35,10 @@ fn is_head(t: &Term, name: u32, arity: u8) -> bool
 /// The code of a clause.
 fn clause_code(alloc: Global, tables: &mut Tables, clause: &Clause) -> Result<Vec<Instr>, NoMemory>
     ensures grows { OnOk result (Grows tables.old tables.new) }
-    ensures code { IfOk result (λ is. (code : Compiled) → Holds tables.new code → IsCodeOf clause.now (said code is.items)) }
+    ensures code { IfOk result (λ is. (code : Compiled) → Holds tables.new code → AreInstructionsOf code clause.now is.items) }
 {
     let steps = clause_steps(alloc, clause)?;
-    let mut out = Vec::new(alloc);
-    assemble(tables, steps.as_slice(), &mut out)?;
+    let out = assemble(alloc, tables, steps.as_slice())?;
     Ok(out)
 }
 
@@ -175,11 +174,13 @@ fn compile_clauses(
 /// Warren's (An Abstract Prolog Instruction Set, 1983); a head structure in which a variable stands again is built and
 /// unified, so that the occurs check is never missed. A group is compiled as its goals one after another. A structure of more
 /// than 255 arguments, and more than 4,294,967,295 places or registers, are want of memory.
-pub fn compile(alloc: Global, program: &Program, query: &Query) -> Result<Code, NoMemory>
-    ensures { IfOk result (λ code. StandsForQuery code program.now query.now) }
+pub fn compile(alloc: Global, program: &Certified, query: &Query) -> Result<Code, NoMemory>
+    ensures stands { IfOk result (λ code. StandsForQuery code program.now.program query.now) }
+    ensures sound { IfOk result (λ code. IsSound code) }
 {
-    let all = asked_program(alloc, program, query)?;
+    let own = program.clauses();
+    let all = asked_program(alloc, own, query)?;
     let arity = query.question().vars() as u8;
-    let code = compile_clauses(alloc, all.as_slice(), program.as_slice(), arity)?;
+    let code = compile_clauses(alloc, all.as_slice(), own, arity)?;
     Ok(code)
 }

@@ -2,11 +2,14 @@
 
 ghost use Rattle.std.specs.Prelude.{◌≡◌, [], ◌∷◌, ◌++◌, map, IfOk, OnOk};
 ghost use Rattle.ap_instr.specs.declared.instruction.Slot.{Slot};
+ghost use Rattle.ap_term.specs.Tree.{count_trees};
 ghost use Rattle.ap_instr.specs.Builtin.{builtin_arity};
+ghost use Rattle.ap_instr.specs.Runs.{arguments};
 ghost use Rattle.ap_codegen.specs.Emitted.{step_of, steps_of};
 ghost use Rattle.ap_codegen.specs.Temporary.{moved_slot, moved, fits_slot, fits, ends, all_fit};
 ghost use Rattle.ap_codegen.specs.CodeOf.{IsCodeOf};
 ghost use Rattle.ap_codegen.specs.Framed.{leaving};
+ghost use Rattle.ap_codegen.specs.Paces.{ArePaced};
 
 use crate::bodies::permanent_code;
 use crate::permanent::above;
@@ -182,7 +185,8 @@ fn greatest_of(steps: &[Step]) -> u32 {
 
 /// The code of a clause: with no environment where it calls nothing but its last goal.
 pub fn clause_steps(alloc: Global, clause: &Clause) -> Result<Vec<Step>, NoMemory>
-    ensures { IfOk result (λ code. IsCodeOf clause.now (steps_of code.items)) }
+    ensures code { IfOk result (λ code. IsCodeOf clause.now (steps_of code.items)) }
+    ensures paced { IfOk result (λ code. ArePaced (count_trees (arguments clause.now.head)) code.items) }
 {
     let steps = permanent_code(alloc, clause)?;
     let own = steps.as_slice();

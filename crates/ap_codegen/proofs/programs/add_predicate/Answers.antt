@@ -7,4 +7,4 @@ pub returns-clause-made : goal.returns-clause-made
 returns-clause-made c here made =
     made_more c.args.tables.now c.clause_codes.new.tables c.args.made.now.instructions.items c.lay.new.out.items c.args.made.now.predicates.items c.push.new.self.items _ (c.args.name, c.args.arity)
     (map (λ (v : Vec Instr Global). v.items) c.in_ok-codes.codes.items) c.args.clauses.now c.in_ok-codes.ensures.grows c.in_ok-codes.ensures.codes
-    (laid_is (λ (v : Vec Instr Global). v.items) c.as_slice.result.now c.in_ok-codes.codes.items c.args.made.now.instructions.items c.lay.new.out.items c.as_slice.ensures.value c.in_ok-lay.ensures) c.at.ensures refl (search rules) c.in_ok-push.ensures.items here c.requires made
+    (laid_is (λ (v : Vec Instr Global). v.items) c.as_slice.result.now c.in_ok-codes.codes.items c.args.made.now.instructions.items c.lay.new.out.items c.as_slice.ensures.value c.in_ok-lay.ensures) c.at.ensures refl (search rules) (search rules) c.in_ok-push.ensures.items here c.requires made
