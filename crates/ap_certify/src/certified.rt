@@ -62,7 +62,8 @@ impl Certified {
         &self.scope
     }
 
-    pub(crate) fn new(annotated: Annotated, scope: Scope) -> Certified
+    /// A program of which that is known.
+    pub fn new(annotated: Annotated, scope: Scope) -> Certified
         requires { IsCertified (record { program = annotated; scope = scope }) }
         ensures { result ≡ record { program = annotated; scope = scope } }
     {
