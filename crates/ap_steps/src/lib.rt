@@ -13,3 +13,5 @@ pub mod registers;
 pub mod run;
 pub mod structures;
 mod tables;
+#[cfg(test)]
+mod tests;

@@ -58,6 +58,7 @@ fn room_from(instr: &Instr, behind: usize) -> Result<usize, NoMemory>
 fn larger(a: usize, b: usize) -> usize
     ensures left { a ≤ result }
     ensures right { b ≤ result }
+    ensures least { (n : ℕ) → a ≤ n → b ≤ n → result ≤ n }
 {
     if a < b { b } else { a }
 }
@@ -82,7 +83,8 @@ pub fn most_room(code: &Code) -> Result<usize, NoMemory>
 
 /// How many X registers there are up to a register, where all Y registers are there.
 fn registers_to(v: Slot) -> usize
-    ensures { (xs : ℕ) → result ≤ xs → HasRegister v xs 256 }
+    ensures has { (xs : ℕ) → result ≤ xs → HasRegister v xs 256 }
+    ensures few { result ≤ 4294967296 }
 {
     match v {
         Slot::X(n) => n as usize + 1,
@@ -92,7 +94,8 @@ fn registers_to(v: Slot) -> usize
 
 /// How many X registers an instruction needs for those that it writes.
 fn registers_of(instr: &Instr) -> usize
-    ensures { (xs : ℕ) → result ≤ xs → HasTargets instr.now xs 256 }
+    ensures has { (xs : ℕ) → result ≤ xs → HasTargets instr.now xs 256 }
+    ensures few { result ≤ 4294967296 }
 {
     match *instr {
         Instr::GetVariable(v, _) => registers_to(v),
@@ -108,7 +111,8 @@ fn registers_of(instr: &Instr) -> usize
 
 /// How many X registers the code needs beside all 256 Y registers.
 pub fn most_registers(code: &Code) -> usize
-    ensures { (xs at : ℕ) → result ≤ xs → AllHaveTargets (drop at code.now.instructions) xs 256 }
+    ensures all { (xs at : ℕ) → result ≤ xs → AllHaveTargets (drop at code.now.instructions) xs 256 }
+    ensures few { result ≤ 4294967296 }
 {
     let mut most = 0;
     for instr in code.instructions() {
