@@ -8,8 +8,10 @@ pub mod arguments;
 pub mod found;
 pub mod instructions;
 pub mod laws;
+pub mod needs;
 pub mod registers;
-pub mod room;
 pub mod run;
 pub mod structures;
 mod tables;
+#[cfg(test)]
+mod tests;
