@@ -14,3 +14,4 @@ pub mod Errors
 pub mod Listed
 pub mod Predicates
 pub mod Unrefused
+pub mod Differ

@@ -1,14 +1,15 @@
 -- What certified programs are worth.
-use Rattle.std.specs.Prelude.{◌≡◌, map}
+use Rattle.std.specs.Prelude.{◌≡◌, ◌≢◌, ℕ, map}
 use Rattle.ap_term.specs.Goals.{Program}
 use Rattle.ap_term.specs.WellFormed.{IsProgram}
 use Rattle.ap_term.specs.Search as search
+use Rattle.ap_absunify.specs.declared.states.State.{State}
 use Rattle.ap_patterns.specs.declared.entries.Entries.{Entries}
 use Rattle.ap_patterns.specs.Given.{Patterns}
 use Rattle.ap_patterns.specs.Covered.{IsClosed}
 use Rattle.ap_certify.specs.declared.certified.Scope.TheVariants.{Of}
 use Rattle.ap_certify.specs.declared.faults.CertErr.{CertErr}
-use Rattle.ap_certify.specs.declared.faults.CertErr.TheVariants.{NoMemory}
+use Rattle.ap_certify.specs.declared.faults.CertErr.TheVariants.{NotClosed, NoMemory}
 use Rattle.ap_certify.specs.Forks.{Fork, Tracked, untracked, children}
 use Rattle.ap_certify.specs.Certificate.{MissingHold, IsSafe, AreMissingGiven}
 use Rattle.ap_certify.specs.GroupsGiven.{AreGroupsGiven}
@@ -22,6 +23,10 @@ SoundLaw = (E : Entries) (A : Program) (t : Patterns) → IsProgram A → IsClos
 -- groups leave out
 abbrev pub UnrefusedLaw : Type 0
 UnrefusedLaw = (E : Entries) (A : Program) (t : Patterns) (e : CertErr) → IsProgram A → IsClosed E A t → AreGroupsGiven t A → IsRefusedBy E A t e → e ≡ NoMemory
+
+-- the pattern of a table that is refused, and what is given to it, differ
+abbrev pub DifferLaw : Type 0
+DifferLaw = (E : Entries) (A : Program) (t : Patterns) (clause place : ℕ) (was now : State) → IsRefusedBy E A t (NotClosed clause place was now) → was ≢ now
 
 -- where the checks that aren't written hold, and the written ones do, the goals are strictly independent
 abbrev pub StrictLaw : Type 0

@@ -1,6 +1,6 @@
 //! Laws of the definitions. Each is the contract of a function that does nothing.
 
-ghost use Rattle.ap_certify.specs.Laws.{SoundLaw, UnrefusedLaw, StrictLaw, TrackedLaw};
+ghost use Rattle.ap_certify.specs.Laws.{SoundLaw, UnrefusedLaw, DifferLaw, StrictLaw, TrackedLaw};
 
 /// A table that covers all that is given to it, and gives what the groups leave out, makes the program sound.
 pub fn sound_law()
@@ -11,6 +11,11 @@ pub fn sound_law()
 /// groups leave out.
 pub fn unrefused_law()
     ensures { UnrefusedLaw }
+{}
+
+/// The pattern of a table that is refused, and what is given to it, differ.
+pub fn differ_law()
+    ensures { DifferLaw }
 {}
 
 /// Where the checks that aren't written hold, and the written ones do, the goals are strictly independent.
