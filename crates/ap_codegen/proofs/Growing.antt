@@ -93,7 +93,7 @@ said_turn code steps i step o0 o1 instr l e o s f h =
     subst (λ es. AllZip (IsSaid code) es o1) (sym front)
     (subst (AllZip (IsSaid code) (take i steps ++ step ∷ [])) (sym o) (zip_push (IsSaid code) (take i steps) o0 step instr h (record { says = s; frame = f })))
 
-take_all : {A : Type 0} (xs : List A) (i : ℕ) → length xs ≤ i → take i xs ≡ xs
+pub take_all : {A : Type 0} (xs : List A) (i : ℕ) → length xs ≤ i → take i xs ≡ xs
 take_all [] zero l = refl
 take_all [] (suc i) l = refl
 take_all (x ∷ xs) zero l = absurd (omega arith)

@@ -67,7 +67,7 @@ AreOf code arity bs cs = AllZip (λ is c. AreInstructionsOf code c is × (count_
 heads_arity : (k : ℕ × ℕ) (t : Tree) → heads k t ≡ true → count_trees (arguments t) ≡ k.1
 heads_arity k (var x) h = absurd (false≢true h)
 heads_arity k (int z) h = absurd (false≢true h)
-heads_arity k (atom a) h = sym ((Decides-eqb k.1 0).0 (both_true (a == k.0) (k.1 == 0) h).1)
+heads_arity k (atom a) h = (Decides-eqb 0 k.1).0 (both_true (a == k.0) (0 == k.1) h).1
 heads_arity k (node a ts) h = (Decides-eqb (count_trees ts) k.1).0 (both_true (a == k.0) (count_trees ts == k.1) h).1
 
 are_of : (code : Compiled) (k : ℕ × ℕ) (bs : List (List Instr)) (p : Program) → AreCoded code bs (clauses_for k p) → AreOf code k.1 bs (clauses_for k p)

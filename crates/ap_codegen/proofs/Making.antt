@@ -4,6 +4,7 @@ use Rattle.std.specs.List.{AllZip, filter}
 use Rattle.std.proofs.lemmas.List.{map-append, take_more}
 use Rattle.std.proofs.lemmas.Option.{slice_get_within}
 use Rattle.std.proofs.lemmas.Bool.{false≢true}
+use Rattle.std.proofs.lemmas.Bool.Decides.{Decides-eqb}
 use Rattle.ap_term.specs.declared.builtins.Relation.{Relation}
 use Rattle.ap_term.specs.declared.fixed.TheConstants.{TRUE, FAIL}
 use Rattle.ap_term.specs.Tree.{Tree, Trees, var, int, atom, node, none, more, count_trees}
@@ -17,7 +18,7 @@ use Rattle.ap_instr.specs.StandsFor.{is_head_of, clauses_of, ReadsAt, alternativ
 use Rattle.ap_codegen.specs.Assembled.{Numbered, Grows, Holds, AreInstructionsOf, AreCoded, chosen, choices, together, heads, clauses_for, IsMade, StandsBeside}
 use Rattle.ap_instr.specs.Runs.{applied}
 use Rattle.ap_codegen.specs.Permanent.{is_builtin_key}
-use Rattle.ap_codegen.proofs.Growing.{push_get, grows_on, holds_less, zip_push}
+use Rattle.ap_codegen.proofs.Growing.{push_get, grows_on, holds_less, zip_push, take_all}
 use Rattle.ap_codecheck.specs.Walk.{IsLaid}
 use Rattle.ap_codecheck.proofs.Walked.{laid-sound}
 use Rattle.ap_codegen.proofs.Placed.{drop_append, block_read}
@@ -34,10 +35,19 @@ none_beyond (x ∷ xs) zero i e l = cc
 none_beyond (x ∷ xs) (suc n) zero e l = absurd (omega arith)
 none_beyond (x ∷ xs) (suc n) (suc i) e l = none_beyond xs n i e (omega arith)
 
+turned : (m n : ℕ) → (m == n) ≡ (n == m)
+turned m n = go (m == n) (n == m) refl refl
+  where
+    go : (b c : Bool) → (m == n) ≡ b → (n == m) ≡ c → b ≡ c
+    go true true e f = refl
+    go true false e f = absurd (false≢true (sym f ∙ (Decides-eqb n m).1 (sym ((Decides-eqb m n).0 e))))
+    go false true e f = absurd (false≢true (sym e ∙ (Decides-eqb m n).1 (sym ((Decides-eqb n m).0 f))))
+    go false false e f = refl
+
 same_head : (q : Predicate) (t : Tree) → is_head_of q t ≡ heads (q.name, q.arity) t
 same_head q (var x) = refl
 same_head q (int z) = refl
-same_head q (atom a) = refl
+same_head q (atom a) = ap (λ b. (a == q.name) && b) (turned q.arity 0)
 same_head q (node a ts) = refl
 
 same_clauses : (q : Predicate) (k : ℕ × ℕ) (p : Program) → q.name ≡ k.0 → q.arity ≡ k.1 → clauses_of q p ≡ clauses_for k p
@@ -191,46 +201,37 @@ filter_push p (y ∷ xs) x = go (p y) (p x) (filter_push p xs x)
     go false true e = e
     go false false e = e
 
-clauses_take : (k : ℕ × ℕ) (cs : Program) (i : ℕ) (c : Clause) (b : Bool) → i < length cs → c ≡ get_or cs i c → heads k c.head ≡ b
-    → clauses_for k (take (i + 1) cs) ≡ (if b then clauses_for k (take i cs) ++ c ∷ [] else clauses_for k (take i cs))
-clauses_take k cs i c b l e h =
-    ap (clauses_for k) (take_more cs i c l)
-    ∙ ap (λ d. clauses_for k (take i cs ++ d ∷ [])) (sym e)
-    ∙ filter_push (λ c. heads k c.head) (take i cs) c
-    ∙ ap (λ b. if b then clauses_for k (take i cs) ++ c ∷ [] else clauses_for k (take i cs)) h
+clauses_take : (k : ℕ × ℕ) (cs : Program) (i : ℕ) (c : Clause) → i < length cs → c ≡ get_or cs i c
+    → clauses_for k (take (i + 1) cs) ≡ (if heads k c.head then clauses_for k (take i cs) ++ c ∷ [] else clauses_for k (take i cs))
+clauses_take k cs i c l e = ap (clauses_for k) (take_more cs i c l) ∙ ap (λ d. clauses_for k (take i cs ++ d ∷ [])) (sym e) ∙ filter_push (λ c. heads k c.head) (take i cs) c
+
+-- one more clause in the index
+pub index_turn : (k : ℕ × ℕ) (cs : Program) (i : ℕ) (c : Clause) (old new : Program) → i < length cs → c ≡ get_or cs i c → new ≡ (if heads k c.head then old ++ c ∷ [] else old)
+    → old ≡ clauses_for k (take i cs) → new ≡ clauses_for k (take (i + 1) cs)
+index_turn k cs i c old new l e n o = n ∙ ap (λ p. if heads k c.head then p ++ c ∷ [] else p) o ∙ sym (clauses_take k cs i c l e)
+
+pub index_end : (k : ℕ × ℕ) (cs : Program) (i : ℕ) (old : Program) → length cs ≤ i → old ≡ clauses_for k (take i cs) → old ≡ clauses_for k cs
+index_end k cs i old l o = o ∙ ap (clauses_for k) (take_all cs i l)
+
+-- one more clause's code
+module _ {R : Type 0} (now : R → Clause) {V : Type 0} (items : V → List Instr) where
+  pub codes_turn : (rs : List R) (i : ℕ) (r : R) (s t u : Numbered) (vs new : List V) (v : V) → i < length rs → r ≡ get_or rs i r → Grows s t → Grows t u → new ≡ vs ++ v ∷ []
+      → ((code : Compiled) → Holds u code → AreInstructionsOf code (now r) (items v)) → ((code : Compiled) → Holds t code → AreCoded code (map items vs) (map now (take i rs)))
+      → Grows s u × ((code : Compiled) → Holds u code → AreCoded code (map items new) (map now (take (i + 1) rs)))
+  codes_turn rs i r s t u vs new v l e f g en d a =
+      let codes : map items new ≡ map items vs ++ items v ∷ [] = ap (map items) en ∙ map-append items vs (v ∷ []) in
+      let clauses : map now (take (i + 1) rs) ≡ map now (take i rs) ++ now r ∷ [] =
+      ap (map now) (take_more rs i r l ∙ ap (λ q. take i rs ++ q ∷ []) (sym e)) ∙ map-append now (take i rs) (r ∷ []) in (
+        grows_on s t u f g,
+        λ code x.
+            subst (λ bs. AreCoded code bs (map now (take (i + 1) rs))) (sym codes)
+            (subst (AreCoded code (map items vs ++ items v ∷ [])) (sym clauses) (zip_push (λ is c. AreInstructionsOf code c is) (map items vs) (map now (take i rs)) (items v) (now r) (a code (holds_less t u code g x)) (d code x))),
+      )
+
+  pub codes_end : (rs : List R) (i : ℕ) (vs : List V) (code : Compiled) → length rs ≤ i → AreCoded code (map items vs) (map now (take i rs)) → AreCoded code (map items vs) (map now rs)
+  codes_end rs i vs code l h = subst (λ ds. AreCoded code (map items vs) (map now ds)) (take_all rs i l) h
 
 module _ {V : Type 0} (now : V → List Instr) where
-  pub codes_more : (k : ℕ × ℕ) (cs : Program) (i : ℕ) (c : Clause) (s t u u' : Numbered) (vs new new' : List V) (v : V) (b : Bool) (h : Tree) → i < length cs → c ≡ get_or cs i c
-      → b ≡ heads k h → b ≡ true → h ≡ c.head → Grows s t → Grows t u → u' ≡ u → new ≡ vs ++ v ∷ [] → new' ≡ new
-      → ((code : Compiled) → Holds u code → AreInstructionsOf code c (now v))
-      → ((code : Compiled) → Holds t code → AreCoded code (map now vs) (clauses_for k (take i cs)))
-      → Grows s u' × ((code : Compiled) → Holds u' code → AreCoded code (map now new') (clauses_for k (take (i + 1) cs)))
-  codes_more k cs i c s t u u' vs new new' v b h l e q o d f g eu en en' r a =
-      let P : Numbered → Type 0 = λ u'. Grows s u' × ((code : Compiled) → Holds u' code → AreCoded code (map now new') (clauses_for k (take (i + 1) cs))) in
-      subst P (sym eu) (grows_on s t u f g, coded)
-    where
-      codes : map now new' ≡ map now vs ++ now v ∷ []
-      codes = ap (map now) (en' ∙ en) ∙ map-append now vs (v ∷ [])
-
-      clauses : clauses_for k (take (i + 1) cs) ≡ clauses_for k (take i cs) ++ c ∷ []
-      clauses = clauses_take k cs i c true l e (ap (heads k) (sym d) ∙ sym q ∙ o)
-
-      coded : (code : Compiled) → Holds u code → AreCoded code (map now new') (clauses_for k (take (i + 1) cs))
-      coded code x =
-          subst (λ bs. AreCoded code bs (clauses_for k (take (i + 1) cs))) (sym codes)
-          (subst (AreCoded code (map now vs ++ now v ∷ [])) (sym clauses)
-          (zip_push (λ is c. AreInstructionsOf code c is) (map now vs) (clauses_for k (take i cs)) (now v) c (a code (holds_less t u code g x)) (r code x)))
-
-  pub codes_same : (k : ℕ × ℕ) (cs : Program) (i : ℕ) (c : Clause) (s t t' : Numbered) (vs vs' : List V) (b : Bool) (h : Tree) → i < length cs → c ≡ get_or cs i c
-      → b ≡ heads k h → b ≡ false → h ≡ c.head → Grows s t → t' ≡ t → vs' ≡ vs
-      → ((code : Compiled) → Holds t code → AreCoded code (map now vs) (clauses_for k (take i cs)))
-      → Grows s t' × ((code : Compiled) → Holds t' code → AreCoded code (map now vs') (clauses_for k (take (i + 1) cs)))
-  codes_same k cs i c s t t' vs vs' b h l e q o d f et ev a =
-      let P : Numbered → Type 0 = λ t'. Grows s t' × ((code : Compiled) → Holds t' code → AreCoded code (map now vs') (clauses_for k (take (i + 1) cs))) in
-      let Q : List V → Type 0 = λ vs'. (code : Compiled) → Holds t code → AreCoded code (map now vs') (clauses_for k (take (i + 1) cs)) in
-      let clauses : clauses_for k (take (i + 1) cs) ≡ clauses_for k (take i cs) = clauses_take k cs i c false l e (ap (heads k) (sym d) ∙ sym q ∙ o) in
-      subst P (sym et) (f, subst Q (sym ev) (λ code x. subst (AreCoded code (map now vs)) (sym clauses) (a code x)))
-
   length_codes : (vs : List V) → length (map now vs) ≡ length vs
   length_codes [] = refl
   length_codes (v ∷ vs) = ap suc (length_codes vs)

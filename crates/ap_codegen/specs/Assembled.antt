@@ -99,10 +99,13 @@ chosen n = if 1 == n then 0 else n
 abbrev pub together : List (List Instr) → List Instr
 together bs = flat_map (λ is. is) bs
 
+abbrev pub is_key : ℕ × ℕ → ℕ × ℕ → Bool
+is_key k l = (k.0 == l.0) && (k.1 == l.1)
+
 -- whether a head is of this name and arity
 abbrev pub heads : ℕ × ℕ → Tree → Bool
-heads k (atom a) = (a == k.0) && (k.1 == 0)
-heads k (node a ts) = (a == k.0) && (count_trees ts == k.1)
+heads k (atom a) = is_key (a, 0) k
+heads k (node a ts) = is_key (a, count_trees ts) k
 heads k _ = false
 
 abbrev pub clauses_for : ℕ × ℕ → Program → Program

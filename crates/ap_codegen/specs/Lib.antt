@@ -8,3 +8,4 @@ pub mod Temporary
 pub mod CodeOf
 pub mod Framed
 pub mod Paces
+pub mod Index

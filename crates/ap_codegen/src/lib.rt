@@ -9,6 +9,7 @@ mod asking;
 mod assembly;
 mod bodies;
 mod builtin_goals;
+mod index;
 pub mod laws;
 mod layout;
 mod permanent;
