@@ -1,5 +1,5 @@
 -- The instructions from a place of code on.
-use Rattle.std.proofs.Common.{◌≡◌, ℕ, zero, suc, ◌+◌, ◌<◌, ◌≤◌, ◌-◌, Bool, true, false, if◌then◌else◌, List, [], ◌∷◌, drop, slice_get, Some, None, refl, ap, ◌∙◌, subst, arith}
+use Rattle.std.proofs.Common.{◌≡◌, ℕ, zero, suc, ◌+◌, ◌≤◌, ◌-◌, true, false, if◌then◌else◌, List, [], ◌∷◌, drop, slice_get, Some, None, refl, ap, ◌∙◌, subst, arith}
 use borrow.Author.Count.{below_more}
 use Rattle.ap_instr.specs.declared.instruction.Instr.{Instr}
 use Rattle.ap_instr.specs.declared.instruction.Instr.TheVariants.{Allocate, Deallocate}
@@ -41,17 +41,6 @@ plain-transfer i e = e
 
 pub room-here : (is : List Instr) (at : ℕ) (i : Instr) → slice_get is at ≡ Some i → is_control i ≡ false → room (drop at is) ≡ cells_of i + room (drop (at + 1) is)
 room-here is at i e plain = ap room (drop-here is at i e) ∙ ap (λ b. if b then 0 else cells_of i + room (drop (at + 1) is)) (plain-transfer i plain)
-
--- each instruction's registers are there
-all_targets : (is : List Instr) (xs ys : ℕ) → ((k : ℕ) (i : Instr) → slice_get is k ≡ Some i → HasTargets i xs ys) → AllHaveTargets is xs ys
-all_targets [] xs ys h = tt
-all_targets (i ∷ is) xs ys h = (h 0 i refl, λ plain. all_targets is xs ys (λ k j e. h (suc k) j e))
-
-pub targets-all : (is : List Instr) (at xs ys : ℕ) → ((k : ℕ) (i : Instr) → slice_get is k ≡ Some i → HasTargets i xs ys) → AllHaveTargets (drop at is) xs ys
-targets-all [] zero xs ys h = tt
-targets-all [] (suc at) xs ys h = tt
-targets-all (i ∷ is) zero xs ys h = all_targets (i ∷ is) xs ys h
-targets-all (i ∷ is) (suc at) xs ys h = targets-all is at xs ys (λ k j e. h (suc k) j e)
 
 -- ---- behind instructions none of which is of control
 
@@ -117,23 +106,3 @@ none-at is at place n i l none e plain behind =
     let q : place ≡ at + (place - at) = omega arith in
     let r : place - at + (1 + n) ≡ place + (1 + n) - at = omega arith in
     subst (NoneOfControl is at) r (none-join is at (place - at) (1 + n) none (subst (λ m. NoneOfControl is m (1 + n)) q (none-behind is place n i e plain behind)))
-
--- those before the next one of control
-plain_before : (js : List Instr) (k : ℕ) → k < count_ahead js → (i : Instr) × (slice_get js k ≡ Some i) × (is_control i ≡ false)
-plain_before [] k l = absurd (omega arith)
-plain_before (j ∷ js) k l = go (plain_before js) (is_control j) refl k l
-  where
-    go : ((k : ℕ) → k < count_ahead js → (i : Instr) × (slice_get js k ≡ Some i) × (is_control i ≡ false)) → (b : Bool) → is_control j ≡ b → (k : ℕ) → k < (if is_control j then 0 else suc (count_ahead js))
-        → (i : Instr) × (slice_get (j ∷ js) k ≡ Some i) × (is_control i ≡ false)
-    go before true e k l = absurd (let m : k < 0 = subst (λ b. k < (if b then 0 else suc (count_ahead js))) e l in omega arith)
-    go before false e zero l = (j, refl, e)
-    go before false e (suc k) l = before k (let m : suc k < suc (count_ahead js) = subst (λ b. suc k < (if b then 0 else suc (count_ahead js))) e l in omega arith)
-
-slice_get-drop : (js : List Instr) (n k : ℕ) → slice_get js (n + k) ≡ slice_get (drop n js) k
-slice_get-drop [] zero k = refl
-slice_get-drop [] (suc n) k = refl
-slice_get-drop (j ∷ js) zero k = ap (slice_get (j ∷ js)) (let q : 0 + k ≡ k = omega arith in q)
-slice_get-drop (j ∷ js) (suc n) k = ap (slice_get (j ∷ js)) (let q : suc n + k ≡ suc (n + k) = omega arith in q) ∙ slice_get-drop js n k
-
-pub none-before : (is : List Instr) (at : ℕ) → NoneOfControl is at (count_ahead (drop at is))
-none-before is at = λ k l. let f = plain_before (drop at is) k l in (f.0, slice_get-drop is at k ∙ f.1, f.2)

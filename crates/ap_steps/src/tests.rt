@@ -1,9 +1,10 @@
 // A clause with a structure in its head and one in its body, from the outside and with ample memory.
 ghost use Rattle.std.specs.Prelude.{◌≡◌, ℕ, ◌<◌, ◌≤◌, length, IfOk};
 ghost use Rattle.ap_steps.specs.Moves.{held};
+ghost use Rattle.ap_steps.specs.Ways.{AllHaveTargets};
 
-use crate::needs::{most_registers, most_room};
 use crate::registers::argument;
+use crate::room::most_room;
 use crate::run::run_to_control;
 use ap_cells::{Cell, Cells, Top};
 use ap_instr::{Code, Instr, Slot};
@@ -14,7 +15,9 @@ use std::alloc::Global;
 use std::test::Fail;
 
 // p(X + true) :- q(X - 7).
-fn make_code(alloc: Global) -> Result<Code, Fail> {
+fn instructions(alloc: Global) -> Result<Vec<Instr>, Fail>
+    ensures { IfOk result (λ v. AllHaveTargets v.items 3 0) }
+{
     let instructions = vec![in alloc;
         Instr::GetStructure(Atom::at(fixed::PLUS), 2, 1),
         Instr::UnifyVariable(Slot::X(2)),
@@ -24,7 +27,15 @@ fn make_code(alloc: Global) -> Result<Code, Fail> {
         Instr::UnifyInteger(0),
         Instr::Execute(0),
     ]?;
-    Ok(Code::new(instructions, vec![in alloc; 7]?, Vec::new(alloc), None))
+    Ok(instructions)
+}
+
+fn make_code(alloc: Global) -> Result<Code, Fail>
+    ensures { IfOk result (λ code. AllHaveTargets code.instructions 3 0) }
+{
+    let instructions = instructions(alloc)?;
+    let integers = vec![in alloc; 7]?;
+    Ok(Code::new(instructions, integers, Vec::new(alloc), None))
 }
 
 // Registers that all hold a place.
@@ -43,11 +54,12 @@ fn run(
     code: &Code,
     place: u32,
 ) -> Result<Option<(usize, u32)>, Fail>
-    requires { place < length cells.old.cells }
+    requires place { place < length cells.old.cells }
+    requires targets { AllHaveTargets code.now.instructions 3 0 }
 {
     cells.reserve(most_room(code)?)?;
-    let mut x = registers(alloc, most_registers(code) + 2, place)?;
-    let mut y = registers(alloc, 256, place)?;
+    let mut x = registers(alloc, 3, place)?;
+    let mut y = registers(alloc, 0, place)?;
     let mut work = Work::new(alloc);
     match run_to_control(cells, &mut x, &mut y, code, 0, &mut work)? {
         Some(to) => Ok(Some((to, argument(&x, 1)))),
@@ -79,7 +91,9 @@ fn is_seven(cells: &Cells, place: usize) -> bool {
 }
 
 // Whether the code leads to its last instruction, and q is called with X - 7 then.
-fn calls(alloc: Global, cells: &mut Cells, code: &Code, place: usize) -> Result<bool, Fail> {
+fn calls(alloc: Global, cells: &mut Cells, code: &Code, place: usize) -> Result<bool, Fail>
+    requires { AllHaveTargets code.now.instructions 3 0 }
+{
     if place >= cells.len() {
         return Ok(false);
     }

@@ -7,7 +7,6 @@ run_to_control-requires-clause-room c = omega (arith, c.in_ok-most_room.ensures 
 
 pub run_to_control-requires-clause-targets : goal.run_to_control-requires-clause-targets
 run_to_control-requires-clause-targets c =
-    let x : length c.deref_mut.result.now ≡ c.most_registers.result + 2 = ap length c.deref_mut.ensures.value ∙ c.in_ok-x.ensures.len in
-    let y : length c.deref_mut-2.result.now ≡ 256 = ap length c.deref_mut-2.ensures.value ∙ c.in_ok-y.ensures.len in
-    let h : AllHaveTargets c.args.code.now.instructions (length c.deref_mut.result.now) 256 = c.most_registers.ensures.all (length c.deref_mut.result.now) 0 (omega arith) in
-    subst (AllHaveTargets c.args.code.now.instructions (length c.deref_mut.result.now)) (sym y) h
+    let x : length c.deref_mut.result.now ≡ 3 = ap length c.deref_mut.ensures.value ∙ c.in_ok-x.ensures.len in
+    let y : length c.deref_mut-2.result.now ≡ 0 = ap length c.deref_mut-2.ensures.value ∙ c.in_ok-y.ensures.len in
+    subst (λ n. AllHaveTargets c.args.code.now.instructions n (length c.deref_mut-2.result.now)) (sym x) (subst (AllHaveTargets c.args.code.now.instructions 3) (sym y) c.requires.targets)

@@ -1,6 +1,6 @@
 use Rattle.std.proofs.Common.{◌≡◌, ℕ, ◌≤◌, length, drop}
 use Rattle.ap_steps.specs.Ways.{room}
-use Rattle.ap_steps.proofs.needs.most_room.Given as goal
+use Rattle.ap_steps.proofs.room.most_room.Given as goal
 
 abbrev pub invariant-places : goal.invariant-places
 invariant-places l = record {

@@ -1,11 +1,10 @@
-//! The cells and registers that runs of instructions need at most.
+//! The cells that runs of instructions make at most.
 
 ghost use Rattle.std.specs.Prelude.{◌≡◌, ℕ, ◌+◌, ◌≤◌, length, drop, if◌then◌else◌, IfOk};
-ghost use Rattle.ap_steps.specs.Ways.{is_transfer, cells_of, room, AllHaveTargets};
-ghost use Rattle.ap_steps.specs.Moves.{HasRegister, HasTargets};
+ghost use Rattle.ap_steps.specs.Ways.{is_transfer, cells_of, room};
 
 use crate::tables::instruction_at;
-use ap_instr::{Code, Instr, Slot};
+use ap_instr::{Code, Instr};
 use ap_term::NoMemory;
 
 /// Whether an instruction leads anywhere else than to the next one.
@@ -58,7 +57,6 @@ fn room_from(instr: &Instr, behind: usize) -> Result<usize, NoMemory>
 fn larger(a: usize, b: usize) -> usize
     ensures left { a ≤ result }
     ensures right { b ≤ result }
-    ensures least { (n : ℕ) → a ≤ n → b ≤ n → result ≤ n }
 {
     if a < b { b } else { a }
 }
@@ -79,44 +77,4 @@ pub fn most_room(code: &Code) -> Result<usize, NoMemory>
         }
     }
     Ok(most)
-}
-
-/// How many X registers there are up to a register, where all Y registers are there.
-fn registers_to(v: Slot) -> usize
-    ensures has { (xs : ℕ) → result ≤ xs → HasRegister v xs 256 }
-    ensures few { result ≤ 4294967296 }
-{
-    match v {
-        Slot::X(n) => n as usize + 1,
-        Slot::Y(_) => 0,
-    }
-}
-
-/// How many X registers an instruction needs for those that it writes.
-fn registers_of(instr: &Instr) -> usize
-    ensures has { (xs : ℕ) → result ≤ xs → HasTargets instr.now xs 256 }
-    ensures few { result ≤ 4294967296 }
-{
-    match *instr {
-        Instr::GetVariable(v, _) => registers_to(v),
-        Instr::PutVariable(v, a) => larger(registers_to(v), a as usize + 1),
-        Instr::PutValue(_, a) => a as usize + 1,
-        Instr::PutConstant(_, a) => a as usize + 1,
-        Instr::PutInteger(_, a) => a as usize + 1,
-        Instr::PutStructure(_, _, a) => a as usize + 1,
-        Instr::UnifyVariable(v) => registers_to(v),
-        _ => 0,
-    }
-}
-
-/// How many X registers the code needs beside all 256 Y registers.
-pub fn most_registers(code: &Code) -> usize
-    ensures all { (xs at : ℕ) → result ≤ xs → AllHaveTargets (drop at code.now.instructions) xs 256 }
-    ensures few { result ≤ 4294967296 }
-{
-    let mut most = 0;
-    for instr in code.instructions() {
-        most = larger(most, registers_of(instr));
-    }
-    most
 }

@@ -4,7 +4,7 @@ use Rattle.std.proofs.lemmas.Option.{slice_get-get_or}
 use Rattle.ap_instr.specs.declared.instruction.Instr.TheVariants.{Proceed}
 use Rattle.ap_steps.specs.Ways.{is_transfer, cells_of, room}
 use Rattle.ap_steps.proofs.Places.{drop-here}
-use Rattle.ap_steps.proofs.needs.most_room.Goals as goal
+use Rattle.ap_steps.proofs.room.most_room.Goals as goal
 
 pub places-preserved-in-Some : goal.places-preserved-in-Some
 places-preserved-in-Some c =
