@@ -1,18 +1,24 @@
 # Completion of andprolog's command line for bash: source this file, or put it into bash-completion's folder.
 _andprolog() {
-  local word=${COMP_WORDS[COMP_CWORD]} before=${COMP_WORDS[COMP_CWORD - 1]} options=() option seen
+  local word=${COMP_WORDS[COMP_CWORD]} before=${COMP_WORDS[COMP_CWORD - 1]} known options=() option seen
   COMPREPLY=()
   if [ "$COMP_CWORD" -eq 1 ]; then
-    mapfile -t COMPREPLY < <(compgen -W 'run' -- "$word")
+    mapfile -t COMPREPLY < <(compgen -W 'run show' -- "$word")
     return
   fi
-  [ "${COMP_WORDS[1]}" = run ] || return
+  case ${COMP_WORDS[1]} in
+    run) known=(--budget --answers) ;;
+    show) known=(--entry --annotator) ;;
+    *) return ;;
+  esac
   case $before in
     --budget) mapfile -t COMPREPLY < <(compgen -W '10000000' -- "$word"); return ;;
     --answers) mapfile -t COMPREPLY < <(compgen -W '1000000' -- "$word"); return ;;
+    --annotator) mapfile -t COMPREPLY < <(compgen -W 'mel udg none' -- "$word"); return ;;
+    --entry) return ;;
   esac
   if [[ $word == -* ]]; then
-    for option in --budget --answers; do
+    for option in "${known[@]}"; do
       seen=0
       for before in "${COMP_WORDS[@]}"; do [ "$before" = "$option" ] && seen=1; done
       [ "$seen" = 1 ] || options+=("$option")

@@ -1,19 +1,22 @@
 -- A run over an accepted program that nothing outside disturbed answers its queries.
-use Rattle.std.proofs.Common.{◌≡◌, ◌⊎◌, inl, inr, ℕ, ◌<◌, ◌≤◌, Bool, true, false, List, length, Option, None, Some, Result, Err, refl, sym, ◌∙◌, ap, subst, arith}
+use Rattle.std.proofs.Common.{◌≡◌, ◌⊎◌, inl, inr, ℕ, ◌<◌, ◌≤◌, Bool, true, false, List, [], ◌∷◌, codes, length, Option, None, Some, Err, sym, ◌∙◌, ap, subst, arith}
 use Rattle.ap_outside.specs.Faults.{Rises}
-use Rattle.ap_outside.specs.Files.{HasContent, content_of}
 use Rattle.ap_outside.specs.Halting.{SinkCount}
 use Rattle.ap_outside.specs.declared.halting.Halt.{Halt}
 use Rattle.ap_outside.specs.declared.halting.Halt.TheVariants as halt
 use Rattle.ap_term.specs.AtomTable.{fixed_names}
 use Rattle.ap_term.specs.Goals.{Program}
 use Rattle.ap_clause.specs.Reads.{AcceptsProgram}
-use Rattle.ap_clause.proofs.OneResult.{not_both}
+use Rattle.ap_clause.proofs.OneResult.{not_both, one_program}
+use Rattle.ap_patterns.specs.declared.entries.Entries.{Entries}
 use Rattle.ap_top.specs.Words.{Asked, IsCommand}
-use Rattle.ap_top.specs.Parted.{asked_by}
 use Rattle.ap_top.specs.Status.{status_of, tally}
 use Rattle.ap_top.specs.Counts.{RunSinkCount}
-use Rattle.ap_top.specs.Ends.{SourceEnds, TextEnds, FileEnds, RunEnds, IsFile, IsAnswering, NamesProgram}
+use Rattle.ap_top.specs.Ends.{SourceEnds, TextEnds, FileEnds, OtherEnds, RunEnds, IsFile, IsAnswering, NamesProgram, IsShowing, ShowsProgram}
+use Rattle.ap_top.specs.ShowWords.{Shown, IsShow}
+use Rattle.ap_top.specs.Patterns.{AreEntries}
+use Rattle.ap_top.specs.Shows.{ProgramShows, TextShows, FileShows}
+use Rattle.ap_top.proofs.ShowCommands.{show_is}
 use Rattle.ap_top.specs.declared.status.Status.{Status}
 use Rattle.ap_top.specs.declared.status.Status.TheVariants as status
 use Rattle.ap_top.proofs.Commands.{command_is}
@@ -60,10 +63,72 @@ module _ (source : Option (List ℕ)) (SourceRose : Type 0) (calm : SourceRose �
 
     pub run_answers : (words : List (List ℕ)) (entries : Option (List (List ℕ × List ℕ))) → NamesProgram words entries → (s : Status) (ls : List (List ℕ)) → RunEnds words entries source FilesRose SourceRose s ls
         → IsAnswering s
-    run_answers words entries names _ ls (RunEnds.usage _ none e) = absurd (none names.what names.command)
+    run_answers words entries names _ ls (RunEnds.other s _ none o) = absurd (none names.what names.command)
     run_answers words entries names _ ls (RunEnds.named what s _ is ends) =
         let same : what ≡ names.what = one_command words what names.what is names.command in
         file_answers names.what entries names.bytes names.program names.table names.file names.short names.accepted s ls (subst (λ w. FileEnds w entries source FilesRose SourceRose s ls) same ends)
+
+-- ---- `show`
+
+one_show : (words : List (List ℕ)) (a b : Shown) → IsShow words a → IsShow words b → a ≡ b
+one_show words a b h k = same (sym (show_is words a h) ∙ show_is words b k)
+  where
+    same : Some a ≡ Some b → a ≡ b
+    same e = cc
+
+second : List (List ℕ) → List ℕ
+second (a ∷ b ∷ words) = b
+second _ = []
+
+not_both_commands : (words : List (List ℕ)) (a : Asked) (b : Shown) → IsCommand words a → IsShow words b → ⊥
+unfolding second
+not_both_commands words a b h k =
+    let same : codes "run" ≡ codes "show" = ap second (sym h.words_are ∙ k.words_are) in
+    let size : length (codes "run") ≡ length (codes "show") = ap length same in
+    unlike (length (codes "run")) (length (codes "show")) size (omega arith)
+  where
+    unlike : (n m : ℕ) → n ≡ m → n < m → ⊥
+    unlike n m e l = omega arith
+
+module _ (FilesRose : Type 0) (quiet : FilesRose → ⊥) where
+  program_shows : (what : Shown) (program : Program) (table : List (List ℕ)) (E : Entries) → AreEntries what.entry program table E → (s : Status) (ls : List (List ℕ)) → ProgramShows what program table s ls → IsShowing s
+  program_shows what program table E is _ ls (ProgramShows.entry _ none e) = absurd (none E is)
+  program_shows what program table E is _ ls (ProgramShows.shown _ i) = tt
+
+  text_shows : (what : Shown) (bytes : List ℕ) (program : Program) (table : List (List ℕ)) (E : Entries) → AcceptsProgram bytes fixed_names program table → AreEntries what.entry program table E
+      → (s : Status) (ls : List (List ℕ)) → TextShows what bytes s ls → IsShowing s
+  text_shows what bytes program table E h is _ ls (TextShows.refused r _ n e) = absurd (not_both bytes fixed_names table program r h n)
+  text_shows what bytes program table E h is _ ls (TextShows.accepted p t s _ r ends) =
+      let one = one_program bytes fixed_names table t program p h r in
+      program_shows what p t E (subst (λ n. AreEntries what.entry p n E) one.1 (subst (λ q. AreEntries what.entry q table E) one.0 is)) s ls ends
+
+  file_shows : (what : Shown) (entries : Option (List (List ℕ × List ℕ))) (bytes : List ℕ) (program : Program) (table : List (List ℕ)) (E : Entries) → IsFile entries what.file bytes → length bytes ≤ 16777216
+      → AcceptsProgram bytes fixed_names program table → AreEntries what.entry program table E → (s : Status) (ls : List (List ℕ)) → FileShows what entries FilesRose s ls → IsShowing s
+  file_shows what None bytes program table E f short h is s ls ends = absurd f
+  file_shows what (Some entries) bytes program table E f short h is _ ls (FileShows.fault _ r e) = absurd (quiet r)
+  file_shows what (Some entries) bytes program table E f short h is _ ls (FileShows.too_long _ has e) =
+      let same : bytes ≡ has.0 = one_content bytes has.0 (sym f ∙ has.1) in
+      let size : length bytes ≡ length has.0 = ap length same in
+      let long = has.2 in
+      absurd (omega (arith, size, long, short))
+  file_shows what (Some entries) bytes program table E f short h is _ ls (FileShows.read other s _ has k ends) =
+      let same : bytes ≡ other = one_content bytes other (sym f ∙ has.1 ∙ ap Some has.2) in
+      text_shows what other program table E (subst (λ b. AcceptsProgram b fixed_names program table) same h) is s ls ends
+
+  other_shows : (words : List (List ℕ)) (entries : Option (List (List ℕ × List ℕ))) → ShowsProgram words entries → (s : Status) (ls : List (List ℕ)) → OtherEnds words entries FilesRose s ls → IsShowing s
+  other_shows words entries names _ ls (OtherEnds.usage _ none e) = absurd (none names.what names.command)
+  other_shows words entries names _ ls (OtherEnds.shown what s _ is ends) =
+      let same : what ≡ names.what = one_show words what names.what is names.command in
+      file_shows names.what entries names.bytes names.program names.table names.calls names.file names.short names.accepted names.entry s ls (subst (λ w. FileShows w entries FilesRose s ls) same ends)
+
+  pub run_shows : (source : Option (List ℕ)) (SourceRose : Type 0) (words : List (List ℕ)) (entries : Option (List (List ℕ × List ℕ))) → ShowsProgram words entries → (s : Status) (ls : List (List ℕ))
+      → RunEnds words entries source FilesRose SourceRose s ls → IsShowing s
+  run_shows source SourceRose words entries names _ ls (RunEnds.other s _ none o) = other_shows words entries names s ls o
+  run_shows source SourceRose words entries names _ ls (RunEnds.named what s _ is f) = absurd (not_both_commands words what names.what is names.command)
+
+pub shown_given_up : (before now : ℕ) (s : Status) → (Rises before now → ⊥) → (s ≡ status.NoMemory) ⊎ (s ≡ status.SinkFault) → RunSinkCount before now s → IsShowing s
+shown_given_up before now s calm (inl is) count = subst IsShowing (sym is) tt
+shown_given_up before now s calm (inr is) count = absurd (calm (subst (RunSinkCount before now) is count))
 
 pub sink_rose : (T : Type 0) (before now : ℕ) (e : Halt) → e ≡ halt.Sink → SinkCount {T = T} before now (Err e) → Rises before now
 sink_rose T before now halt.Sink is count = count

@@ -18,6 +18,7 @@ use Rattle.ap_term.specs.AtomTable.{fixed_names}
 use Rattle.ap_term.specs.Goals.{Program}
 use Rattle.ap_clause.specs.Reads.{RefusesProgram}
 use Rattle.ap_clause.specs.declared.refusal.Refusal.{Refusal}
+use Rattle.ap_top.proofs.ShowLayers.{other_status}
 use Rattle.ap_top.specs.Words.{Asked, asked_of, IsCommand}
 use Rattle.ap_top.specs.declared.words.Command.{Command}
 use Rattle.ap_top.specs.Output.{IsOutput, judged}
@@ -102,10 +103,6 @@ pub file_read : (what : Asked) (entries : Option (List (List ℕ × List ℕ))) 
 file_read what None source FilesRose SourceRose bytes has short s ls h = FileEnds.read bytes s ls tt short h
 file_read what (Some entries) source FilesRose SourceRose bytes has short s ls h = FileEnds.read bytes s ls (has.0, has.1, sym has.2) short h
 
-pub usage : (words : List (List ℕ)) (entries : Option (List (List ℕ × List ℕ))) (source : Option (List ℕ)) (FilesRose SourceRose : Type 0) → ((what : Asked) → IsCommand words what → ⊥) →
-    (s : Status) (ls : List (List ℕ)) → (s ≡ status.Usage) × (ls ≡ codes "usage: andprolog run FILE | show FILE | code FILE | load SEED SIZE\n" ∷ []) → RunEnds words entries source FilesRose SourceRose s ls
-usage words entries source FilesRose SourceRose none s ls h = subst (λ t. RunEnds words entries source FilesRose SourceRose t ls) (sym h.0) (RunEnds.usage ls none h.1)
-
 -- ---- statuses that a layer doesn't end with
 
 abbrev IsOther : Status → Type 0
@@ -131,7 +128,7 @@ file_status what entries source FilesRose SourceRose _ ls (FileEnds.too_long _ r
 file_status what entries source FilesRose SourceRose _ ls (FileEnds.read bytes s _ c l t) = (text_status what bytes source SourceRose s ls t).1
 
 run_status : (words : List (List ℕ)) (entries : Option (List (List ℕ × List ℕ))) (source : Option (List ℕ)) (FilesRose SourceRose : Type 0) (s : Status) (ls : List (List ℕ)) → RunEnds words entries source FilesRose SourceRose s ls → s ≢ status.SinkFault
-run_status words entries source FilesRose SourceRose _ ls (RunEnds.usage _ n e) = λ f. cc
+run_status words entries source FilesRose SourceRose _ ls (RunEnds.other s _ n o) = (other_status words entries FilesRose s ls o).0
 run_status words entries source FilesRose SourceRose _ ls (RunEnds.named what s _ n f) = file_status what entries source FilesRose SourceRose s ls f
 
 -- over the bytes of a file that was read, the files' count stays

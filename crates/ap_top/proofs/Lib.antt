@@ -5,6 +5,9 @@ pub mod Blocks
 pub mod Outputs
 pub mod Printing
 pub mod Pieces
+pub mod ShowCommands
+pub mod PatternWords
+pub mod ShowLayers
 pub mod Layers
 pub mod Numbers
 pub mod Commands

@@ -1,5 +1,5 @@
 -- A query's block as its answers are printed, and then its end line.
-use Rattle.std.proofs.Common.{◌≡◌, ℕ, Bool, List, [], ◌∷◌, ◌++◌, Option, Result, Err, refl, ◌∙◌, ap, append-nil, subst, inl, inr}
+use Rattle.std.proofs.Common.{◌≡◌, ℕ, Bool, List, [], ◌∷◌, ◌++◌, Option, Result, Err, refl, ◌∙◌, ap, append-nil, inl, inr}
 use Rattle.ap_outside.specs.Pieces.{Puts}
 use Rattle.ap_outside.specs.Halting.{Finishes, Prints}
 use Rattle.ap_outside.specs.declared.halting.Halt.{Halt}

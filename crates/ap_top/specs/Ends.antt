@@ -10,7 +10,11 @@ use Rattle.ap_clause.specs.Reads.{AcceptsProgram, RefusesProgram}
 use Rattle.ap_clause.specs.declared.refusal.Refusal.{Refusal}
 use Rattle.ap_top.specs.Output.{IsOutput, judged}
 use Rattle.ap_top.specs.Refusals.{refusal_line}
+use Rattle.ap_patterns.specs.declared.entries.Entries.{Entries}
 use Rattle.ap_top.specs.Words.{Asked, IsCommand}
+use Rattle.ap_top.specs.ShowWords.{Shown, IsShow}
+use Rattle.ap_top.specs.Patterns.{AreEntries}
+use Rattle.ap_top.specs.Shows.{FileShows}
 use Rattle.ap_top.specs.Status.{status_of}
 use Rattle.ap_top.specs.declared.status.Tally.{Tally}
 use Rattle.ap_top.specs.declared.status.Status.{Status}
@@ -51,10 +55,14 @@ pub data FileEnds (what : Asked) (entries : Option (List (List ℕ × List ℕ))
   read : (bytes : List ℕ) (status : Status) (lines : List (List ℕ)) → HasContent entries what.file (λ content. content ≡ bytes) → length bytes ≤ 16777216
       → TextEnds what bytes source SourceRose status lines → FileEnds what entries source FilesRose SourceRose status lines
 
+-- words that aren't a command line of `run`
+pub data OtherEnds (words : List (List ℕ)) (entries : Option (List (List ℕ × List ℕ))) (FilesRose : Type 0) : Status → List (List ℕ) → Type 0 where
+  usage : (lines : List (List ℕ)) → ((what : Shown) → IsShow words what → ⊥) → lines ≡ codes "usage: andprolog run FILE | show FILE | code FILE | load SEED SIZE\n" ∷ [] → OtherEnds words entries FilesRose Usage lines
+  shown : (what : Shown) (status : Status) (lines : List (List ℕ)) → IsShow words what → FileShows what entries FilesRose status lines → OtherEnds words entries FilesRose status lines
+
 -- a command line
 pub data RunEnds (words : List (List ℕ)) (entries : Option (List (List ℕ × List ℕ))) (source : Option (List ℕ)) (FilesRose SourceRose : Type 0) : Status → List (List ℕ) → Type 0 where
-  usage : (lines : List (List ℕ)) → ((what : Asked) → IsCommand words what → ⊥) → lines ≡ codes "usage: andprolog run FILE | show FILE | code FILE | load SEED SIZE\n" ∷ []
-      → RunEnds words entries source FilesRose SourceRose Usage lines
+  other : (status : Status) (lines : List (List ℕ)) → ((what : Asked) → IsCommand words what → ⊥) → OtherEnds words entries FilesRose status lines → RunEnds words entries source FilesRose SourceRose status lines
   named : (what : Asked) (status : Status) (lines : List (List ℕ)) → IsCommand words what → FileEnds what entries source FilesRose SourceRose status lines
       → RunEnds words entries source FilesRose SourceRose status lines
 
@@ -97,3 +105,22 @@ pub record NamesProgram (words : List (List ℕ)) (entries : Option (List (List 
   pub file : IsFile entries what.file bytes
   pub short : length bytes ≤ 16777216
   pub accepted : AcceptsProgram bytes fixed_names program table
+
+-- where nothing outside failed, a command line that shows a program for an entry ends so
+abbrev pub IsShowing : Status → Type 0
+IsShowing Done = ⊤
+IsShowing NoMemory = ⊤
+IsShowing _ = ⊥
+
+-- a command line shows a program, as the files tell, for an entry that is a pattern of one of its predicates
+pub record ShowsProgram (words : List (List ℕ)) (entries : Option (List (List ℕ × List ℕ))) : Type 0 where
+  pub what : Shown
+  pub bytes : List ℕ
+  pub program : Program
+  pub table : List (List ℕ)
+  pub calls : Entries
+  pub command : IsShow words what
+  pub file : IsFile entries what.file bytes
+  pub short : length bytes ≤ 16777216
+  pub accepted : AcceptsProgram bytes fixed_names program table
+  pub entry : AreEntries what.entry program table calls

@@ -6,4 +6,8 @@ pub mod Refusals
 pub mod Output
 pub mod EndView
 pub mod Widths
+pub mod ShowWords
+pub mod ShowParted
+pub mod Patterns
+pub mod Shows
 pub mod Ends

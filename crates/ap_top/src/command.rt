@@ -6,32 +6,25 @@ ghost use Rattle.ap_outside.specs.Pieces.{Puts, CutOf};
 ghost use Rattle.ap_outside.specs.Halting.{Finishes, SinkCount};
 ghost use Rattle.ap_term.specs.AtomTable.{fixed_names};
 ghost use Rattle.ap_top.specs.Output.{IsOutput, judged};
-ghost use Rattle.ap_top.specs.Words.{asked_of};
-ghost use Rattle.ap_top.specs.Ends.{IsAnswering, NamesProgram, SaysNoMemory, SourceEnds, TextEnds, FileEnds, RunEnds, Whole};
+ghost use Rattle.ap_top.specs.Words.{Asked, IsCommand, asked_of};
+ghost use Rattle.ap_top.specs.Ends.{IsAnswering, NamesProgram, ShowsProgram, IsShowing, SaysNoMemory, SourceEnds, TextEnds, FileEnds, OtherEnds, RunEnds, Whole};
 ghost use Rattle.ap_top.specs.Counts.{EndsSource, RunEndsSource, SourceCount, FilesCount, RunSinkCount, RunSourceCount, RunFilesCount};
 
 use crate::answers::Bounds;
+use crate::closing::close;
 use crate::queries::{print_pieces, print_refusal};
+use crate::show::show_file;
+use crate::show_words::show_command_of;
 use crate::source::{DrainErr, LIMIT, drain};
 use crate::status::{Status, Tally};
 use crate::words::{Command, command_of};
 use ap_clause::{Refusal, program};
 use ap_lexer::{NoMemory, Piece, pieces};
-use ap_outside::{FileErr, Files, Gate, Got, Halt, PutErr, Sink, Source, put_line};
+use ap_outside::{FileErr, Files, Gate, Got, Halt, PutErr, Sink, Source};
 use ap_term::{Atoms, Program};
 use std::alloc::Global;
 
 const USAGE: &[u8] = b"usage: andprolog run FILE | show FILE | code FILE | load SEED SIZE\n";
-
-// Puts a last line.
-fn close<K: Sink>(line: &[u8], status: Status, out: &mut K) -> Result<Status, Halt>
-    ensures lines { Finishes (K.pieces out.old) (K.pieces out.new) (λ s put. (s ≡ status) × (put ≡ line.now ∷ [])) result }
-    ensures count { SinkCount (K.faults out.old) (K.faults out.new) result }
-    ensures status { IfOk result (λ s. s ≡ status) }
-{
-    put_line(line, out)?;
-    Ok(status)
-}
 
 // The pieces of a text that are judged: all of a whole one, and of one that broke off those that had ended.
 fn judged(alloc: Global, text: &[u8], whole: bool) -> Result<Vec<Piece>, NoMemory>
@@ -149,6 +142,23 @@ fn run_file<F: Files, S: Source, K: Sink>(
     }
 }
 
+// Words that aren't a command line of `run`.
+fn run_other<F: Files, K: Sink>(
+    alloc: Global,
+    words: &[&str],
+    files: &mut F,
+    out: &mut K,
+) -> Result<Status, Halt>
+    ensures lines { Finishes (K.pieces out.old) (K.pieces out.new) (OtherEnds (map (λ w. w.now) words.now) (F.entries files.old) (Rises (F.faults files.old) (F.faults files.new))) result }
+    ensures sink { SinkCount (K.faults out.old) (K.faults out.new) result }
+    ensures files { FilesCount (F.faults files.old) (F.faults files.new) result }
+{
+    match show_command_of(words) {
+        None => close(USAGE, Status::Usage, out),
+        Some(command) => show_file(alloc, &command, files, out),
+    }
+}
+
 // The command line.
 fn run_words<F: Files, S: Source, K: Sink>(
     alloc: Global,
@@ -162,10 +172,10 @@ fn run_words<F: Files, S: Source, K: Sink>(
     ensures sink { SinkCount (K.faults out.old) (K.faults out.new) result }
     ensures source { SourceCount (S.faults queries.old) (S.faults queries.new) result }
     ensures files { FilesCount (F.faults files.old) (F.faults files.new) result }
-    ensures end { EndsSource (S.left queries.new) result }
+    ensures end { (what : Asked) → IsCommand (map (λ w. w.now) words.now) what → EndsSource (S.left queries.new) result }
 {
     match command_of(words) {
-        None => close(USAGE, Status::Usage, out),
+        None => run_other(alloc, words, files, out),
         Some(command) => run_file(alloc, &command, files, queries, out),
     }
 }
@@ -189,6 +199,9 @@ fn give_up<K: Sink>(out: &mut K) -> Status
 /// `run FILE` reads the file as a program and the source, to its end, as queries. It puts a block for each query: a
 /// line for each answer, in the order of sequential search, and a line that ends it; in the place of a refused query
 /// it puts the line of its refusal. Each line is one put.
+///
+/// `show FILE` reads the file as a program and puts a line for each clause, with the groups that may run side by side
+/// in every query that is as the entry says.
 pub fn run<R, F: Files, S: Source, K: Sink, G: Gate>(
     _rt: &R,
     alloc: Global,
@@ -202,8 +215,8 @@ pub fn run<R, F: Files, S: Source, K: Sink, G: Gate>(
     ensures lines { Puts (K.pieces out.old) (K.pieces out.new)
         (Whole (RunEnds (map (λ w. w.now) words.now) (F.entries files.old) (S.left queries.old) (Rises (F.faults files.old) (F.faults files.new)) (Rises (S.faults queries.old) (S.faults queries.new))) result) }
 
-    // Where the queries were answered, the source has nothing left.
-    ensures end { RunEndsSource (S.left queries.new) result }
+    // Where `run` answered the queries, the source has nothing left.
+    ensures end { (what : Asked) → IsCommand (map (λ w. w.now) words.now) what → RunEndsSource (S.left queries.new) result }
 
     // A fault's status only where that object's count rose; where it rose, that status or one that goes before it.
     ensures sink { RunSinkCount (K.faults out.old) (K.faults out.new) result }
@@ -214,6 +227,10 @@ pub fn run<R, F: Files, S: Source, K: Sink, G: Gate>(
     // bytes, or memory was wanting.
     ensures complete { NamesProgram (map (λ w. w.now) words.now) (F.entries files.old) → (Rises (F.faults files.old) (F.faults files.new) → ⊥) → (Rises (S.faults queries.old) (S.faults queries.new) → ⊥)
         → (Rises (K.faults out.old) (K.faults out.new) → ⊥) → IsAnswering result }
+
+    // Where the words show a program for an entry that is a pattern, and nothing outside failed, its lines are put, or
+    // memory was wanting.
+    ensures shows { ShowsProgram (map (λ w. w.now) words.now) (F.entries files.old) → (Rises (F.faults files.old) (F.faults files.new) → ⊥) → (Rises (K.faults out.old) (K.faults out.new) → ⊥) → IsShowing result }
 {
     match run_words(alloc, words, files, queries, out) {
         Ok(status) => status,

@@ -1,13 +1,17 @@
 //! The top call: from the words of a command line and the outside to a status.
 //!
-//! It stands on the outside, on the reader of clauses, on the search and on the writer of answers. What is used above it
-//! is the contract of `run`: which lines are put, and which status they go with.
+//! It stands on the outside, on the reader of clauses, on the search and on the writer of answers, and for `show` on the
+//! annotators. What is used above it is the contract of `run`: which lines are put, and which status they go with.
 #![tactic(auto)]
 
 mod answers;
+mod closing;
 mod command;
+mod patterns;
 mod queries;
 mod refusals;
+mod show;
+mod show_words;
 mod source;
 mod status;
 mod words;
@@ -17,5 +21,7 @@ pub use command::run;
 pub use source::LIMIT;
 pub use status::Status;
 
+#[cfg(test)]
+mod show_tests;
 #[cfg(test)]
 mod tests;

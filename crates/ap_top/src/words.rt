@@ -19,7 +19,7 @@ const MOST_CALLS: u64 = 1_000_000_000_000;
 
 const MOST_ANSWERS: u64 = 1_000_000_000;
 
-fn is_plain(word: &str) -> bool
+pub fn is_plain(word: &str) -> bool
     ensures { result ≡ is_plain word.now }
 {
     let bytes = word.as_bytes();
