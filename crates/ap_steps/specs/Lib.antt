@@ -1,3 +1,4 @@
 pub mod Moves
 pub mod Arguments
 pub mod Standing
+pub mod Ways

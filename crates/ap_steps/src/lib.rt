@@ -7,3 +7,4 @@ pub mod arguments;
 pub mod instructions;
 pub mod laws;
 pub mod registers;
+pub mod run;
