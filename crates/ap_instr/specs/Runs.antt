@@ -76,3 +76,17 @@ Asks c x bs =
 pub record Reads (code : List Step) (c : Clause) : Type 0 where
   pub only : (x y : ℕ → Tree) (bs : Trees) → Runs code none x y bs → Asks c x bs
   pub each : (x y : ℕ → Tree) (bs : Trees) → Asks c x bs → Runs code none x y bs
+
+-- whatever the registers hold, the steps ask for something
+abbrev pub IsOpen : List Step → Type 0
+IsOpen is = (x y : ℕ → Tree) → (bs : Trees) × Runs is none x y bs
+
+-- Behind each goal that they ask for the steps are open: all tests stand before the first goal, so that no goal is asked
+-- for where the clause asks for none.
+abbrev pub AsksOpenly : List Step → Type 0
+AsksOpenly [] = Unit {0}
+AsksOpenly (call p n ∷ is) = IsOpen is × AsksOpenly is
+AsksOpenly (builtin p n ∷ is) = IsOpen is × AsksOpenly is
+AsksOpenly (execute p n ∷ is) = Unit {0}
+AsksOpenly (proceed ∷ is) = Unit {0}
+AsksOpenly (i ∷ is) = AsksOpenly is

@@ -1,8 +1,9 @@
 -- Which code stands for a program and a query.
-use Rattle.std.specs.Prelude.{◌≡◌, ℕ, Bool, false, ◌&&◌, ◌==◌, List, [], ◌∷◌, map, drop, slice_get, Option, Some}
+use Rattle.std.specs.Prelude.{◌≡◌, ℕ, Bool, false, ◌&&◌, ◌==◌, List, [], ◌∷◌, drop, slice_get, Some, None}
 use Rattle.std.specs.List.{AllZip, filter}
 use Rattle.ap_term.specs.declared.fixed.TheConstants.{QUERY}
-use Rattle.ap_term.specs.Tree.{Tree, atom, node, count_trees}
+use Rattle.ap_term.specs.Tree.{Tree, Trees, atom, node, count_trees}
+use Rattle.ap_term.specs.Builtins.{builtin}
 use Rattle.ap_term.specs.Goals.{Clause, Program, Query, joined}
 use Rattle.ap_term.specs.Search.{variables}
 use Rattle.ap_instr.specs.declared.instruction.Instr.{Instr}
@@ -10,7 +11,7 @@ use Rattle.ap_instr.specs.declared.instruction.Instr.TheVariants.{Fail, Try, Ret
 use Rattle.ap_instr.specs.declared.compiled.Predicate.{Predicate}
 use Rattle.ap_instr.specs.Code.{Compiled}
 use Rattle.ap_instr.specs.Step.{steps_of}
-use Rattle.ap_instr.specs.Runs.{applied, Reads}
+use Rattle.ap_instr.specs.Runs.{applied, Reads, AsksOpenly}
 
 -- the places that stand behind a `try`, to the `trust`
 abbrev pub tried : List Instr → List ℕ
@@ -27,9 +28,10 @@ alternatives at is = at ∷ []
 abbrev pub clause_places : Compiled → Predicate → List ℕ
 clause_places code q = alternatives q.start (drop q.start code.instructions)
 
--- the code of the clause that begins at a place
-abbrev pub ReadsAt : Compiled → ℕ → Clause → Type 0
-ReadsAt code at c = Reads (steps_of code (drop at code.instructions)) c
+-- the code at a place asks for just what the clause asks for, and tests nothing behind a goal
+pub record ReadsAt (code : Compiled) (at : ℕ) (c : Clause) : Type 0 where
+  pub reads : Reads (steps_of code (drop at code.instructions)) c
+  pub openly : AsksOpenly (steps_of code (drop at code.instructions))
 
 -- whether a head is one of the predicate
 abbrev pub is_head_of : Predicate → Tree → Bool
@@ -40,9 +42,11 @@ is_head_of q _ = false
 abbrev pub clauses_of : Predicate → Program → Program
 clauses_of q p = filter (λ c. is_head_of q c.head) p
 
--- each predicate's places read, one for one and in order, as the program's clauses for it
-abbrev pub StandsFor : Compiled → Program → Type 0
-StandsFor code p = (n : ℕ) (q : Predicate) → slice_get code.predicates n ≡ Some q → AllZip (ReadsAt code) (clause_places code q) (clauses_of q p)
+-- Each predicate's places read, one for one and in order, as the program's clauses for it, and no predicate is that of
+-- built-in goals, which clauses don't answer.
+pub record StandsFor (code : Compiled) (p : Program) : Type 0 where
+  pub reads : (n : ℕ) (q : Predicate) → slice_get code.predicates n ≡ Some q → AllZip (ReadsAt code) (clause_places code q) (clauses_of q p)
+  pub apart : (n : ℕ) (q : Predicate) (ts : Trees) → slice_get code.predicates n ≡ Some q → count_trees ts ≡ q.arity → builtin (applied q.name ts) ≡ None
 
 -- the query as a clause whose head has the query's variables, so that calling it on new variables is asking the query
 abbrev pub asked : Query → Clause
