@@ -5,7 +5,7 @@ use Rattle.ap_instr.specs.declared.instruction.Instr.{Instr}
 use Rattle.ap_instr.specs.declared.instruction.Instr.TheVariants.{Allocate, Deallocate, Call, Execute, Proceed, Builtin, Jump, Fail, Try, Retry, Trust}
 use Rattle.ap_instr.specs.Code.{Compiled}
 use Rattle.ap_instr.specs.Step.{Step, steps_of}
-use Rattle.ap_steps.specs.Moves.{held, HoldPlaces, HasTargets, Moves, IsStuck}
+use Rattle.ap_steps.specs.Moves.{held, HoldPlaces, Moves, IsStuck}
 
 -- an instruction of control, and none on registers and cells
 abbrev pub is_control : Instr → Bool
@@ -36,11 +36,6 @@ count_before is_kind (i ∷ is) = if is_kind i then 0 else suc (count_before is_
 -- the cells that the instructions up to a transfer of control need at most, one each
 abbrev pub room : List Instr → ℕ
 room is = count_before is_transfer is
-
--- up to the next instruction of control, the registers that are written are among so many X and Y registers
-abbrev pub AllHaveTargets : List Instr → ℕ → ℕ → Type 0
-AllHaveTargets [] xs ys = Unit {0}
-AllHaveTargets (i ∷ is) xs ys = HasTargets i xs ys × (is_control i ≡ false → AllHaveTargets is xs ys)
 
 abbrev pub steps_from : Compiled → ℕ → List Step
 steps_from code at = steps_of code (drop at code.instructions)

@@ -8,7 +8,7 @@ ghost use Rattle.ap_cells.specs.Trees.{Within};
 ghost use Rattle.ap_instr.specs.Step.{unify_variable, unify_value, unify_constant, with_integer, step_of};
 ghost use Rattle.ap_instr.specs.Runs.{read};
 ghost use Rattle.ap_match.specs.Fits.{cell_tree};
-ghost use Rattle.ap_steps.specs.Moves.{held, HasRegister, HasTargets, HoldPlacesBut, constant_of};
+ghost use Rattle.ap_steps.specs.Moves.{held, HasRegister, HasTarget, HoldPlacesBut, constant_of};
 ghost use Rattle.ap_steps.specs.Arguments.{Built, BuiltOr};
 
 use crate::registers::{read, write};
@@ -20,7 +20,7 @@ use ap_term::Atom;
 /// `unify_variable V`: the register gets the argument's place, a new unbound cell.
 pub fn build_variable(cells: &mut Cells, x: &mut [u32], y: &mut [u32], v: Slot)
     requires room { 0 < cells.old.spare }
-    requires has { HasRegister v (length x.old) (length y.old) }
+    requires has { HasRegister v x.old y.old }
     ensures built { Built cells.old.cells (held x.old) (held y.old) (unify_variable v) cells.new.cells (held x.new) (held y.new) }
     ensures x_len { length x.new ≡ length x.old }
     ensures y_len { length y.new ≡ length y.old }
@@ -115,7 +115,7 @@ pub fn build_argument(
     instr: Instr,
 ) -> bool
     requires room { 0 < cells.old.spare }
-    requires has { HasTargets instr (length x.old) (length y.old) }
+    requires has { HasTarget instr x.old y.old }
     ensures built { (whole : ℕ) → HoldPlacesBut whole (length cells.old.cells) x.old → HoldPlacesBut whole (length cells.old.cells) y.old → BuiltOr whole cells.old.cells (held x.old) (held y.old) (step_of code.now instr) cells.new.cells (held x.new) (held y.new) result }
     ensures x_len { length x.new ≡ length x.old }
     ensures y_len { length y.new ≡ length y.old }

@@ -7,4 +7,3 @@ pub mod arguments;
 pub mod instructions;
 pub mod laws;
 pub mod registers;
-pub mod run;
