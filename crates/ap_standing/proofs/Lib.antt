@@ -1,3 +1,4 @@
 pub mod Children
 pub mod Moved
 pub mod Turns
+pub mod Machines
