@@ -2,3 +2,4 @@ pub mod Children
 pub mod Moved
 pub mod Turns
 pub mod Machines
+pub mod Calls
