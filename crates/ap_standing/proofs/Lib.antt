@@ -3,3 +3,4 @@ pub mod Moved
 pub mod Turns
 pub mod Machines
 pub mod Calls
+pub mod Builtins
