@@ -11,7 +11,7 @@ use Rattle.ap_term.specs.Substitution.{Subst, instance, instance_all}
 use Rattle.ap_term.specs.Goals.{Part, call, Program, opened}
 use Rattle.ap_term.specs.WellFormed.{IsProgram}
 use Rattle.ap_term.specs.Arithmetic.{eval}
-use Rattle.ap_term.specs.Builtins.{builtin, relation_answer, succeeds_if}
+use Rattle.ap_term.specs.Builtins.{builtin, relation_answer, unified_value}
 use Rattle.ap_term.specs.Search.{State, children}
 use Rattle.ap_laws.specs.Plain.{append_trees, plain_goals}
 use Rattle.ap_cells.specs.declared.cells.Raw.{Raw}
@@ -31,7 +31,7 @@ use Rattle.ap_steps.specs.Standing.{Return, Standing, Waits, InCode}
 use Rattle.ap_steps.specs.Ways.{steps_from}
 use Rattle.ap_steps.proofs.Steps.{Runs-agree}
 use Rattle.ap_standing.specs.Machine.{Point, Now, inside, failed, AreWithin}
-use Rattle.ap_standing.specs.Holds.{SetOf, AreOpen, IsPlain, HoldsPoints, Holds, Turned}
+use Rattle.ap_standing.specs.Holds.{SetOf, IsOpenAt, AreOpen, IsPlain, HoldsPoints, Holds, Turned}
 use Rattle.ap_standing.specs.Solved.{GivenValue, Tested, Solved}
 use Rattle.ap_standing.proofs.Children.{plain-children, no-state}
 use Rattle.ap_standing.proofs.Moved.{Waits-agree, some-waits}
@@ -189,3 +189,138 @@ module _ (code : Compiled) (cs : List Raw) (ws : List Return) (roots : List ℕ)
       let e : more (node IS (more (int z) (more q.0 none))) gs ≡ more (node IS (more (k (held x 1)) (more (k (held x 2)) none))) (append_trees i.4.0 i.2) = i.5 ∙ ap (λ bs. append_trees bs i.2) i.4.1 in
       let same : k (held x 1) ≡ int z = cc in
       no_map k i.3 same
+
+-- ---- the turn
+
+-- where the machine is after a built-in goal that stands at a place
+abbrev pub behind_goal : ℕ → Bool → Now
+behind_goal at true = inside (at + 1)
+behind_goal at false = failed
+
+module _ (code : Compiled) (cs : List Raw) (ws : List Return) (roots : List ℕ) (x y : List ℕ) (at : ℕ) where
+  abbrev is : List Step
+  is = steps_from code (at + 1)
+
+  abbrev here : ℕ → ℕ → Trees → Trees → Type 0
+  here p n = At code cs ws roots x y is p n
+
+  abbrev place : ℕ → Tree
+  place w = own code cs ws roots x y is w
+
+  -- what is set behind the goal
+  abbrev SetBehind : List Raw → Bool → Trees → Trees → Type 0
+  SetBehind ds r = SetOf code (machine ds x y ws roots [] (behind_goal at r))
+
+  no-children : (p : Program) (s : State) (ds : List Raw) → children p s ≡ [] → IsSetOf (SetBehind ds false) (children p s)
+  no-children p s ds e = subst (IsSetOf (SetBehind ds false)) (sym e) (λ gs t i. i)
+
+  module _ (p : Program) (s : State) (f : Tree) (rest : List Part) (opens : opened s.goals ≡ call f ∷ rest) where
+    holds-behind : (q n : ℕ) → SameSet (here q n) (Inst s) → IsGeneralGoal (Inst s) (applied q (spread place 1 n)) → builtin (applied q (spread place 1 n)) ≡ Some (Some []) → IsSetOf (SetBehind cs true) (children p s)
+    holds-behind q n same g e =
+        IsSetOf-same (Behind (Inst s)) (SetBehind cs true)
+        (SameSet-trans (Behind (Inst s)) (Behind (here q n)) (SetBehind cs true) (Behind-same (Inst s) (here q n) (SameSet-sym (here q n) (Inst s) same)) (behind code cs ws roots x y is q n))
+        (children p s) (builtins.holds p s f rest (applied q (spread place 1 n)) opens g e)
+
+    fails-behind : (q n : ℕ) (ds : List Raw) → IsGeneralGoal (Inst s) (applied q (spread place 1 n)) → builtin (applied q (spread place 1 n)) ≡ Some None → IsSetOf (SetBehind ds false) (children p s)
+    fails-behind q n ds g e = no-children p s ds (builtins.fails p s f rest (applied q (spread place 1 n)) opens g e)
+
+    module _ (hx : HoldPlaces (length cs) x) (hy : HoldPlaces (length cs) y) (hw : AreWithin (length cs) ws) (hr : AllByRecursion (λ r. r < length cs) roots) where
+      unified : (ds : List Raw) (r : Bool) → Answered cs ds (λ k. k (held x 1) ≡ k (held x 2)) r → SameSet (here UNIFY 2) (Inst s) → IsGeneralGoal (Inst s) (applied UNIFY (spread place 1 2)) → IsSetOf (SetBehind ds r) (children p s)
+      unified ds true b same g =
+          IsSetOf-same (Equated (Inst s)) (SetBehind ds true)
+          (SameSet-trans (Equated (Inst s)) (Equated (here UNIFY 2)) (SetBehind ds true) (Equated-same (Inst s) (here UNIFY 2) (SameSet-sym (here UNIFY 2) (Inst s) same)) (equated code cs ws roots x y is hx hy hw hr ds b))
+          (children p s) (builtins.equates p s f rest (place 1) (place 2) opens g)
+      unified ds false b same g =
+          no-children p s ds
+          (no-state (Equated (Inst s)) (children p s) (builtins.equates p s f rest (place 1) (place 2) opens g)
+          (λ gs t q. not-equated code cs ws roots x y is b gs t ((Equated-same (Inst s) (here UNIFY 2) (SameSet-sym (here UNIFY 2) (Inst s) same) gs t).0 q)))
+
+      given : (ds : List Raw) (r : Bool) (o : Option ℤ) → eval (place 2) ≡ o → GivenValue o cs ds (held x 1) r → SameSet (here IS 2) (Inst s) → IsGeneralGoal (Inst s) (applied IS (spread place 1 2)) → IsSetOf (SetBehind ds r) (children p s)
+      given ds r None e h same g =
+          subst (λ b. IsSetOf (SetBehind ds b) (children p s)) (sym h)
+          (fails-behind IS 2 ds g (relation-answered Is (place 1) (place 2) ∙ ap (λ o. Some (unified_value (place 1) o)) e))
+      given ds true (Some z) e b same g =
+          IsSetOf-same (Valued (Inst s) z) (SetBehind ds true)
+          (SameSet-trans (Valued (Inst s) z) (Valued (here IS 2) z) (SetBehind ds true) (Valued-same (Inst s) (here IS 2) z (SameSet-sym (here IS 2) (Inst s) same)) (valued code cs ws roots x y is hx hy hw hr ds z b))
+          (children p s) (builtins.values p s f rest (place 1) (place 2) z opens g e)
+      given ds false (Some z) e b same g =
+          no-children p s ds
+          (no-state (Valued (Inst s) z) (children p s) (builtins.values p s f rest (place 1) (place 2) z opens g e)
+          (λ gs t q. not-valued code cs ws roots x y is z b gs t ((Valued-same (Inst s) (here IS 2) z (SameSet-sym (here IS 2) (Inst s) same) gs t).0 q)))
+
+      tested : (relation : Relation) (ds : List Raw) (r : Bool) → Tested relation cs ds (held x 1) (held x 2) r → SameSet (here (relation_name relation) 2) (Inst s) → IsGeneralGoal (Inst s) (applied (relation_name relation) (spread place 1 2))
+          → IsSetOf (SetBehind ds r) (children p s)
+      tested relation ds true h same g =
+          subst (λ us. IsSetOf (SetBehind us true) (children p s)) (sym h.0) (holds-behind (relation_name relation) 2 same g (relation-answered relation (place 1) (place 2) ∙ ap Some h.1))
+      tested relation ds false h same g = fails-behind (relation_name relation) 2 ds g (relation-answered relation (place 1) (place 2) ∙ ap Some h.1)
+
+      solved-set : (relation : Relation) (ds : List Raw) (r : Bool) → Solved relation cs ds (held x 1) (held x 2) r → SameSet (here (relation_name relation) 2) (Inst s) → IsGeneralGoal (Inst s) (applied (relation_name relation) (spread place 1 2))
+          → IsSetOf (SetBehind ds r) (children p s)
+      solved-set Unify ds r h same g = unified ds r h same g
+      solved-set NotUnify ds r h same g = tested NotUnify ds r h same g
+      solved-set Same ds r h same g = tested Same ds r h same g
+      solved-set NotSame ds r h same g = tested NotSame ds r h same g
+      solved-set Is ds r h same g = given ds r (eval (place 2)) refl h same g
+      solved-set (Compare op) ds r h same g = tested (Compare op) ds r h same g
+
+  -- a turn, whose children are the set behind the goal
+  module _ (qs : List Point) (p : Program) (good : IsProgram p) (q n : ℕ) (is_at : steps_from code at ≡ builtin_step q n ∷ is) (hx : HoldPlaces (length cs) x) where
+    turn : (ds : List Raw) (r : Bool)
+        → ((s : State) (f : Tree) (rest : List Part) → opened s.goals ≡ call f ∷ rest → SameSet (here q n) (Inst s) → IsGeneralGoal (Inst s) (applied q (spread place 1 n)) → IsSetOf (SetBehind ds r) (children p s))
+        → (ss : List State) → Holds code (machine cs x y ws roots qs (inside at)) ss
+        → (ts : List State) × Turned p 1 ss ts × Holds code (machine ds x y ws roots qs (behind_goal at r)) ts
+    turn ds r child_set ss h =
+        let openly : IsOpen is × AsksOpenly is = subst AsksOpenly is_at h.4 in
+        let at_goal : IsSetOf (here q n) h.0 = subst (λ js. IsSetOf (InCode code (record { cells = cs; returns = ws; roots = roots }) (held x) (held y) js) h.0) is_at h.2 in
+        let some = some-goal code cs ws roots x y is q n hx openly.0 h.5 in
+        let b : Begins (here q n) h.1 ss = begins (here q n) h.0 h.1 ss at_goal h.3 (more (applied q (spread place 1 n)) some.0, some.1, some.2) h.7 in
+        let s : State = b.0 in
+        let m : here q n (plain_goals s.goals) s.tuple = (b.2 (plain_goals s.goals) s.tuple).1 (instances s) in
+        let g : Tree = applied q (spread (λ w. m.0 (held x w)) 1 n) in
+        let e : plain_goals s.goals ≡ more g (append_trees m.4.0 m.2) = m.5 ∙ ap (λ bs. append_trees bs m.2) m.4.1 in
+        let f = first-call s.goals g (append_trees m.4.0 m.2) e in (
+          children p s ++ h.1,
+          subst (λ us. Turned p 1 us (children p s ++ h.1)) (sym b.1) (λ d. no-more g (append_trees m.4.0 m.2) (ap plain_goals (sym d) ∙ e), refl),
+          (
+            children p s,
+            h.1,
+            child_set s g f.0 f.1 b.2 (general-same (here q n) (Inst s) (applied q (spread place 1 n)) b.2 (general code cs ws roots x y is q n hx openly.0 h.5)),
+            plain-children p good s b.3,
+            open-behind r openly.1,
+            h.5,
+            h.6,
+            refl,
+          ),
+        )
+      where
+        no-more : (t : Tree) (ts : Trees) → none ≡ more t ts → ⊥
+        no-more t ts e = cc
+
+        open-behind : (r : Bool) → AsksOpenly is → IsOpenAt code (behind_goal at r)
+        open-behind true o = o
+        open-behind false o = tt
+
+        general-same : (I J : Trees → Trees → Type 0) (g : Tree) → SameSet I J → IsGeneralGoal I g → IsGeneralGoal J g
+        general-same I J g same h = ((h.0.0, h.0.1, (same (more g h.0.0) h.0.1).0 h.0.2), λ u us t j. h.1 u us t ((same (more u us) t).1 j))
+
+module _ (code : Compiled) (cs ds : List Raw) (ws : List Return) (roots : List ℕ) (qs : List Point) (x y : List ℕ) (at : ℕ) (p : Program) (good : IsProgram p) (hx : HoldPlaces (length cs) x) where
+  -- a goal with two arguments
+  pub solved-turn : (relation : Relation) (r : Bool) → steps_from code at ≡ builtin_step (relation_name relation) 2 ∷ steps_from code (at + 1)
+      → HoldPlaces (length cs) y → AreWithin (length cs) ws → AllByRecursion (λ r. r < length cs) roots → Solved relation cs ds (held x 1) (held x 2) r
+      → (ss : List State) → Holds code (machine cs x y ws roots qs (inside at)) ss
+      → (ts : List State) × Turned p 1 ss ts × Holds code (machine ds x y ws roots qs (behind_goal at r)) ts
+  solved-turn relation r is_at hy hw hr solved =
+      turn code cs ws roots x y at qs p good (relation_name relation) 2 is_at hx ds r
+      (λ s f rest opens same g. solved-set code cs ws roots x y at p s f rest opens hx hy hw hr relation ds r solved same g)
+
+  pub true-turn : steps_from code at ≡ builtin_step TRUE 0 ∷ steps_from code (at + 1)
+      → (ss : List State) → Holds code (machine cs x y ws roots qs (inside at)) ss
+      → (ts : List State) × Turned p 1 ss ts × Holds code (machine cs x y ws roots qs (inside (at + 1))) ts
+  true-turn is_at =
+      turn code cs ws roots x y at qs p good TRUE 0 is_at hx cs true (λ s f rest opens same g. holds-behind code cs ws roots x y at p s f rest opens TRUE 0 same g refl)
+
+  pub fail-turn : steps_from code at ≡ builtin_step FAIL 0 ∷ steps_from code (at + 1)
+      → (ss : List State) → Holds code (machine cs x y ws roots qs (inside at)) ss
+      → (ts : List State) × Turned p 1 ss ts × Holds code (machine ds x y ws roots qs failed) ts
+  fail-turn is_at =
+      turn code cs ws roots x y at qs p good FAIL 0 is_at hx ds false (λ s f rest opens same g. fails-behind code cs ws roots x y at p s f rest opens FAIL 0 ds g refl)
