@@ -112,17 +112,17 @@ set-below k n i t l = go (i == n) refl
     go true e = absurd (let q : i ≡ n = (Decides-eqb i n).0 e in omega arith)
     go false e = refl
 
+pub spread-agree : (k l : ℕ → Tree) (p m : ℕ) → ((w : ℕ) → p ≤ w → w < p + m → k w ≡ l w) → spread k p m ≡ spread l p m
+spread-agree k l p zero h = refl
+spread-agree k l p (suc m) h = ap (λ t. more t (spread k (p + 1) m)) (h p (omega arith) (omega arith)) ∙ ap (more (l p)) (spread-agree k l (p + 1) m (λ w b c. h w (omega arith) (omega arith)))
+
 -- a cell that leads to places below says the same under maps that agree there
 cell-agree : (n : ℕ) (k l : ℕ → Tree) → Agree n k l → (c : Raw) → (c ≡ Free → k n ≡ l n) → Within n n c → cell_tree k n c ≡ cell_tree l n c
 cell-agree n k l a Free e w = e refl
 cell-agree n k l a (Same j) e w = a j w
 cell-agree n k l a (Int z) e w = refl
 cell-agree n k l a (Atom b) e w = refl
-cell-agree n k l a (Node b p m) e w = ap (node b) (go p m w)
-  where
-    go : (p m : ℕ) → p + m ≤ n → spread k p m ≡ spread l p m
-    go p zero h = refl
-    go p (suc m) h = ap (λ t. more t (spread k (p + 1) m)) (a p (omega arith)) ∙ ap (more (l p)) (go (p + 1) m (omega arith))
+cell-agree n k l a (Node b p m) e w = ap (node b) (spread-agree k l p m (λ i b c. a i (omega arith)))
 
 module _ (old : List Raw) (c : Raw) (inside : (i : ℕ) → i < length old → Local (λ x. x < length old) (tree_at (trees old) i)) (within : Within (length old) (length old) c) (pushed : trees (old ++ c ∷ []) ≡ trees old ++ step (trees old) (length old) c ∷ []) where
   n : ℕ

@@ -1,18 +1,19 @@
 -- What new cells, and a term that is matched with a constant, make of the maps that fit.
-use Rattle.std.proofs.Common.{◌≡◌, ℕ, ℤ, ◌<◌, ◌==◌, Bool, true, false, List, [], ◌∷◌, ◌++◌, length, map, refl, sym, ap, ◌∙◌, subst, arith}
+use Rattle.std.proofs.Common.{◌≡◌, ℕ, ℤ, zero, suc, ◌+◌, ◌<◌, ◌≤◌, ◌==◌, ◌||◌, Bool, true, false, List, [], ◌∷◌, ◌++◌, length, map, refl, sym, ap, ◌∙◌, subst, arith}
 use Rattle.std.specs.Ordering.{int_eq}
 use Rattle.std.proofs.lemmas.Bool.Decides.{Decides-int_eq}
 use Rattle.std.proofs.lemmas.Bool.{false≢true}
-use Rattle.ap_term.specs.Tree.{Tree, var, int, atom}
-use Rattle.ap_term.specs.Vars.{occurs}
+use Rattle.ap_term.specs.Tree.{Tree, var, int, atom, node}
+use Rattle.ap_term.specs.Vars.{occurs, occurs_all}
 use Rattle.ap_term.specs.Substitution.{instance, value, one}
 use Rattle.ap_term.proofs.Solutions.{same_var, same_test}
 use Rattle.ap_cells.specs.declared.cells.Raw.{Raw}
-use Rattle.ap_cells.specs.Trees.{tree_at, trees, step, Within}
+use Rattle.ap_cells.specs.Trees.{tree_at, trees, span, step, Within}
 use Rattle.ap_cells.specs.Store.{IsStore}
-use Rattle.ap_match.specs.Fits.{Fits, cell_tree, Becomes, Answered}
+use Rattle.ap_instr.specs.Runs.{spread}
+use Rattle.ap_match.specs.Fits.{Fits, Agree, cell_tree, Becomes, Answered}
 use Rattle.ap_match.proofs.Inside.{inside}
-use Rattle.ap_match.proofs.Maps.{below, last, fits-longer, push-fits, bound, bound-fits}
+use Rattle.ap_match.proofs.Maps.{spread-agree, below, last, fits-longer, push-fits, bound, bound-fits}
 
 -- a new cell behind the old ones
 module _ (old new : List Raw) (trail : List ℕ) (c : Raw) (s : IsStore old trail) (w : Within (length old) (length old) c) (e : new ≡ old ++ c ∷ []) (t : trees new ≡ trees old ++ step (trees old) (length old) c ∷ []) where
@@ -75,3 +76,36 @@ decided-atom cs place a b r is e = decided cs place (atom a) (atom b) r is (λ p
 
 pub decided-integer : (cs : List Raw) (place : ℕ) (x y : ℤ) (r : Bool) → ((k : ℕ → Tree) → Fits cs k → k place ≡ int x) → r ≡ int_eq x y → Answered cs cs (λ k. k place ≡ int y) r
 decided-integer cs place x y r is e = decided cs place (int x) (int y) r is (λ p. ap int ((Decides-int_eq x y).0 (sym e ∙ p))) (λ p. let q : x ≡ y = cc in e ∙ (Decides-int_eq x y).1 q)
+
+-- ---- a compound term of cells that are there
+
+-- no variable stands in places where it stands in none
+pub span-absent : (ts : List Tree) (x p m : ℕ) → ((i : ℕ) → i < m → occurs x (tree_at ts (p + i)) ≡ false) → occurs_all x (span ts p m) ≡ false
+span-absent ts x p zero h = refl
+span-absent ts x p (suc m) h =
+    ap (λ b. b || occurs_all x (span ts (p + 1) m)) (let q : p ≡ p + 0 = omega arith in ap (λ n. occurs x (tree_at ts n)) q ∙ h 0 (omega arith))
+    ∙ span-absent ts x (p + 1) m (λ i l. let q : p + 1 + i ≡ p + suc i = omega arith in ap (λ n. occurs x (tree_at ts n)) q ∙ h (suc i) (omega arith))
+
+-- a new place for the term, made equal to another
+pub built-answered : (old mid new : List Raw) (place whole a p m : ℕ) → place < length old → p + m ≤ length old → Becomes old mid (λ k. Unit {0}) (λ k. k whole ≡ node a (spread k p m)) → (r : Bool)
+    → Answered mid new (λ k. k place ≡ k whole) r → Answered old new (λ k. k place ≡ node a (spread k p m)) r
+built-answered old mid new place whole a p m in_place in_args made r = go r
+  where
+    -- the term at the new place
+    laid : (k : ℕ → Tree) → Fits old k → k place ≡ node a (spread k p m) → (l : ℕ → Tree) × Agree (length old) k l × Fits mid l × (l place ≡ l whole)
+    laid k h e =
+        let w = made.each k h tt in
+        let l : ℕ → Tree = w.0 in
+        let q : k place ≡ l place = w.1 place in_place in
+        (l, w.1, w.2, sym q ∙ e ∙ ap (node a) (spread-agree k l p m (λ i b c. w.1 i (omega arith))) ∙ sym (made.only l w.2).2)
+
+    go : (r : Bool) → Answered mid new (λ k. k place ≡ k whole) r → Answered old new (λ k. k place ≡ node a (spread k p m)) r
+    go true becomes = record {
+      longer = let b : length old ≤ length mid = made.longer in let c : length mid ≤ length new = becomes.longer in omega arith;
+      only = λ k h. let o = becomes.only k h in let u = made.only k o.0 in (u.0, o.1 ∙ u.2, tt);
+      each = λ k h e.
+          let w = laid k h e in
+          let v = becomes.each w.0 w.2 w.3 in
+          (v.0, λ i b. w.1 i b ∙ v.1 i (let c : length old ≤ length mid = made.longer in omega arith), v.2);
+    }
+    go false never = λ k h e. let w = laid k h e in never w.0 w.2 w.3

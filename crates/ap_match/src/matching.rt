@@ -1,12 +1,13 @@
 //! Equations, constants and new cells.
 
-ghost use Rattle.std.specs.Prelude.{◌≡◌, ℕ, ◌+◌, ◌<◌, ◌≤◌, length, false, ◌==◌, IfOk};
+ghost use Rattle.std.specs.Prelude.{◌≡◌, ℕ, ◌+◌, ◌<◌, ◌≤◌, length, true, false, ◌==◌, IfOk};
 ghost use Rattle.std.specs.Ordering.{int_eq};
-ghost use Rattle.ap_term.specs.Tree.{Tree, var, int, atom};
-ghost use Rattle.ap_term.specs.Vars.{occurs};
+ghost use Rattle.ap_term.specs.Tree.{Tree, var, int, atom, node};
+ghost use Rattle.ap_term.specs.Vars.{occurs, occurs_all};
 ghost use Rattle.ap_cells.specs.Raws.{raw_of};
-ghost use Rattle.ap_cells.specs.Trees.{tree_at, trees, step, Within};
+ghost use Rattle.ap_cells.specs.Trees.{tree_at, trees, span, step, Within};
 ghost use Rattle.ap_cells.specs.Store.{Keeps};
+ghost use Rattle.ap_instr.specs.Runs.{spread};
 ghost use Rattle.ap_match.specs.Fits.{Fits, cell_tree, Becomes, Answered};
 
 use ap_cells::{Cell, Cells, Top};
@@ -108,5 +109,88 @@ pub fn match_integer(cells: &mut Cells, place: usize, value: i64) -> bool
         Top::Int(found) => same_integer(found, value),
         Top::Atom(_) => false,
         Top::Node(_, _, _) => false,
+    }
+}
+
+/// Whether a cell is an unbound variable or a constant.
+fn is_new(cells: &Cells, place: usize) -> bool
+    requires { place < length cells.now.cells }
+    ensures { result ≡ true → (x : ℕ) → x < place → occurs x (tree_at (trees cells.now.cells) place) ≡ false }
+{
+    match cells.at(place) {
+        Cell::Free => true,
+        Cell::Same(_) => false,
+        Cell::Int(_) => true,
+        Cell::Atom(_) => true,
+        Cell::Node(_, _, _) => false,
+    }
+}
+
+/// Whether each of these cells is an unbound variable or a constant, so that no variable of an older place stands there.
+fn are_new(cells: &Cells, first: usize, count: u32) -> bool
+    requires { first + count ≤ length cells.now.cells }
+    ensures { result ≡ true → (x : ℕ) → x < first → occurs_all x (span (trees cells.now.cells) first count) ≡ false }
+{
+    let places = cells.len();
+    prove!(first <= places);
+    for i in 0..count {
+        if !is_new(cells, first + i as usize) {
+            return false;
+        }
+    }
+    true
+}
+
+/// Makes a place's term a new compound term by unification.
+fn equate_built(
+    cells: &mut Cells,
+    place: usize,
+    name: Atom,
+    first: usize,
+    count: u32,
+    work: &mut Work,
+) -> Result<bool, NoMemory>
+    requires room { 0 < cells.old.spare }
+    requires inside { place < length cells.old.cells }
+    requires args { first + count ≤ length cells.old.cells }
+    ensures answered { IfOk result (λ r. Answered cells.old.cells cells.new.cells (λ k. k place ≡ node name (spread k first count)) r) }
+    ensures len { length cells.new.cells ≡ length cells.old.cells + 1 }
+    ensures spare { cells.new.spare + 1 ≡ cells.old.spare }
+    ensures keeps { Keeps cells.old cells.new }
+{
+    let whole = push_new(cells, Cell::Node(name, first, count));
+    let answer = equate(cells, place, whole, work)?;
+    Ok(answer)
+}
+
+/// Makes a place's term a new compound term, of a name and the cells from `first` on, if it can be. A term of new variables
+/// and constants alone is bound without a look for the place in it. After false, or want of memory, some bindings may be
+/// made; `undo_to` takes them back.
+pub fn match_built(
+    cells: &mut Cells,
+    place: usize,
+    name: Atom,
+    first: usize,
+    count: u32,
+    work: &mut Work,
+) -> Result<bool, NoMemory>
+    requires room { 0 < cells.old.spare }
+    requires inside { place < length cells.old.cells }
+    requires args { first + count ≤ length cells.old.cells }
+    ensures answered { IfOk result (λ r. Answered cells.old.cells cells.new.cells (λ k. k place ≡ node name (spread k first count)) r) }
+    ensures len { length cells.new.cells ≡ length cells.old.cells + 1 }
+    ensures spare { cells.new.spare + 1 ≡ cells.old.spare }
+    ensures keeps { Keeps cells.old cells.new }
+{
+    match cells.top(place) {
+        Top::Free(x) => {
+            if x < first && are_new(cells, first, count) {
+                bind_new(cells, x, Cell::Node(name, first, count));
+                Ok(true)
+            } else {
+                equate_built(cells, place, name, first, count, work)
+            }
+        }
+        _ => equate_built(cells, place, name, first, count, work),
     }
 }

@@ -3,7 +3,7 @@ use Rattle.std.proofs.Common.{◌≡◌, ℕ, ◌+◌, ◌==◌, ◌&&◌, Bool,
 use Rattle.std.specs.List.{AllZip, AllByRecursion, filter, flat_map}
 use Rattle.std.proofs.lemmas.Bool.{false≢true}
 use Rattle.std.proofs.lemmas.Bool.Decides.{Decides-eqb}
-use Rattle.std.proofs.lemmas.List.{append-nil}
+use Rattle.std.proofs.lemmas.List.{append-nil, map-append}
 use Rattle.std.proofs.lemmas.List.Elements.{All-head, All-tail}
 use Rattle.ap_term.specs.Tree.{Tree, Trees, var, int, atom, node, none, more, count_trees}
 use Rattle.ap_term.specs.Substitution.{instance, instance_all}
@@ -24,10 +24,6 @@ use Rattle.ap_resolution.proofs.Resolution.{resolution}
 use Rattle.ap_resolution.proofs.Variants.{instances}
 use Rattle.ap_steps.specs.Standing.{IsHead}
 use Rattle.ap_standing.specs.Holds.{IsPlain}
-
-pub map-append : {A B : Type 0} (f : A → B) (xs ys : List A) → map f (xs ++ ys) ≡ map f xs ++ map f ys
-map-append f [] ys = refl
-map-append f (x ∷ xs) ys = ap (λ zs. f x ∷ zs) (map-append f xs ys)
 
 module _ (s : State) (g : Tree) (rest : List Part) (opens : opened s.goals ≡ call g ∷ rest) (ordinary : builtin g ≡ None) where
   pub children-clauses : (p : Program) → children p s ≡ map (child s rest) (flat_map (clause_way s.next g) p)

@@ -1,6 +1,9 @@
+pub mod Places
 pub mod RegisterMaps
 pub mod Steps
 pub mod StepsTaken
 pub mod Building
 pub mod Entry
-pub mod Structures
+pub mod Finding
+pub mod StructureSteps
+pub mod StructuresTaken

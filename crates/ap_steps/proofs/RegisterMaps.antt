@@ -1,5 +1,5 @@
 -- Registers as maps.
-use Rattle.std.proofs.Common.{◌≡◌, ℕ, ◌<◌, ◌==◌, Bool, true, false, if◌then◌else◌, List, length, set, refl, ap, sym, ◌∙◌}
+use Rattle.std.proofs.Common.{◌≡◌, ℕ, ◌+◌, ◌<◌, ◌≤◌, ◌==◌, Bool, true, false, if◌then◌else◌, List, length, set, refl, ap, sym, ◌∙◌, arith}
 use Rattle.std.proofs.lemmas.Bool.Decides.{Decides-eqb}
 use Rattle.std.proofs.lemmas.Bool.{false≢true}
 use Rattle.std.proofs.lemmas.List.{get_or-set_same, get_or-set_other}
@@ -7,7 +7,7 @@ use Rattle.ap_term.specs.Tree.{Tree}
 use Rattle.ap_instr.specs.declared.instruction.Slot.{Slot}
 use Rattle.ap_instr.specs.declared.instruction.Slot.TheVariants.{X, Y}
 use Rattle.ap_instr.specs.Runs.{set as set_map, read, set_x, set_y}
-use Rattle.ap_steps.specs.Moves.{held}
+use Rattle.ap_steps.specs.Moves.{held, HoldPlaces, HoldPlacesBut}
 
 pub funext : {A B : Type 0} (f g : A → B) → ((a : A) → f a ≡ g a) → f ≡ g
 funext f g h = λ i. λ a. h a i
@@ -44,3 +44,27 @@ read-of k (Y n) x y = refl
 pub read-inside : (n : ℕ) (v : Slot) (x y : ℕ → ℕ) → ((w : ℕ) → x w < n) → ((w : ℕ) → y w < n) → read v x y < n
 read-inside n (X m) x y hx hy = hx m
 read-inside n (Y m) x y hx hy = hy m
+
+-- ---- registers that hold places, but for one that is to come
+
+pub but-all : (n whole : ℕ) (xs : List ℕ) → HoldPlaces n xs → HoldPlacesBut whole n xs
+but-all n whole xs h = λ w apart. h w
+
+pub all-but : (n : ℕ) (xs : List ℕ) → ((whole : ℕ) → HoldPlacesBut whole n xs) → HoldPlaces n xs
+all-but n xs h = λ w. h (held xs w + 1) w (λ e. absurd (omega arith))
+
+-- after one is put
+pub but-set : (n a whole : ℕ) (xs xs' : List ℕ) → HoldPlaces n xs → ((w : ℕ) → held xs' w ≡ set_map (held xs) a whole w) → HoldPlacesBut whole n xs'
+but-set n a whole xs xs' h e = λ w apart. go w apart (w == a) refl
+  where
+    go : (w : ℕ) → (held xs' w ≡ whole → ⊥) → (b : Bool) → (w == a) ≡ b → held xs' w < n
+    go w apart true q = absurd (apart (e w ∙ ap (λ b. if b then whole else held xs w) q))
+    go w apart false q = let p : held xs' w ≡ held xs w = e w ∙ ap (λ b. if b then whole else held xs w) q in let l : held xs w < n = h w in omega arith
+
+-- it has come
+pub but-come : (n m whole : ℕ) (xs : List ℕ) → HoldPlacesBut whole n xs → whole < m → n ≤ m → HoldPlaces m xs
+but-come n m whole xs h l k = λ w. go w (held xs w == whole) refl
+  where
+    go : (w : ℕ) (b : Bool) → (held xs w == whole) ≡ b → held xs w < m
+    go w true q = let e : held xs w ≡ whole = (Decides-eqb (held xs w) whole).0 q in omega arith
+    go w false q = let b : held xs w < n = h w (λ e. false≢true (sym q ∙ (Decides-eqb (held xs w) whole).1 e)) in omega arith

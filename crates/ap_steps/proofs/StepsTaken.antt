@@ -1,12 +1,14 @@
 -- The steps that instructions take, by what their registers hold.
-use Rattle.std.proofs.Common.{◌≡◌, ℕ, true, List, length, refl, ap, sym, ◌∙◌, subst}
+use Rattle.std.proofs.Common.{◌≡◌, ℕ, ◌+◌, Bool, true, false, List, ◌∷◌, length, refl, ap, sym, ◌∙◌, subst, arith}
 use Rattle.ap_term.specs.Tree.{Tree}
 use Rattle.ap_cells.specs.declared.cells.Raw.{Raw}
 use Rattle.ap_instr.specs.declared.instruction.Slot.{Slot}
-use Rattle.ap_instr.specs.Step.{get_variable, put_variable, put_value, put_constant}
+use Rattle.ap_instr.specs.Code.{Compiled}
+use Rattle.ap_instr.specs.Step.{Step, get_variable, put_variable, put_value, put_constant}
 use Rattle.ap_instr.specs.Runs.{set, read, set_x, set_y}
 use Rattle.ap_match.specs.Fits.{Fits, cell_tree, Becomes}
-use Rattle.ap_steps.specs.Moves.{held, HoldPlaces, Taken}
+use Rattle.ap_steps.specs.Moves.{held, HoldPlaces, Moves, Taken}
+use Rattle.ap_steps.specs.Ways.{steps_from, StepTaken}
 use Rattle.ap_steps.proofs.RegisterMaps.{funext}
 use Rattle.ap_steps.proofs.Steps.{variable-taken, put_value-taken, put_constant-taken, put_variable-taken}
 
@@ -42,3 +44,8 @@ put_variable_done cs ds x xm x' y y' hx hy v a p e b all em ex ey =
     (subst (λ u. Taken cs (held x) (held y) (put_variable v a) ds (set u a p) (held y') true) (sym (funext (held xm) (set_x v p (held x)) em))
     (subst (λ u. Taken cs (held x) (held y) (put_variable v a) ds (set (set_x v p (held x)) a p) u true) (sym (funext (held y') (set_y v p (held y)) ey))
     (put_variable-taken cs ds (held x) (held y) hx hy v a p e b.longer (λ k h. (b.only k h).0) (λ k h. all k h refl))))
+
+-- a step without arguments
+pub plain-taken : (code : Compiled) (i : Step) (at : ℕ) (cs ds : List Raw) (x y x' y' : ℕ → ℕ) (b : Bool) → Taken cs x y i ds x' y' b → StepTaken code i at 0 cs x y ds x' y' b
+plain-taken code i at cs ds x y x' y' true t = let q : at ≡ at + 0 = omega arith in subst (λ n. Moves cs x y (i ∷ steps_from code at) ds x' y' (steps_from code n)) q (t (steps_from code at))
+plain-taken code i at cs ds x y x' y' false t = t (steps_from code at)

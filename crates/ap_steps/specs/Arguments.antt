@@ -3,9 +3,11 @@
 use Rattle.std.specs.Prelude.{◌≡◌, ℕ, suc, ◌+◌, ◌<◌, ◌≤◌, Bool, true, false, List, ◌∷◌, length}
 use Rattle.ap_term.specs.Tree.{Tree, Trees}
 use Rattle.ap_cells.specs.declared.cells.Raw.{Raw}
+use Rattle.ap_instr.specs.Code.{Compiled}
 use Rattle.ap_instr.specs.Step.{Step}
 use Rattle.ap_instr.specs.Runs.{Runs, spread}
 use Rattle.ap_match.specs.Fits.{Fits}
+use Rattle.ap_steps.specs.Ways.{steps_from}
 
 -- under a map that fits the cells, inside a structure whose arguments ts are still to come, the steps ask for these goals
 abbrev pub AskedInside : List Raw → (ℕ → ℕ) → (ℕ → ℕ) → List Step → Trees → (ℕ → Tree) → Trees → Type 0
@@ -33,3 +35,8 @@ pub record BuiltAll (count : ℕ) (cs : List Raw) (x y : ℕ → ℕ) (js : List
 abbrev pub IsStuckInside : ℕ → ℕ → List Raw → (ℕ → ℕ) → (ℕ → ℕ) → List Step → Type 0
 IsStuckInside whole total cs x y js =
     (l : ℕ → Tree) (bs : Trees) → ((p : ℕ) → length cs ≤ p → p < length cs + total → l whole ≡ l p → ⊥) → AskedInside cs x y js (spread l (length cs) total) l bs → ⊥
+
+-- so many arguments by the instructions from a place on, or none can be built, where the structure's place comes behind them
+abbrev pub BuiltOrStuck : Compiled → ℕ → ℕ → List Raw → (ℕ → ℕ) → (ℕ → ℕ) → List Raw → (ℕ → ℕ) → (ℕ → ℕ) → Bool → Type 0
+BuiltOrStuck code at n cs x y ds x' y' true = BuiltAll n cs x y (steps_from code at) ds x' y' (steps_from code (at + n))
+BuiltOrStuck code at n cs x y ds x' y' false = IsStuckInside (length cs + n) n cs x y (steps_from code at)

@@ -1,4 +1,5 @@
 pub mod Moves
 pub mod Arguments
 pub mod Standing
+pub mod Found
 pub mod Ways

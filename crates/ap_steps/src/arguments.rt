@@ -1,6 +1,6 @@
 //! Arguments of a structure that is built: each becomes the next cell.
 
-ghost use Rattle.std.specs.Prelude.{◌≡◌, ℕ, ◌+◌, ◌<◌, List, length, slice_get, true};
+ghost use Rattle.std.specs.Prelude.{◌≡◌, ℕ, ◌+◌, ◌<◌, ◌≤◌, List, length, drop, slice_get, true, false};
 ghost use Rattle.ap_term.specs.Tree.{Tree, atom, int};
 ghost use Rattle.ap_cells.specs.Raws.{raw_of};
 ghost use Rattle.ap_cells.specs.Store.{Keeps};
@@ -8,10 +8,12 @@ ghost use Rattle.ap_cells.specs.Trees.{Within};
 ghost use Rattle.ap_instr.specs.Step.{unify_variable, unify_value, unify_constant, with_integer, step_of};
 ghost use Rattle.ap_instr.specs.Runs.{read};
 ghost use Rattle.ap_match.specs.Fits.{cell_tree};
-ghost use Rattle.ap_steps.specs.Moves.{held, HasRegister, HasTarget, HoldPlacesBut, constant_of};
-ghost use Rattle.ap_steps.specs.Arguments.{Built, BuiltOr};
+ghost use Rattle.ap_steps.specs.Moves.{held, HasRegister, HasTargets, HoldPlacesBut, constant_of};
+ghost use Rattle.ap_steps.specs.Arguments.{Built, BuiltOr, BuiltOrStuck};
+ghost use Rattle.ap_steps.specs.Ways.{is_control, NoneOfControl, AllHaveTargets};
 
 use crate::registers::{read, write};
+use crate::tables::{instruction_at, integer_at};
 use ap_cells::{Cell, Cells};
 use ap_instr::{Code, Instr, Slot};
 use ap_match::push_new;
@@ -20,8 +22,10 @@ use ap_term::Atom;
 /// `unify_variable V`: the register gets the argument's place, a new unbound cell.
 pub fn build_variable(cells: &mut Cells, x: &mut [u32], y: &mut [u32], v: Slot)
     requires room { 0 < cells.old.spare }
-    requires has { HasRegister v x.old y.old }
+    requires has { HasRegister v (length x.old) (length y.old) }
     ensures built { Built cells.old.cells (held x.old) (held y.old) (unify_variable v) cells.new.cells (held x.new) (held y.new) }
+    ensures holds_x { (whole : ℕ) → HoldPlacesBut whole (length cells.old.cells) x.old → HoldPlacesBut whole (length cells.new.cells) x.new }
+    ensures holds_y { (whole : ℕ) → HoldPlacesBut whole (length cells.old.cells) y.old → HoldPlacesBut whole (length cells.new.cells) y.new }
     ensures x_len { length x.new ≡ length x.old }
     ensures y_len { length y.new ≡ length y.old }
     ensures spare { cells.new.spare + 1 ≡ cells.old.spare }
@@ -38,6 +42,7 @@ pub fn build_variable(cells: &mut Cells, x: &mut [u32], y: &mut [u32], v: Slot)
 pub fn build_value(cells: &mut Cells, x: &[u32], y: &[u32], v: Slot) -> bool
     requires room { 0 < cells.old.spare }
     ensures built { (whole : ℕ) → ((read v (held x.now) (held y.now) ≡ whole → ⊥) → read v (held x.now) (held y.now) < length cells.old.cells) → BuiltOr whole cells.old.cells (held x.now) (held y.now) (unify_value v) cells.new.cells (held x.now) (held y.now) result }
+    ensures longer { length cells.old.cells ≤ length cells.new.cells }
     ensures spare { result ≡ true → cells.new.spare + 1 ≡ cells.old.spare }
     ensures keeps { Keeps cells.old cells.new }
 {
@@ -56,6 +61,7 @@ fn build_cell(cells: &mut Cells, cell: Cell)
     requires constant { (k : ℕ → Tree) → cell_tree k (length cells.old.cells) (raw_of cell) ≡ constant_of cell }
     requires within { Within (length cells.old.cells) (length cells.old.cells) (raw_of cell) }
     ensures built { (xs ys : List ℕ) → Built cells.old.cells (held xs) (held ys) (unify_constant (constant_of cell)) cells.new.cells (held xs) (held ys) }
+    ensures longer { length cells.old.cells ≤ length cells.new.cells }
     ensures spare { cells.new.spare + 1 ≡ cells.old.spare }
     ensures keeps { Keeps cells.old cells.new }
 {
@@ -66,6 +72,7 @@ fn build_cell(cells: &mut Cells, cell: Cell)
 pub fn build_atom(cells: &mut Cells, name: Atom)
     requires room { 0 < cells.old.spare }
     ensures built { (xs ys : List ℕ) → Built cells.old.cells (held xs) (held ys) (unify_constant (atom name)) cells.new.cells (held xs) (held ys) }
+    ensures longer { length cells.old.cells ≤ length cells.new.cells }
     ensures spare { cells.new.spare + 1 ≡ cells.old.spare }
     ensures keeps { Keeps cells.old cells.new }
 {
@@ -76,23 +83,18 @@ pub fn build_atom(cells: &mut Cells, name: Atom)
 pub fn build_integer(cells: &mut Cells, value: i64)
     requires room { 0 < cells.old.spare }
     ensures built { (xs ys : List ℕ) → Built cells.old.cells (held xs) (held ys) (unify_constant (int value)) cells.new.cells (held xs) (held ys) }
+    ensures longer { length cells.old.cells ≤ length cells.new.cells }
     ensures spare { cells.new.spare + 1 ≡ cells.old.spare }
     ensures keeps { Keeps cells.old cells.new }
 {
     build_cell(cells, Cell::Int(value));
 }
 
-/// An integer of the code's table.
-fn integer_at(code: &Code, i: u32) -> Option<i64>
-    ensures { result ≡ slice_get code.now.integers i }
-{
-    code.integers().get(i as usize).copied()
-}
-
 /// `unify_integer I`: the argument is an integer of the code's table. False where the table doesn't have it.
 fn build_listed(cells: &mut Cells, code: &Code, i: u32) -> bool
     requires room { 0 < cells.old.spare }
     ensures built { (whole : ℕ) (xs ys : List ℕ) → BuiltOr whole cells.old.cells (held xs) (held ys) (with_integer (slice_get code.now.integers i) unify_constant) cells.new.cells (held xs) (held ys) result }
+    ensures longer { length cells.old.cells ≤ length cells.new.cells }
     ensures spare { result ≡ true → cells.new.spare + 1 ≡ cells.old.spare }
     ensures keeps { Keeps cells.old cells.new }
 {
@@ -115,8 +117,11 @@ pub fn build_argument(
     instr: Instr,
 ) -> bool
     requires room { 0 < cells.old.spare }
-    requires has { HasTarget instr x.old y.old }
+    requires has { HasTargets instr (length x.old) (length y.old) }
     ensures built { (whole : ℕ) → HoldPlacesBut whole (length cells.old.cells) x.old → HoldPlacesBut whole (length cells.old.cells) y.old → BuiltOr whole cells.old.cells (held x.old) (held y.old) (step_of code.now instr) cells.new.cells (held x.new) (held y.new) result }
+    ensures argument { result ≡ true → is_control instr ≡ false }
+    ensures holds_x { (whole : ℕ) → HoldPlacesBut whole (length cells.old.cells) x.old → HoldPlacesBut whole (length cells.new.cells) x.new }
+    ensures holds_y { (whole : ℕ) → HoldPlacesBut whole (length cells.old.cells) y.old → HoldPlacesBut whole (length cells.new.cells) y.new }
     ensures x_len { length x.new ≡ length x.old }
     ensures y_len { length y.new ≡ length y.old }
     ensures spare { result ≡ true → cells.new.spare + 1 ≡ cells.old.spare }
@@ -135,4 +140,43 @@ pub fn build_argument(
         Instr::UnifyInteger(i) => build_listed(cells, code, i),
         _ => false,
     }
+}
+
+/// The arguments of a structure, by the instructions from a place on: each becomes the next cell, and the structure is to
+/// have its own place behind them. False where they can't be built, whatever comes behind them.
+pub fn build_arguments(
+    cells: &mut Cells,
+    x: &mut [u32],
+    y: &mut [u32],
+    code: &Code,
+    at: usize,
+    count: usize,
+) -> bool
+    requires room { count ≤ cells.old.spare }
+    requires inside { at ≤ length code.now.instructions }
+    requires targets { AllHaveTargets (drop at code.now.instructions) (length x.old) (length y.old) }
+    requires holds_x { HoldPlacesBut (length cells.old.cells + count) (length cells.old.cells) x.old }
+    requires holds_y { HoldPlacesBut (length cells.old.cells + count) (length cells.old.cells) y.old }
+    ensures built { BuiltOrStuck code.now at count cells.old.cells (held x.old) (held y.old) cells.new.cells (held x.new) (held y.new) result }
+    ensures passed { result ≡ true → NoneOfControl code.now.instructions at count }
+    ensures holds_x { (whole : ℕ) → HoldPlacesBut whole (length cells.old.cells) x.old → HoldPlacesBut whole (length cells.new.cells) x.new }
+    ensures holds_y { (whole : ℕ) → HoldPlacesBut whole (length cells.old.cells) y.old → HoldPlacesBut whole (length cells.new.cells) y.new }
+    ensures x_len { length x.new ≡ length x.old }
+    ensures y_len { length y.new ≡ length y.old }
+    ensures spare { result ≡ true → cells.new.spare + count ≡ cells.old.spare }
+    ensures keeps { Keeps cells.old cells.new }
+{
+    let places = code.instructions().len();
+    prove!(at <= places);
+    for i in 0..count {
+        match instruction_at(code, at + i) {
+            Some(instr) => {
+                if !build_argument(cells, x, y, code, instr) {
+                    return false;
+                }
+            }
+            None => return false,
+        }
+    }
+    true
 }

@@ -19,7 +19,7 @@ use ap_unify::Work;
 
 /// `get_variable V, A`: the register gets what the argument holds.
 pub fn get_variable(x: &mut [u32], y: &mut [u32], v: Slot, a: u32)
-    requires { HasRegister v x.old y.old }
+    requires { HasRegister v (length x.old) (length y.old) }
     ensures taken { (cs : List Raw) → Taken cs (held x.old) (held y.old) (get_variable v a) cs (held x.new) (held y.new) true }
     ensures places_x { (n : ℕ) → HoldPlaces n x.old → HoldPlaces n y.old → HoldPlaces n x.new }
     ensures places_y { (n : ℕ) → HoldPlaces n x.old → HoldPlaces n y.old → HoldPlaces n y.new }
@@ -139,7 +139,7 @@ pub fn put_integer(cells: &mut Cells, x: &mut [u32], value: i64, a: u32)
 /// `put_variable V, A`: the register and the argument get a new unbound cell.
 pub fn put_variable(cells: &mut Cells, x: &mut [u32], y: &mut [u32], v: Slot, a: u32)
     requires room { 0 < cells.old.spare }
-    requires has { HasRegister v x.old y.old }
+    requires has { HasRegister v (length x.old) (length y.old) }
     requires has_argument { a < length x.old }
     ensures taken { HoldPlaces (length cells.old.cells) x.old → HoldPlaces (length cells.old.cells) y.old → Taken cells.old.cells (held x.old) (held y.old) (put_variable v a) cells.new.cells (held x.new) (held y.new) true }
     ensures places_x { HoldPlaces (length cells.old.cells) x.old → HoldPlaces (length cells.new.cells) x.new }

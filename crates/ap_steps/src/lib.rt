@@ -1,9 +1,15 @@
 //! The instructions of a clause over cells and registers.
 //!
-//! Stands on `ap_match` and `ap_instr`. What is used above: an instruction that was taken keeps what code asks for.
+//! Stands on `ap_match` and `ap_instr`. The one contract used above: `run_to_control` takes instructions up to the next one of
+//! control, where the code asks for the same goals as before, or says no, where it can ask for nothing.
 #![tactic(auto)]
 
 pub mod arguments;
+pub mod found;
 pub mod instructions;
 pub mod laws;
 pub mod registers;
+pub mod room;
+pub mod run;
+pub mod structures;
+mod tables;

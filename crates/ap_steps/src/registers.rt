@@ -51,7 +51,7 @@ pub fn put(registers: &mut [u32], number: usize, place: u32)
 
 /// Puts a place into an X or Y register.
 pub fn write(x: &mut [u32], y: &mut [u32], v: Slot, place: u32)
-    requires { HasRegister v x.old y.old }
+    requires { HasRegister v (length x.old) (length y.old) }
     ensures x { (w : ℕ) → held x.new w ≡ set_x v place (held x.old) w }
     ensures y { (w : ℕ) → held y.new w ≡ set_y v place (held y.old) w }
     ensures x_len { length x.new ≡ length x.old }

@@ -1,0 +1,26 @@
+use Rattle.std.proofs.Common.{true, sym, subst}
+use Rattle.ap_instr.specs.Step.{step_of}
+use Rattle.ap_steps.specs.Moves.{held}
+use Rattle.ap_steps.specs.Found.{Matched}
+use Rattle.ap_steps.proofs.found.match_argument.Goals as goal
+
+pub returns-in-UnifyVariable-clause-matched : goal.returns-in-UnifyVariable-clause-matched
+returns-in-UnifyVariable-clause-matched c =
+    subst (λ i. Matched c.args.cells.now.cells (held c.args.x.now) (held c.args.y.now) (step_of c.args.code.now i) c.args.place c.args.cells.now.cells (held c.match_variable.new.x) (held c.match_variable.new.y) true) (sym c.in-UnifyVariable.is)
+    c.match_variable.ensures.matched
+
+pub returns-in_ok-answer-in-UnifyValue-clause-matched : goal.returns-in_ok-answer-in-UnifyValue-clause-matched
+returns-in_ok-answer-in-UnifyValue-clause-matched c =
+    subst
+    (λ i. Matched c.args.cells.now.cells (held c.args.x.now) (held c.args.y.now) (step_of c.args.code.now i) c.args.place c.match_value.new.cells.cells (held c.args.x.now) (held c.args.y.now) c.in_ok-answer-in-UnifyValue.answer)
+    (sym c.in-UnifyValue.is) c.in_ok-answer-in-UnifyValue.ensures.matched
+
+pub returns-in-UnifyConstant-clause-matched : goal.returns-in-UnifyConstant-clause-matched
+returns-in-UnifyConstant-clause-matched c =
+    subst (λ i. Matched c.args.cells.now.cells (held c.args.x.now) (held c.args.y.now) (step_of c.args.code.now i) c.args.place c.match_name.new.cells.cells (held c.args.x.now) (held c.args.y.now) c.match_name.result)
+    (sym c.in-UnifyConstant.is) c.match_name.ensures.matched
+
+pub returns-in-UnifyInteger-clause-matched : goal.returns-in-UnifyInteger-clause-matched
+returns-in-UnifyInteger-clause-matched c =
+    subst (λ i. Matched c.args.cells.now.cells (held c.args.x.now) (held c.args.y.now) (step_of c.args.code.now i) c.args.place c.match_listed.new.cells.cells (held c.args.x.now) (held c.args.y.now) c.match_listed.result)
+    (sym c.in-UnifyInteger.is) c.match_listed.ensures.matched

@@ -1,0 +1,20 @@
+use Rattle.std.proofs.Common.{◌≡◌, ℕ, ◌+◌, ◌≤◌, length}
+use Rattle.ap_cells.specs.Store.{Keeps}
+use Rattle.ap_steps.specs.Moves.{held, HoldPlaces}
+use Rattle.ap_steps.specs.Found.{MovesInside}
+use Rattle.ap_steps.specs.Ways.{NoneOfControl, steps_from}
+use Rattle.ap_steps.proofs.found.match_arguments.Given as goal
+
+abbrev pub invariant-loop-i : goal.invariant-loop-i
+invariant-loop-i l = record {
+  matched : (m : ℕ) → l.count ≡ l.i + m → MovesInside l.fn.cells.cells (held l.fn.x) (held l.fn.y) (steps_from l.code l.at) l.first l.count l.cells.cells (held l.x) (held l.y) (steps_from l.code (l.at + l.i)) (l.first + l.i) m;
+  passed : NoneOfControl l.code.instructions l.at l.i;
+  inside : l.at + l.i ≤ length l.code.instructions;
+  longer : length l.fn.cells.cells ≤ length l.cells.cells;
+  holds_x : HoldPlaces (length l.cells.cells) l.x;
+  holds_y : HoldPlaces (length l.cells.cells) l.y;
+  x_len : length l.x ≡ length l.fn.x;
+  y_len : length l.y ≡ length l.fn.y;
+  spare : l.fn.cells.spare ≤ l.cells.spare + l.i;
+  keeps : Keeps l.fn.cells l.cells;
+}
