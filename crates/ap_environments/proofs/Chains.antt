@@ -305,6 +305,6 @@ no-newest ss fs points ns m ms e v h = let d : moments ss fs [] ≡ m ∷ ms = s
     nothing : [] ≡ m ∷ ms → ⊥
     nothing d = cc
 
-pub none-popped : (xs ys : List Point) → xs ≡ ys ++ [] → (length xs ≡ 0) × (length ys ≡ 0) → xs ≡ []
-none-popped [] ys e l = refl
-none-popped (x ∷ xs) ys e l = absurd (let z : suc (length xs) ≡ 0 = l.0 in omega arith)
+pub none-popped : (xs : List Point) → length xs ≡ 0 → xs ≡ []
+none-popped [] l = refl
+none-popped (x ∷ xs) l = absurd (omega arith)

@@ -95,8 +95,8 @@ module _ (q : Predicate) (s : State) (g : Tree) (rest : List Part) (opens : open
   others c good other =
       no-state (Resolved (Inst s) c) (children (c ∷ []) s) (resolves s g rest opens ordinary c below)
       (λ gs t r.
-          let k = calls (instance r.0 c.head) r.1 t r.2 in
-          false≢true (sym other ∙ is_head_of-instance q r.0 c.head k.0 (callable-head c good) k.2 k.1))
+      let k = calls (instance r.0 c.head) r.1 t r.2 in
+      false≢true (sym other ∙ is_head_of-instance q r.0 c.head k.0 (callable-head c good) k.2 k.1))
     where
       callable-head : (c : Clause) → IsClause c → callable c.head ≡ true
       callable-head c good = (and_both (callable c.head) (numbered c.vars c.head) good.head).0

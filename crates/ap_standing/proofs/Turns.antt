@@ -177,38 +177,38 @@ split code roots q l ls qs ss h = go u.clauses refl
         let good : IsProgram (c ∷ cs) = subst IsProgram e u.good in
         let one : IsProgram (c ∷ []) = All-cons IsClause c [] (All-head IsClause c cs good) (All-nil IsClause) in
         record {
-      here = children (c ∷ []) u.state;
-      left = children cs u.state ++ h.1;
-      same = h.3 ∙ ap (λ us. us ++ h.1) (ap (λ ds. children ds u.state) e ∙ children-split u.state u.goal u.rest u.opens u.ordinary c cs) ∙ append_assoc (children (c ∷ []) u.state) (children cs u.state) h.1;
-      plain = plain-children (c ∷ []) one u.state u.plain;
-      openly = reads.0.openly;
-      returns = u.open_returns;
-      others = (
-        record {
-          predicate = u.predicate;
-          state = u.state;
-          goal = u.goal;
-          rest = u.rest;
-          clauses = cs;
-          known = u.known;
-          same = u.same;
-          plain = u.plain;
-          opens = u.opens;
-          ordinary = u.ordinary;
-          heads = heads.1;
-          good = All-tail IsClause c cs good;
-          reads = reads.1;
-          open_returns = u.open_returns;
-        },
-        h.1,
-        h.2,
-        refl,
-      );
-      is_set = λ x y args.
-          let at_call : SameSet (AtCall code st x p n) (Inst u.state) = SameSet-trans (AtCall code st x p n) (AtCall code st (held q.arguments) p n) (Inst u.state) (AtCall-registers code st x (held q.arguments) p n (args n)) u.same in
-          IsSetOf-same (Resolved (Inst u.state) c) (InCode code st x y (steps_from code l))
-          (SameSet-trans (Resolved (Inst u.state) c) (Resolved (AtCall code st x p n) c) (InCode code st x y (steps_from code l))
-          (Resolved-same (Inst u.state) (AtCall code st x p n) c (SameSet-sym (AtCall code st x p n) (Inst u.state) at_call))
-          (SameSet-sym (InCode code st x y (steps_from code l)) (Resolved (AtCall code st x p n) c) (entry code st x y p n (steps_from code l) c heads.0 reads.0.reads)))
-          (children (c ∷ []) u.state) (resolves u.state u.goal u.rest u.opens u.ordinary c u.plain.0);
-    }
+          here = children (c ∷ []) u.state;
+          left = children cs u.state ++ h.1;
+          same = h.3 ∙ ap (λ us. us ++ h.1) (ap (λ ds. children ds u.state) e ∙ children-split u.state u.goal u.rest u.opens u.ordinary c cs) ∙ append_assoc (children (c ∷ []) u.state) (children cs u.state) h.1;
+          plain = plain-children (c ∷ []) one u.state u.plain;
+          openly = reads.0.openly;
+          returns = u.open_returns;
+          others = (
+            record {
+              predicate = u.predicate;
+              state = u.state;
+              goal = u.goal;
+              rest = u.rest;
+              clauses = cs;
+              known = u.known;
+              same = u.same;
+              plain = u.plain;
+              opens = u.opens;
+              ordinary = u.ordinary;
+              heads = heads.1;
+              good = All-tail IsClause c cs good;
+              reads = reads.1;
+              open_returns = u.open_returns;
+            },
+            h.1,
+            h.2,
+            refl,
+          );
+          is_set = λ x y args.
+              let at_call : SameSet (AtCall code st x p n) (Inst u.state) = SameSet-trans (AtCall code st x p n) (AtCall code st (held q.arguments) p n) (Inst u.state) (AtCall-registers code st x (held q.arguments) p n (args n)) u.same in
+              IsSetOf-same (Resolved (Inst u.state) c) (InCode code st x y (steps_from code l))
+              (SameSet-trans (Resolved (Inst u.state) c) (Resolved (AtCall code st x p n) c) (InCode code st x y (steps_from code l))
+              (Resolved-same (Inst u.state) (AtCall code st x p n) c (SameSet-sym (AtCall code st x p n) (Inst u.state) at_call))
+              (SameSet-sym (InCode code st x y (steps_from code l)) (Resolved (AtCall code st x p n) c) (entry code st x y p n (steps_from code l) c heads.0 reads.0.reads)))
+              (children (c ∷ []) u.state) (resolves u.state u.goal u.rest u.opens u.ordinary c u.plain.0);
+        }

@@ -1,5 +1,6 @@
-use Rattle.std.proofs.Common.{◌≡◌, ℕ, ◌+◌, ◌<◌, List, ◌∷◌, ◌++◌, [], length, Option, Some, None, ap, ap₂, refl, sym, ◌∙◌, subst}
+use Rattle.std.proofs.Common.{◌≡◌, ℕ, ◌+◌, ◌<◌, List, ◌∷◌, ◌++◌, [], length, Option, Some, None, ap, ap₂, refl, sym, ◌∙◌, subst, arith}
 use Rattle.std.specs.Option.{option_to_list, MatchOption}
+use Rattle.std.specs.Vec.{vec_len}
 use Rattle.std.proofs.lemmas.List.{append-nil}
 use Rattle.ap_environments.specs.declared.environments.Frame.{Frame}
 use Rattle.ap_environments.specs.declared.environments.Point.{Point}
@@ -23,7 +24,7 @@ returns c = λ m ms e.
     c.trim.ensures ∙ ap₂ (λ ws ns. record { returns = ws; moments = ns }) (ap (λ v. v.returns) c.self.view_is) (go c m ms e c.pop.result c.pop.ensures.items c.pop.ensures.cases)
   where
     go : (c : goal.After-trim) (m : Moment) (ms : List Moment) → c.args.self.now.moments ≡ m ∷ ms → (r : Option Point) → c.self.inside.points.items ≡ c.pop.new.self.items ++ option_to_list r
-        → MatchOption r ((length c.self.inside.points.items ≡ 0) × (length c.pop.new.self.items ≡ 0)) (λ q. length c.pop.new.self.items + 1 ≡ length c.self.inside.points.items)
+        → MatchOption r ((vec_len c.self.inside.points ≡ 0) × (vec_len c.pop.new.self ≡ 0)) (λ q. vec_len c.pop.new.self + 1 ≡ vec_len c.self.inside.points)
         → moments c.self.inside.slots.items c.self.inside.frames.items c.pop.new.self.items ≡ ms
-    go c m ms e None p l = absurd (no-newest c.self.inside.slots.items c.self.inside.frames.items c.self.inside.points.items c.args.self.now.moments m ms (none-popped c.self.inside.points.items c.pop.new.self.items p l) (ap (λ v. v.moments) c.self.view_is) e)
+    go c m ms e None p l = absurd (no-newest c.self.inside.slots.items c.self.inside.frames.items c.self.inside.points.items c.args.self.now.moments m ms (none-popped c.self.inside.points.items (omega (arith, l))) (ap (λ v. v.moments) c.self.view_is) e)
     go c m ms e (Some q) p l = (is-newest c.self.inside.slots.items c.self.inside.frames.items c.self.inside.points.items c.pop.new.self.items q c.args.self.now.moments m ms p (ap (λ v. v.moments) c.self.view_is) e).1

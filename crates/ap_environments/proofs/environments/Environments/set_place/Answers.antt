@@ -1,4 +1,4 @@
-use Rattle.std.proofs.Common.{◌≡◌, List, ◌∷◌, ◌++◌, [], length, ap, ap₂, refl, sym, ◌∙◌, subst}
+use Rattle.std.proofs.Common.{◌≡◌, List, ◌∷◌, ◌++◌, [], length, ap, ap₂, refl, sym, ◌∙◌, subst, arith}
 use Rattle.ap_environments.specs.declared.environments.Choice.{Choice}
 use Rattle.ap_environments.specs.declared.environments.Point.{Point}
 use Rattle.ap_environments.specs.Kept.{Moment}
@@ -38,4 +38,4 @@ returns-in-Some c = λ m ms e.
 pub returns-in-None : goal.returns-in-None
 returns-in-None c = λ m ms e.
     let a = c.self.inside in
-    absurd (no-newest a.slots.items a.frames.items a.points.items c.args.self.now.moments m ms (none-popped a.points.items c.pop.new.self.items c.in-None.ensures.items c.in-None.ensures.cases) (ap (λ v. v.moments) c.self.view_is) e)
+    absurd (no-newest a.slots.items a.frames.items a.points.items c.args.self.now.moments m ms (none-popped a.points.items (omega (arith, c.in-None.ensures.cases))) (ap (λ v. v.moments) c.self.view_is) e)
