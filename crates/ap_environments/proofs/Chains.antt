@@ -2,7 +2,7 @@
 use Rattle.std.proofs.Common.{◌≡◌, ℕ, zero, suc, ◌+◌, ◌-◌, ◌<◌, ◌≤◌, List, [], ◌∷◌, ◌++◌, length, take, drop, map, get_or, slice_get, Option, Some, None, reverse, refl, ap, ap₂, sym, ◌∙◌, subst, arith}
 use Rattle.std.specs.List.{AllByRecursion}
 use Rattle.std.specs.Option.{IfSome}
-use Rattle.std.proofs.lemmas.List.{append_assoc, length-append, length-take-le, take-append-drop, take_all, take-take, take_at, take-append-le, drop_at, drop-append-le, get_or-take, get_or_append_left, get_or_at, map-append, reverse-append}
+use Rattle.std.proofs.lemmas.List.{length-append, length-take-le, take-append-drop, take_all, take-take, take_at, take-append-le, drop_at, drop-append-le, get_or-take, get_or_append_left, get_or_at, map-append, reverse-append}
 use Rattle.ap_steps.specs.Standing.{Return}
 use Rattle.ap_environments.specs.declared.environments.Frame.{Frame}
 use Rattle.ap_environments.specs.declared.environments.Point.{Point}

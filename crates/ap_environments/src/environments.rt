@@ -20,7 +20,7 @@ pub struct Choice {
     pub trail: usize,
     pub predicate: u32,
     pub place: u32,
-    pub behind: Option<u32>,
+    pub behind: Option<usize>,
 }
 
 /// Registers that were saved: `count` slots from `first` on. It was put on above the frame of the number `up`, counted from
@@ -173,7 +173,7 @@ impl Environments {
     }
 
     /// The newest choice point names these clauses.
-    pub fn set_place(&mut self, place: u32, behind: Option<u32>)
+    pub fn set_place(&mut self, place: u32, behind: Option<usize>)
         ensures { (m : Moment) (ms : List Moment) → self.old.moments ≡ m ∷ ms → self.new ≡ record { returns = self.old.returns; moments = record { choice = record m.choice { place = place; behind = behind }; returns = m.returns; arguments = m.arguments } ∷ ms } }
     {
         match self.points.pop() {

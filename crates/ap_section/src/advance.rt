@@ -1,9 +1,8 @@
 //! The search, one call after another.
 
-use crate::control::builtin_at;
-use crate::relations::solve;
 use crate::section::{Now, Section};
 use ap_codecheck::Sound;
+use ap_control::{builtin_at, solve};
 use ap_instr::{Builtin, Code};
 use ap_ledger::Share;
 use ap_steps::registers::place_in;

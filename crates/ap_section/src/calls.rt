@@ -1,9 +1,8 @@
 //! Calls, and the clauses that are tried.
 
-use crate::alternatives::{Alternative, first, following};
-use crate::control::run_to_transfer;
 use crate::section::{Now, Section};
 use ap_cells::CellMark;
+use ap_control::{Alternative, first, following, run_to_transfer};
 use ap_environments::Choice;
 use ap_instr::Code;
 use ap_term::NoMemory;
@@ -74,7 +73,7 @@ impl Section {
         &mut self,
         code: &Code,
         choice: &Choice,
-        behind: Option<u32>,
+        behind: Option<usize>,
     ) -> Result<Option<Alternative>, NoMemory> {
         let mut rest = behind;
         while let Some(found) = following(code, rest) {

@@ -1,49 +1,9 @@
 //! Instructions of control, and control that comes back.
 
-use crate::alternatives::instruction_at;
 use crate::section::{Now, Section};
-use ap_cells::Cells;
-use ap_instr::{Builtin, Code, Instr};
-use ap_steps::run::run_to_control;
+use ap_control::{instruction_at, run_to_transfer, used};
+use ap_instr::{Code, Instr};
 use ap_term::NoMemory;
-use ap_unify::Work;
-
-/// The registers up to the last one that holds another place than 0.
-fn used(registers: &[u32]) -> &[u32] {
-    let mut count = registers.len();
-    while count > 0 && registers[count - 1] == 0 {
-        count -= 1;
-    }
-    &registers[..count]
-}
-
-/// The built-in goal that stands at a place.
-pub fn builtin_at(code: &Code, at: usize) -> Option<Builtin> {
-    match instruction_at(code, at) {
-        Some(Instr::Builtin(builtin)) => Some(builtin),
-        _ => None,
-    }
-}
-
-/// Takes the instructions from a place on up to the next one that leads elsewhere than to the one behind it.
-pub fn run_to_transfer(
-    cells: &mut Cells,
-    x: &mut [u32],
-    y: &mut [u32],
-    code: &Code,
-    at: usize,
-    work: &mut Work,
-) -> Result<Option<usize>, NoMemory> {
-    let mut place = at;
-    while let Some(to) = run_to_control(cells, x, y, code, place, work)? {
-        match instruction_at(code, to) {
-            Some(Instr::Allocate(_)) => place = to + 1,
-            Some(Instr::Deallocate) => place = to + 1,
-            _ => return Ok(Some(to)),
-        }
-    }
-    Ok(None)
-}
 
 impl Section {
     /// Control is at a place in a clause.

@@ -6,13 +6,10 @@
 #![tactic(auto)]
 
 mod advance;
-mod alternatives;
 mod calls;
 mod control;
-mod relations;
 mod section;
 mod start;
-mod widths;
 
 pub use advance::{Hook, Turn};
 pub use section::Section;

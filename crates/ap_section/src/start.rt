@@ -1,11 +1,11 @@
 //! A section begins.
 
 use crate::section::{Now, Section};
-use crate::widths::widths;
 use ap_arith::Pending;
 use ap_cells::{Cell, Cells};
 use ap_checks::Comparison;
 use ap_codecheck::Sound;
+use ap_control::widths_of;
 use ap_copy::{Parcelled, copy_in};
 use ap_environments::Environments;
 use ap_steps::room::most_room;
@@ -29,7 +29,7 @@ impl Section {
         rest: u64,
     ) -> Result<Section, NoMemory> {
         let code = sound.code();
-        let widths = widths(code);
+        let widths = widths_of(code);
         let mut cells = Cells::new(alloc);
         cells.reserve(1)?;
         cells.push(Cell::Atom(Atom::at(0)));

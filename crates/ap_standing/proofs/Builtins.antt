@@ -1,13 +1,12 @@
 -- A built-in goal is one turn of the model.
-use Rattle.std.proofs.Common.{◌≡◌, ℕ, ℤ, zero, suc, ◌+◌, ◌<◌, ◌≤◌, Bool, true, false, if◌then◌else◌, List, [], ◌∷◌, ◌++◌, length, Option, Some, None, refl, ap, ap₂, sym, ◌∙◌, subst, arith}
+use Rattle.std.proofs.Common.{◌≡◌, ℕ, ℤ, zero, suc, ◌+◌, ◌<◌, Bool, true, false, List, [], ◌∷◌, ◌++◌, length, Option, Some, None, refl, ap, ap₂, sym, ◌∙◌, subst}
 use Rattle.std.specs.List.{AllByRecursion}
-use Rattle.std.proofs.lemmas.Bool.{false≢true}
 use Rattle.ap_term.specs.declared.builtins.Op.TheVariants.{Eq, Ne, Lt, Gt, Le, Ge}
 use Rattle.ap_term.specs.declared.builtins.Relation.{Relation}
 use Rattle.ap_term.specs.declared.builtins.Relation.TheVariants.{Unify, NotUnify, Same, NotSame, Is, Compare}
 use Rattle.ap_term.specs.declared.fixed.TheConstants.{TRUE, FAIL, UNIFY, IS}
-use Rattle.ap_term.specs.Tree.{Tree, Trees, int, atom, node, none, more}
-use Rattle.ap_term.specs.Substitution.{Subst, instance, instance_all}
+use Rattle.ap_term.specs.Tree.{Tree, Trees, int, node, none, more}
+use Rattle.ap_term.specs.Substitution.{instance, instance_all}
 use Rattle.ap_term.specs.Goals.{Part, call, Program, opened}
 use Rattle.ap_term.specs.WellFormed.{IsProgram}
 use Rattle.ap_term.specs.Arithmetic.{eval}
@@ -20,7 +19,7 @@ use Rattle.ap_instr.specs.Builtin.{relation_name}
 use Rattle.ap_instr.specs.Code.{Compiled}
 use Rattle.ap_instr.specs.Step.{Step, builtin as builtin_step}
 use Rattle.ap_instr.specs.Runs.{Runs, applied, spread, IsOpen, AsksOpenly}
-use Rattle.ap_match.specs.Fits.{Fits, Agree, Becomes, Answered}
+use Rattle.ap_match.specs.Fits.{Fits, Becomes, Answered}
 use Rattle.ap_match.proofs.Maps.{fits-own}
 use Rattle.ap_resolution.specs.Instances.{Inst, SameSet, IsSetOf, IsGeneralGoal, Behind, Equated, Valued}
 use Rattle.ap_resolution.proofs.Unified.{IsSetOf-same}
@@ -30,13 +29,13 @@ use Rattle.ap_steps.specs.Moves.{held, HoldPlaces}
 use Rattle.ap_steps.specs.Standing.{Return, Standing, Waits, InCode}
 use Rattle.ap_steps.specs.Ways.{steps_from}
 use Rattle.ap_steps.proofs.Steps.{Runs-agree}
-use Rattle.ap_standing.specs.Machine.{Point, Now, inside, failed, AreWithin}
-use Rattle.ap_standing.specs.Holds.{SetOf, IsOpenAt, AreOpen, IsPlain, HoldsPoints, Holds, Turned}
+use Rattle.ap_standing.specs.Machine.{Point, inside, failed, AreWithin}
+use Rattle.ap_standing.specs.Holds.{SetOf, IsOpenAt, AreOpen, Holds, Turned}
 use Rattle.ap_standing.specs.Solved.{GivenValue, Tested, Solved}
+use Rattle.ap_standing.specs.Laws.{machine, behind_goal}
 use Rattle.ap_standing.proofs.Children.{plain-children, no-state}
 use Rattle.ap_standing.proofs.Moved.{Waits-agree, some-waits}
 use Rattle.ap_standing.proofs.Turns.{SameSet-trans, SameSet-sym, first-call}
-use Rattle.ap_standing.proofs.Machines.{machine}
 use Rattle.ap_standing.proofs.Calls.{Begins, begins}
 
 -- ---- goals on registers
@@ -191,11 +190,6 @@ module _ (code : Compiled) (cs : List Raw) (ws : List Return) (roots : List ℕ)
       no_map k i.3 same
 
 -- ---- the turn
-
--- where the machine is after a built-in goal that stands at a place
-abbrev pub behind_goal : ℕ → Bool → Now
-behind_goal at true = inside (at + 1)
-behind_goal at false = failed
 
 module _ (code : Compiled) (cs : List Raw) (ws : List Return) (roots : List ℕ) (x y : List ℕ) (at : ℕ) where
   abbrev is : List Step

@@ -1,5 +1,5 @@
 -- Calls, clauses that are taken and answers.
-use Rattle.std.proofs.Common.{◌≡◌, ℕ, zero, suc, ◌+◌, ◌<◌, ◌≤◌, List, [], ◌∷◌, ◌++◌, length, slice_get, Option, Some, None, refl, ap, sym, ◌∙◌, subst}
+use Rattle.std.proofs.Common.{◌≡◌, ℕ, ◌<◌, List, [], ◌∷◌, ◌++◌, length, slice_get, Some, refl, ap, sym, ◌∙◌, subst}
 use Rattle.std.specs.List.{AllByRecursion}
 use Rattle.ap_term.specs.Tree.{Tree, Trees, none, more}
 use Rattle.ap_term.specs.Substitution.{instance, instance_all}
@@ -17,14 +17,15 @@ use Rattle.ap_match.proofs.Maps.{fits-own}
 use Rattle.ap_resolution.specs.Instances.{Inst, SameSet, IsSetOf}
 use Rattle.ap_resolution.proofs.Variants.{instances, tuples}
 use Rattle.ap_steps.specs.Moves.{held, IsStuck}
-use Rattle.ap_steps.specs.Standing.{Return, Standing, tuple_under, AtCall, InCode}
+use Rattle.ap_steps.specs.Standing.{Standing, tuple_under, AtCall, InCode}
 use Rattle.ap_steps.specs.Ways.{steps_from}
-use Rattle.ap_standing.specs.Machine.{Point, calling, inside, returning, failed, standing_at}
-use Rattle.ap_standing.specs.Holds.{AtReturn, AtCallOf, SetOf, AreOpen, IsPlain, Untried, HoldsPoints, HoldsRest, Holds, Turned}
+use Rattle.ap_standing.specs.Machine.{Point, calling, inside, returning, standing_at}
+use Rattle.ap_standing.specs.Holds.{AtReturn, AtCallOf, AreOpen, IsPlain, HoldsPoints, HoldsRest, Holds, Turned}
+use Rattle.ap_standing.specs.Laws.{machine, SameArguments}
 use Rattle.ap_standing.proofs.Children.{no-state}
 use Rattle.ap_standing.proofs.Moved.{stuck, some-call, some-return}
-use Rattle.ap_standing.proofs.Turns.{SameArguments, no-goals, called, Split, split}
-use Rattle.ap_standing.proofs.Machines.{a-state, machine}
+use Rattle.ap_standing.proofs.Turns.{no-goals, called, Split, split}
+use Rattle.ap_standing.proofs.Machines.{a-state}
 
 -- a list of states that begins with one
 abbrev pub Begins : (I : Trees → Trees → Type 0) → List State → List State → Type 0

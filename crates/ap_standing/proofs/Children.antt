@@ -1,16 +1,16 @@
 -- Children of a state by some clauses of a program.
-use Rattle.std.proofs.Common.{◌≡◌, ℕ, ◌+◌, ◌==◌, ◌&&◌, Bool, true, false, cond, List, [], ◌∷◌, ◌++◌, map, Option, Some, None, refl, ap, ap₂, sym, ◌∙◌, subst}
-use Rattle.std.specs.List.{AllZip, AllByRecursion, filter, flat_map}
+use Rattle.std.proofs.Common.{◌≡◌, ℕ, ◌+◌, ◌==◌, ◌&&◌, Bool, true, false, cond, List, [], ◌∷◌, ◌++◌, map, None, refl, ap, ap₂, sym, ◌∙◌, subst}
+use Rattle.std.specs.List.{AllByRecursion, flat_map}
 use Rattle.std.proofs.lemmas.Bool.{false≢true}
 use Rattle.std.proofs.lemmas.Bool.Decides.{Decides-eqb}
 use Rattle.std.proofs.lemmas.List.{append-nil, map-append}
 use Rattle.std.proofs.lemmas.List.Elements.{All-head, All-tail}
 use Rattle.ap_term.specs.Tree.{Tree, Trees, var, int, atom, node, none, more, count_trees}
 use Rattle.ap_term.specs.Substitution.{instance, instance_all}
-use Rattle.ap_term.specs.Goals.{Part, call, group, Clause, Program, opened}
+use Rattle.ap_term.specs.Goals.{Part, call, Clause, Program, opened}
 use Rattle.ap_term.specs.WellFormed.{callable, numbered, IsClause, IsProgram}
 use Rattle.ap_term.specs.Builtins.{builtin}
-use Rattle.ap_term.specs.Search.{State, Way, children, children_by, child, ways_by, clause_way}
+use Rattle.ap_term.specs.Search.{State, children, children_by, child, ways_by, clause_way}
 use Rattle.ap_laws.specs.Plain.{plain_goals, HasFullGroups}
 use Rattle.ap_laws.specs.Renaming.{IsBelow}
 use Rattle.ap_laws.proofs.Names.{IsBelow-children}

@@ -1,34 +1,29 @@
 -- What the moves of a machine make of the list of states that it stands for.
-use Rattle.std.proofs.Common.{◌≡◌, ℕ, zero, suc, ◌+◌, ◌<◌, ◌≤◌, ◌-◌, Bool, true, false, if◌then◌else◌, List, [], ◌∷◌, ◌++◌, length, drop, take, map, get_or, slice_get, Option, Some, None, refl, ap, ap₂, sym, ◌∙◌, subst, arith, drop-cons, add-one}
-use Rattle.std.specs.List.{AllZip, AllByRecursion}
-use Rattle.std.proofs.lemmas.List.{append_assoc, append-nil}
-use Rattle.ap_term.specs.Tree.{Tree, Trees, atom, none, more}
-use Rattle.ap_term.specs.Substitution.{instance, instance_all}
-use Rattle.ap_term.specs.Goals.{Part, call, Clause, Program, opened}
-use Rattle.ap_term.specs.WellFormed.{IsProgram}
-use Rattle.ap_term.specs.Search.{State, children}
-use Rattle.ap_laws.specs.Plain.{append_trees, plain_goals}
+use Rattle.std.proofs.Common.{◌≡◌, ℕ, zero, suc, ◌+◌, ◌<◌, List, [], ◌∷◌, ◌++◌, length, drop, slice_get, Some, refl, ap, sym, ◌∙◌, subst, arith}
+use Rattle.std.specs.List.{AllByRecursion}
+use Rattle.ap_term.specs.Tree.{Tree, Trees, atom, none}
+use Rattle.ap_term.specs.Search.{State}
+use Rattle.ap_laws.specs.Plain.{append_trees}
 use Rattle.ap_cells.specs.declared.cells.Raw.{Raw}
 use Rattle.ap_instr.specs.declared.instruction.Instr.{Instr}
 use Rattle.ap_instr.specs.declared.compiled.Predicate.{Predicate}
 use Rattle.ap_instr.specs.Code.{Compiled}
-use Rattle.ap_instr.specs.Step.{Step, call as call_step, execute, proceed, frame, builtin as builtin_step, other, step_of, steps_of}
-use Rattle.ap_instr.specs.Runs.{Runs, lost, applied, spread, IsOpen, AsksOpenly}
-use Rattle.ap_instr.specs.StandsFor.{StandsFor, clause_places}
-use Rattle.ap_match.specs.Fits.{Fits, Agree}
+use Rattle.ap_instr.specs.Step.{call as call_step, execute, proceed, frame, other, step_of, steps_of}
+use Rattle.ap_instr.specs.Runs.{AsksOpenly}
+use Rattle.ap_match.specs.Fits.{Fits}
 use Rattle.ap_resolution.specs.Instances.{Inst, SameSet, IsSetOf}
 use Rattle.ap_resolution.proofs.Unified.{IsSetOf-same}
-use Rattle.ap_resolution.proofs.Variants.{instances}
-use Rattle.ap_steps.specs.Moves.{held, HoldPlaces, Moves, IsStuck}
+use Rattle.ap_steps.specs.Moves.{held, Moves, IsStuck}
 use Rattle.ap_steps.specs.Standing.{Return, Standing, Waits, AtCall, InCode, returning as returning_to}
 use Rattle.ap_steps.specs.Ways.{steps_from}
 use Rattle.ap_steps.proofs.Entry.{calls_are}
 use Rattle.ap_steps.proofs.RegisterMaps.{funext}
-use Rattle.ap_standing.specs.Machine.{Point, Now, calling, inside, returning, failed, Machine, standing, standing_at, places, places_from, AreWithin}
-use Rattle.ap_standing.specs.Holds.{AtReturn, AtCallOf, SetOf, IsOpenAt, AreOpen, IsPlain, Untried, HoldsPoints, HoldsRest, Holds, Turned}
+use Rattle.ap_standing.specs.Machine.{Point, calling, inside, returning, failed, Machine, AreWithin}
+use Rattle.ap_standing.specs.Holds.{AtReturn, AtCallOf, SetOf, IsOpenAt, AreOpen, HoldsPoints, Holds}
+use Rattle.ap_standing.specs.Laws.{machine}
 use Rattle.ap_standing.proofs.Children.{no-state}
-use Rattle.ap_standing.proofs.Moved.{moved, stuck, some-call, some-return}
-use Rattle.ap_standing.proofs.Turns.{SameSet-trans, SameSet-sym, SameArguments, AtCall-registers, first-call, no-goals, called, rest-none, Split, split}
+use Rattle.ap_standing.proofs.Moved.{moved, stuck}
+use Rattle.ap_standing.proofs.Turns.{SameSet-trans, SameSet-sym}
 
 -- ---- in general
 
@@ -84,9 +79,6 @@ points-failed code m en opens ss h = (
 pub a-state : (I : Trees → Trees → Type 0) (here : List State) → IsSetOf I here → (gs t : Trees) × I gs t → (s : State) × (here ≡ s ∷ []) × SameSet I (Inst s)
 a-state I [] h some = absurd (h some.0 some.1 some.2)
 a-state I (s ∷ ss) h some = (s, ap (λ us. s ∷ us) h.1, h.0)
-
-abbrev pub machine : List Raw → List ℕ → List ℕ → List Return → List ℕ → List Point → Now → Machine
-machine cs x y ws roots qs now = record { cells = cs; x = x; y = y; returns = ws; roots = roots; points = qs; now = now }
 
 -- ---- instructions
 

@@ -1,18 +1,17 @@
 -- What a machine stands for stays the same while no goal is called.
-use Rattle.std.proofs.Common.{◌≡◌, ℕ, zero, suc, ◌+◌, ◌<◌, ◌≤◌, Bool, true, false, if◌then◌else◌, List, [], ◌∷◌, length, drop, map, refl, ap, sym, ◌∙◌, subst, arith}
+use Rattle.std.proofs.Common.{◌≡◌, ℕ, ◌<◌, List, [], ◌∷◌, length, refl, ap, ◌∙◌, subst}
 use Rattle.std.specs.List.{AllByRecursion}
 use Rattle.ap_term.specs.Tree.{Tree, Trees, none, more}
 use Rattle.ap_laws.specs.Plain.{append_trees}
 use Rattle.ap_cells.specs.declared.cells.Raw.{Raw}
 use Rattle.ap_cells.specs.Trees.{tree_at, trees}
-use Rattle.ap_instr.specs.declared.instruction.Instr.{Instr}
 use Rattle.ap_instr.specs.Code.{Compiled}
 use Rattle.ap_instr.specs.Step.{Step}
-use Rattle.ap_instr.specs.Runs.{Runs, lost, IsOpen, AsksOpenly}
-use Rattle.ap_match.specs.Fits.{Fits, Agree}
+use Rattle.ap_instr.specs.Runs.{Runs, lost}
+use Rattle.ap_match.specs.Fits.{Agree}
 use Rattle.ap_match.proofs.Maps.{fits-own}
 use Rattle.ap_resolution.specs.Instances.{SameSet}
-use Rattle.ap_steps.specs.Moves.{held, HoldPlaces, Moves, IsStuck}
+use Rattle.ap_steps.specs.Moves.{held, Moves, IsStuck}
 use Rattle.ap_steps.specs.Standing.{Return, Standing, tuple_under, Waits, AtCall, InCode}
 use Rattle.ap_steps.specs.Ways.{steps_from}
 use Rattle.ap_steps.proofs.RegisterMaps.{funext}

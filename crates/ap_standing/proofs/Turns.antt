@@ -1,15 +1,15 @@
 -- A call is one turn of the model, and clauses are taken one after another.
-use Rattle.std.proofs.Common.{◌≡◌, ℕ, zero, suc, ◌+◌, ◌<◌, ◌≤◌, Bool, true, false, List, [], ◌∷◌, ◌++◌, length, drop, map, slice_get, Option, Some, None, refl, ap, ap₂, sym, ◌∙◌, subst, arith}
-use Rattle.std.specs.List.{AllZip, AllByRecursion, filter}
+use Rattle.std.proofs.Common.{◌≡◌, ℕ, zero, suc, ◌+◌, ◌<◌, ◌≤◌, List, [], ◌∷◌, ◌++◌, slice_get, Some, None, refl, ap, ap₂, sym, ◌∙◌, subst, arith}
+use Rattle.std.specs.List.{AllZip, AllByRecursion}
 use Rattle.std.proofs.lemmas.List.{append_assoc}
 use Rattle.std.proofs.lemmas.List.Elements.{All-nil, All-cons, All-head, All-tail, All-filter}
 use Rattle.ap_term.specs.Tree.{Tree, Trees, none, more, count_trees}
-use Rattle.ap_term.specs.Substitution.{instance, instance_all}
+use Rattle.ap_term.specs.Substitution.{instance}
 use Rattle.ap_term.specs.Goals.{Part, call, group, Clause, Program, opened}
 use Rattle.ap_term.specs.WellFormed.{IsClause, IsProgram}
 use Rattle.ap_term.specs.Builtins.{builtin}
 use Rattle.ap_term.specs.Search.{State, children}
-use Rattle.ap_laws.specs.Plain.{append_trees, plain_goals, AreGroups, HasFullGroups}
+use Rattle.ap_laws.specs.Plain.{append_trees, plain_goals, AreGroups}
 use Rattle.ap_laws.proofs.Views.{plain_goals-opened, StartsWithCall, StartsWithCall-opened}
 use Rattle.ap_instr.specs.declared.compiled.Predicate.{Predicate}
 use Rattle.ap_instr.specs.Code.{Compiled}
@@ -19,12 +19,13 @@ use Rattle.ap_resolution.specs.Instances.{Inst, SameSet, IsSetOf, Resolved}
 use Rattle.ap_resolution.proofs.Unified.{IsSetOf-same}
 use Rattle.ap_resolution.proofs.Variants.{instances}
 use Rattle.ap_steps.specs.Moves.{held}
-use Rattle.ap_steps.specs.Standing.{Return, Standing, AtCall, InCode, IsHead}
+use Rattle.ap_steps.specs.Standing.{Standing, AtCall, InCode}
 use Rattle.ap_steps.specs.Ways.{steps_from}
 use Rattle.ap_steps.proofs.Entry.{entry}
 use Rattle.ap_standing.specs.Machine.{Point, standing_at}
 use Rattle.ap_standing.specs.Holds.{AreOpen, IsPlain, Untried, HoldsPoints, HoldsRest}
-use Rattle.ap_standing.proofs.Children.{children-none, children-split, resolves, plain-children, no-state, AreHeads, heads-of, children-own}
+use Rattle.ap_standing.specs.Laws.{SameArguments}
+use Rattle.ap_standing.proofs.Children.{children-none, children-split, resolves, plain-children, AreHeads, heads-of, children-own}
 
 -- ---- sets
 
@@ -49,10 +50,6 @@ spread-same f g p (suc n) h = ap₂ more (h p (omega arith) (omega arith)) (spre
 count_spread : (f : ℕ → Tree) (p n : ℕ) → count_trees (spread f p n) ≡ n
 count_spread f p zero = refl
 count_spread f p (suc n) = let e = count_spread f (p + 1) n in omega arith
-
--- the argument registers hold the same places
-abbrev pub SameArguments : ℕ → (ℕ → ℕ) → (ℕ → ℕ) → Type 0
-SameArguments n x y = (w : ℕ) → 0 < w → w < n + 1 → x w ≡ y w
 
 pub AtCall-registers : (code : Compiled) (st : Standing) (x y : ℕ → ℕ) (p n : ℕ) → SameArguments n x y → SameSet (AtCall code st x p n) (AtCall code st y p n)
 AtCall-registers code st x y p n h gs t = (

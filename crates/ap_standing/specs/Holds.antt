@@ -1,8 +1,8 @@
 -- Which states of the model a machine stands for.
-use Rattle.std.specs.Prelude.{◌≡◌, ℕ, zero, suc, ◌+◌, List, [], ◌∷◌, ◌++◌, drop, slice_get, Option, Some, None}
+use Rattle.std.specs.Prelude.{◌≡◌, ℕ, zero, suc, List, [], ◌∷◌, ◌++◌, slice_get, Option, Some, None}
 use Rattle.std.specs.List.{AllZip, AllByRecursion}
 use Rattle.ap_term.specs.Tree.{Tree, Trees}
-use Rattle.ap_term.specs.Goals.{Part, call, Clause, Program, opened}
+use Rattle.ap_term.specs.Goals.{Part, call, Program, opened}
 use Rattle.ap_term.specs.WellFormed.{IsProgram}
 use Rattle.ap_term.specs.Builtins.{builtin}
 use Rattle.ap_term.specs.Search.{State, children}

@@ -1,4 +1,4 @@
-use Rattle.std.proofs.Common.{◌≡◌, ℕ, ◌≤◌, ◌++◌, refl, sym, subst, arith}
+use Rattle.std.proofs.Common.{ℕ, ◌≤◌, refl, sym, subst, arith}
 use Rattle.ap_environments.specs.Frames.{Rising}
 use Rattle.ap_environments.proofs.Chains.{Rising-last}
 use Rattle.ap_environments.proofs.environments.kept_frames.Goals as goal

@@ -1,4 +1,4 @@
-use Rattle.std.proofs.Common.{◌≡◌, ℕ, ◌+◌, ◌<◌, ◌≤◌, List, [], ◌∷◌, ◌++◌, length, ap₂, sym, ◌∙◌, subst, arith, rules}
+use Rattle.std.proofs.Common.{◌≡◌, ℕ, List, [], ◌∷◌, ◌++◌, length, ap₂, sym, ◌∙◌, subst, rules}
 use Rattle.ap_environments.specs.declared.environments.Frame.{Frame}
 use Rattle.ap_environments.specs.Frames.{AreFrames, chains}
 use Rattle.ap_environments.proofs.Chains.{pushed, frames-pushed}

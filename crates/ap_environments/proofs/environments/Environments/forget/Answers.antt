@@ -1,11 +1,10 @@
-use Rattle.std.proofs.Common.{◌≡◌, ℕ, ◌+◌, ◌<◌, List, ◌∷◌, ◌++◌, [], length, Option, Some, None, ap, ap₂, refl, sym, ◌∙◌, subst, arith}
+use Rattle.std.proofs.Common.{◌≡◌, ◌+◌, List, ◌∷◌, ◌++◌, length, Option, Some, None, ap, ap₂, ◌∙◌, subst, arith}
 use Rattle.std.specs.Option.{option_to_list, MatchOption}
 use Rattle.std.specs.Vec.{vec_len}
 use Rattle.std.proofs.lemmas.List.{append-nil}
-use Rattle.ap_environments.specs.declared.environments.Frame.{Frame}
 use Rattle.ap_environments.specs.declared.environments.Point.{Point}
 use Rattle.ap_environments.specs.Kept.{Moment}
-use Rattle.ap_environments.specs.Frames.{Rising, chain, moments}
+use Rattle.ap_environments.specs.Frames.{Rising, moments}
 use Rattle.ap_environments.proofs.Chains.{none-popped, no-newest, front-rising, is-newest}
 use Rattle.ap_environments.proofs.environments.Environments.forget.Goals as goal
 

@@ -1,9 +1,7 @@
-use Rattle.std.proofs.Common.{◌≡◌, ℕ, ◌+◌, ◌-◌, ◌<◌, ◌≤◌, List, ◌∷◌, ◌++◌, [], length, get_or, ap, ap₂, refl, sym, ◌∙◌, subst, arith}
+use Rattle.std.proofs.Common.{◌≡◌, ◌+◌, ◌-◌, ◌≤◌, List, ◌∷◌, ◌++◌, [], length, get_or, ap, ap₂, sym, ◌∙◌, subst, arith}
 use Rattle.ap_steps.specs.Moves.{held}
-use Rattle.ap_environments.specs.declared.environments.Frame.{Frame}
-use Rattle.ap_environments.specs.declared.environments.Point.{Point}
 use Rattle.ap_environments.specs.Kept.{Moment}
-use Rattle.ap_environments.specs.Frames.{return_of, chain, moment}
+use Rattle.ap_environments.specs.Frames.{return_of, chain}
 use Rattle.ap_environments.proofs.Chains.{LeadUp-at, frame-within, last-kept, is-newest, own-moment}
 use Rattle.ap_environments.proofs.environments.Environments.go_back.Goals as goal
 

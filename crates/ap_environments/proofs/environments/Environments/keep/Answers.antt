@@ -1,4 +1,4 @@
-use Rattle.std.proofs.Common.{◌≡◌, ℕ, ◌+◌, ◌<◌, ◌≤◌, List, ◌∷◌, ◌++◌, [], length, ap, ap₂, refl, sym, ◌∙◌, subst, arith, rules}
+use Rattle.std.proofs.Common.{◌≡◌, List, ◌∷◌, ◌++◌, [], length, ap, ap₂, sym, ◌∙◌, subst, arith, rules}
 use Rattle.ap_steps.specs.Standing.{Return}
 use Rattle.ap_environments.specs.declared.environments.Point.{Point}
 use Rattle.ap_environments.specs.Frames.{Rising, chain, moment_of, moments}

@@ -1,4 +1,4 @@
-use Rattle.std.proofs.Common.{◌≡◌, ◌++◌, ◌∷◌, [], ap, sym, ◌∙◌}
+use Rattle.std.proofs.Common.{ap, sym, ◌∙◌}
 use Rattle.ap_environments.specs.Frames.{moment, moments}
 use Rattle.ap_environments.proofs.Chains.{newest-moment, moment-choice_is}
 use Rattle.ap_environments.proofs.environments.Environments.newest.Goals as goal

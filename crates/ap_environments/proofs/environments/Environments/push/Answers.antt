@@ -1,4 +1,4 @@
-use Rattle.std.proofs.Common.{◌≡◌, ℕ, ◌+◌, ◌≤◌, List, ◌∷◌, length, ap, ap₂, ◌∙◌, arith}
+use Rattle.std.proofs.Common.{List, ◌∷◌, length, ap, ap₂, ◌∙◌, arith}
 use Rattle.ap_steps.specs.Standing.{Return}
 use Rattle.ap_environments.specs.Frames.{chain}
 use Rattle.ap_environments.proofs.Chains.{Rising-more, before-pushed, last-pushed, moments-alike}

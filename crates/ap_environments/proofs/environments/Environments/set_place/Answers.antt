@@ -1,8 +1,7 @@
-use Rattle.std.proofs.Common.{◌≡◌, List, ◌∷◌, ◌++◌, [], length, ap, ap₂, refl, sym, ◌∙◌, subst, arith}
+use Rattle.std.proofs.Common.{◌≡◌, ◌∷◌, length, ap, ap₂, refl, sym, ◌∙◌, subst, arith}
 use Rattle.ap_environments.specs.declared.environments.Choice.{Choice}
 use Rattle.ap_environments.specs.declared.environments.Point.{Point}
-use Rattle.ap_environments.specs.Kept.{Moment}
-use Rattle.ap_environments.specs.Frames.{Rising, chain, moment, moments}
+use Rattle.ap_environments.specs.Frames.{Rising, moments}
 use Rattle.ap_environments.proofs.Chains.{none-popped, no-newest, Rising-replace, is-newest, moments-push, moment-choice, moment-choice_is}
 use Rattle.ap_environments.proofs.environments.Environments.set_place.Goals as goal
 

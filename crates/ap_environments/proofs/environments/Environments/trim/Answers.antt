@@ -1,8 +1,6 @@
-use Rattle.std.proofs.Common.{◌≡◌, ℕ, ◌+◌, ◌<◌, ◌≤◌, List, length, take, ap, ap₂, sym, ◌∙◌, subst, arith}
+use Rattle.std.proofs.Common.{◌≡◌, ◌≤◌, length, ap, ap₂, sym, ◌∙◌, subst, arith}
 use Rattle.std.proofs.lemmas.List.{length-take-le}
-use Rattle.ap_environments.specs.declared.environments.Frame.{Frame}
-use Rattle.ap_environments.specs.declared.environments.Point.{Point}
-use Rattle.ap_environments.specs.Frames.{Rising, chain}
+use Rattle.ap_environments.specs.Frames.{Rising}
 use Rattle.ap_environments.proofs.Chains.{Rising-more, same-view}
 use Rattle.ap_environments.proofs.environments.Environments.trim.Goals as goal
 

@@ -17,7 +17,7 @@ pub fn instruction_at(code: &Code, at: usize) -> Option<Instr>
 #[derive(Clone, Copy)]
 pub struct Alternative {
     pub place: u32,
-    pub behind: Option<u32>,
+    pub behind: Option<usize>,
 }
 
 /// A predicate's first clause.
@@ -26,34 +26,54 @@ pub fn first(code: &Code, predicate: &Predicate) -> Option<Alternative>
     ensures some { IfSome result (λ a. clause_places code.now predicate.now ≡ a.place ∷ places_from code.now a.behind) }
 {
     let start = predicate.start;
+    let only = Alternative {
+        place: start,
+        behind: None,
+    };
     match instruction_at(code, start as usize) {
-        Some(Instr::Try(place)) => Some(Alternative {
-            place,
-            behind: start.checked_add(1),
-        }),
-        Some(Instr::Fail) => None,
-        _ => Some(Alternative {
-            place: start,
-            behind: None,
-        }),
+        None => Some(only),
+        Some(instr) => match instr {
+            Instr::Try(place) => Some(Alternative {
+                place,
+                behind: Some(start as usize + 1),
+            }),
+            Instr::Fail => None,
+            _ => Some(only),
+        },
+    }
+}
+
+/// The clause that the choice at a place names.
+fn named_at(code: &Code, at: usize) -> Option<Alternative>
+    ensures none { result ≡ None → places_from code.now (Some at) ≡ [] }
+    ensures some { IfSome result (λ a. places_from code.now (Some at) ≡ a.place ∷ places_from code.now a.behind) }
+{
+    if at >= code.instructions().len() {
+        return None;
+    }
+    match instruction_at(code, at) {
+        None => None,
+        Some(instr) => match instr {
+            Instr::Retry(place) => Some(Alternative {
+                place,
+                behind: Some(at + 1),
+            }),
+            Instr::Trust(place) => Some(Alternative {
+                place,
+                behind: None,
+            }),
+            _ => None,
+        },
     }
 }
 
 /// The next clause that a choice names.
-pub fn following(code: &Code, behind: Option<u32>) -> Option<Alternative>
+pub fn following(code: &Code, behind: Option<usize>) -> Option<Alternative>
     ensures none { result ≡ None → places_from code.now behind ≡ [] }
     ensures some { IfSome result (λ a. places_from code.now behind ≡ a.place ∷ places_from code.now a.behind) }
 {
-    let at = behind?;
-    match instruction_at(code, at as usize) {
-        Some(Instr::Retry(place)) => Some(Alternative {
-            place,
-            behind: at.checked_add(1),
-        }),
-        Some(Instr::Trust(place)) => Some(Alternative {
-            place,
-            behind: None,
-        }),
-        _ => None,
+    match behind {
+        None => None,
+        Some(at) => named_at(code, at),
     }
 }
