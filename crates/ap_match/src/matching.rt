@@ -112,29 +112,28 @@ pub fn match_integer(cells: &mut Cells, place: usize, value: i64) -> bool
     }
 }
 
-/// Whether a cell is an unbound variable or a constant.
-fn is_new(cells: &Cells, place: usize) -> bool
+/// Whether a place's term is a constant, or a variable other than x.
+fn is_apart(cells: &Cells, x: usize, place: usize) -> bool
     requires { place < length cells.now.cells }
-    ensures { result ≡ true → (x : ℕ) → x < place → occurs x (tree_at (trees cells.now.cells) place) ≡ false }
+    ensures { result ≡ true → occurs x (tree_at (trees cells.now.cells) place) ≡ false }
 {
-    match cells.at(place) {
-        Cell::Free => true,
-        Cell::Same(_) => false,
-        Cell::Int(_) => true,
-        Cell::Atom(_) => true,
-        Cell::Node(_, _, _) => false,
+    match cells.top(place) {
+        Top::Free(variable) => variable != x,
+        Top::Int(_) => true,
+        Top::Atom(_) => true,
+        Top::Node(_, _, _) => false,
     }
 }
 
-/// Whether each of these cells is an unbound variable or a constant, so that no variable of an older place stands there.
-fn are_new(cells: &Cells, first: usize, count: u32) -> bool
+/// Whether each of these places' terms is a constant, or a variable other than x.
+fn are_apart(cells: &Cells, x: usize, first: usize, count: u32) -> bool
     requires { first + count ≤ length cells.now.cells }
-    ensures { result ≡ true → (x : ℕ) → x < first → occurs_all x (span (trees cells.now.cells) first count) ≡ false }
+    ensures { result ≡ true → occurs_all x (span (trees cells.now.cells) first count) ≡ false }
 {
     let places = cells.len();
     prove!(first <= places);
     for i in 0..count {
-        if !is_new(cells, first + i as usize) {
+        if !is_apart(cells, x, first + i as usize) {
             return false;
         }
     }
@@ -163,8 +162,8 @@ fn equate_built(
     Ok(answer)
 }
 
-/// Makes a place's term a new compound term, of a name and the cells from `first` on, if it can be. A term of new variables
-/// and constants alone is bound without a look for the place in it. After false, or want of memory, some bindings may be
+/// Makes a place's term a new compound term, of a name and the cells from `first` on, if it can be. Where these are constants
+/// and other variables alone, an unbound place is bound without a walk. After false, or want of memory, some bindings may be
 /// made; `undo_to` takes them back.
 pub fn match_built(
     cells: &mut Cells,
@@ -184,7 +183,7 @@ pub fn match_built(
 {
     match cells.top(place) {
         Top::Free(x) => {
-            if x < first && are_new(cells, first, count) {
+            if are_apart(cells, x, first, count) {
                 bind_new(cells, x, Cell::Node(name, first, count));
                 Ok(true)
             } else {

@@ -13,3 +13,5 @@ pub mod room;
 pub mod run;
 pub mod structures;
 mod tables;
+#[cfg(test)]
+mod tests;

@@ -7,8 +7,8 @@ use Rattle.ap_match.proofs.Maps.{fits-top}
 use Rattle.ap_match.proofs.Matches.{Becomes-asked}
 use Rattle.ap_match.proofs.matching.match_built.Goals as goal
 
-pub returns-then-are_new-clause-answered : goal.returns-then-are_new-clause-answered
-returns-then-are_new-clause-answered c =
+pub returns-then-are_apart-clause-answered : goal.returns-then-are_apart-clause-answered
+returns-then-are_apart-clause-answered c =
     Becomes-asked c.args.cells.now.cells c.bind_new.new.cells.cells (λ k. k c.in-Free.x ≡ node c.args.name (spread k c.args.first c.args.count)) (λ k. k c.args.place ≡ node c.args.name (spread k c.args.first c.args.count)) (λ k. Unit {0})
     (λ k h e. at k h ∙ e) (λ k h e. sym (at k h) ∙ e) c.bind_new.ensures.becomes
   where

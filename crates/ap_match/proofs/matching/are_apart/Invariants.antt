@@ -1,7 +1,7 @@
 use Rattle.std.proofs.Common.{◌≡◌, ℕ, ◌+◌, ◌<◌, false}
 use Rattle.ap_term.specs.Vars.{occurs}
 use Rattle.ap_cells.specs.Trees.{tree_at, trees}
-use Rattle.ap_match.proofs.matching.are_new.Given as goal
+use Rattle.ap_match.proofs.matching.are_apart.Given as goal
 
 abbrev pub invariant-loop-i : goal.invariant-loop-i
-invariant-loop-i l = (x : ℕ) → x < l.first → (j : ℕ) → j < l.i → occurs x (tree_at (trees l.cells.cells) (l.first + j)) ≡ false
+invariant-loop-i l = (j : ℕ) → j < l.i → occurs l.x (tree_at (trees l.cells.cells) (l.first + j)) ≡ false

@@ -1,0 +1,136 @@
+// A clause with a structure in its head and one in its body, from the outside and with ample memory.
+ghost use Rattle.std.specs.Prelude.{◌≡◌, ℕ, ◌<◌, ◌≤◌, length, IfOk};
+ghost use Rattle.ap_steps.specs.Moves.{held};
+ghost use Rattle.ap_steps.specs.Ways.{AllHaveTargets};
+
+use crate::registers::argument;
+use crate::room::most_room;
+use crate::run::run_to_control;
+use ap_cells::{Cell, Cells, Top};
+use ap_instr::{Code, Instr, Slot};
+use ap_match::push_new;
+use ap_term::{Atom, fixed};
+use ap_unify::Work;
+use std::alloc::Global;
+use std::test::Fail;
+
+// p(X + true) :- q(X - 7).
+fn instructions(alloc: Global) -> Result<Vec<Instr>, Fail>
+    ensures { IfOk result (λ v. AllHaveTargets v.items 3 0) }
+{
+    let instructions = vec![in alloc;
+        Instr::GetStructure(Atom::at(fixed::PLUS), 2, 1),
+        Instr::UnifyVariable(Slot::X(2)),
+        Instr::UnifyConstant(Atom::at(fixed::TRUE)),
+        Instr::PutStructure(Atom::at(fixed::MINUS), 2, 1),
+        Instr::UnifyValue(Slot::X(2)),
+        Instr::UnifyInteger(0),
+        Instr::Execute(0),
+    ]?;
+    Ok(instructions)
+}
+
+fn make_code(alloc: Global) -> Result<Code, Fail>
+    ensures { IfOk result (λ code. AllHaveTargets code.instructions 3 0) }
+{
+    let instructions = instructions(alloc)?;
+    let integers = vec![in alloc; 7]?;
+    Ok(Code::new(instructions, integers, Vec::new(alloc), None))
+}
+
+// Registers that all hold a place.
+fn registers(alloc: Global, count: usize, place: u32) -> Result<Vec<u32>, Fail>
+    ensures len { IfOk result (λ v. length v.items ≡ count) }
+    ensures held { IfOk result (λ v. (w : ℕ) → held v.items w ≤ place) }
+{
+    let registers = vec![in alloc; place; count]?;
+    Ok(registers)
+}
+
+// Where the code leads with a place as the first argument, and what is the first argument then.
+fn run(
+    alloc: Global,
+    cells: &mut Cells,
+    code: &Code,
+    place: u32,
+) -> Result<Option<(usize, u32)>, Fail>
+    requires place { place < length cells.old.cells }
+    requires targets { AllHaveTargets code.now.instructions 3 0 }
+{
+    cells.reserve(most_room(code)?)?;
+    let mut x = registers(alloc, 3, place)?;
+    let mut y = registers(alloc, 0, place)?;
+    let mut work = Work::new(alloc);
+    match run_to_control(cells, &mut x, &mut y, code, 0, &mut work)? {
+        Some(to) => Ok(Some((to, argument(&x, 1)))),
+        None => Ok(None),
+    }
+}
+
+// The first argument's place of X - 7, where that is the term of a place.
+fn is_seven_less(cells: &Cells, place: usize) -> bool {
+    if place >= cells.len() {
+        return false;
+    }
+    match cells.top(place) {
+        Top::Node(name, first, count) => {
+            count == 2 && name == Atom::at(fixed::MINUS) && is_seven(cells, first + 1)
+        }
+        _ => false,
+    }
+}
+
+fn is_seven(cells: &Cells, place: usize) -> bool {
+    if place >= cells.len() {
+        return false;
+    }
+    match cells.top(place) {
+        Top::Int(value) => value == 7,
+        _ => false,
+    }
+}
+
+// Whether the code leads to its last instruction, and q is called with X - 7 then.
+fn calls(alloc: Global, cells: &mut Cells, code: &Code, place: usize) -> Result<bool, Fail>
+    requires { AllHaveTargets code.now.instructions 3 0 }
+{
+    if place >= cells.len() {
+        return Ok(false);
+    }
+    match run(alloc, cells, code, place as u32)? {
+        Some((to, argument)) => Ok(to == 6 && is_seven_less(cells, argument as usize)),
+        None => Ok(false),
+    }
+}
+
+#[test]
+fn takes_structures(rt: HostRuntime) -> Result<(), Fail> {
+    let alloc = rt.alloc();
+    let code = make_code(alloc)?;
+    let mut cells = Cells::new(alloc);
+    cells.reserve(16)?;
+    let atom = push_new(&mut cells, Cell::Atom(Atom::at(fixed::FAIL)));
+    let unbound = push_new(&mut cells, Cell::Free);
+    let first = push_new(&mut cells, Cell::Free);
+    push_new(&mut cells, Cell::Free);
+    let plus = push_new(&mut cells, Cell::Node(Atom::at(fixed::PLUS), first, 2));
+    let short = push_new(&mut cells, Cell::Node(Atom::at(fixed::PLUS), atom, 1));
+    let minus = push_new(&mut cells, Cell::Node(Atom::at(fixed::MINUS), first, 2));
+    let apart = push_new(&mut cells, Cell::Node(Atom::at(fixed::PLUS), short, 2));
+    for (place, is_called) in [
+        (atom, false),
+        (unbound, true),
+        (plus, true),
+        (short, false),
+        (minus, false),
+        (apart, false),
+        (unbound, true),
+    ] {
+        assert_eq!(rt;
+            calls(alloc, &mut cells, &code, place)?,
+            is_called,
+            "{place}"
+        );
+    }
+    Ok(())
+}
