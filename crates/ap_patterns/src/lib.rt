@@ -19,3 +19,6 @@ pub use entries::{Entries, Entry, Mark};
 pub use returns::after_call;
 pub use slots::{Given, Slot, after_goal, call_at, is_builtin, is_covered};
 pub use tables::{Predicate, Row, Table};
+
+#[cfg(test)]
+mod tests;
