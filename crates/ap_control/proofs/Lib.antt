@@ -1,0 +1,6 @@
+pub mod Choices
+pub mod Openness
+pub mod Targets
+pub mod Marks
+pub mod Compared
+pub mod Ran

@@ -1,0 +1,17 @@
+use Rattle.std.proofs.Common.{◌≡◌, ◌≤◌, ◌-◌, length, drop}
+use Rattle.ap_cells.specs.Store.{Keeps}
+use Rattle.ap_steps.specs.Ways.{room}
+use Rattle.ap_control.specs.Runs.{Ran}
+use Rattle.ap_control.proofs.runs.run_to_transfer.Given as goal
+
+abbrev pub decreases-loop-to : goal.decreases-loop-to
+decreases-loop-to l = length l.code.instructions - l.place
+
+abbrev pub invariant-loop-to : goal.invariant-loop-to
+invariant-loop-to l = record {
+  ran : Ran l.code l.at l.fn.cells.cells l.fn.x l.fn.y l.place l.cells.cells l.x l.y;
+  room : room (drop l.place l.code.instructions) ≤ l.cells.spare;
+  x_len : length l.x ≡ length l.fn.x;
+  y_len : length l.y ≡ length l.fn.y;
+  keeps : Keeps l.fn.cells l.cells;
+}

@@ -1,0 +1,28 @@
+-- A run of instructions up to one that leads elsewhere than to the one behind it.
+use Rattle.std.specs.Prelude.{◌≡◌, ℕ, false, List, length, slice_get, Option, Some, None}
+use Rattle.ap_instr.specs.declared.instruction.Instr.{Instr}
+use Rattle.ap_instr.specs.Step.{frame, step_of}
+use Rattle.ap_cells.specs.declared.cells.Raw.{Raw}
+use Rattle.ap_instr.specs.Code.{Compiled}
+use Rattle.ap_instr.specs.Runs.{AsksOpenly}
+use Rattle.ap_steps.specs.Moves.{held, HoldPlaces, Moves, IsStuck}
+use Rattle.ap_steps.specs.Ways.{is_transfer, cells_of, steps_from}
+
+pub record Ran (code : Compiled) (at : ℕ) (cs : List Raw) (x y : List ℕ) (to : ℕ) (ds : List Raw) (x' y' : List ℕ) : Type 0 where
+  pub moves : Moves cs (held x) (held y) (steps_from code at) ds (held x') (held y') (steps_from code to)
+  pub openly : AsksOpenly (steps_from code at) → AsksOpenly (steps_from code to)
+  pub holds_x : HoldPlaces (length ds) x'
+  pub holds_y : HoldPlaces (length ds) y'
+
+-- the same, or they can ask for nothing
+abbrev pub RanOrStuck : Compiled → ℕ → List Raw → List ℕ → List ℕ → Option ℕ → List Raw → List ℕ → List ℕ → Type 0
+RanOrStuck code at cs x y (Some to) ds x' y' = Ran code at cs x y to ds x' y'
+RanOrStuck code at cs x y None ds x' y' = IsStuck cs (held x) (held y) (steps_from code at)
+
+-- an environment is made or given back at the place
+pub record IsFrameAt (code : Compiled) (at : ℕ) : Type 0 where
+  pub instr : Instr
+  pub stands : slice_get code.instructions at ≡ Some instr
+  pub is_frame : step_of code instr ≡ frame
+  pub makes_none : cells_of instr ≡ 0
+  pub goes_on : is_transfer instr ≡ false

@@ -1,0 +1,80 @@
+//! Runs of instructions up to one of control.
+
+ghost use Rattle.std.specs.Prelude.{◌≡◌, ℕ, ◌+◌, ◌<◌, ◌≤◌, length, drop, take, slice_get, Some, true, IfOk, IfSome};
+ghost use Rattle.ap_cells.specs.Store.{Keeps};
+ghost use Rattle.ap_steps.specs.Moves.{held, HoldPlaces};
+ghost use Rattle.ap_steps.specs.Ways.{AllHaveTargets, room};
+ghost use Rattle.ap_control.specs.Runs.{RanOrStuck, IsFrameAt};
+ghost use Rattle.ap_instr.specs.declared.instruction.Instr.TheVariants.{Builtin as builtin_instr};
+
+use crate::alternatives::instruction_at;
+use ap_cells::Cells;
+use ap_instr::{Builtin, Code, Instr};
+use ap_steps::run::run_to_control;
+use ap_term::NoMemory;
+use ap_unify::Work;
+
+/// The registers up to the last one that holds another place than 0.
+pub fn used(registers: &[u32]) -> &[u32]
+    ensures held { (w : ℕ) → held result.now w ≡ held registers.now w }
+    ensures len { length result.now ≤ length registers.now }
+{
+    let mut count = registers.len();
+    while count > 0 && registers[count - 1] == 0 {
+        count -= 1;
+    }
+    &registers[..count]
+}
+
+/// The built-in goal that stands at a place.
+pub fn builtin_at(code: &Code, at: usize) -> Option<Builtin>
+    ensures { IfSome result (λ b. slice_get code.now.instructions at ≡ Some (builtin_instr b)) }
+{
+    match instruction_at(code, at) {
+        Some(Instr::Builtin(builtin)) => Some(builtin),
+        _ => None,
+    }
+}
+
+/// Whether an environment is made or given back at a place.
+fn is_frame_at(code: &Code, at: usize) -> bool
+    ensures { result ≡ true → IsFrameAt code.now at }
+{
+    match instruction_at(code, at) {
+        None => false,
+        Some(instr) => match instr {
+            Instr::Allocate(_) => true,
+            Instr::Deallocate => true,
+            _ => false,
+        },
+    }
+}
+
+/// Takes the instructions from a place on up to the next one that leads elsewhere than to the one behind it.
+pub fn run_to_transfer(
+    cells: &mut Cells,
+    x: &mut [u32],
+    y: &mut [u32],
+    code: &Code,
+    at: usize,
+    work: &mut Work,
+) -> Result<Option<usize>, NoMemory>
+    requires room { room (drop at code.now.instructions) ≤ cells.old.spare }
+    requires targets { (p : ℕ) → AllHaveTargets (drop p code.now.instructions) (length x.old) (length y.old) }
+    requires holds_x { HoldPlaces (length cells.old.cells) x.old }
+    requires holds_y { HoldPlaces (length cells.old.cells) y.old }
+    ensures ran { IfOk result (λ to. RanOrStuck code.now at cells.old.cells x.old y.old to cells.new.cells x.new y.new) }
+    ensures x_len { length x.new ≡ length x.old }
+    ensures y_len { length y.new ≡ length y.old }
+    ensures keeps { Keeps cells.old cells.new }
+{
+    let places = code.instructions().len();
+    let mut place = at;
+    while let Some(to) = run_to_control(cells, x, y, code, place, work)? {
+        if to >= places || !is_frame_at(code, to) {
+            return Ok(Some(to));
+        }
+        place = to + 1;
+    }
+    Ok(None)
+}

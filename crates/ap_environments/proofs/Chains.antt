@@ -1,0 +1,310 @@
+-- What a frame that is put on, and frames that are taken off, make of the returns.
+use Rattle.std.proofs.Common.{◌≡◌, ℕ, zero, suc, ◌+◌, ◌-◌, ◌<◌, ◌≤◌, List, [], ◌∷◌, ◌++◌, length, take, drop, map, get_or, slice_get, Option, Some, None, reverse, refl, ap, ap₂, sym, ◌∙◌, subst, arith}
+use Rattle.std.specs.List.{AllByRecursion}
+use Rattle.std.specs.Option.{IfSome}
+use Rattle.std.proofs.lemmas.List.{length-append, length-take-le, take-append-drop, take_all, take-take, take_at, take-append-le, drop_at, drop-append-le, get_or-take, get_or_append_left, get_or_at, map-append, reverse-append}
+use Rattle.ap_steps.specs.Standing.{Return}
+use Rattle.ap_environments.specs.declared.environments.Frame.{Frame}
+use Rattle.ap_environments.specs.declared.environments.Point.{Point}
+use Rattle.ap_environments.specs.Kept.{Moment}
+use Rattle.ap_environments.specs.Frames.{return_of, chains_from, chains, chain, moment_of, moment, moments, Laid, LeadUp, Rising, AreFrames}
+
+-- ---- lists of returns
+
+pub chains_from-push : (ss : List ℕ) (before : List (List Return)) (fs : List Frame) (f : Frame)
+    → chains_from ss before (fs ++ f ∷ []) ≡ chains_from ss before fs ++ (return_of ss f ∷ get_or (chains_from ss before fs) f.up []) ∷ []
+chains_from-push ss before [] f = refl
+chains_from-push ss before (g ∷ fs) f = chains_from-push ss (before ++ (return_of ss g ∷ get_or before g.up []) ∷ []) fs f
+
+length-chains_from : (ss : List ℕ) (before : List (List Return)) (fs : List Frame) → length (chains_from ss before fs) ≡ length before + length fs
+length-chains_from ss before [] = omega arith
+length-chains_from ss before (f ∷ fs) =
+    let r : List Return = return_of ss f ∷ get_or before f.up [] in
+    let e = length-chains_from ss (before ++ r ∷ []) fs in
+    let l = length-append before (r ∷ []) in
+    omega arith
+
+pub length-chains : (ss : List ℕ) (fs : List Frame) → length (chains ss fs) ≡ length fs + 1
+length-chains ss fs = let e = length-chains_from ss ([] ∷ []) fs in omega arith
+
+chains_from-first : (ss : List ℕ) (before : List (List Return)) (fs : List Frame) → take (length before) (chains_from ss before fs) ≡ before
+chains_from-first ss before [] = take_all (length before) before (omega arith)
+chains_from-first ss before (f ∷ fs) =
+    let r : List Return = return_of ss f ∷ get_or before f.up [] in
+    let l = length-append before (r ∷ []) in
+    sym (take-take (length before) (length (before ++ r ∷ [])) (chains_from ss (before ++ r ∷ []) fs) (omega arith))
+    ∙ ap (take (length before)) (chains_from-first ss (before ++ r ∷ []) fs)
+    ∙ take_at before (r ∷ []) (length before) refl
+
+chains_from-take : (ss : List ℕ) (before : List (List Return)) (n : ℕ) (fs : List Frame) → take (length before + n) (chains_from ss before fs) ≡ chains_from ss before (take n fs)
+chains_from-take ss before zero fs = ap (λ m. take m (chains_from ss before fs)) (let e : length before + zero ≡ length before = omega arith in e) ∙ chains_from-first ss before fs
+chains_from-take ss before (suc n) [] = take_all (length before + suc n) before (omega arith)
+chains_from-take ss before (suc n) (f ∷ fs) =
+    let r : List Return = return_of ss f ∷ get_or before f.up [] in
+    let l = length-append before (r ∷ []) in
+    ap (λ m. take m (chains_from ss (before ++ r ∷ []) fs)) (let e : length before + suc n ≡ length (before ++ r ∷ []) + n = omega arith in e)
+    ∙ chains_from-take ss (before ++ r ∷ []) n fs
+
+-- ---- registers
+
+-- registers among the first n
+abbrev pub IsWithin : ℕ → Frame → Type 0
+IsWithin n f = f.first + f.count ≤ n
+
+return_of-append : (ss us : List ℕ) (f : Frame) → IsWithin (length ss) f → return_of (ss ++ us) f ≡ return_of ss f
+return_of-append ss us f w =
+    ap (λ ys. record { place = f.place; y = ys })
+    (ap (take f.count) (drop-append-le f.first ss us (omega arith)) ∙ take-append-le f.count (drop f.first ss) us (let l = length-drop-of f.first ss in omega arith))
+  where
+    length-drop-of : (n : ℕ) (xs : List ℕ) → length (drop n xs) ≡ length xs - n
+    length-drop-of zero xs = omega arith
+    length-drop-of (suc n) [] = omega arith
+    length-drop-of (suc n) (x ∷ xs) = let e = length-drop-of n xs in omega arith
+
+chains_from-append : (ss us : List ℕ) (before : List (List Return)) (fs : List Frame) → AllByRecursion (IsWithin (length ss)) fs → chains_from (ss ++ us) before fs ≡ chains_from ss before fs
+chains_from-append ss us before [] w = refl
+chains_from-append ss us before (f ∷ fs) w =
+    ap (λ r. chains_from (ss ++ us) (before ++ (r ∷ get_or before f.up []) ∷ []) fs) (return_of-append ss us f w.0)
+    ∙ chains_from-append ss us (before ++ (return_of ss f ∷ get_or before f.up []) ∷ []) fs w.1
+
+-- ---- how frames lie
+
+Laid-end : (n : ℕ) (fs : List Frame) (end : ℕ) → Laid n fs end → n ≤ end
+Laid-end n [] end h = omega arith
+Laid-end n (f ∷ fs) end h = let e = Laid-end (n + f.count) fs end h.1 in omega arith
+
+Laid-within : (n : ℕ) (fs : List Frame) (end : ℕ) → Laid n fs end → AllByRecursion (IsWithin end) fs
+Laid-within n [] end h = tt
+Laid-within n (f ∷ fs) end h = (let e = Laid-end (n + f.count) fs end h.1 in let s : f.first ≡ n = h.0 in omega arith, Laid-within (n + f.count) fs end h.1)
+
+Laid-push : (n : ℕ) (fs : List Frame) (end : ℕ) (f : Frame) → Laid n fs end → f.first ≡ end → Laid n (fs ++ f ∷ []) (end + f.count)
+Laid-push n [] end f h e = (e ∙ sym h, ap (λ m. m + f.count) h)
+Laid-push n (g ∷ fs) end f h e = (h.0, Laid-push (n + g.count) fs end f h.1 e)
+
+Laid-take : (n : ℕ) (fs : List Frame) (end i : ℕ) (d : Frame) → Laid n fs end → i < length fs → Laid n (take i fs) (get_or fs i d).first
+Laid-take n [] end i d h l = absurd (omega arith)
+Laid-take n (f ∷ fs) end zero d h l = sym h.0
+Laid-take n (f ∷ fs) end (suc i) d h l = (h.0, Laid-take (n + f.count) fs end i d h.1 (omega arith))
+
+Laid-first : (n : ℕ) (fs : List Frame) (end i : ℕ) (d : Frame) → Laid n fs end → i < length fs → (get_or fs i d).first + (get_or fs i d).count ≤ end
+Laid-first n [] end i d h l = absurd (omega arith)
+Laid-first n (f ∷ fs) end zero d h l = (Laid-within n (f ∷ fs) end h).0
+Laid-first n (f ∷ fs) end (suc i) d h l = Laid-first (n + f.count) fs end i d h.1 (omega arith)
+
+LeadUp-push : (n : ℕ) (fs : List Frame) (f : Frame) → LeadUp n fs → f.up ≤ n + length fs → LeadUp n (fs ++ f ∷ [])
+LeadUp-push n [] f h l = (omega arith, tt)
+LeadUp-push n (g ∷ fs) f h l = (h.0, LeadUp-push (n + 1) fs f h.1 (omega arith))
+
+LeadUp-take : (n i : ℕ) (fs : List Frame) → LeadUp n fs → LeadUp n (take i fs)
+LeadUp-take n zero fs h = tt
+LeadUp-take n (suc i) [] h = tt
+LeadUp-take n (suc i) (f ∷ fs) h = (h.0, LeadUp-take (n + 1) i fs h.1)
+
+pub LeadUp-at : (n : ℕ) (fs : List Frame) (i : ℕ) (d : Frame) → LeadUp n fs → i < length fs → (get_or fs i d).up ≤ n + i
+LeadUp-at n [] i d h l = absurd (omega arith)
+LeadUp-at n (f ∷ fs) zero d h l = let e : f.up ≤ n = h.0 in omega arith
+LeadUp-at n (f ∷ fs) (suc i) d h l = let e = LeadUp-at (n + 1) fs i d h.1 (omega arith) in omega arith
+
+-- ---- a frame is put on
+
+pub pushed : (ss : List ℕ) (fs : List Frame) (f : Frame) (ys : List ℕ) → AreFrames ss fs → f.first ≡ length ss → f.count ≡ length ys
+    → chains (ss ++ ys) (fs ++ f ∷ []) ≡ chains ss fs ++ (record { place = f.place; y = ys } ∷ chain ss fs f.up) ∷ []
+pushed ss fs f ys h first count =
+    chains_from-push (ss ++ ys) ([] ∷ []) fs f
+    ∙ ap₂ (λ cs r. cs ++ (r ∷ get_or cs f.up []) ∷ []) (chains_from-append ss ys ([] ∷ []) fs (Laid-within 0 fs (length ss) h.laid))
+    (ap (λ y. record { place = f.place; y = y }) (ap₂ (λ n m. take n (drop m (ss ++ ys))) count first ∙ ap (take (length ys)) (drop_at ss ys (length ss) refl) ∙ take_all (length ys) ys (omega arith)))
+
+pub frames-pushed : (ss : List ℕ) (fs : List Frame) (f : Frame) (ys : List ℕ) → AreFrames ss fs → f.first ≡ length ss → f.count ≡ length ys → f.up ≤ length fs → AreFrames (ss ++ ys) (fs ++ f ∷ [])
+frames-pushed ss fs f ys h first count up = record {
+  laid = subst (Laid 0 (fs ++ f ∷ [])) (ap (λ n. length ss + n) count ∙ sym (length-append ss ys)) (Laid-push 0 fs (length ss) f h.laid first);
+  up = LeadUp-push 0 fs f h.up (omega arith);
+}
+
+-- ---- frames are taken off
+
+module _ (ss : List ℕ) (fs : List Frame) (n : ℕ) (d : Frame) (h : AreFrames ss fs) (below : n < length fs) where
+  abbrev first : ℕ
+  first = (get_or fs n d).first
+
+  few : first ≤ length ss
+  few = let e = Laid-first 0 fs (length ss) n d h.laid below in omega arith
+
+  laid : Laid 0 (take n fs) (length (take first ss))
+  laid = subst (Laid 0 (take n fs)) (sym (length-take-le first ss few)) (Laid-take 0 fs (length ss) n d h.laid below)
+
+  pub cut-chains : chains (take first ss) (take n fs) ≡ take (n + 1) (chains ss fs)
+  cut-chains =
+      sym (chains_from-append (take first ss) (drop first ss) ([] ∷ []) (take n fs) (Laid-within 0 (take n fs) (length (take first ss)) laid))
+      ∙ ap (λ us. chains us (take n fs)) (take-append-drop first ss)
+      ∙ sym (chains_from-take ss ([] ∷ []) n fs)
+      ∙ ap (λ m. take m (chains ss fs)) (let e : 1 + n ≡ n + 1 = omega arith in e)
+
+  pub cut-frames : AreFrames (take first ss) (take n fs)
+  cut-frames = record { laid = laid; up = LeadUp-take 0 n fs h.up }
+
+-- ---- choice points
+
+moments-same : (ss us : List ℕ) (fs gs : List Frame) (qs : List Point) → AllByRecursion (λ q. chain us gs q.frames ≡ chain ss fs q.frames) qs → map (moment us gs) qs ≡ map (moment ss fs) qs
+moments-same ss us fs gs [] h = refl
+moments-same ss us fs gs (q ∷ qs) h = ap₂ (λ m ms. moment_of q.choice m ∷ ms) h.0 (moments-same ss us fs gs qs h.1)
+
+pub Rising-end : (n : ℕ) (qs : List Point) (all : ℕ) → Rising n qs all → n ≤ all
+Rising-end n [] all h = h
+Rising-end n (q ∷ qs) all h = let e = Rising-end q.frames qs all h.2 in let l : n ≤ q.frames = h.0 in omega arith
+
+-- what holds of each number up to the end holds of each choice point's
+Rising-each : (P : ℕ → Type 0) (n : ℕ) (qs : List Point) (all : ℕ) → Rising n qs all → ((m : ℕ) → m ≤ all → P m) → AllByRecursion (λ q. P q.frames) qs
+Rising-each P n [] all h f = tt
+Rising-each P n (q ∷ qs) all h f = (f q.frames (Rising-end q.frames qs all h.2), Rising-each P q.frames qs all h.2 f)
+
+pub Rising-more : (n : ℕ) (qs : List Point) (all more : ℕ) → Rising n qs all → all ≤ more → Rising n qs more
+Rising-more n [] all m h l = omega arith
+Rising-more n (q ∷ qs) all m h l = (h.0, h.1, Rising-more q.frames qs all m h.2 l)
+
+pub Rising-push : (n : ℕ) (qs : List Point) (all : ℕ) (q : Point) → Rising n qs all → all ≤ q.frames → 0 < q.frames → Rising n (qs ++ q ∷ []) q.frames
+Rising-push n [] all q h l p = let e : n ≤ all = h in (omega arith, p, omega arith)
+Rising-push n (r ∷ qs) all q h l p = (h.0, h.1, Rising-push r.frames qs all q h.2 l p)
+
+-- the last choice point keeps the most
+pub Rising-last : (n : ℕ) (qs : List Point) (all : ℕ) (q : Point) → Rising n (qs ++ q ∷ []) all → Rising n (qs ++ q ∷ []) q.frames × (0 < q.frames) × (q.frames ≤ all)
+Rising-last n [] all q h = ((h.0, h.1, omega arith), h.1, h.2)
+Rising-last n (r ∷ qs) all q h = let e = Rising-last r.frames qs all q h.2 in ((h.0, h.1, e.0), e.1, e.2)
+
+pub Rising-front : (n : ℕ) (qs : List Point) (all : ℕ) (q : Point) → Rising n (qs ++ q ∷ []) all → Rising n qs all
+Rising-front n [] all q h = let e : n ≤ q.frames = h.0 in let l : q.frames ≤ all = h.2 in omega arith
+Rising-front n (r ∷ qs) all q h = (h.0, h.1, Rising-front r.frames qs all q h.2)
+
+-- lists of returns that begin alike give the choice points the same
+pub moments-alike : (ss us : List ℕ) (fs gs : List Frame) (qs : List Point) (n : ℕ) → Rising 0 qs n → ((m : ℕ) → m ≤ n → chain us gs m ≡ chain ss fs m) → moments us gs qs ≡ moments ss fs qs
+moments-alike ss us fs gs qs n h same = ap reverse (moments-same ss us fs gs qs (Rising-each (λ m. chain us gs m ≡ chain ss fs m) 0 qs n h same))
+
+-- ---- lists of returns, one from another
+
+pub trimmed : (ss us : List ℕ) (fs gs : List Frame) (n : ℕ) → chains us gs ≡ take (n + 1) (chains ss fs) → (m : ℕ) → m ≤ n → chain us gs m ≡ chain ss fs m
+trimmed ss us fs gs n e m l = ap (λ cs. get_or cs m []) e ∙ get_or-take (n + 1) (chains ss fs) m [] (omega arith)
+
+pub before-pushed : (ss us : List ℕ) (fs gs : List Frame) (r : List Return) → chains us gs ≡ chains ss fs ++ r ∷ [] → (m : ℕ) → m ≤ length fs → chain us gs m ≡ chain ss fs m
+before-pushed ss us fs gs r e m l = ap (λ cs. get_or cs m []) e ∙ get_or_append_left (chains ss fs) (r ∷ []) [] m (let k = length-chains ss fs in omega arith)
+
+pub last-pushed : (ss us : List ℕ) (fs gs : List Frame) (r : List Return) → chains us gs ≡ chains ss fs ++ r ∷ [] → (n : ℕ) → n ≡ length fs + 1 → chain us gs n ≡ r
+last-pushed ss us fs gs r e n k = ap (λ cs. get_or cs n []) e ∙ get_or_at (chains ss fs) r [] [] n (length-chains ss fs ∙ sym k)
+
+pub moments-push : (ss : List ℕ) (fs : List Frame) (qs : List Point) (q : Point) → moments ss fs (qs ++ q ∷ []) ≡ moment ss fs q ∷ moments ss fs qs
+moments-push ss fs qs q = ap reverse (map-append (moment ss fs) qs (q ∷ [])) ∙ reverse-append (map (moment ss fs) qs) (moment ss fs q ∷ [])
+
+-- the last element of a list
+pub front-last : {X : Type 0} (xs : List X) (n : ℕ) (x : X) → n + 1 ≡ length xs → slice_get xs n ≡ Some x → xs ≡ take n xs ++ x ∷ []
+front-last [] n x l e = cc
+front-last (y ∷ []) zero x l e = let f : y ≡ x = cc in ap (λ z. z ∷ []) f
+front-last (y ∷ z ∷ zs) zero x l e = absurd (omega arith)
+front-last (y ∷ ys) (suc n) x l e = ap (λ zs. y ∷ zs) (front-last ys n x (omega arith) e)
+
+early : (ss : List ℕ) (before : List (List Return)) (fs : List Frame) (i : ℕ) → i < length before → get_or (chains_from ss before fs) i [] ≡ get_or before i []
+early ss before fs i l = sym (get_or-take (length before) (chains_from ss before fs) i [] l) ∙ ap (λ cs. get_or cs i []) (chains_from-first ss before fs)
+
+chains_from-at : (ss : List ℕ) (before : List (List Return)) (fs : List Frame) (k n : ℕ) (d : Frame) → length before ≡ k + 1 → LeadUp k fs → n < length fs
+    → get_or (chains_from ss before fs) (length before + n) [] ≡ return_of ss (get_or fs n d) ∷ get_or (chains_from ss before fs) (get_or fs n d).up []
+chains_from-at ss before [] k n d e up l = absurd (omega arith)
+chains_from-at ss before (f ∷ fs) k zero d e up l =
+    let r : List Return = return_of ss f ∷ get_or before f.up [] in
+    let len = length-append before (r ∷ []) in
+    let u : f.up ≤ k = up.0 in
+    early ss (before ++ r ∷ []) fs (length before + zero) (omega arith)
+    ∙ get_or_at before r [] [] (length before + zero) (omega arith)
+    ∙ ap (λ ws. return_of ss f ∷ ws) (sym (early ss (before ++ r ∷ []) fs f.up (omega arith) ∙ get_or_append_left before (r ∷ []) [] f.up (omega arith)))
+chains_from-at ss before (f ∷ fs) k (suc n) d e up l =
+    let r : List Return = return_of ss f ∷ get_or before f.up [] in
+    let len = length-append before (r ∷ []) in
+    ap (λ m. get_or (chains_from ss (before ++ r ∷ []) fs) m []) (let q : length before + suc n ≡ length (before ++ r ∷ []) + n = omega arith in q)
+    ∙ chains_from-at ss (before ++ r ∷ []) fs (k + 1) n d (omega arith) up.1 (omega arith)
+
+-- the frame of a number leads on
+pub chain-at : (ss : List ℕ) (fs : List Frame) (m n : ℕ) (d : Frame) → LeadUp 0 fs → m ≡ n + 1 → n < length fs → chain ss fs m ≡ return_of ss (get_or fs n d) ∷ chain ss fs (get_or fs n d).up
+chain-at ss fs m n d up e l =
+    ap (λ i. get_or (chains ss fs) i []) (let q : m ≡ 1 + n = omega arith in q) ∙ chains_from-at ss ([] ∷ []) fs 0 n d (let q : 1 ≡ 0 + 1 = omega arith in q) up l
+
+-- no frame
+pub chain-none : (ss : List ℕ) (fs : List Frame) → chain ss fs 0 ≡ []
+chain-none ss fs = early ss ([] ∷ []) fs 0 (omega arith)
+
+pub frame-within : (ss : List ℕ) (fs : List Frame) (n : ℕ) (d : Frame) → AreFrames ss fs → n < length fs → (get_or fs n d).first + (get_or fs n d).count ≤ length ss
+frame-within ss fs n d h l = Laid-first 0 fs (length ss) n d h.laid l
+
+-- ---- the whole
+
+-- frames are taken off that neither the innermost return nor a choice point needs
+pub same-view : (ss us : List ℕ) (fs gs : List Frame) (qs : List Point) (top n : ℕ) → chains us gs ≡ take (n + 1) (chains ss fs) → top ≤ n → Rising 0 qs n
+    → (chain us gs top ≡ chain ss fs top) × (moments us gs qs ≡ moments ss fs qs)
+same-view ss us fs gs qs top n e l h = (trimmed ss us fs gs n e top l, moments-alike ss us fs gs qs n h (trimmed ss us fs gs n e))
+
+-- the newest moment and the others
+pub newest-moment : (ss : List ℕ) (fs : List Frame) (points qs : List Point) (q : Point) → points ≡ qs ++ q ∷ [] → moments ss fs points ≡ moment ss fs q ∷ moments ss fs qs
+newest-moment ss fs points qs q e = ap (moments ss fs) e ∙ moments-push ss fs qs q
+
+-- a choice point's own frame
+pub own-moment : (ss : List ℕ) (fs : List Frame) (q : Point) (n : ℕ) (d : Frame) → LeadUp 0 fs → q.frames ≡ n + 1 → n < length fs
+    → moment ss fs q ≡ record { choice = q.choice; returns = chain ss fs (get_or fs n d).up; arguments = take (get_or fs n d).count (drop (get_or fs n d).first ss) }
+own-moment ss fs q n d up e l = ap (moment_of q.choice) (chain-at ss fs q.frames n d up e l)
+
+-- ---- the last of a list
+
+some-at : {X : Type 0} (xs : List X) (n : ℕ) → n < length xs → slice_get xs n ≡ None → ⊥
+some-at [] n l e = absurd (omega arith)
+some-at (x ∷ xs) zero l e = cc
+some-at (x ∷ xs) (suc n) l e = some-at xs n (omega arith) e
+
+none-last : {X : Type 0} (xs : List X) → slice_get xs (length xs - 1) ≡ None → xs ≡ []
+none-last [] e = refl
+none-last (x ∷ xs) e = absurd (some-at (x ∷ xs) (length (x ∷ xs) - 1) (omega arith) e)
+
+some-last : {X : Type 0} (xs : List X) (x : X) → slice_get xs (length xs - 1) ≡ Some x → (ys : List X) × (xs ≡ ys ++ x ∷ [])
+some-last [] x e = cc
+some-last (y ∷ ys) x e = (take (length (y ∷ ys) - 1) (y ∷ ys), front-last (y ∷ ys) (length (y ∷ ys) - 1) x (omega arith) e)
+
+pub is-last : {X : Type 0} (xs : List X) (r : Option X) → r ≡ slice_get xs (length xs - 1) → (r ≡ None → xs ≡ []) × IfSome r (λ x. (ys : List X) × (xs ≡ ys ++ x ∷ []))
+is-last xs None e = (λ n. none-last xs (sym e), tt)
+is-last xs (Some x) e = (λ n. absurd (let z : ⊥ = cc in z), some-last xs x (sym e))
+
+-- ---- the newest choice point
+
+pub last-kept : (points qs : List Point) (q : Point) (all : ℕ) → points ≡ qs ++ q ∷ [] → Rising 0 points all → (0 < q.frames) × (q.frames ≤ all)
+last-kept points qs q all e h = let r = Rising-last 0 qs all q (subst (λ ps. Rising 0 ps all) e h) in (r.1, r.2)
+
+pub front-rising : (points qs : List Point) (q : Point) (all : ℕ) → points ≡ qs ++ q ∷ [] → Rising 0 points all → Rising 0 qs all
+front-rising points qs q all e h = Rising-front 0 qs all q (subst (λ ps. Rising 0 ps all) e h)
+
+-- its moment is the first of the list, which is another way to say what it is
+pub is-newest : (ss : List ℕ) (fs : List Frame) (points qs : List Point) (q : Point) (ns : List Moment) (m : Moment) (ms : List Moment) → points ≡ qs ++ q ∷ [] → moments ss fs points ≡ ns → ns ≡ m ∷ ms
+    → (moment ss fs q ≡ m) × (moments ss fs qs ≡ ms)
+is-newest ss fs points qs q ns m ms e v h =
+    let d : moment ss fs q ∷ moments ss fs qs ≡ m ∷ ms = sym (newest-moment ss fs points qs q e) ∙ v ∙ h in
+    (cc, cc)
+
+-- the same frames for a choice point that names other clauses
+pub moment-choice : (ss : List ℕ) (fs : List Frame) (q r : Point) → r.frames ≡ q.frames → moment ss fs r ≡ record { choice = r.choice; returns = (moment ss fs q).returns; arguments = (moment ss fs q).arguments }
+moment-choice ss fs q r e = ap (λ n. moment_of r.choice (chain ss fs n)) e ∙ go (chain ss fs q.frames)
+  where
+    go : (ws : List Return) → moment_of r.choice ws ≡ record { choice = r.choice; returns = (moment_of q.choice ws).returns; arguments = (moment_of q.choice ws).arguments }
+    go [] = refl
+    go (w ∷ ws) = refl
+
+pub moment-choice_is : (ss : List ℕ) (fs : List Frame) (q : Point) → (moment ss fs q).choice ≡ q.choice
+moment-choice_is ss fs q = go (chain ss fs q.frames)
+  where
+    go : (ws : List Return) → (moment_of q.choice ws).choice ≡ q.choice
+    go [] = refl
+    go (w ∷ ws) = refl
+
+pub Rising-replace : (n : ℕ) (qs : List Point) (all : ℕ) (q r : Point) → r.frames ≡ q.frames → Rising n (qs ++ q ∷ []) all → Rising n (qs ++ r ∷ []) all
+Rising-replace n [] all q r e h = let k : n ≤ q.frames = h.0 in let l : q.frames ≤ all = h.2 in let p : 0 < q.frames = h.1 in (omega arith, omega arith, omega arith)
+Rising-replace n (p ∷ qs) all q r e h = (h.0, h.1, Rising-replace p.frames qs all q r e h.2)
+
+pub no-newest : (ss : List ℕ) (fs : List Frame) (points : List Point) (ns : List Moment) (m : Moment) (ms : List Moment) → points ≡ [] → moments ss fs points ≡ ns → ns ≡ m ∷ ms → ⊥
+no-newest ss fs points ns m ms e v h = let d : moments ss fs [] ≡ m ∷ ms = sym (ap (moments ss fs) e) ∙ v ∙ h in nothing d
+  where
+    nothing : [] ≡ m ∷ ms → ⊥
+    nothing d = cc
+
+pub none-popped : (xs : List Point) → length xs ≡ 0 → xs ≡ []
+none-popped [] l = refl
+none-popped (x ∷ xs) l = absurd (omega arith)

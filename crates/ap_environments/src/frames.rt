@@ -1,0 +1,84 @@
+//! Frames: registers that were saved, with a place and the frame above which they were put on.
+
+ghost use Rattle.std.specs.Prelude.{◌≡◌, ℕ, ◌+◌, ◌≤◌, ◌∷◌, [], ◌++◌, length, take, drop, IfOk, OnOk, OnErr};
+ghost use Rattle.ap_steps.specs.Moves.{held};
+ghost use Rattle.ap_environments.specs.Frames.{AreFrames, chain, chains};
+
+use crate::environments::Frame;
+use ap_term::NoMemory;
+
+/// Puts a frame behind the others, and answers its number, counted from 1.
+pub fn push_frame(
+    frames: &mut Vec<Frame>,
+    slots: &mut Vec<u32>,
+    place: u32,
+    up: u32,
+    registers: &[u32],
+) -> Result<u32, NoMemory>
+    requires are_frames { AreFrames slots.old.items frames.old.items }
+    requires up { up ≤ length frames.old.items }
+    ensures chains { OnOk result (chains slots.new.items frames.new.items ≡ chains slots.old.items frames.old.items ++ (record { place = place; y = registers.now } ∷ chain slots.old.items frames.old.items up) ∷ []) }
+    ensures number { IfOk result (λ n. n ≡ length frames.old.items + 1) }
+    ensures len { OnOk result (length frames.new.items ≡ length frames.old.items + 1) }
+    ensures are_frames { OnOk result (AreFrames slots.new.items frames.new.items) }
+    ensures frames_kept { OnErr result (frames.new.items ≡ frames.old.items) }
+    ensures slots_kept { OnErr result (slots.new.items ≡ slots.old.items) }
+{
+    let Ok(number) = u32::try_from(frames.len() + 1) else {
+        return Err(NoMemory);
+    };
+    let Ok(first) = u32::try_from(slots.len()) else {
+        return Err(NoMemory);
+    };
+    let Ok(count) = u32::try_from(registers.len()) else {
+        return Err(NoMemory);
+    };
+    let frame = Frame {
+        place,
+        up,
+        first,
+        count,
+    };
+    frames.push(frame)?;
+    if slots.extend_from_slice(registers).is_err() {
+        frames.truncate(number as usize - 1);
+        return Err(NoMemory);
+    }
+    Ok(number)
+}
+
+/// Takes off the frames behind the first n.
+pub fn cut(frames: &mut Vec<Frame>, slots: &mut Vec<u32>, n: usize)
+    requires { AreFrames slots.old.items frames.old.items }
+    ensures chains { chains slots.new.items frames.new.items ≡ take (n + 1) (chains slots.old.items frames.old.items) }
+    ensures frames { frames.new.items ≡ take n frames.old.items }
+    ensures are_frames { AreFrames slots.new.items frames.new.items }
+{
+    if n < frames.len() {
+        let first = frames[n].first;
+        slots.truncate(first as usize);
+        frames.truncate(n);
+    }
+}
+
+/// The registers that a frame saved.
+pub fn registers_of<'a>(slots: &'a [u32], frame: &Frame) -> &'a [u32]
+    requires { frame.now.first + frame.now.count ≤ length slots.now }
+    ensures { result.now ≡ take frame.now.count (drop frame.now.first slots.now) }
+{
+    let first = frame.first as usize;
+    &slots[first..first + frame.count as usize]
+}
+
+/// Puts places into the first registers, as far as there are registers, and 0 into the others.
+pub fn fill_registers(registers: &mut [u32], places: &[u32])
+    ensures held { (w : ℕ) → length places.now ≤ length registers.old → held registers.new w ≡ held places.now w }
+    ensures len { length registers.new ≡ length registers.old }
+{
+    for i in 0..registers.len() {
+        registers[i] = match places.get(i) {
+            Some(place) => *place,
+            None => 0,
+        };
+    }
+}

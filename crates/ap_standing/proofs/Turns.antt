@@ -1,0 +1,211 @@
+-- A call is one turn of the model, and clauses are taken one after another.
+use Rattle.std.proofs.Common.{◌≡◌, ℕ, zero, suc, ◌+◌, ◌<◌, ◌≤◌, List, [], ◌∷◌, ◌++◌, slice_get, Some, None, refl, ap, ap₂, sym, ◌∙◌, subst, arith}
+use Rattle.std.specs.List.{AllZip, AllByRecursion}
+use Rattle.std.proofs.lemmas.List.{append_assoc}
+use Rattle.std.proofs.lemmas.List.Elements.{All-nil, All-cons, All-head, All-tail, All-filter}
+use Rattle.ap_term.specs.Tree.{Tree, Trees, none, more, count_trees}
+use Rattle.ap_term.specs.Substitution.{instance}
+use Rattle.ap_term.specs.Goals.{Part, call, group, Clause, Program, opened}
+use Rattle.ap_term.specs.WellFormed.{IsClause, IsProgram}
+use Rattle.ap_term.specs.Builtins.{builtin}
+use Rattle.ap_term.specs.Search.{State, children}
+use Rattle.ap_laws.specs.Plain.{append_trees, plain_goals, AreGroups}
+use Rattle.ap_laws.proofs.Views.{plain_goals-opened, StartsWithCall, StartsWithCall-opened}
+use Rattle.ap_instr.specs.declared.compiled.Predicate.{Predicate}
+use Rattle.ap_instr.specs.Code.{Compiled}
+use Rattle.ap_instr.specs.Runs.{applied, spread, AsksOpenly}
+use Rattle.ap_instr.specs.StandsFor.{ReadsAt, StandsFor, clauses_of, clause_places, is_head_of}
+use Rattle.ap_resolution.specs.Instances.{Inst, SameSet, IsSetOf, Resolved}
+use Rattle.ap_resolution.proofs.Unified.{IsSetOf-same}
+use Rattle.ap_resolution.proofs.Variants.{instances}
+use Rattle.ap_steps.specs.Moves.{held}
+use Rattle.ap_steps.specs.Standing.{Standing, AtCall, InCode}
+use Rattle.ap_steps.specs.Ways.{steps_from}
+use Rattle.ap_steps.proofs.Entry.{entry}
+use Rattle.ap_standing.specs.Machine.{Point, standing_at}
+use Rattle.ap_standing.specs.Holds.{AreOpen, IsPlain, Untried, HoldsPoints, HoldsRest}
+use Rattle.ap_standing.specs.Laws.{SameArguments}
+use Rattle.ap_standing.proofs.Children.{children-none, children-split, resolves, plain-children, AreHeads, heads-of, children-own}
+
+-- ---- sets
+
+pub SameSet-trans : (I J K : Trees → Trees → Type 0) → SameSet I J → SameSet J K → SameSet I K
+SameSet-trans I J K h k gs t = (λ i. (k gs t).0 ((h gs t).0 i), λ j. (h gs t).1 ((k gs t).1 j))
+
+pub SameSet-sym : (I J : Trees → Trees → Type 0) → SameSet I J → SameSet J I
+SameSet-sym I J h gs t = ((h gs t).1, (h gs t).0)
+
+Resolved-same : (I J : Trees → Trees → Type 0) (c : Clause) → SameSet I J → SameSet (Resolved I c) (Resolved J c)
+Resolved-same I J c h gs t = (
+  λ r. (r.0, r.1, (h (more (instance r.0 c.head) r.1) t).0 r.2, r.3),
+  λ r. (r.0, r.1, (h (more (instance r.0 c.head) r.1) t).1 r.2, r.3),
+)
+
+-- ---- registers of a call
+
+spread-same : (f g : ℕ → Tree) (p n : ℕ) → ((w : ℕ) → p ≤ w → w < p + n → f w ≡ g w) → spread f p n ≡ spread g p n
+spread-same f g p zero h = refl
+spread-same f g p (suc n) h = ap₂ more (h p (omega arith) (omega arith)) (spread-same f g (p + 1) n (λ w a b. h w (omega arith) (omega arith)))
+
+count_spread : (f : ℕ → Tree) (p n : ℕ) → count_trees (spread f p n) ≡ n
+count_spread f p zero = refl
+count_spread f p (suc n) = let e = count_spread f (p + 1) n in omega arith
+
+pub AtCall-registers : (code : Compiled) (st : Standing) (x y : ℕ → ℕ) (p n : ℕ) → SameArguments n x y → SameSet (AtCall code st x p n) (AtCall code st y p n)
+AtCall-registers code st x y p n h gs t = (
+  λ m. (m.0, m.1, m.2, m.3 ∙ ap (λ ts. more (applied p ts) m.1) (spread-same (λ w. m.0 (x w)) (λ w. m.0 (y w)) 1 n (λ w a b. ap m.0 (h w (omega arith) (omega arith)))), m.4),
+  λ m. (m.0, m.1, m.2, m.3 ∙ ap (λ ts. more (applied p ts) m.1) (sym (spread-same (λ w. m.0 (x w)) (λ w. m.0 (y w)) 1 n (λ w a b. ap m.0 (h w (omega arith) (omega arith))))), m.4),
+)
+
+-- ---- first goals
+
+pub first-call : (ps : List Part) (g : Tree) (gs : Trees) → plain_goals ps ≡ more g gs → (rest : List Part) × (opened ps ≡ call g ∷ rest)
+first-call ps g gs e = go (opened ps) refl (StartsWithCall-opened ps)
+  where
+    go : (qs : List Part) → opened ps ≡ qs → StartsWithCall qs → (rest : List Part) × (opened ps ≡ call g ∷ rest)
+    go [] q s = absurd (let d : none ≡ more g gs = sym (ap plain_goals q) ∙ plain_goals-opened ps ∙ e in let z : ⊥ = cc in z)
+    go (call t ∷ rest) q s =
+        let d : more t (plain_goals rest) ≡ more g gs = sym (ap plain_goals q) ∙ plain_goals-opened ps ∙ e in
+        let f : t ≡ g = cc in
+        (rest, q ∙ ap (λ u. call u ∷ rest) f)
+    go (group cs ts ∷ rest) q s = absurd s
+
+pub no-goals : (ps : List Part) → AreGroups ps → plain_goals ps ≡ none → ps ≡ []
+no-goals [] h e = refl
+no-goals (call t ∷ ps) h e = absurd (let z : ⊥ = cc in z)
+no-goals (group cs none ∷ ps) h e = absurd h
+no-goals (group cs (more t ts) ∷ ps) h e = absurd (let d : more t (append_trees ts (plain_goals ps)) ≡ none = e in let z : ⊥ = cc in z)
+
+-- ---- a call
+
+module _ (code : Compiled) (p : Program) (good : IsProgram p) (stands : StandsFor code p) (q : Predicate) (roots : List ℕ) (point : Point) (known : slice_get code.predicates point.predicate ≡ Some q) where
+  -- what is known of a state at whose first goal the machine is
+  pub called : (x : ℕ → ℕ) (s : State) → SameArguments q.arity x (held point.arguments) → IsPlain s → AreOpen code point.returns
+      → SameSet (AtCall code (standing_at roots point) x q.name q.arity) (Inst s)
+      → (u : Untried code roots point (clause_places code q)) × (children u.clauses u.state ≡ children p s) × (s.goals ≡ [] → ⊥)
+  called x s args plain open_returns same = (
+    record {
+      predicate = q;
+      state = s;
+      goal = g;
+      rest = f.0;
+      clauses = clauses_of q p;
+      known = known;
+      same = SameSet-trans (AtCall code st (held point.arguments) q.name q.arity) (AtCall code st x q.name q.arity) (Inst s) (SameSet-sym (AtCall code st x q.name q.arity) (AtCall code st (held point.arguments) q.name q.arity) (AtCall-registers code st x (held point.arguments) q.name q.arity args)) same;
+      plain = plain;
+      opens = f.1;
+      ordinary = ordinary;
+      heads = heads-of q p good;
+      good = All-filter (λ c. is_head_of q c.head) IsClause p good;
+      reads = stands.reads point.predicate q known;
+      open_returns = open_returns;
+    },
+    sym (children-own q s g f.0 f.1 ordinary plain.0 calls p good),
+    λ e. absurd (let d : none ≡ more g m.1 = ap plain_goals (sym e) ∙ m.3 in let z : ⊥ = cc in z),
+  )
+    where
+      st : Standing
+      st = standing_at roots point
+
+      m : AtCall code st x q.name q.arity (plain_goals s.goals) s.tuple
+      m = (same (plain_goals s.goals) s.tuple).1 (instances s)
+
+      ts : Trees
+      ts = spread (λ w. m.0 (x w)) 1 q.arity
+
+      g : Tree
+      g = applied q.name ts
+
+      f : (rest : List Part) × (opened s.goals ≡ call g ∷ rest)
+      f = first-call s.goals g m.1 m.3
+
+      ordinary : builtin g ≡ None
+      ordinary = stands.apart point.predicate q ts known (count_spread (λ w. m.0 (x w)) 1 q.arity)
+
+      calls : (h : Tree) (gs us : Trees) → Inst s (more h gs) us → (vs : Trees) × (count_trees vs ≡ q.arity) × (h ≡ applied q.name vs)
+      calls h gs us i =
+          let c = (same (more h gs) us).1 i in
+          let vs : Trees = spread (λ w. c.0 (x w)) 1 q.arity in
+          let e : more h gs ≡ more (applied q.name vs) c.1 = c.3 in
+          let d : h ≡ applied q.name vs = cc in
+          (vs, count_spread (λ w. c.0 (x w)) 1 q.arity, d)
+
+-- ---- clauses that are left
+
+-- no clause is left
+pub rest-none : (code : Compiled) (roots : List ℕ) (q : Point) (qs : List Point) (ss : List State) → HoldsRest code roots q [] qs ss → HoldsPoints code roots qs ss
+rest-none code roots q qs ss h = subst (HoldsPoints code roots qs) (sym (h.3 ∙ ap (λ us. us ++ h.1) (go h.0.clauses h.0.reads))) h.2
+  where
+    go : (cs : Program) → AllZip (ReadsAt code) [] cs → children cs h.0.state ≡ []
+    go [] r = children-none h.0.state h.0.goal h.0.rest h.0.opens h.0.ordinary
+    go (c ∷ cs) r = absurd r
+
+-- the first clause that is left, and the others
+pub record Split (code : Compiled) (roots : List ℕ) (q : Point) (l : ℕ) (ls : List ℕ) (qs : List Point) (ss : List State) : Type 0 where
+  pub here : List State
+  pub left : List State
+  pub same : ss ≡ here ++ left
+  pub plain : AllByRecursion IsPlain here
+  pub openly : AsksOpenly (steps_from code l)
+  pub returns : AreOpen code q.returns
+  pub others : HoldsRest code roots q ls qs left
+  pub is_set : (x y : ℕ → ℕ) → ((n : ℕ) → SameArguments n x (held q.arguments)) → IsSetOf (InCode code (standing_at roots q) x y (steps_from code l)) here
+
+pub split : (code : Compiled) (roots : List ℕ) (q : Point) (l : ℕ) (ls : List ℕ) (qs : List Point) (ss : List State) → HoldsRest code roots q (l ∷ ls) qs ss → Split code roots q l ls qs ss
+split code roots q l ls qs ss h = go u.clauses refl
+  where
+    u : Untried code roots q (l ∷ ls)
+    u = h.0
+
+    st : Standing
+    st = standing_at roots q
+
+    p : ℕ
+    p = u.predicate.name
+
+    n : ℕ
+    n = u.predicate.arity
+
+    go : (ds : Program) → u.clauses ≡ ds → Split code roots q l ls qs ss
+    go [] e = absurd (subst (AllZip (ReadsAt code) (l ∷ ls)) e u.reads)
+    go (c ∷ cs) e =
+        let reads : AllZip (ReadsAt code) (l ∷ ls) (c ∷ cs) = subst (AllZip (ReadsAt code) (l ∷ ls)) e u.reads in
+        let heads : AreHeads u.predicate (c ∷ cs) = subst (AreHeads u.predicate) e u.heads in
+        let good : IsProgram (c ∷ cs) = subst IsProgram e u.good in
+        let one : IsProgram (c ∷ []) = All-cons IsClause c [] (All-head IsClause c cs good) (All-nil IsClause) in
+        record {
+          here = children (c ∷ []) u.state;
+          left = children cs u.state ++ h.1;
+          same = h.3 ∙ ap (λ us. us ++ h.1) (ap (λ ds. children ds u.state) e ∙ children-split u.state u.goal u.rest u.opens u.ordinary c cs) ∙ append_assoc (children (c ∷ []) u.state) (children cs u.state) h.1;
+          plain = plain-children (c ∷ []) one u.state u.plain;
+          openly = reads.0.openly;
+          returns = u.open_returns;
+          others = (
+            record {
+              predicate = u.predicate;
+              state = u.state;
+              goal = u.goal;
+              rest = u.rest;
+              clauses = cs;
+              known = u.known;
+              same = u.same;
+              plain = u.plain;
+              opens = u.opens;
+              ordinary = u.ordinary;
+              heads = heads.1;
+              good = All-tail IsClause c cs good;
+              reads = reads.1;
+              open_returns = u.open_returns;
+            },
+            h.1,
+            h.2,
+            refl,
+          );
+          is_set = λ x y args.
+              let at_call : SameSet (AtCall code st x p n) (Inst u.state) = SameSet-trans (AtCall code st x p n) (AtCall code st (held q.arguments) p n) (Inst u.state) (AtCall-registers code st x (held q.arguments) p n (args n)) u.same in
+              IsSetOf-same (Resolved (Inst u.state) c) (InCode code st x y (steps_from code l))
+              (SameSet-trans (Resolved (Inst u.state) c) (Resolved (AtCall code st x p n) c) (InCode code st x y (steps_from code l))
+              (Resolved-same (Inst u.state) (AtCall code st x p n) c (SameSet-sym (AtCall code st x p n) (Inst u.state) at_call))
+              (SameSet-sym (InCode code st x y (steps_from code l)) (Resolved (AtCall code st x p n) c) (entry code st x y p n (steps_from code l) c heads.0 reads.0.reads)))
+              (children (c ∷ []) u.state) (resolves u.state u.goal u.rest u.opens u.ordinary c u.plain.0);
+        }
