@@ -1,0 +1,10 @@
+% Fibonacci numbers by their definition.
+fib(0, 0).
+fib(1, 1).
+fib(N, F) :- N > 1, A is N - 1, B is N - 2, fib(A, FA), fib(B, FB), F is FA + FB.
+
+fibs(Times) :- within(1, Times, I), fib(22, F), fail.
+fibs(Times).
+
+within(Low, High, Low) :- Low =< High.
+within(Low, High, X) :- Low < High, Next is Low + 1, within(Next, High, X).
