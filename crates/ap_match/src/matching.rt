@@ -14,19 +14,6 @@ use ap_cells::{Cell, Cells, Top};
 use ap_term::{Atom, NoMemory};
 use ap_unify::{Work, unify};
 
-/// Makes the terms of two places equal, if they can be. After false, or want of memory, some bindings may be made;
-/// `undo_to` takes them back.
-pub fn equate(cells: &mut Cells, a: usize, b: usize, work: &mut Work) -> Result<bool, NoMemory>
-    requires { (a < length cells.old.cells) × (b < length cells.old.cells) }
-    ensures answered { IfOk result (λ r. Answered cells.old.cells cells.new.cells (λ k. k a ≡ k b) r) }
-    ensures len { length cells.new.cells ≡ length cells.old.cells }
-    ensures spare { cells.new.spare ≡ cells.old.spare }
-    ensures keeps { Keeps cells.old cells.new }
-{
-    let answer = unify(cells, a, b, work)?;
-    Ok(answer)
-}
-
 /// A new place with this cell. It takes no memory.
 pub fn push_new(cells: &mut Cells, cell: Cell) -> usize
     requires room { 0 < cells.old.spare }
@@ -140,8 +127,64 @@ fn are_apart(cells: &Cells, x: usize, first: usize, count: u32) -> bool
     true
 }
 
-/// Makes a place's term a new compound term by unification.
-fn equate_built(
+/// Whether the term of `to` can be bound to a place x as it stands: it is a constant, a variable of an earlier place, or a
+/// compound term of constants and other variables alone.
+fn is_flat(cells: &Cells, x: usize, to: usize) -> bool
+    requires { to < length cells.now.cells }
+    ensures absent { result ≡ true → occurs x (tree_at (trees cells.now.cells) to) ≡ false }
+    ensures down { result ≡ true → (y : ℕ) → tree_at (trees cells.now.cells) to ≡ var y → y < x }
+{
+    match cells.top(to) {
+        Top::Free(variable) => variable < x,
+        Top::Int(_) => true,
+        Top::Atom(_) => true,
+        Top::Node(_, first, count) => are_apart(cells, x, first, count),
+    }
+}
+
+/// Binds a place to another one's term, where it is unbound and that is flat. Else it does nothing.
+fn bind_flat(cells: &mut Cells, place: usize, to: usize) -> bool
+    requires { (place < length cells.old.cells) × (to < length cells.old.cells) }
+    ensures bound { result ≡ true → Becomes cells.old.cells cells.new.cells (λ k. k place ≡ k to) (λ k. Unit {0}) }
+    ensures same { result ≡ false → cells.new ≡ cells.old }
+    ensures len { length cells.new.cells ≡ length cells.old.cells }
+    ensures spare { cells.new.spare ≡ cells.old.spare }
+    ensures keeps { Keeps cells.old cells.new }
+{
+    match cells.top(place) {
+        Top::Free(x) => {
+            if !is_flat(cells, x, to) {
+                return false;
+            }
+            cells.bind(x, to);
+            true
+        }
+        _ => false,
+    }
+}
+
+/// Makes the terms of two places equal, if they can be. After false, or want of memory, some bindings may be made;
+/// `undo_to` takes them back.
+pub fn equate(cells: &mut Cells, a: usize, b: usize, work: &mut Work) -> Result<bool, NoMemory>
+    requires { (a < length cells.old.cells) × (b < length cells.old.cells) }
+    ensures answered { IfOk result (λ r. Answered cells.old.cells cells.new.cells (λ k. k a ≡ k b) r) }
+    ensures len { length cells.new.cells ≡ length cells.old.cells }
+    ensures spare { cells.new.spare ≡ cells.old.spare }
+    ensures keeps { Keeps cells.old cells.new }
+{
+    if bind_flat(cells, a, b) {
+        return Ok(true);
+    }
+    if bind_flat(cells, b, a) {
+        return Ok(true);
+    }
+    let answer = unify(cells, a, b, work)?;
+    Ok(answer)
+}
+
+/// Makes a place's term a new compound term, of a name and the cells from `first` on, if it can be. After false, or want of
+/// memory, some bindings may be made; `undo_to` takes them back.
+pub fn match_built(
     cells: &mut Cells,
     place: usize,
     name: Atom,
@@ -160,36 +203,4 @@ fn equate_built(
     let whole = push_new(cells, Cell::Node(name, first, count));
     let answer = equate(cells, place, whole, work)?;
     Ok(answer)
-}
-
-/// Makes a place's term a new compound term, of a name and the cells from `first` on, if it can be. Where these are constants
-/// and other variables alone, an unbound place is bound without a walk. After false, or want of memory, some bindings may be
-/// made; `undo_to` takes them back.
-pub fn match_built(
-    cells: &mut Cells,
-    place: usize,
-    name: Atom,
-    first: usize,
-    count: u32,
-    work: &mut Work,
-) -> Result<bool, NoMemory>
-    requires room { 0 < cells.old.spare }
-    requires inside { place < length cells.old.cells }
-    requires args { first + count ≤ length cells.old.cells }
-    ensures answered { IfOk result (λ r. Answered cells.old.cells cells.new.cells (λ k. k place ≡ node name (spread k first count)) r) }
-    ensures len { length cells.new.cells ≡ length cells.old.cells + 1 }
-    ensures spare { cells.new.spare + 1 ≡ cells.old.spare }
-    ensures keeps { Keeps cells.old cells.new }
-{
-    match cells.top(place) {
-        Top::Free(x) => {
-            if are_apart(cells, x, first, count) {
-                bind_new(cells, x, Cell::Node(name, first, count));
-                Ok(true)
-            } else {
-                equate_built(cells, place, name, first, count, work)
-            }
-        }
-        _ => equate_built(cells, place, name, first, count, work),
-    }
 }

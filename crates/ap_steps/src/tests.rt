@@ -14,7 +14,7 @@ use ap_unify::Work;
 use std::alloc::Global;
 use std::test::Fail;
 
-// p(X + true) :- q(X - 7).
+// p(X + true) :- q(X - 7), with X made equal to itself before the call.
 fn instructions(alloc: Global) -> Result<Vec<Instr>, Fail>
     ensures { IfOk result (λ v. AllHaveTargets v.items 3 0) }
 {
@@ -25,6 +25,7 @@ fn instructions(alloc: Global) -> Result<Vec<Instr>, Fail>
         Instr::PutStructure(Atom::at(fixed::MINUS), 2, 1),
         Instr::UnifyValue(Slot::X(2)),
         Instr::UnifyInteger(0),
+        Instr::GetValue(Slot::X(2), 2),
         Instr::Execute(0),
     ]?;
     Ok(instructions)
@@ -98,7 +99,7 @@ fn calls(alloc: Global, cells: &mut Cells, code: &Code, place: usize) -> Result<
         return Ok(false);
     }
     match run(alloc, cells, code, place as u32)? {
-        Some((to, argument)) => Ok(to == 6 && is_seven_less(cells, argument as usize)),
+        Some((to, argument)) => Ok(to == 7 && is_seven_less(cells, argument as usize)),
         None => Ok(false),
     }
 }

@@ -1,16 +1,14 @@
-use Rattle.std.proofs.Common.{◌≡◌, ℕ, sym, ◌∙◌}
-use Rattle.ap_term.specs.Tree.{Tree, node}
-use Rattle.ap_cells.specs.declared.top.Top.TheVariants.{Free}
-use Rattle.ap_instr.specs.Runs.{spread}
-use Rattle.ap_match.specs.Fits.{Fits}
-use Rattle.ap_match.proofs.Maps.{fits-top}
-use Rattle.ap_match.proofs.Matches.{Becomes-asked}
+use Rattle.ap_cells.proofs.Stores.{Keeps-trans}
+use Rattle.ap_match.proofs.Matches.{built-answered}
 use Rattle.ap_match.proofs.matching.match_built.Goals as goal
 
-pub returns-then-are_apart-clause-answered : goal.returns-then-are_apart-clause-answered
-returns-then-are_apart-clause-answered c =
-    Becomes-asked c.args.cells.now.cells c.bind_new.new.cells.cells (λ k. k c.in-Free.x ≡ node c.args.name (spread k c.args.first c.args.count)) (λ k. k c.args.place ≡ node c.args.name (spread k c.args.first c.args.count)) (λ k. Unit {0})
-    (λ k h e. at k h ∙ e) (λ k h e. sym (at k h) ∙ e) c.bind_new.ensures.becomes
-  where
-    at : (k : ℕ → Tree) → Fits c.args.cells.now.cells k → k c.args.place ≡ k c.in-Free.x
-    at k h = fits-top c.args.cells.now.cells k c.args.place (Free c.in-Free.x) h c.requires.inside c.in-Free.ensures.tree c.in-Free.ensures.inside
+pub returns-clause-answered : goal.returns-clause-answered
+returns-clause-answered c =
+    built-answered c.args.cells.now.cells c.push_new-whole.new.cells.cells c.equate.new.cells.cells c.args.place c.push_new-whole.result c.args.name c.args.first c.args.count c.requires.inside c.requires.args
+    c.push_new-whole.ensures.becomes c.in_ok-answer.answer c.in_ok-answer.ensures.answered
+
+pub returns-clause-keeps : goal.returns-clause-keeps
+returns-clause-keeps c = Keeps-trans c.args.cells.now c.push_new-whole.new.cells c.equate.new.cells c.push_new-whole.ensures.keeps c.equate.ensures.keeps
+
+pub returns-in_err-answer-clause-keeps : goal.returns-in_err-answer-clause-keeps
+returns-in_err-answer-clause-keeps c = Keeps-trans c.args.cells.now c.push_new-whole.new.cells c.equate.new.cells c.push_new-whole.ensures.keeps c.equate.ensures.keeps
