@@ -96,7 +96,10 @@ fn rule(
 fn add_plain(rt: &impl Abort, alloc: Global, n: &Names, out: &mut Program) -> Result<(), Fail> {
     let fact = one(alloc, n.p, Term::Int(1))?;
     out.push(rule(rt, alloc, fact, Vec::new(alloc), 0)?)?;
-    let goals = vec![in alloc; one(alloc, n.p, Term::Var(1))?, one(alloc, n.r, Term::Var(1))?]?;
+    let goals = vec![in alloc;
+        one(alloc, n.p, Term::Var(1))?,
+        one(alloc, n.r, Term::Var(1))?,
+    ]?;
     let head = one(alloc, n.q, Term::Var(1))?;
     out.push(rule(rt, alloc, head, goals, 1)?)?;
     Ok(())
