@@ -19,3 +19,6 @@ mod tables;
 mod temporary;
 
 pub use programs::compile;
+
+#[cfg(test)]
+mod tests;

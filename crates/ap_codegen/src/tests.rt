@@ -1,0 +1,143 @@
+// The listing of a small program, written by hand from the shape of the code: a head's variables are moved to places of
+// their own, a structure in which one stands again is built and unified, a goal's arguments are put, the last goal is executed.
+use crate::compile;
+use ap_certify::plain;
+use ap_instr::listing;
+use ap_term::{Args, Atom, Atoms, Body, Clause, Part, Program, Query, Term, fixed, is_clause};
+use std::alloc::Global;
+use std::process::Abort;
+use std::test::Fail;
+
+/// p(1).  q(X) :- p(X), r(X).  app([], L, L).  app([H|T], L, [H|R]) :- app(T, L, R).
+const LISTED: &str = "p/1:
+  get_integer 1 A1
+  proceed
+q/1:
+  allocate 1
+  get_variable Y1 A1
+  put_value Y1 A1
+  call p/1
+  put_value Y1 A1
+  deallocate
+  execute r/1
+app/3:
+  try @2
+  trust @6
+  get_constant [] A1
+  get_variable X4 A2
+  get_value X4 A3
+  proceed
+  get_list A1
+  unify_variable X5
+  unify_variable X6
+  get_variable X7 A2
+  put_variable X8 A4
+  put_list A4
+  unify_value X5
+  unify_value X8
+  get_value X4 A3
+  put_value X6 A1
+  put_value X7 A2
+  put_value X8 A3
+  execute app/3
+";
+
+#[derive(Drop)]
+struct Names {
+    p: Atom,
+    q: Atom,
+    r: Atom,
+    app: Atom,
+    nil: Atom,
+    cell: Atom,
+}
+
+fn make_names(alloc: Global, atoms: &mut Atoms) -> Result<Names, Fail> {
+    Ok(Names {
+        p: atoms.intern(alloc, "p")?,
+        q: atoms.intern(alloc, "q")?,
+        r: atoms.intern(alloc, "r")?,
+        app: atoms.intern(alloc, "app")?,
+        nil: atoms.intern(alloc, "[]")?,
+        cell: atoms.intern(alloc, ".")?,
+    })
+}
+
+fn one(alloc: Global, name: Atom, t: Term) -> Result<Term, Fail> {
+    let args = Args::from_vec(vec![in alloc; t]?);
+    Ok(Term::Node(name, args))
+}
+
+fn three(alloc: Global, name: Atom, t: Term, u: Term, v: Term) -> Result<Term, Fail> {
+    let args = Args::from_vec(vec![in alloc; t, u, v]?);
+    Ok(Term::Node(name, args))
+}
+
+fn pair(alloc: Global, name: Atom, x: u64, y: u64) -> Result<Term, Fail> {
+    let args = Args::from_vec(vec![in alloc; Term::Var(x), Term::Var(y)]?);
+    Ok(Term::Node(name, args))
+}
+
+fn rule(
+    rt: &impl Abort,
+    alloc: Global,
+    head: Term,
+    goals: Vec<Term>,
+    vars: u64,
+) -> Result<Clause, Fail> {
+    let mut body = Body::new(alloc);
+    for t in goals {
+        body.push(Part::Call(t))?;
+    }
+    assert!(rt; is_clause(&head, &body, vars, 1));
+    Ok(Clause::new(head, body, vars, 1))
+}
+
+fn add_plain(rt: &impl Abort, alloc: Global, n: &Names, out: &mut Program) -> Result<(), Fail> {
+    let fact = one(alloc, n.p, Term::Int(1))?;
+    out.push(rule(rt, alloc, fact, Vec::new(alloc), 0)?)?;
+    let goals = vec![in alloc;
+        one(alloc, n.p, Term::Var(1))?,
+        one(alloc, n.r, Term::Var(1))?,
+    ]?;
+    let head = one(alloc, n.q, Term::Var(1))?;
+    out.push(rule(rt, alloc, head, goals, 1)?)?;
+    Ok(())
+}
+
+fn add_append(rt: &impl Abort, alloc: Global, n: &Names, out: &mut Program) -> Result<(), Fail> {
+    let end = three(alloc, n.app, Term::Atom(n.nil), Term::Var(1), Term::Var(1))?;
+    out.push(rule(rt, alloc, end, Vec::new(alloc), 1)?)?;
+    let first = pair(alloc, n.cell, 1, 2)?;
+    let last = pair(alloc, n.cell, 1, 4)?;
+    let head = three(alloc, n.app, first, Term::Var(3), last)?;
+    let goal = three(alloc, n.app, Term::Var(2), Term::Var(3), Term::Var(4))?;
+    out.push(rule(rt, alloc, head, vec![in alloc; goal]?, 4)?)?;
+    Ok(())
+}
+
+/// The query `true`.
+fn query(rt: &impl Abort, alloc: Global) -> Result<Query, Fail> {
+    let head = Term::Atom(Atom::at(fixed::QUERY));
+    let mut body = Body::new(alloc);
+    body.push(Part::Call(Term::Atom(Atom::at(fixed::TRUE))))?;
+    assert!(rt; is_clause(&head, &body, 0, 1));
+    let question = Clause::new(head, body, 0, 1);
+    Ok(Query::new(question, Program::new(alloc), Vec::new(alloc)))
+}
+
+#[test]
+fn lists_a_small_program(rt: HostRuntime) -> Result<(), Fail> {
+    let alloc = rt.alloc();
+    let mut atoms = Atoms::new(alloc)?;
+    let names = make_names(alloc, &mut atoms)?;
+    let mut program = Program::new(alloc);
+    add_plain(&rt, alloc, &names, &mut program)?;
+    add_append(&rt, alloc, &names, &mut program)?;
+    let certified = plain(alloc, &program)?;
+    let query = query(&rt, alloc)?;
+    let code = compile(alloc, &certified, &query)?;
+    let text = listing(alloc, &code, &atoms)?;
+    assert_eq!(rt; text.as_slice(), LISTED.as_bytes());
+    Ok(())
+}
