@@ -1,0 +1,4 @@
+pub mod Emitted
+pub mod Reaching
+pub mod SolvedBlocks
+pub mod Solving

@@ -1,0 +1,13 @@
+//! Laws of searches on their way. The functions do nothing: each carries a theorem in its contract.
+
+ghost use Rattle.ap_worker.specs.Laws.{SolvedLaw, WayLaw};
+
+/// The lines of a solved query are a block of it.
+pub fn solved_law()
+    ensures { SolvedLaw }
+{}
+
+/// How a search goes on its way by turns and answers.
+pub fn way_law()
+    ensures { WayLaw }
+{}

@@ -1,0 +1,15 @@
+//! From the turns of a machine to a query's answers, emitted one by one as they are found, and how they end.
+//!
+//! Stands on `ap_standing` for turns of the model, and on `ap_outside`. The one contract used above: whatever machine makes
+//! the turns of the model and says where its states have an answer, what `emit_answers` emits is exactly what sequential
+//! search finds within the budget, or the first of it, as much as the limit says; `laws` says that this is a block.
+#![tactic(auto)]
+
+mod answers;
+mod emission;
+pub mod laws;
+mod machine;
+
+pub use answers::Answers;
+pub use emission::{End, emit_answers};
+pub use machine::{Machine, Turn};
