@@ -1,3 +1,4 @@
+pub mod Asked
 pub mod Emitted
 pub mod Reaching
 pub mod SolvedBlocks
