@@ -37,8 +37,7 @@ fn emit_answer<M: Machine, A: Answers>(
     ensures spent { M.spent machine.new ≡ M.spent machine.old }
     ensures budget { M.budget machine.new ≡ M.budget machine.old }
     ensures width { M.width machine.new ≡ M.width machine.old }
-    ensures same_width { A.width answers.new ≡ A.width answers.old }
-    ensures same_line { A.line answers.new ≡ A.line answers.old }
+    ensures stays { A.stays answers.old answers.new }
 {
     let Ok(tuple) = machine.answer(alloc) else {
         return Err(Halt::NoMemory);
@@ -59,6 +58,7 @@ pub fn emit_answers<M: Machine, A: Answers>(
     requires width { M.width machine.old ≡ A.width answers.old }
     ensures lines { (p : Program) (q : State) → M.stands machine.old p (q ∷ []) → Finishes (A.pieces answers.old) (A.pieces answers.new) (λ end put. IsSolved (A.line answers.old) p q (M.budget machine.old) limit put (end_of end)) result }
     ensures count { SinkCount (A.faults answers.old) (A.faults answers.new) result }
+    ensures stays { A.stays answers.old answers.new }
     ensures charge { IfOk result (λ end. (p : Program) (q : State) → M.stands machine.old p (q ∷ []) → IsCharge p q (M.budget machine.old) limit (M.spent machine.new) (end_of end)) }
 {
     for _count in 0..limit {
