@@ -1,7 +1,7 @@
 -- Command lines, taken apart.
-use Rattle.std.proofs.Common.{◌≡◌, ◌⊎◌, inl, inr, ℕ, ◌<◌, ◌≤◌, ◌^◌, IfSome, map, length, Bool, true, false, List, [], ◌∷◌, ◌++◌, Option, Some, None, option_map, option_and_then, if◌then◌else◌, codes, bytes_eq, refl, sym, ◌∙◌, ap, subst, arith, rules}
+use Rattle.std.proofs.Common.{◌≡◌, ◌⊎◌, inl, inr, ℕ, ◌<◌, ◌≤◌, ◌^◌, IfSome, map, length, Bool, true, false, List, [], ◌∷◌, Option, Some, None, option_map, option_and_then, if◌then◌else◌, codes, bytes_eq, refl, sym, ◌∙◌, ap, arith}
 use Rattle.std.proofs.lemmas.Slice.Eq.{bytes_eq-Decides}
-use Rattle.ap_top.specs.Words.{Asked, asked, asked_of, is_plain, is_numeral, number, option_words, Sets, InAnyOrder, IsCommand}
+use Rattle.ap_top.specs.Words.{Asked, asked, asked_of, is_plain, number, option_words, Sets, InAnyOrder, IsCommand}
 use Rattle.ap_top.specs.Parted.{defaults, with_option, with_both, asked_with, asked_behind, asked_by}
 use Rattle.ap_top.specs.declared.words.Command.{Command}
 use Rattle.ap_top.proofs.Booleans.{no_two}

@@ -1,7 +1,6 @@
 -- A run over an accepted program that nothing outside disturbed answers its queries.
-use Rattle.std.proofs.Common.{◌≡◌, ◌⊎◌, inl, inr, ℕ, ◌<◌, ◌≤◌, Bool, true, false, List, length, Option, None, Some, Result, Err, refl, sym, ◌∙◌, ap, subst, arith}
+use Rattle.std.proofs.Common.{◌≡◌, ◌⊎◌, inl, inr, ℕ, ◌≤◌, Bool, true, false, List, length, Option, None, Some, Err, sym, ◌∙◌, ap, subst, arith}
 use Rattle.ap_outside.specs.Faults.{Rises}
-use Rattle.ap_outside.specs.Files.{HasContent, content_of}
 use Rattle.ap_outside.specs.Halting.{SinkCount}
 use Rattle.ap_outside.specs.declared.halting.Halt.{Halt}
 use Rattle.ap_outside.specs.declared.halting.Halt.TheVariants as halt
@@ -10,7 +9,6 @@ use Rattle.ap_term.specs.Goals.{Program}
 use Rattle.ap_clause.specs.Reads.{AcceptsProgram}
 use Rattle.ap_clause.proofs.OneResult.{not_both}
 use Rattle.ap_top.specs.Words.{Asked, IsCommand}
-use Rattle.ap_top.specs.Parted.{asked_by}
 use Rattle.ap_top.specs.Status.{status_of, tally}
 use Rattle.ap_top.specs.Counts.{RunSinkCount}
 use Rattle.ap_top.specs.Ends.{SourceEnds, TextEnds, FileEnds, RunEnds, IsFile, IsAnswering, NamesProgram}

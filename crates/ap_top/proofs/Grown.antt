@@ -20,7 +20,7 @@ use Rattle.ap_clause.specs.declared.refusal.Refusal.{Refusal}
 use Rattle.ap_clause.specs.declared.source.Source.{Source}
 use Rattle.ap_clause.specs.declared.source.Source.TheVariants as source
 use Rattle.ap_clause.specs.Fresh.{lift_name}
-use Rattle.ap_clause.specs.Reads.{Position, Taken, Verdict, Refused, Took, Sentence, fits, table_after, refused_if, refused_outside, refused_past, judged, JudgesOpen, JudgesBy, Judges, beside, AcceptsQuery}
+use Rattle.ap_clause.specs.Reads.{Position, Taken, Verdict, Refused, Took, Sentence, fits, table_after, refused_if, refused_outside, refused_past, judged, JudgesOpen, JudgesBy, beside, AcceptsQuery}
 
 clash : (r : Refusal) (t : Taken) → Refused r ≡ Took t → ⊥
 clash r t h = cc

@@ -1,7 +1,7 @@
+pub mod Turned
 pub mod Sources
 pub mod Booleans
 pub mod Widths
-pub mod Blocks
 pub mod Outputs
 pub mod Printing
 pub mod Pieces

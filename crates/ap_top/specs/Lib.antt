@@ -4,6 +4,7 @@ pub mod Words
 pub mod Parted
 pub mod Refusals
 pub mod Output
-pub mod EndView
+pub mod Lines
+pub mod Model
 pub mod Widths
 pub mod Ends

@@ -1,5 +1,5 @@
 -- A command line taken apart, by how many words it has.
-use Rattle.std.specs.Prelude.{ℕ, Bool, List, [], ◌∷◌, Option, None, Some, option_and_then, option_map, bytes_eq, codes, if◌then◌else◌}
+use Rattle.std.specs.Prelude.{ℕ, List, [], ◌∷◌, Option, None, Some, option_and_then, option_map, bytes_eq, codes, if◌then◌else◌}
 use Rattle.ap_top.specs.Words.{Asked, asked, is_plain, number}
 use Rattle.ap_top.specs.declared.answers.Bounds.{Bounds}
 

@@ -1,9 +1,8 @@
 -- The command lines.
-use Rattle.std.specs.Prelude.{◌≡◌, ℕ, Bool, true, ◌&&◌, not, nat_le, ◌==◌, List, [], ◌∷◌, ◌++◌, length, slice_index, Option, None, Some, bytes_eq, codes, if◌then◌else◌}
+use Rattle.std.specs.Prelude.{◌≡◌, ℕ, Bool, true, ◌&&◌, not, nat_le, ◌==◌, List, [], ◌∷◌, ◌++◌, length, slice_index, Option, None, Some, codes, if◌then◌else◌}
 use Rattle.std.specs.Char.{is_ascii_digit}
 use Rattle.std.specs.List.{list_all}
 use Rattle.std.specs.Str.Parse.{digits_value}
-use Rattle.ap_top.specs.declared.answers.Bounds.{Bounds}
 use Rattle.ap_top.specs.declared.words.Command.{Command}
 
 -- a word that may stand for a file or a value: not empty, and no option

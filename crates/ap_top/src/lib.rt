@@ -6,6 +6,7 @@
 
 mod answers;
 mod command;
+mod model;
 mod queries;
 mod refusals;
 mod source;

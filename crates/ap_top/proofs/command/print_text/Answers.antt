@@ -1,4 +1,4 @@
-use Rattle.std.proofs.Common.{◌≡◌, Contains, subst, ◌∙◌}
+use Rattle.std.proofs.Common.{Contains, subst, ◌∙◌}
 use Rattle.std.proofs.lemmas.List.Elements.{All-same}
 use Rattle.ap_lexer.specs.Piece as lexer
 use Rattle.ap_outside.specs.Halting.{Finishes}

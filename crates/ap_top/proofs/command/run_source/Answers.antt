@@ -1,4 +1,4 @@
-use Rattle.std.proofs.Common.{◌≡◌, ◌≤◌, true, false, length, refl, Err, rules}
+use Rattle.std.proofs.Common.{◌≡◌, ◌≤◌, true, length, refl, Err, rules}
 use Rattle.ap_outside.specs.Faults.{Rises}
 use Rattle.ap_outside.proofs.Puts.{puts_map}
 use Rattle.ap_outside.proofs.Halts.{finishes_map, passes_halt, halts_at_once}

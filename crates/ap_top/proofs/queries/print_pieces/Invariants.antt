@@ -1,5 +1,4 @@
-use Rattle.std.proofs.Common.{◌≡◌, take, drop, All, Contains}
-use Rattle.ap_lexer.specs.Piece as lexer
+use Rattle.std.proofs.Common.{◌≡◌, take}
 use Rattle.ap_outside.specs.Pieces.{Puts}
 use Rattle.ap_top.specs.Output.{IsOutput}
 use Rattle.ap_top.proofs.queries.print_pieces.Given as goal

@@ -1,6 +1,4 @@
-use Rattle.std.proofs.Common.{◌≡◌, ◌-◌, ◌≤◌, [], ◌∷◌, Err, refl, sym, ◌∙◌, subst, arith, rules}
-use Rattle.ap_outside.specs.Pieces.{Puts}
-use Rattle.ap_outside.specs.Halting.{Prints}
+use Rattle.std.proofs.Common.{◌≡◌, ◌-◌, ◌≤◌, Err, refl, ◌∙◌, subst, arith, rules}
 use Rattle.ap_worker.specs.Turns.{StandsAt, IsCallDue}
 use Rattle.ap_worker.proofs.Emitted.{begin, broken-off, at-limit, at-end, at-spent, one-more, one-lost}
 use Rattle.ap_worker.proofs.emission.emit_answers.Goals as goal
@@ -12,7 +10,6 @@ loop-count-init g c =
       within = omega arith;
       budget = refl;
       width = c.requires.width;
-      stays = (g.met.A.Answers g.world.𝓛 g.world.𝓜 g.world.𝓡 ((λ s x. x), (λ x. x), (λ x. x), λ x. x)).itself c.args.answers.now;
       faults = refl;
       emitted = λ p q s. begin _ p q _ _ (g.M.Machine.stands c.args.machine.now p) c.requires.fresh s;
     }
@@ -70,7 +67,7 @@ returns-in_err-emit_answer-in-Answer-clause-lines g c = λ p q s.
     one-lost (g.A.Answers.line c.args.answers.now) p q (g.M.Machine.budget c.args.machine.now) c.args.limit _ _ _ _ (g.M.Machine.stands c.loop-count.machine p) m k c.in-Ok.ensures.more (subst (λ b. k ≤ b) i.budget c.in-Ok.ensures.within) c.loop-count-test.true t.0 t.1
     (g.M.Machine.stands c.advance.new.self p) t.2 (subst (StandsAt (g.M.Machine.budget c.loop-count.machine - k) t.0) c.in-Answer.is t.3) _
     c.emit_answer.result _ c.in_err-emit_answer-in-Answer.field-0.0 c.in_err-emit_answer-in-Answer.was same
-    (λ u us h. subst (λ f. Prints (g.A.Answers.pieces c.loop-count.answers) (g.A.Answers.pieces c.emit_answer.new.answers) (λ put. put ≡ f u.tuple ∷ []) c.emit_answer.result) ((g.met.A.Answers g.world.𝓛 g.world.𝓜 g.world.𝓡 ((λ s x. x), (λ x. x), (λ x. x), λ x. x)).same c.args.answers.now c.loop-count.answers i.stays).1 (c.emit_answer.ensures.lines p u us h))
+    (λ u us h. c.emit_answer.ensures.lines p u us h)
 
 pub loop-count-preserved : goal.loop-count-preserved
 loop-count-preserved g c =
@@ -81,8 +78,7 @@ loop-count-preserved g c =
     record {
       within = let x = e.spent in let y = i.budget in let z = a.within in omega arith;
       budget = e.budget ∙ a.budget ∙ i.budget;
-      width = e.width ∙ a.width ∙ i.width ∙ sym ((g.met.A.Answers g.world.𝓛 g.world.𝓜 g.world.𝓡 ((λ s x. x), (λ x. x), (λ x. x), λ x. x)).same c.loop-count.answers c.emit_answer.new.answers e.stays).0;
-      stays = (g.met.A.Answers g.world.𝓛 g.world.𝓜 g.world.𝓡 ((λ s x. x), (λ x. x), (λ x. x), λ x. x)).again c.args.answers.now c.loop-count.answers c.emit_answer.new.answers i.stays e.stays;
+      width = e.width ∙ a.width ∙ i.width;
       faults = e.count ∙ i.faults;
       emitted = λ p q s.
           let m = i.emitted p q s in
@@ -90,7 +86,7 @@ loop-count-preserved g c =
           one-more (g.A.Answers.line c.args.answers.now) p q (g.M.Machine.budget c.args.machine.now) c.args.limit _ _ _ _ (g.M.Machine.stands c.loop-count.machine p) m k a.more (subst (λ b. k ≤ b) i.budget a.within) c.loop-count-test.true t.0 t.1
           (g.M.Machine.stands c.advance.new.self p) t.2 (subst (StandsAt (g.M.Machine.budget c.loop-count.machine - k) t.0) c.in-Answer.is t.3) _
           (g.M.Machine.stands c.emit_answer.new.machine p) _ e.spent
-          (λ u us h. subst (λ f. Puts (g.A.Answers.pieces c.loop-count.answers) (g.A.Answers.pieces c.emit_answer.new.answers) (λ put. put ≡ f u.tuple ∷ [])) ((g.met.A.Answers g.world.𝓛 g.world.𝓜 g.world.𝓡 ((λ s x. x), (λ x. x), (λ x. x), λ x. x)).same c.args.answers.now c.loop-count.answers i.stays).1 (e.lines p u us h))
+          (λ u us h. e.lines p u us h)
           (λ u us h. e.left p u us h);
     }
 

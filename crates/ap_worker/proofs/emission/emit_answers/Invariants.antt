@@ -9,8 +9,7 @@ invariant-loop-count g l = record {
   within : g.M.Machine.spent l.machine ≤ g.M.Machine.budget l.fn.machine;
   budget : g.M.Machine.budget l.machine ≡ g.M.Machine.budget l.fn.machine;
   width : g.M.Machine.width l.machine ≡ g.A.Answers.width l.answers;
-  stays : g.A.Answers.stays l.fn.answers l.answers;
-  faults : g.A.Answers.faults l.answers ≡ g.A.Answers.faults l.fn.answers;
+  faults : g.K.Sink.faults l.out ≡ g.K.Sink.faults l.fn.out;
   emitted : (p : Program) (q : State) → g.M.Machine.stands l.fn.machine p (q ∷ [])
-      → Emitting (g.A.Answers.line l.fn.answers) p q (g.M.Machine.spent l.machine) l._count (g.A.Answers.pieces l.fn.answers) (g.A.Answers.pieces l.answers) (g.M.Machine.stands l.machine p);
+      → Emitting (g.A.Answers.line l.answers) p q (g.M.Machine.spent l.machine) l._count (g.K.Sink.pieces l.fn.out) (g.K.Sink.pieces l.out) (g.M.Machine.stands l.machine p);
 }
