@@ -30,7 +30,7 @@ instances-other : (a : ℕ) (f : ℕ → Tree) (ts : Trees) → AreOthers a ts �
 instances-other a f none h = tt
 instances-other a f (more t ts) h = (instance-other a f t h.0, instances-other a f ts h.1)
 
-append-other : (a : ℕ) (ts us : Trees) → AreOthers a ts → AreOthers a us → AreOthers a (append_trees ts us)
+pub append-other : (a : ℕ) (ts us : Trees) → AreOthers a ts → AreOthers a us → AreOthers a (append_trees ts us)
 append-other a none us h k = k
 append-other a (more t ts) us h k = (h.0, append-other a ts us h.1 k)
 
