@@ -3,3 +3,4 @@ pub mod Emitted
 pub mod Reaching
 pub mod SolvedBlocks
 pub mod Solving
+pub mod Spans

@@ -9,7 +9,9 @@ mod answers;
 mod emission;
 pub mod laws;
 mod machine;
+mod parcels;
 
 pub use answers::Answers;
 pub use emission::{End, emit_answers};
 pub use machine::{Machine, Turn};
+pub use parcels::terms_of;
