@@ -84,6 +84,10 @@ arguments-agree s n x y v w a f = spread-agree n 1 x v (λ k h l. a.registers k 
 same_name : (a b : ℕ) → Some a ≡ Some b → (b == a) ≡ true
 same_name a b e = (let same : b ≡ a = cc in eq-eqb b a same)
 
+awaited_name : (c : Bool) (a b : ℕ) → (if c then None else Some a) ≡ Some b → (b == a) ≡ true
+awaited_name true a b e = cc
+awaited_name false a b e = same_name a b e
+
 get_const : (c : Tree) (a : ℕ) (js : List Step) (s : Shape) → s.x a ≡ true → Ignores js s → Ignores (get_constant c a ∷ js) s
 get_const c a js s r k none x y v w bs n l h = (sym (l.registers a r) ∙ h.0, k none x y v w bs n l h.1)
 get_const c a js s r k (more t ts) x y v w bs n l h = h
@@ -148,7 +152,7 @@ ignores code (PutValue r a) at js s p k (more t ts) x y v w bs n l h = h
 ignores code (PutConstant c a) at js s p k ts x y v w bs n l h = put_const (atom c) a js s (k refl) ts x y v w bs n l h
 ignores code (PutInteger i a) at js s p k ts x y v w bs n l h = put_int (slice_get code.integers i) a js s (k refl) ts x y v w bs n l h
 ignores code (PutStructure f m a) at js s p k none x y v w bs n l h =
-    (h.0, h.1, k refl h.0 (set x a (node f h.0)) y (set v a (node f h.0)) w bs h.1 (record { registers = set_agree s.x false x v a (node f h.0) (node f h.0) refl l.registers; variables = l.variables; target = λ b e. sure (b == a) (node f h.0) (node f h.0) (x b) (v b) (same_name a b e) refl }) h.2)
+    (h.0, h.1, k refl h.0 (set x a (node f h.0)) y (set v a (node f h.0)) w bs h.1 (record { registers = set_agree s.x (m == 0) x v a (node f h.0) (node f h.0) refl l.registers; variables = l.variables; target = λ b e. sure (b == a) (node f h.0) (node f h.0) (x b) (v b) (awaited_name (m == 0) a b e) refl }) h.2)
 ignores code (PutStructure f m a) at js s p k (more t ts) x y v w bs n l h = h
 ignores code (UnifyVariable r) at js s p k none x y v w bs n l h = h
 ignores code (UnifyVariable r) at js s p k (more t ts) x y v w bs n l h =

@@ -1,5 +1,5 @@
 -- What is known at a place of a clause's code, and what an instruction makes of it.
-use Rattle.std.specs.Prelude.{ℕ, ◌-◌, ◌==◌, ◌&&◌, nat_le, Bool, true, false, Option, Some, None}
+use Rattle.std.specs.Prelude.{ℕ, ◌-◌, ◌==◌, ◌&&◌, nat_le, if◌then◌else◌, Bool, true, false, Option, Some, None}
 use Rattle.ap_instr.specs.declared.instruction.Slot.{Slot}
 use Rattle.ap_instr.specs.declared.instruction.Slot.TheVariants.{X, Y}
 use Rattle.ap_instr.specs.declared.instruction.Instr.{Instr}
@@ -50,6 +50,10 @@ passed false s = record { x = s.x; y = s.y; room = s.room; pending = s.pending -
 abbrev pub behind_argument : Shape → Shape
 behind_argument s = passed (s.pending == 1) s
 
+-- the register of a structure of so many arguments, which is whole at once where it has none
+abbrev pub awaited : ℕ → ℕ → Option ℕ
+awaited n a = if n == 0 then None else Some a
+
 -- the shape behind an instruction, of the shape before it
 abbrev pub after : Instr → Shape → Shape
 after (GetVariable v a) s = write v s
@@ -58,7 +62,7 @@ after (PutVariable v a) s = write (X a) (write v s)
 after (PutValue v a) s = write (X a) s
 after (PutConstant c a) s = write (X a) s
 after (PutInteger i a) s = write (X a) s
-after (PutStructure f n a) s = record { x = set s.x a false; y = s.y; room = s.room; pending = n; target = Some a }
+after (PutStructure f n a) s = record { x = set s.x a (n == 0); y = s.y; room = s.room; pending = n; target = awaited n a }
 after (UnifyVariable v) s = behind_argument (write v s)
 after (UnifyValue v) s = behind_argument s
 after (UnifyConstant c) s = behind_argument s

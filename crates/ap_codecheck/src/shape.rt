@@ -1,8 +1,8 @@
 //! What is known at a place, as the check keeps it.
 
-ghost use Rattle.std.specs.Prelude.{◌≡◌, ℕ, ◌<◌, ◌^◌, true, false, Some, None, OnOk, vec_len};
+ghost use Rattle.std.specs.Prelude.{◌≡◌, ◌==◌, ℕ, ◌<◌, ◌^◌, true, false, Some, None, OnOk, vec_len};
 ghost use Rattle.ap_instr.specs.Runs.{set};
-ghost use Rattle.ap_codecheck.specs.Shape.{unset, entry, is_set, write, behind_argument, after};
+ghost use Rattle.ap_codecheck.specs.Shape.{unset, entry, is_set, write, behind_argument, awaited, after};
 ghost use Rattle.ap_codecheck.specs.Marks.{marked};
 
 use ap_instr::{Instr, Slot};
@@ -116,11 +116,12 @@ impl Shape {
     }
 
     fn build(&mut self, arity: u8, a: u32) -> Result<(), NoMemory>
-        ensures { OnOk result (shape_of self.new ≡ record { x = set (shape_of self.old).x a false; y = (shape_of self.old).y; room = self.old.room; pending = arity; target = Some a }) }
+        ensures { OnOk result (shape_of self.new ≡ record { x = set (shape_of self.old).x a (arity == 0); y = (shape_of self.old).y; room = self.old.room; pending = arity; target = awaited arity a }) }
     {
-        put(&mut self.x, a as usize, false)?;
+        let is_whole = arity == 0;
+        put(&mut self.x, a as usize, is_whole)?;
         self.pending = arity;
-        self.target = Some(a);
+        self.target = if is_whole { None } else { Some(a) };
         Ok(())
     }
 

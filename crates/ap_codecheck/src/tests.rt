@@ -86,7 +86,7 @@ fn refuses_operands_and_targets(rt: HostRuntime) -> Result<(), Fail> {
     assert_eq!(rt; judged(alloc, &register)?, Some((0, Rule::Operand)));
     let integer = [Instr::GetInteger(1, 1), Instr::Proceed];
     assert_eq!(rt; judged(alloc, &integer)?, Some((0, Rule::Operand)));
-    let structure = [Instr::GetStructure(c, 0, 1), Instr::Proceed];
+    let structure = [Instr::GetStructure(c, 1, 0), Instr::Proceed];
     assert_eq!(rt; judged(alloc, &structure)?, Some((0, Rule::Operand)));
     let jump = [Instr::Jump(2), Instr::Proceed];
     assert_eq!(rt; judged(alloc, &jump)?, Some((0, Rule::Target)));

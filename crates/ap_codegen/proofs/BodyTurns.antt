@@ -15,9 +15,13 @@ use Rattle.ap_term.specs.WellFormed.{callable, all_callable, numbered, numbered_
 use Rattle.ap_term.proofs.TermLists.{trees_of-drop_more}
 use Rattle.ap_laws.specs.Plain.{plain_goals, append_trees}
 use Rattle.ap_instr.specs.Step.{Step, execute}
-use Rattle.ap_instr.specs.Runs.{arguments, Reads}
-use Rattle.ap_codegen.specs.Permanent.{name, is_builtin, goal_code, asking, frames, is_last_call, body_code, gets, clause_code}
+use Rattle.ap_instr.specs.Runs.{arguments}
+use Rattle.ap_codegen.specs.CodeOf.{IsCodeOf}
+use Rattle.ap_codegen.specs.Permanent.{name, is_builtin, goal_code, asking, is_last_call, body_code, gets, clause_code}
 use Rattle.ap_codegen.proofs.PermanentReads.{reads}
+use Rattle.ap_codegen.specs.Paces.{Paces, inside}
+use Rattle.ap_codegen.proofs.Open.{asks_openly, calls_are_apart}
+use Rattle.ap_codegen.proofs.Pacing.{clause_paces}
 use Rattle.ap_codegen.proofs.Registers.{both_true}
 
 module _ {R : Type 0} (now : R → Term) where
@@ -41,23 +45,23 @@ last_call g (more t ts) n e = go (n == 0) refl
     go false d = refl
 
 -- a goal with others behind it, or a built-in one
-pub ask_turn : (b : Bool) (g : Tree) (rest : Trees) (s0 s1 : List ℕ) (c0 c1 w : List Step) → is_last_call g rest ≡ false → c1 ≡ c0 ++ (goal_code g s0 ++ asking g ∷ []) → s1 ≡ add_vars g s0
-    → c0 ++ body_code b (more g rest) s0 ≡ w → c1 ++ body_code b rest s1 ≡ w
-ask_turn b g rest s0 s1 c0 c1 w l k s r =
-    let whole : List Step = frames b ++ execute (name g) (count_trees (arguments g)) ∷ [] in
-    let d : body_code b (more g rest) s0 ≡ goal_code g s0 ++ (asking g ∷ body_code b rest (add_vars g s0)) =
-    ap (λ l. if l then goal_code g s0 ++ whole else goal_code g s0 ++ (asking g ∷ body_code b rest (add_vars g s0))) l in
-    ap (λ c. c ++ body_code b rest s1) k
-    ∙ append_assoc c0 (goal_code g s0 ++ asking g ∷ []) (body_code b rest s1)
-    ∙ ap (λ q. c0 ++ q) (append_assoc (goal_code g s0) (asking g ∷ []) (body_code b rest s1) ∙ ap (λ s. goal_code g s0 ++ (asking g ∷ body_code b rest s)) s ∙ sym d)
+pub ask_turn : (g : Tree) (rest : Trees) (s0 s1 : List ℕ) (c0 c1 w : List Step) → is_last_call g rest ≡ false → c1 ≡ c0 ++ (goal_code g s0 ++ asking g ∷ []) → s1 ≡ add_vars g s0
+    → c0 ++ body_code (more g rest) s0 ≡ w → c1 ++ body_code rest s1 ≡ w
+ask_turn g rest s0 s1 c0 c1 w l k s r =
+    let whole : List Step = execute (name g) (count_trees (arguments g)) ∷ [] in
+    let d : body_code (more g rest) s0 ≡ goal_code g s0 ++ (asking g ∷ body_code rest (add_vars g s0)) =
+    ap (λ l. if l then goal_code g s0 ++ whole else goal_code g s0 ++ (asking g ∷ body_code rest (add_vars g s0))) l in
+    ap (λ c. c ++ body_code rest s1) k
+    ∙ append_assoc c0 (goal_code g s0 ++ asking g ∷ []) (body_code rest s1)
+    ∙ ap (λ q. c0 ++ q) (append_assoc (goal_code g s0) (asking g ∷ []) (body_code rest s1) ∙ ap (λ s. goal_code g s0 ++ (asking g ∷ body_code rest s)) s ∙ sym d)
     ∙ r
 
 -- the last goal, a call
-pub last_turn : (b : Bool) (g : Tree) (rest : Trees) (s0 : List ℕ) (c0 c1 w : List Step) → is_last_call g rest ≡ true
-    → c1 ≡ c0 ++ (goal_code g s0 ++ (frames b ++ execute (name g) (count_trees (arguments g)) ∷ [])) → c0 ++ body_code b (more g rest) s0 ≡ w → c1 ≡ w
-last_turn b g rest s0 c0 c1 w l k r =
-    let d : body_code b (more g rest) s0 ≡ goal_code g s0 ++ (frames b ++ execute (name g) (count_trees (arguments g)) ∷ []) =
-    ap (λ l. if l then goal_code g s0 ++ (frames b ++ execute (name g) (count_trees (arguments g)) ∷ []) else goal_code g s0 ++ (asking g ∷ body_code b rest (add_vars g s0))) l in
+pub last_turn : (g : Tree) (rest : Trees) (s0 : List ℕ) (c0 c1 w : List Step) → is_last_call g rest ≡ true
+    → c1 ≡ c0 ++ (goal_code g s0 ++ execute (name g) (count_trees (arguments g)) ∷ []) → c0 ++ body_code (more g rest) s0 ≡ w → c1 ≡ w
+last_turn g rest s0 c0 c1 w l k r =
+    let d : body_code (more g rest) s0 ≡ goal_code g s0 ++ execute (name g) (count_trees (arguments g)) ∷ [] =
+    ap (λ l. if l then goal_code g s0 ++ execute (name g) (count_trees (arguments g)) ∷ [] else goal_code g s0 ++ (asking g ∷ body_code rest (add_vars g s0))) l in
     k ∙ ap (λ q. c0 ++ q) (sym d) ∙ r
 
 -- ---- goals can be called
@@ -145,24 +149,55 @@ module _ {R : Type 0} (now : R → Term) where
       ap (λ new. trees_of (map now new)) k ∙ refs_push now gs r ∙ sym (append_none (push_tree (trees_of (map now gs)) (tree_of (now r)))) ∙ append_push (trees_of (map now gs)) (tree_of (now r)) none
       ∙ ap (λ p. append_trees (trees_of (map now gs)) (plain_goals (p ∷ []))) (sym e)
 
-  pub goal_turn : (goals : List R) (i : ℕ) (t : R) (left : ℕ) (b answer : Bool) (s0 s1 : List ℕ) (c0 c1 w : List Step) → i < length goals → t ≡ get_or goals i t
+  pub goal_turn : (goals : List R) (i : ℕ) (t : R) (left : ℕ) (answer : Bool) (s0 s1 : List ℕ) (c0 c1 w : List Step) → i < length goals → t ≡ get_or goals i t
       → left ≡ length (drop i goals) → answer ≡ ((left - 1 == 0) && not (is_builtin (tree_of (now t)))) → answer ≡ false
       → c1 ≡ c0 ++ (goal_code (tree_of (now t)) s0 ++ asking (tree_of (now t)) ∷ []) → s1 ≡ add_vars (tree_of (now t)) s0
-      → c0 ++ body_code b (trees_of (map now (drop i goals))) s0 ≡ w
-      → (left - 1 ≡ length (drop (i + 1) goals)) × (c1 ++ body_code b (trees_of (map now (drop (i + 1) goals))) s1 ≡ w)
-  goal_turn goals i t left b answer s0 s1 c0 c1 w l e n a f k s r =
+      → c0 ++ body_code (trees_of (map now (drop i goals))) s0 ≡ w
+      → (left - 1 ≡ length (drop (i + 1) goals)) × (c1 ++ body_code (trees_of (map now (drop (i + 1) goals))) s1 ≡ w)
+  goal_turn goals i t left answer s0 s1 c0 c1 w l e n a f k s r =
       let rest : Trees = trees_of (map now (drop (i + 1) goals)) in
       let m : left - 1 ≡ length (drop (i + 1) goals) = omega (arith, length-drop {A = R}) in
       let q : is_last_call (tree_of (now t)) rest ≡ false = sym (last_call (tree_of (now t)) rest (left - 1) (m ∙ sym (count_refs now (drop (i + 1) goals)))) ∙ sym a ∙ f in
-      (m, ask_turn b (tree_of (now t)) rest s0 s1 c0 c1 w q k s (ap (λ ts. c0 ++ body_code b ts s0) (sym (refs_more now goals i t l e)) ∙ r))
+      (m, ask_turn (tree_of (now t)) rest s0 s1 c0 c1 w q k s (ap (λ ts. c0 ++ body_code ts s0) (sym (refs_more now goals i t l e)) ∙ r))
 
 -- ---- the whole clause
 
-pub whole : (b : Bool) (c : Clause) (k0 k1 k2 k3 : List Step) (s0 s1 : List ℕ) (goals : Trees) (h : Tree) → IsClause c → k0 ≡ [] → s0 ≡ [] → k1 ≡ k0 ++ frames b → h ≡ c.head
-    → k2 ≡ k1 ++ gets (arguments h) 1 s0 (count_trees (arguments h) + 1) → s1 ≡ add_all_vars (arguments h) s0 → goals ≡ plain_goals c.body → k3 ≡ k2 ++ body_code b goals s1
-    → (rest : List Step) → Reads (k3 ++ rest) c
-whole b c k0 k1 k2 k3 s0 s1 goals h i d0 e0 d1 f d2 e1 g d3 rest =
-    let z : [] ++ frames b ≡ frames b = refl in
-    let a : k3 ≡ (frames b ++ gets (arguments c.head) 1 [] (count_trees (arguments c.head) + 1)) ++ body_code b (plain_goals c.body) (add_all_vars (arguments c.head) []) = cc in
-    let whole : k3 ≡ clause_code b c.head (plain_goals c.body) = a ∙ append_assoc (frames b) (gets (arguments c.head) 1 [] (count_trees (arguments c.head) + 1)) (body_code b (plain_goals c.body) (add_all_vars (arguments c.head) [])) in
-    subst (λ k. Reads (k ++ rest) c) (sym whole) (reads b rest c (goals_callable c.vars c.body i.body))
+goals_numbered : (n : ℕ) (ps : List Part) → list_all (well_formed_part n) ps ≡ true → numbered_all n (plain_goals ps) ≡ true
+goals_numbered n [] h = refl
+goals_numbered n (call t ∷ ps) h =
+    let b = both_true (well_formed_part n (call t)) (list_all (well_formed_part n) ps) h in
+    let d = both_true (callable t) (numbered n t) b.0 in
+    ap (λ c. c && numbered_all n (plain_goals ps)) d.1 ∙ goals_numbered n ps b.1
+goals_numbered n (group cs ts ∷ ps) h =
+    let b = both_true (well_formed_part n (group cs ts)) (list_all (well_formed_part n) ps) h in
+    let d = both_true (list_all (numbered_check n) cs) _ b.0 in
+    let e = both_true _ (all_callable ts && numbered_all n ts) d.1 in
+    let f = both_true (all_callable ts) (numbered_all n ts) e.1 in
+    append_numbered ts (plain_goals ps) f.1 (goals_numbered n ps b.1)
+  where
+    append_numbered : (ts us : Trees) → numbered_all n ts ≡ true → numbered_all n us ≡ true → numbered_all n (append_trees ts us) ≡ true
+    append_numbered none us h k = k
+    append_numbered (more t ts) us h k =
+        let b = both_true (numbered n t) (numbered_all n ts) h in
+        ap (λ c. c && numbered_all n (append_trees ts us)) b.0 ∙ append_numbered ts us b.1 k
+
+module _ (c : Clause) (k0 k1 k2 : List Step) (s0 s1 : List ℕ) (goals : Trees) (h : Tree) (d0 : k0 ≡ []) (e0 : s0 ≡ []) (f : h ≡ c.head)
+    (d1 : k1 ≡ k0 ++ gets (arguments h) 1 s0 (count_trees (arguments h) + 1)) (e1 : s1 ≡ add_all_vars (arguments h) s0) (g : goals ≡ plain_goals c.body) (d2 : k2 ≡ k1 ++ body_code goals s1) where
+  whole : k2 ≡ clause_code c.head (plain_goals c.body)
+  whole =
+      let z : [] ++ gets (arguments c.head) 1 [] (count_trees (arguments c.head) + 1) ≡ gets (arguments c.head) 1 [] (count_trees (arguments c.head) + 1) = refl in
+      cc
+
+  pub whole_code : IsClause c → IsCodeOf c k2
+  whole_code i =
+      let d = goals_callable c.vars c.body i.body in
+      subst (IsCodeOf c) (sym whole) (record {
+        reads = λ rest. reads rest c d;
+        openly = λ rest. asks_openly c.head (plain_goals c.body) rest d;
+        apart = calls_are_apart c.head (plain_goals c.body) d;
+      })
+
+  pub whole_paces : IsClause c → Paces k2 (inside c.vars (count_trees (arguments c.head)))
+  whole_paces i =
+      subst (λ q. Paces q (inside c.vars (count_trees (arguments c.head)))) (sym whole)
+      (clause_paces c.vars c.head (plain_goals c.body) (both_true (callable c.head) (numbered c.vars c.head) i.head).1 (goals_numbered c.vars c.body i.body))

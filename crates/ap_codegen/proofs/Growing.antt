@@ -1,15 +1,18 @@
 -- Tables that grow, and what instructions say by them.
-use Rattle.std.proofs.Common.{◌≡◌, ℕ, zero, suc, ◌+◌, ◌<◌, ◌≤◌, ℤ, Bool, true, false, ◌&&◌, ◌==◌, if◌then◌else◌, List, [], ◌∷◌, ◌++◌, length, drop, get_or, slice_get, Some, refl, ap, sym, ◌∙◌, arith, append_assoc}
+use Rattle.std.proofs.Common.{◌≡◌, ℕ, zero, suc, ◌+◌, ◌<◌, ◌≤◌, ℤ, Bool, true, false, ◌&&◌, ◌==◌, if◌then◌else◌, ◌⊎◌, inl, inr, List, [], ◌∷◌, ◌++◌, length, take, get_or, slice_get, Some, refl, ap, sym, ◌∙◌, subst, arith}
 use Rattle.std.proofs.lemmas.Bool.Decides.{Decides-eqb, Decides-int_eq}
-use Rattle.std.proofs.lemmas.List.{map-append, drop_more}
+use Rattle.std.proofs.lemmas.List.{take_more}
 use Rattle.std.specs.Ordering.{int_eq}
+use Rattle.std.specs.List.{list_all, AllZip}
 use Rattle.ap_term.specs.Tree.{Tree, int}
 use Rattle.ap_instr.specs.declared.instruction.Instr.{Instr}
 use Rattle.ap_instr.specs.Code.{Compiled}
-use Rattle.ap_instr.specs.Step.{Step, with_integer, with_predicate, step_of as said_by, steps_of as said}
+use Rattle.ap_instr.specs.Step.{Step, with_integer, with_predicate, step_of as said_by}
 use Rattle.ap_codegen.specs.declared.steps.Step.{Step as Emitted}
 use Rattle.ap_codegen.specs.Emitted.{step_of, steps_of}
-use Rattle.ap_codegen.specs.Assembled.{Numbered, Keeps, Grows, Holds}
+use Rattle.ap_codegen.specs.Permanent.{is_builtin_key}
+use Rattle.ap_codegen.specs.CodeOf.{calls_apart}
+use Rattle.ap_codegen.specs.Assembled.{Numbered, AreApart, Keeps, Grows, Holds, frame_of, frame_in, IsSaid}
 use Rattle.ap_codegen.proofs.Registers.{both_true}
 
 -- ---- tables
@@ -22,6 +25,20 @@ keeps_append (x ∷ xs) ys (suc i) y e = keeps_append xs ys i y e
 pub keeps_insert : {A : Type 0} (b : Bool) (xs new : List A) (x : A) → new ≡ (if b then xs else xs ++ x ∷ []) → Keeps xs new
 keeps_insert true xs new x e i y h = ap (λ l. slice_get l i) e ∙ h
 keeps_insert false xs new x e i y h = ap (λ l. slice_get l i) e ∙ keeps_append xs (x ∷ []) i y h
+
+pub push_get : {A : Type 0} (xs : List A) (y x : A) (n : ℕ) → slice_get (xs ++ y ∷ []) n ≡ Some x → (slice_get xs n ≡ Some x) ⊎ ((n ≡ length xs) × (y ≡ x))
+push_get [] y x zero e = inr (refl, cc)
+push_get [] y x (suc n) e = cc
+push_get (z ∷ xs) y x zero e = inl e
+push_get (z ∷ xs) y x (suc n) e = elim (push_get xs y x n e) [ inl h ↦ inl h | inr h ↦ inr (ap suc h.0, h.1) ]
+
+-- what is put in is the key of no built-in goals
+pub apart_insert : (b : Bool) (xs new : List (ℕ × ℕ)) (a m n : ℕ) → new ≡ (if b then xs else xs ++ (m, n) ∷ []) → m ≡ a → is_builtin_key (a, n) ≡ false → AreApart xs → AreApart new
+apart_insert true xs new a m n e q d h i k f = h i k (ap (λ l. slice_get l i) (sym e) ∙ f)
+apart_insert false xs new a m n e q d h i k f = elim (push_get xs (m, n) k i (ap (λ l. slice_get l i) (sym e) ∙ f)) [
+  | inl g ↦ h i k g
+  | inr g ↦ ap is_builtin_key (sym g.1) ∙ ap (λ m. is_builtin_key (m, n)) q ∙ d
+]
 
 pub grows_same : (s : Numbered) → Grows s s
 grows_same s = record { integers = λ i x e. e; predicates = λ i x e. e }
@@ -56,27 +73,32 @@ says_predicate code t i a n f h e =
     let p = h.predicates i (a, n) e in
     ap (λ o. with_predicate o f) p.1 ∙ ap (λ a. f a p.0.arity) p.2 ∙ ap (f a) p.3
 
+-- a step of those that call no built-in goals
+pub step_apart : (steps : List Emitted) (i : ℕ) (step : Emitted) → i < length steps → step ≡ get_or steps i step → list_all calls_apart (steps_of steps) ≡ true → calls_apart (step_of step) ≡ true
+step_apart [] i step l e h = absurd (omega arith)
+step_apart (s ∷ steps) zero step l e h = ap (λ s. calls_apart (step_of s)) e ∙ (both_true (calls_apart (step_of s)) (list_all calls_apart (steps_of steps)) h).0
+step_apart (s ∷ steps) (suc i) step l e h = step_apart steps i step (omega arith) e (both_true (calls_apart (step_of s)) (list_all calls_apart (steps_of steps)) h).1
+
+pub zip_push : {A B : Type 0} (R : A → B → Type 0) (xs : List A) (ys : List B) (x : A) (y : B) → AllZip R xs ys → R x y → AllZip R (xs ++ x ∷ []) (ys ++ y ∷ [])
+zip_push R [] [] x y h r = (r, tt)
+zip_push R [] (b ∷ ys) x y h r = absurd h
+zip_push R (a ∷ xs) [] x y h r = absurd h
+zip_push R (a ∷ xs) (b ∷ ys) x y h r = (h.0, zip_push R xs ys x y h.1 r)
+
 -- one more instruction
-pub said_turn : (code : Compiled) (steps : List Emitted) (i : ℕ) (step : Emitted) (o0 o1 : List Instr) (instr : Instr) (w : List Step) → i < length steps → step ≡ get_or steps i step
-    → o1 ≡ o0 ++ instr ∷ [] → said_by code instr ≡ step_of step → said code o0 ++ steps_of (drop i steps) ≡ w → said code o1 ++ steps_of (drop (i + 1) steps) ≡ w
-said_turn code steps i step o0 o1 instr w l e o s r =
-    ap (λ o. said code o ++ steps_of (drop (i + 1) steps)) o
-    ∙ ap (λ q. q ++ steps_of (drop (i + 1) steps)) (map-append _ o0 (instr ∷ []))
-    ∙ append_assoc (said code o0) (said_by code instr ∷ []) (steps_of (drop (i + 1) steps))
-    ∙ ap (λ q. said code o0 ++ (q ∷ steps_of (drop (i + 1) steps))) (s ∙ ap step_of e)
-    ∙ ap (λ q. said code o0 ++ q) (sym (ap steps_of (drop_more steps i step l)))
-    ∙ r
+pub said_turn : (code : Compiled) (steps : List Emitted) (i : ℕ) (step : Emitted) (o0 o1 : List Instr) (instr : Instr) → i < length steps → step ≡ get_or steps i step
+    → o1 ≡ o0 ++ instr ∷ [] → said_by code instr ≡ step_of step → frame_of instr ≡ frame_in step → AllZip (IsSaid code) (take i steps) o0 → AllZip (IsSaid code) (take (i + 1) steps) o1
+said_turn code steps i step o0 o1 instr l e o s f h =
+    let front : take (i + 1) steps ≡ take i steps ++ step ∷ [] = take_more steps i step l ∙ ap (λ d. take i steps ++ d ∷ []) (sym e) in
+    subst (λ es. AllZip (IsSaid code) es o1) (sym front)
+    (subst (AllZip (IsSaid code) (take i steps ++ step ∷ [])) (sym o) (zip_push (IsSaid code) (take i steps) o0 step instr h (record { says = s; frame = f })))
+
+pub take_all : {A : Type 0} (xs : List A) (i : ℕ) → length xs ≤ i → take i xs ≡ xs
+take_all [] zero l = refl
+take_all [] (suc i) l = refl
+take_all (x ∷ xs) zero l = absurd (omega arith)
+take_all (x ∷ xs) (suc i) l = ap (λ l. x ∷ l) (take_all xs i (omega arith))
 
 -- no instruction is left
-pub said_end : (a w : List Step) (steps : List Emitted) (i : ℕ) → length steps ≤ i → a ++ steps_of (drop i steps) ≡ w → a ≡ w
-said_end a w steps i l r = sym (append_nil a) ∙ ap (λ ds. a ++ steps_of ds) (sym (drop_all steps i l)) ∙ r
-  where
-    append_nil : (a : List Step) → a ++ [] ≡ a
-    append_nil [] = refl
-    append_nil (x ∷ xs) = ap (λ l. x ∷ l) (append_nil xs)
-
-    drop_all : (xs : List Emitted) (i : ℕ) → length xs ≤ i → drop i xs ≡ []
-    drop_all [] zero l = refl
-    drop_all [] (suc i) l = refl
-    drop_all (x ∷ xs) zero l = absurd (omega arith)
-    drop_all (x ∷ xs) (suc i) l = drop_all xs i (omega arith)
+pub said_end : (code : Compiled) (steps : List Emitted) (o : List Instr) (i : ℕ) → length steps ≤ i → AllZip (IsSaid code) (take i steps) o → AllZip (IsSaid code) steps o
+said_end code steps o i l h = subst (λ es. AllZip (IsSaid code) es o) (take_all steps i l) h

@@ -3,10 +3,16 @@ pub mod Only
 pub mod Each
 pub mod Followed
 pub mod PermanentReads
+pub mod Open
+pub mod Framing
 pub mod BodyTurns
 pub mod Placed
+pub mod Laying
 pub mod Moved
 pub mod Growing
 pub mod Making
 pub mod AskedClause
 pub mod BuiltinGoals
+pub mod Pacing
+pub mod MovedPaces
+pub mod Walking

@@ -1,24 +1,28 @@
 -- Predicates made one after another.
-use Rattle.std.proofs.Common.{◌≡◌, ℕ, zero, suc, ◌+◌, ◌<◌, ◌≤◌, Bool, true, false, if◌then◌else◌, ◌⊎◌, inl, inr, List, [], ◌∷◌, ◌++◌, map, length, drop, take, get_or, slice_get, Some, None, refl, ap, sym, ◌∙◌, subst, arith, append_assoc}
+use Rattle.std.proofs.Common.{◌≡◌, ℕ, zero, suc, ◌+◌, ◌<◌, ◌≤◌, Bool, true, false, ◌==◌, ◌&&◌, ◌||◌, is_some, if◌then◌else◌, Option, ◌⊎◌, inl, inr, List, [], ◌∷◌, ◌++◌, map, length, drop, take, get_or, slice_get, Some, None, IfSome, refl, ap, sym, ◌∙◌, subst, arith, append_assoc}
 use Rattle.std.specs.List.{AllZip, filter}
 use Rattle.std.proofs.lemmas.List.{map-append, take_more}
-use Rattle.ap_term.specs.Tree.{Tree, var, int, atom, node}
+use Rattle.std.proofs.lemmas.Option.{slice_get_within}
+use Rattle.std.proofs.lemmas.Bool.{false≢true}
+use Rattle.std.proofs.lemmas.Bool.Decides.{Decides-eqb}
+use Rattle.ap_term.specs.declared.builtins.Relation.{Relation}
+use Rattle.ap_term.specs.declared.fixed.TheConstants.{TRUE, FAIL}
+use Rattle.ap_term.specs.Tree.{Tree, Trees, var, int, atom, node, none, more, count_trees}
+use Rattle.ap_term.specs.Substitution.{Subst}
+use Rattle.ap_term.specs.Builtins.{relation_named, named_answer, builtin}
 use Rattle.ap_term.specs.Goals.{Clause, Program}
 use Rattle.ap_instr.specs.declared.instruction.Instr.{Instr}
 use Rattle.ap_instr.specs.declared.compiled.Predicate.{Predicate}
 use Rattle.ap_instr.specs.Code.{Compiled}
 use Rattle.ap_instr.specs.StandsFor.{is_head_of, clauses_of, ReadsAt, alternatives, clause_places}
-use Rattle.ap_codegen.specs.Assembled.{Numbered, Grows, Holds, AreCoded, chosen, choices, together, heads, clauses_for, IsMade, StandsBeside}
-use Rattle.ap_instr.specs.Step.{Step, steps_of as said}
-use Rattle.ap_instr.specs.Runs.{Reads}
-use Rattle.ap_codegen.proofs.Growing.{grows_on, holds_less}
+use Rattle.ap_codegen.specs.Assembled.{Numbered, Grows, Holds, AreInstructionsOf, AreCoded, chosen, choices, together, heads, clauses_for, IsMade, StandsBeside}
+use Rattle.ap_instr.specs.Runs.{applied}
+use Rattle.ap_codegen.specs.Permanent.{is_builtin_key}
+use Rattle.ap_codegen.proofs.Growing.{push_get, grows_on, holds_less, zip_push, take_all}
+use Rattle.ap_codecheck.specs.Walk.{IsLaid}
+use Rattle.ap_codecheck.proofs.Walked.{laid-sound}
 use Rattle.ap_codegen.proofs.Placed.{drop_append, block_read}
-
-push_get : {A : Type 0} (xs : List A) (y x : A) (n : ℕ) → slice_get (xs ++ y ∷ []) n ≡ Some x → (slice_get xs n ≡ Some x) ⊎ ((n ≡ length xs) × (y ≡ x))
-push_get [] y x zero e = inr (refl, cc)
-push_get [] y x (suc n) e = cc
-push_get (z ∷ xs) y x zero e = inl e
-push_get (z ∷ xs) y x (suc n) e = elim (push_get xs y x n e) [ inl h ↦ inl h | inr h ↦ inr (ap suc h.0, h.1) ]
+use Rattle.ap_codegen.proofs.Laying.{block_laid}
 
 get_some : {A : Type 0} (xs : List A) (i : ℕ) → i < length xs → (x : A) × (slice_get xs i ≡ Some x)
 get_some [] i l = absurd (omega arith)
@@ -31,10 +35,19 @@ none_beyond (x ∷ xs) zero i e l = cc
 none_beyond (x ∷ xs) (suc n) zero e l = absurd (omega arith)
 none_beyond (x ∷ xs) (suc n) (suc i) e l = none_beyond xs n i e (omega arith)
 
+turned : (m n : ℕ) → (m == n) ≡ (n == m)
+turned m n = go (m == n) (n == m) refl refl
+  where
+    go : (b c : Bool) → (m == n) ≡ b → (n == m) ≡ c → b ≡ c
+    go true true e f = refl
+    go true false e f = absurd (false≢true (sym f ∙ (Decides-eqb n m).1 (sym ((Decides-eqb m n).0 e))))
+    go false true e f = absurd (false≢true (sym e ∙ (Decides-eqb m n).1 (sym ((Decides-eqb n m).0 f))))
+    go false false e f = refl
+
 same_head : (q : Predicate) (t : Tree) → is_head_of q t ≡ heads (q.name, q.arity) t
 same_head q (var x) = refl
 same_head q (int z) = refl
-same_head q (atom a) = refl
+same_head q (atom a) = ap (λ b. (a == q.name) && b) (turned q.arity 0)
 same_head q (node a ts) = refl
 
 same_clauses : (q : Predicate) (k : ℕ × ℕ) (p : Program) → q.name ≡ k.0 → q.arity ≡ k.1 → clauses_of q p ≡ clauses_for k p
@@ -45,9 +58,9 @@ same_clauses q k p n a =
 -- one more predicate
 pub made_more : (t u : Numbered) (is is' : List Instr) (qs qs' : List Predicate) (q : Predicate) (k : ℕ × ℕ) (bs : List (List Instr)) (p : Program)
     → Grows t u → ((code : Compiled) → Holds u code → AreCoded code bs (clauses_for k p))
-    → is' ≡ is ++ (choices (length is + chosen (length bs)) bs ++ together bs) → q.name ≡ k.0 → q.arity ≡ k.1 → q.start ≡ length is → qs' ≡ qs ++ q ∷ []
-    → slice_get t.predicates (length qs) ≡ Some k → IsMade t is qs p → IsMade u is' qs' p
-made_more t u is is' qs qs' q k bs p g coded ei n a s eq here made = record { named = named; placed = placed }
+    → is' ≡ is ++ (choices (length is + chosen (length bs)) bs ++ together bs) → q.name ≡ k.0 → q.arity ≡ k.1 → q.start ≡ length is → q.end ≡ length is' → qs' ≡ qs ++ q ∷ []
+    → slice_get t.predicates (length qs) ≡ Some k → is_builtin_key k ≡ false → IsMade t is qs p → IsMade u is' qs' p
+made_more t u is is' qs qs' q k bs p g coded ei n a s en eq here away made = record { named = named; apart = apart; placed = placed; laid = laid }
   where
     at : (m : ℕ) (r : Predicate) → slice_get qs' m ≡ Some r → (slice_get qs m ≡ Some r) ⊎ ((m ≡ length qs) × (q ≡ r))
     at m r e = push_get qs q r m (ap (λ l. slice_get l m) (sym eq) ∙ e)
@@ -59,6 +72,12 @@ made_more t u is is' qs qs' q k bs p g coded ei n a s eq here made = record { na
     named m r e = elim (at m r e) [
       | inl h ↦ g.predicates m (r.name, r.arity) (made.named m r h)
       | inr h ↦ ap (slice_get u.predicates) h.0 ∙ g.predicates (length qs) k here ∙ ap Some key ∙ ap (λ r. Some (r.name, r.arity)) h.1
+    ]
+
+    apart : (m : ℕ) (r : Predicate) → slice_get qs' m ≡ Some r → is_builtin_key (r.name, r.arity) ≡ false
+    apart m r e = elim (at m r e) [
+      | inl h ↦ made.apart m r h
+      | inr h ↦ ap (λ r. is_builtin_key (r.name, r.arity)) (sym h.1) ∙ ap is_builtin_key (sym key) ∙ away
     ]
 
     placed : (code : Compiled) (later : List Instr) → Holds u code → code.instructions ≡ is' ++ later → (m : ℕ) (r : Predicate) → slice_get qs' m ≡ Some r → AllZip (ReadsAt code) (clause_places code r) (clauses_of r p)
@@ -80,23 +99,64 @@ made_more t u is is' qs qs' q k bs p g coded ei n a s eq here made = record { na
         go (inl f) = made.placed code ((choices (length is + chosen (length bs)) bs ++ together bs) ++ later) (holds_less t u code g h) whole m r f
         go (inr f) = subst (λ r. AllZip (ReadsAt code) (clause_places code r) (clauses_of r p)) f.1 last
 
+    laid : (code : Compiled) (later : List Instr) → Holds u code → code.instructions ≡ is' ++ later → (m : ℕ) (r : Predicate) → slice_get qs' m ≡ Some r → IsLaid code r
+    laid code later h e m r d = go (at m r d)
+      where
+        own : List Instr
+        own = choices (length is + chosen (length bs)) bs ++ together bs
+
+        whole : code.instructions ≡ is ++ (own ++ later)
+        whole = e ∙ ap (λ l. l ++ later) ei ∙ append_assoc is own later
+
+        go : (slice_get qs m ≡ Some r) ⊎ ((m ≡ length qs) × (q ≡ r)) → IsLaid code r
+        go (inl f) = made.laid code (own ++ later) (holds_less t u code g h) whole m r f
+        go (inr f) = subst (IsLaid code) f.1 (block_laid code q k is bs later p (coded code h) a s (en ∙ ap length ei) whole)
+
 pub made_none : (t : Numbered) (p : Program) (is : List Instr) (qs : List Predicate) → is ≡ [] → qs ≡ [] → IsMade t is qs p
 made_none t p is qs e f = record {
   named = λ n q g. let d : slice_get [] n ≡ Some q = ap (λ l. slice_get l n) (sym f) ∙ g in cc;
+  apart = λ n q g. let d : slice_get [] n ≡ Some q = ap (λ l. slice_get l n) (sym f) ∙ g in cc;
   placed = λ code later h c n q g. let d : slice_get [] n ≡ Some q = ap (λ l. slice_get l n) (sym f) ∙ g in cc;
+  laid = λ code later h c n q g. let d : slice_get [] n ≡ Some q = ap (λ l. slice_get l n) (sym f) ∙ g in cc;
 }
+
+abbrev control_answer : Bool → Bool → Option (Option Subst)
+control_answer b d = if b then Some (Some []) else (if d then Some None else None)
+
+-- a goal whose name and number of arguments are none of built-in goals is none
+no_builtin : (a : ℕ) (ts : Trees) → is_builtin_key (a, count_trees ts) ≡ false → builtin (applied a ts) ≡ None
+no_builtin a none e = go (a == TRUE) (a == FAIL) (is_some (relation_named a)) e
+  where
+    go : (b d k : Bool) → (((b || d) && true) || (k && false)) ≡ false → control_answer b d ≡ None
+    go true d k e = absurd (false≢true (sym e))
+    go false true k e = absurd (false≢true (sym e))
+    go false false k e = refl
+no_builtin a (more t none) e = refl
+no_builtin a (more t (more u none)) e = go (relation_named a) ((a == TRUE) || (a == FAIL)) e
+  where
+    go : (o : Option Relation) (b : Bool) → ((b && false) || (is_some o && true)) ≡ false → named_answer o t u ≡ None
+    go None b e = refl
+    go (Some r) true e = absurd (false≢true (sym e))
+    go (Some r) false e = absurd (false≢true (sym e))
+no_builtin a (more t (more u (more v ts))) e = refl
 
 -- where all predicates are made, the code stands for the program
 pub made_all : (t : Numbered) (is : List Instr) (qs : List Predicate) (p : Program) (code : Compiled) (m : ℕ) (k : ℕ × ℕ) → IsMade t is qs p → slice_get t.predicates (length qs) ≡ None
     → slice_get t.predicates m ≡ Some k → code.instructions ≡ is → code.integers ≡ t.integers → code.predicates ≡ qs → code.query ≡ Some m → StandsBeside code k p
-made_all t is qs p code m k made none at ei ez eq em = record {
+made_all t is qs p code m k made ended at ei ez eq em = record {
   number = m;
   predicate = q.0;
   is_query = em;
   held = q.1;
   named = q.2;
   arity = q.3;
-  stands = λ n r e. made.placed code [] holds (ei ∙ sym (append_nil is)) n r (ap (λ l. slice_get l n) (sym eq) ∙ e);
+  stands = record {
+    reads = λ n r e. made.placed code [] holds (ei ∙ sym (append_nil is)) n r (ap (λ l. slice_get l n) (sym eq) ∙ e);
+    apart = λ n r ts e c. no_builtin r.name ts (ap (λ m. is_builtin_key (r.name, m)) c ∙ made.apart n r (ap (λ l. slice_get l n) (sym eq) ∙ e));
+  };
+  sound =
+      laid-sound code (λ n r e. made.laid code [] holds (ei ∙ sym (append_nil is)) n r (ap (λ l. slice_get l n) (sym eq) ∙ e))
+      (subst (λ o. IfSome o (λ n. n < length code.predicates)) (sym em) (slice_get_within code.predicates m q.0 q.1));
 }
   where
     append_nil : {A : Type 0} (xs : List A) → xs ++ [] ≡ xs
@@ -112,7 +172,7 @@ made_all t is qs p code m k made none at ei ez eq em = record {
         le_or_lt (suc a) (suc b) = elim (le_or_lt a b) [ inl h ↦ inl (omega arith) | inr h ↦ inr (omega arith) ]
 
         go : (length qs ≤ i) ⊎ (i < length qs) → i < length qs
-        go (inl h) = absurd (let d : slice_get t.predicates i ≡ None = none_beyond t.predicates (length qs) i none h in cc)
+        go (inl h) = absurd (let d : slice_get t.predicates i ≡ None = none_beyond t.predicates (length qs) i ended h in cc)
         go (inr h) = h
 
     entry : (i : ℕ) (j : ℕ × ℕ) → slice_get t.predicates i ≡ Some j → (q : Predicate) × (slice_get code.predicates i ≡ Some q) × (q.name ≡ j.0) × (q.arity ≡ j.1)
@@ -130,12 +190,6 @@ made_all t is qs p code m k made none at ei ez eq em = record {
 
 -- ---- the codes of a predicate's clauses
 
-zip_push : {A B : Type 0} (R : A → B → Type 0) (xs : List A) (ys : List B) (x : A) (y : B) → AllZip R xs ys → R x y → AllZip R (xs ++ x ∷ []) (ys ++ y ∷ [])
-zip_push R [] [] x y h r = (r, tt)
-zip_push R [] (b ∷ ys) x y h r = absurd h
-zip_push R (a ∷ xs) [] x y h r = absurd h
-zip_push R (a ∷ xs) (b ∷ ys) x y h r = (h.0, zip_push R xs ys x y h.1 r)
-
 filter_push : {A : Type 0} (p : A → Bool) (xs : List A) (x : A) → filter p (xs ++ x ∷ []) ≡ (if p x then filter p xs ++ x ∷ [] else filter p xs)
 filter_push p [] x = refl
 filter_push p (y ∷ xs) x = go (p y) (p x) (filter_push p xs x)
@@ -147,46 +201,37 @@ filter_push p (y ∷ xs) x = go (p y) (p x) (filter_push p xs x)
     go false true e = e
     go false false e = e
 
-clauses_take : (k : ℕ × ℕ) (cs : Program) (i : ℕ) (c : Clause) (b : Bool) → i < length cs → c ≡ get_or cs i c → heads k c.head ≡ b
-    → clauses_for k (take (i + 1) cs) ≡ (if b then clauses_for k (take i cs) ++ c ∷ [] else clauses_for k (take i cs))
-clauses_take k cs i c b l e h =
-    ap (clauses_for k) (take_more cs i c l)
-    ∙ ap (λ d. clauses_for k (take i cs ++ d ∷ [])) (sym e)
-    ∙ filter_push (λ c. heads k c.head) (take i cs) c
-    ∙ ap (λ b. if b then clauses_for k (take i cs) ++ c ∷ [] else clauses_for k (take i cs)) h
+clauses_take : (k : ℕ × ℕ) (cs : Program) (i : ℕ) (c : Clause) → i < length cs → c ≡ get_or cs i c
+    → clauses_for k (take (i + 1) cs) ≡ (if heads k c.head then clauses_for k (take i cs) ++ c ∷ [] else clauses_for k (take i cs))
+clauses_take k cs i c l e = ap (clauses_for k) (take_more cs i c l) ∙ ap (λ d. clauses_for k (take i cs ++ d ∷ [])) (sym e) ∙ filter_push (λ c. heads k c.head) (take i cs) c
+
+-- one more clause in the index
+pub index_turn : (k : ℕ × ℕ) (cs : Program) (i : ℕ) (c : Clause) (old new : Program) → i < length cs → c ≡ get_or cs i c → new ≡ (if heads k c.head then old ++ c ∷ [] else old)
+    → old ≡ clauses_for k (take i cs) → new ≡ clauses_for k (take (i + 1) cs)
+index_turn k cs i c old new l e n o = n ∙ ap (λ p. if heads k c.head then p ++ c ∷ [] else p) o ∙ sym (clauses_take k cs i c l e)
+
+pub index_end : (k : ℕ × ℕ) (cs : Program) (i : ℕ) (old : Program) → length cs ≤ i → old ≡ clauses_for k (take i cs) → old ≡ clauses_for k cs
+index_end k cs i old l o = o ∙ ap (clauses_for k) (take_all cs i l)
+
+-- one more clause's code
+module _ {R : Type 0} (now : R → Clause) {V : Type 0} (items : V → List Instr) where
+  pub codes_turn : (rs : List R) (i : ℕ) (r : R) (s t u : Numbered) (vs new : List V) (v : V) → i < length rs → r ≡ get_or rs i r → Grows s t → Grows t u → new ≡ vs ++ v ∷ []
+      → ((code : Compiled) → Holds u code → AreInstructionsOf code (now r) (items v)) → ((code : Compiled) → Holds t code → AreCoded code (map items vs) (map now (take i rs)))
+      → Grows s u × ((code : Compiled) → Holds u code → AreCoded code (map items new) (map now (take (i + 1) rs)))
+  codes_turn rs i r s t u vs new v l e f g en d a =
+      let codes : map items new ≡ map items vs ++ items v ∷ [] = ap (map items) en ∙ map-append items vs (v ∷ []) in
+      let clauses : map now (take (i + 1) rs) ≡ map now (take i rs) ++ now r ∷ [] =
+      ap (map now) (take_more rs i r l ∙ ap (λ q. take i rs ++ q ∷ []) (sym e)) ∙ map-append now (take i rs) (r ∷ []) in (
+        grows_on s t u f g,
+        λ code x.
+            subst (λ bs. AreCoded code bs (map now (take (i + 1) rs))) (sym codes)
+            (subst (AreCoded code (map items vs ++ items v ∷ [])) (sym clauses) (zip_push (λ is c. AreInstructionsOf code c is) (map items vs) (map now (take i rs)) (items v) (now r) (a code (holds_less t u code g x)) (d code x))),
+      )
+
+  pub codes_end : (rs : List R) (i : ℕ) (vs : List V) (code : Compiled) → length rs ≤ i → AreCoded code (map items vs) (map now (take i rs)) → AreCoded code (map items vs) (map now rs)
+  codes_end rs i vs code l h = subst (λ ds. AreCoded code (map items vs) (map now ds)) (take_all rs i l) h
 
 module _ {V : Type 0} (now : V → List Instr) where
-  pub codes_more : (k : ℕ × ℕ) (cs : Program) (i : ℕ) (c : Clause) (s t u u' : Numbered) (vs new new' : List V) (v : V) (b : Bool) (h : Tree) → i < length cs → c ≡ get_or cs i c
-      → b ≡ heads k h → b ≡ true → h ≡ c.head → Grows s t → Grows t u → u' ≡ u → new ≡ vs ++ v ∷ [] → new' ≡ new
-      → ((code : Compiled) (rest : List Step) → Holds u code → Reads (said code (now v) ++ rest) c)
-      → ((code : Compiled) → Holds t code → AreCoded code (map now vs) (clauses_for k (take i cs)))
-      → Grows s u' × ((code : Compiled) → Holds u' code → AreCoded code (map now new') (clauses_for k (take (i + 1) cs)))
-  codes_more k cs i c s t u u' vs new new' v b h l e q o d f g eu en en' r a =
-      let P : Numbered → Type 0 = λ u'. Grows s u' × ((code : Compiled) → Holds u' code → AreCoded code (map now new') (clauses_for k (take (i + 1) cs))) in
-      subst P (sym eu) (grows_on s t u f g, coded)
-    where
-      codes : map now new' ≡ map now vs ++ now v ∷ []
-      codes = ap (map now) (en' ∙ en) ∙ map-append now vs (v ∷ [])
-
-      clauses : clauses_for k (take (i + 1) cs) ≡ clauses_for k (take i cs) ++ c ∷ []
-      clauses = clauses_take k cs i c true l e (ap (heads k) (sym d) ∙ sym q ∙ o)
-
-      coded : (code : Compiled) → Holds u code → AreCoded code (map now new') (clauses_for k (take (i + 1) cs))
-      coded code x =
-          subst (λ bs. AreCoded code bs (clauses_for k (take (i + 1) cs))) (sym codes)
-          (subst (AreCoded code (map now vs ++ now v ∷ [])) (sym clauses)
-          (zip_push (λ is c. (rest : List Step) → Reads (said code is ++ rest) c) (map now vs) (clauses_for k (take i cs)) (now v) c (a code (holds_less t u code g x)) (λ rest. r code rest x)))
-
-  pub codes_same : (k : ℕ × ℕ) (cs : Program) (i : ℕ) (c : Clause) (s t t' : Numbered) (vs vs' : List V) (b : Bool) (h : Tree) → i < length cs → c ≡ get_or cs i c
-      → b ≡ heads k h → b ≡ false → h ≡ c.head → Grows s t → t' ≡ t → vs' ≡ vs
-      → ((code : Compiled) → Holds t code → AreCoded code (map now vs) (clauses_for k (take i cs)))
-      → Grows s t' × ((code : Compiled) → Holds t' code → AreCoded code (map now vs') (clauses_for k (take (i + 1) cs)))
-  codes_same k cs i c s t t' vs vs' b h l e q o d f et ev a =
-      let P : Numbered → Type 0 = λ t'. Grows s t' × ((code : Compiled) → Holds t' code → AreCoded code (map now vs') (clauses_for k (take (i + 1) cs))) in
-      let Q : List V → Type 0 = λ vs'. (code : Compiled) → Holds t code → AreCoded code (map now vs') (clauses_for k (take (i + 1) cs)) in
-      let clauses : clauses_for k (take (i + 1) cs) ≡ clauses_for k (take i cs) = clauses_take k cs i c false l e (ap (heads k) (sym d) ∙ sym q ∙ o) in
-      subst P (sym et) (f, subst Q (sym ev) (λ code x. subst (AreCoded code (map now vs)) (sym clauses) (a code x)))
-
   length_codes : (vs : List V) → length (map now vs) ≡ length vs
   length_codes [] = refl
   length_codes (v ∷ vs) = ap suc (length_codes vs)

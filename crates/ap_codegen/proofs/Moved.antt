@@ -1,5 +1,6 @@
 -- Code that loses no register asks for the same with its permanent variables in X registers.
 use Rattle.std.proofs.Common.{◌≡◌, ◌≢◌, ℕ, zero, suc, ◌+◌, ◌≤◌, nat_le, ◌==◌, Bool, true, false, ◌&&◌, if◌then◌else◌, List, [], ◌∷◌, ◌++◌, map, refl, ap, sym, ◌∙◌, subst, arith}
+use Rattle.std.specs.List.{list_all}
 use Rattle.std.proofs.lemmas.Bool.{false≢true}
 use Rattle.std.proofs.lemmas.Bool.Decides.{Decides-eqb, nat_tests}
 use Rattle.ap_term.specs.Tree.{Tree, Trees, node, none, more}
@@ -7,8 +8,9 @@ use Rattle.ap_term.specs.Goals.{Clause}
 use Rattle.ap_instr.specs.declared.instruction.Slot.{Slot}
 use Rattle.ap_instr.specs.declared.instruction.Slot.TheVariants.{X, Y}
 use Rattle.ap_instr.specs.Step.{Step, get_variable, get_value, get_constant, get_structure, put_variable, put_value, put_constant, put_structure, unify_variable, unify_value, unify_constant, call, execute, builtin, proceed, frame, other}
-use Rattle.ap_instr.specs.Runs.{Runs, Reads, set, read, set_x, set_y, spread, applied}
-use Rattle.ap_codegen.specs.Temporary.{moved_slot, moved, fits_slot, all_fit}
+use Rattle.ap_instr.specs.Runs.{Runs, set, read, set_x, set_y, spread, applied, IsOpen, AsksOpenly}
+use Rattle.ap_codegen.specs.Temporary.{moved_slot, moved, fits_slot, fits, all_fit}
+use Rattle.ap_codegen.specs.CodeOf.{calls_apart, IsCodeOf}
 use Rattle.ap_codegen.proofs.Registers.{both_true, set_here, set_other}
 
 below : (n k : ℕ) → nat_le n k ≡ true → n ≤ k
@@ -139,12 +141,50 @@ alike k rest (proceed ∷ is) none x y x' y' bs f s = (λ r. r, λ r. r)
 alike k rest (frame ∷ is) none x y x' y' bs f s = alike k rest is none x y x' y' bs f s
 alike k rest (other ∷ is) none x y x' y' bs f s = (λ r. r, λ r. r)
 
--- code that reads as a clause still does with its permanent variables in X registers
-pub moved_reads : (k : ℕ) (code : List Step) (c : Clause) → all_fit k code ≡ true → ((rest : List Step) → Reads (code ++ rest) c) → (rest : List Step) → Reads (map (moved k) code ++ rest) c
-moved_reads k code c f r rest = record {
-  only = λ x y bs run. (r rest).only x (λ v. x (k + v)) bs ((alike k rest code none x (λ v. x (k + v)) x y bs f (same x)).0 run);
-  each = λ x y bs a. (alike k rest code none x (λ v. x (k + v)) x y bs f (same x)).1 ((r rest).each x (λ v. x (k + v)) bs a);
-}
+same : (k : ℕ) (x : ℕ → Tree) → Sim k x (λ v. x (k + v)) x
+same k x = record { low = λ w l. refl; high = λ v l. refl }
+
+moved_open : (k : ℕ) (rest is : List Step) → all_fit k is ≡ true → IsOpen (is ++ rest) → IsOpen (map (moved k) is ++ rest)
+moved_open k rest is f o x y = let r = o x (λ v. x (k + v)) in (r.0, (alike k rest is none x (λ v. x (k + v)) x y r.0 f (same k x)).1 r.1)
+
+moved_openly : (k : ℕ) (rest is : List Step) → all_fit k is ≡ true → AsksOpenly (is ++ rest) → AsksOpenly (map (moved k) is ++ rest)
+moved_openly k rest [] f o = absurd (false≢true f)
+moved_openly k rest (builtin p n ∷ is) f o =
+    let b = both_true (nat_le n k) (all_fit k is) f in
+    (moved_open k rest is b.1 o.0, moved_openly k rest is b.1 o.1)
+moved_openly k rest (call p n ∷ is) f o = absurd (false≢true f)
+moved_openly k rest (execute p n ∷ is) f o = tt
+moved_openly k rest (proceed ∷ is) f o = tt
+moved_openly k rest (get_variable v a ∷ is) f o = moved_openly k rest is (both_true (fits k (get_variable v a)) (all_fit k is) f).1 o
+moved_openly k rest (get_value v a ∷ is) f o = moved_openly k rest is (both_true (fits k (get_value v a)) (all_fit k is) f).1 o
+moved_openly k rest (get_constant c a ∷ is) f o = moved_openly k rest is (both_true (fits k (get_constant c a)) (all_fit k is) f).1 o
+moved_openly k rest (get_structure g n a ∷ is) f o = moved_openly k rest is (both_true (fits k (get_structure g n a)) (all_fit k is) f).1 o
+moved_openly k rest (put_variable v a ∷ is) f o = moved_openly k rest is (both_true (fits k (put_variable v a)) (all_fit k is) f).1 o
+moved_openly k rest (put_value v a ∷ is) f o = moved_openly k rest is (both_true (fits k (put_value v a)) (all_fit k is) f).1 o
+moved_openly k rest (put_constant c a ∷ is) f o = moved_openly k rest is (both_true (fits k (put_constant c a)) (all_fit k is) f).1 o
+moved_openly k rest (put_structure g n a ∷ is) f o = moved_openly k rest is (both_true (fits k (put_structure g n a)) (all_fit k is) f).1 o
+moved_openly k rest (unify_variable v ∷ is) f o = moved_openly k rest is (both_true (fits k (unify_variable v)) (all_fit k is) f).1 o
+moved_openly k rest (unify_value v ∷ is) f o = moved_openly k rest is (both_true (fits k (unify_value v)) (all_fit k is) f).1 o
+moved_openly k rest (unify_constant c ∷ is) f o = moved_openly k rest is f o
+moved_openly k rest (frame ∷ is) f o = moved_openly k rest is f o
+moved_openly k rest (other ∷ is) f o = moved_openly k rest is f o
+
+moved_apart : (k : ℕ) (is : List Step) → list_all calls_apart (map (moved k) is) ≡ list_all calls_apart is
+moved_apart k [] = refl
+moved_apart k (i ∷ is) = ap (λ b. b && list_all calls_apart (map (moved k) is)) (one i) ∙ ap (λ b. calls_apart i && b) (moved_apart k is)
   where
-    same : (x : ℕ → Tree) → Sim k x (λ v. x (k + v)) x
-    same x = record { low = λ w l. refl; high = λ v l. refl }
+    one : (i : Step) → calls_apart (moved k i) ≡ calls_apart i
+    one (call p n) = refl
+    one (execute p n) = refl
+    one _ = refl
+
+-- the code of a clause still is with its permanent variables in X registers
+pub moved_code : (k : ℕ) (code : List Step) (c : Clause) → all_fit k code ≡ true → IsCodeOf c code → IsCodeOf c (map (moved k) code)
+moved_code k code c f r = record {
+  reads = λ rest. record {
+    only = λ x y bs run. (r.reads rest).only x (λ v. x (k + v)) bs ((alike k rest code none x (λ v. x (k + v)) x y bs f (same k x)).0 run);
+    each = λ x y bs a. (alike k rest code none x (λ v. x (k + v)) x y bs f (same k x)).1 ((r.reads rest).each x (λ v. x (k + v)) bs a);
+  };
+  openly = λ rest. moved_openly k rest code f (r.openly rest);
+  apart = moved_apart k code ∙ r.apart;
+}

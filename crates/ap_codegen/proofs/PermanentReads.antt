@@ -11,9 +11,9 @@ use Rattle.ap_term.proofs.Solutions.{instance_agree, instance_all_agree, or_left
 use Rattle.ap_term.proofs.Solvable.{has-add_vars, has-add_all_vars}
 use Rattle.ap_laws.specs.Plain.{plain_goals}
 use Rattle.ap_instr.specs.declared.instruction.Slot.TheVariants.{X, Y}
-use Rattle.ap_instr.specs.Step.{Step, get_variable, get_value, get_structure, put_variable, put_structure, call, execute, builtin, proceed}
+use Rattle.ap_instr.specs.Step.{Step, get_variable, get_value, get_structure, put_variable, put_structure, call, execute, builtin}
 use Rattle.ap_instr.specs.Runs.{Runs, Reads, set, spread, lost, applied, arguments}
-use Rattle.ap_codegen.specs.Permanent.{name, is_builtin, inits, inits_all, fills, build, nested, puts, goal_code, frames, is_last_call, asking, body_code, fresh, takes, get, gets, clause_code}
+use Rattle.ap_codegen.specs.Permanent.{name, is_builtin, inits, inits_all, fills, build, nested, puts, goal_code, is_last_call, asking, body_code, fresh, takes, get, gets, clause_code}
 use Rattle.ap_codegen.proofs.Registers.{both_true, set_here, has_more, has_first}
 
 or_cases : (a b : Bool) → (a || b) ≡ true → (a ≡ true) ⊎ (b ≡ true)
@@ -156,7 +156,7 @@ module _ (y : ℕ → Tree) (bs : Trees) where
 abbrev AgreeOn : List ℕ → (ℕ → Tree) → (ℕ → Tree) → Type 0
 AgreeOn seen y h = (v : ℕ) → has seen v ≡ true → y v ≡ h v
 
-has-push : (xs : List ℕ) (v w : ℕ) → has (xs ++ v ∷ []) w ≡ true → (has xs w ≡ true) ⊎ (v ≡ w)
+pub has-push : (xs : List ℕ) (v w : ℕ) → has (xs ++ v ∷ []) w ≡ true → (has xs w ≡ true) ⊎ (v ≡ w)
 has-push [] v w h = elim (or_cases (nat_eq v w) false h) [ inl p ↦ inr (same_var v w p) | inr p ↦ absurd (false≢true p) ]
 has-push (x ∷ xs) v w h =
     elim (or_cases (nat_eq x w) (has (xs ++ v ∷ []) w) h) [
@@ -175,13 +175,13 @@ push_agrees seen y h v a w o = go (w == v) refl
     go true e = ap h (sym (same_var w v e))
     go false e = elim (has-push seen v w o) [ inl p ↦ a w p | inr p ↦ absurd (false≢true (sym e ∙ same_test w v (sym p))) ]
 
-here : (seen : List ℕ) (v : ℕ) → has (add_vars (var v) seen) v ≡ true
+pub here : (seen : List ℕ) (v : ℕ) → has (add_vars (var v) seen) v ≡ true
 here seen v = has-add_vars v (var v) seen (or_right (has seen v) (nat_eq v v) (same_test v v refl))
 
-grows : (t : Tree) (seen : List ℕ) (v : ℕ) → has seen v ≡ true → has (add_vars t seen) v ≡ true
+pub grows : (t : Tree) (seen : List ℕ) (v : ℕ) → has seen v ≡ true → has (add_vars t seen) v ≡ true
 grows t seen v h = has-add_vars v t seen (or_left (has seen v) (occurs v t) h)
 
-grows_all : (ts : Trees) (seen : List ℕ) (v : ℕ) → has seen v ≡ true → has (add_all_vars ts seen) v ≡ true
+pub grows_all : (ts : Trees) (seen : List ℕ) (v : ℕ) → has seen v ≡ true → has (add_all_vars ts seen) v ≡ true
 grows_all ts seen v h = has-add_all_vars v ts seen (or_left (has seen v) (occurs_all v ts) h)
 
 -- maps that agree on what was seen of a tree make the same of it
@@ -286,22 +286,6 @@ goal-each h g seen rest x y bs i a r =
     puts-each y1 bs (arguments g) 1 m rest x1 (let l : 1 + count_trees (arguments g) ≤ count_trees (arguments g) + 1 = omega arith in l) (λ x' s e.
     r x' y1 a1 (ap (applied (name g)) e ∙ goal_of y1 g i ∙ seen_same g seen y1 h a1))))
 
-proceeds : (b : Bool) (rest : List Step) (x y : ℕ → Tree) (bs : Trees) → Runs ((frames b ++ proceed ∷ []) ++ rest) none x y bs → bs ≡ none
-proceeds true rest x y bs r = r
-proceeds false rest x y bs r = r
-
-proceeded : (b : Bool) (rest : List Step) (x y : ℕ → Tree) (bs : Trees) → bs ≡ none → Runs ((frames b ++ proceed ∷ []) ++ rest) none x y bs
-proceeded true rest x y bs r = r
-proceeded false rest x y bs r = r
-
-executes : (b : Bool) (p n : ℕ) (rest : List Step) (x y : ℕ → Tree) (bs : Trees) → Runs ((frames b ++ execute p n ∷ []) ++ rest) none x y bs → bs ≡ more (applied p (spread x 1 n)) none
-executes true p n rest x y bs r = r
-executes false p n rest x y bs r = r
-
-executed : (b : Bool) (p n : ℕ) (rest : List Step) (x y : ℕ → Tree) (bs : Trees) → bs ≡ more (applied p (spread x 1 n)) none → Runs ((frames b ++ execute p n ∷ []) ++ rest) none x y bs
-executed true p n rest x y bs r = r
-executed false p n rest x y bs r = r
-
 asks-only : (c : Bool) (p n : ℕ) (rest : List Step) (x y : ℕ → Tree) (bs : Trees) → Runs ((if c then builtin p n else call p n) ∷ rest) none x y bs
     → (cs : Trees) × (x' : ℕ → Tree) × (bs ≡ more (applied p (spread x 1 n)) cs) × Runs rest none x' y cs
 asks-only true p n rest x y bs r = (r.0, x, r.1, r.2)
@@ -319,65 +303,64 @@ last_goal g (more t ts) e = absurd (false≢true e)
 abbrev BodyOnly : Trees → List ℕ → (ℕ → Tree) → Trees → Type 0
 BodyOnly gs seen y bs = (y' : ℕ → Tree) × AgreeOn seen y y' × (bs ≡ instance_all y' gs)
 
-body-only : (b : Bool) (gs : Trees) (seen : List ℕ) (rest : List Step) (x y : ℕ → Tree) (bs : Trees) → all_callable gs ≡ true → Runs (body_code b gs seen ++ rest) none x y bs → BodyOnly gs seen y bs
-body-only b none seen rest x y bs i r = (y, λ w o. refl, proceeds b rest x y bs r)
-body-only b (more g gs) seen rest x y bs i r = go (λ x y bs i r. body-only b gs (add_vars g seen) rest x y bs i r) (is_last_call g gs) refl r
+body-only : (gs : Trees) (seen : List ℕ) (rest : List Step) (x y : ℕ → Tree) (bs : Trees) → all_callable gs ≡ true → Runs (body_code gs seen ++ rest) none x y bs → BodyOnly gs seen y bs
+body-only none seen rest x y bs i r = (y, λ w o. refl, r)
+body-only (more g gs) seen rest x y bs i r = go (λ x y bs i r. body-only gs (add_vars g seen) rest x y bs i r) (is_last_call g gs) refl r
   where
     c : (callable g ≡ true) × (all_callable gs ≡ true)
     c = both_true (callable g) (all_callable gs) i
 
-    go : ((x y : ℕ → Tree) (bs : Trees) → all_callable gs ≡ true → Runs (body_code b gs (add_vars g seen) ++ rest) none x y bs → BodyOnly gs (add_vars g seen) y bs)
+    go : ((x y : ℕ → Tree) (bs : Trees) → all_callable gs ≡ true → Runs (body_code gs (add_vars g seen) ++ rest) none x y bs → BodyOnly gs (add_vars g seen) y bs)
         → (l : Bool) → is_last_call g gs ≡ l
-        → Runs ((if l then goal_code g seen ++ (frames b ++ execute (name g) (count_trees (arguments g)) ∷ []) else goal_code g seen ++ (asking g ∷ body_code b gs (add_vars g seen))) ++ rest) none x y bs
+        → Runs ((if l then goal_code g seen ++ execute (name g) (count_trees (arguments g)) ∷ [] else goal_code g seen ++ (asking g ∷ body_code gs (add_vars g seen))) ++ rest) none x y bs
         → BodyOnly (more g gs) seen y bs
     go ih true e r =
-        let k : List Step = frames b ++ execute (name g) (count_trees (arguments g)) ∷ [] in
+        let k : List Step = execute (name g) (count_trees (arguments g)) ∷ [] in
         let a = goal-only g seen (k ++ rest) x y bs c.0 (reassoc (goal_code g seen) k rest none x y bs r) in
-        let d : bs ≡ more (instance a.1 g) none = executes b (name g) (count_trees (arguments g)) rest a.0 a.1 bs a.4 ∙ ap (λ t. more t none) a.3 in
+        let d : bs ≡ more (instance a.1 g) none = a.4 ∙ ap (λ t. more t none) a.3 in
         (a.1, a.2, d ∙ ap (λ gs. more (instance a.1 g) (instance_all a.1 gs)) (sym (last_goal g gs e)))
     go ih false e r =
-        let k : List Step = asking g ∷ body_code b gs (add_vars g seen) in
+        let k : List Step = asking g ∷ body_code gs (add_vars g seen) in
         let a = goal-only g seen (k ++ rest) x y bs c.0 (reassoc (goal_code g seen) k rest none x y bs r) in
-        let q = asks-only (is_builtin g) (name g) (count_trees (arguments g)) (body_code b gs (add_vars g seen) ++ rest) a.0 a.1 bs a.4 in
+        let q = asks-only (is_builtin g) (name g) (count_trees (arguments g)) (body_code gs (add_vars g seen) ++ rest) a.0 a.1 bs a.4 in
         let d = ih q.1 a.1 q.0 c.1 q.3 in (
           d.0,
           λ w o. a.2 w o ∙ d.1 w (grows g seen w o),
           q.2 ∙ ap (more (applied (name g) (spread a.0 1 (count_trees (arguments g))))) d.2 ∙ ap (λ t. more t (instance_all d.0 gs)) (a.3 ∙ seen_same g seen a.1 d.0 d.1),
         )
 
-body-each : (h : ℕ → Tree) (b : Bool) (gs : Trees) (seen : List ℕ) (rest : List Step) (x y : ℕ → Tree) → all_callable gs ≡ true → AgreeOn seen y h → Runs (body_code b gs seen ++ rest) none x y (instance_all h gs)
-body-each h b none seen rest x y i a = proceeded b rest x y none refl
-body-each h b (more g gs) seen rest x y i a = go (λ x y i a. body-each h b gs (add_vars g seen) rest x y i a) (is_last_call g gs) refl
+pub body-each : (h : ℕ → Tree) (gs : Trees) (seen : List ℕ) (rest : List Step) (x y : ℕ → Tree) → all_callable gs ≡ true → AgreeOn seen y h → Runs (body_code gs seen ++ rest) none x y (instance_all h gs)
+body-each h none seen rest x y i a = refl
+body-each h (more g gs) seen rest x y i a = go (λ x y i a. body-each h gs (add_vars g seen) rest x y i a) (is_last_call g gs) refl
   where
     c : (callable g ≡ true) × (all_callable gs ≡ true)
     c = both_true (callable g) (all_callable gs) i
 
-    go : ((x y : ℕ → Tree) → all_callable gs ≡ true → AgreeOn (add_vars g seen) y h → Runs (body_code b gs (add_vars g seen) ++ rest) none x y (instance_all h gs))
+    go : ((x y : ℕ → Tree) → all_callable gs ≡ true → AgreeOn (add_vars g seen) y h → Runs (body_code gs (add_vars g seen) ++ rest) none x y (instance_all h gs))
         → (l : Bool) → is_last_call g gs ≡ l
-        → Runs ((if l then goal_code g seen ++ (frames b ++ execute (name g) (count_trees (arguments g)) ∷ []) else goal_code g seen ++ (asking g ∷ body_code b gs (add_vars g seen))) ++ rest) none x y (more (instance h g) (instance_all h gs))
+        → Runs ((if l then goal_code g seen ++ execute (name g) (count_trees (arguments g)) ∷ [] else goal_code g seen ++ (asking g ∷ body_code gs (add_vars g seen))) ++ rest) none x y (more (instance h g) (instance_all h gs))
     go ih true e =
-        let k : List Step = frames b ++ execute (name g) (count_trees (arguments g)) ∷ [] in
+        let k : List Step = execute (name g) (count_trees (arguments g)) ∷ [] in
         reassoc_back (goal_code g seen) k rest none x y (more (instance h g) (instance_all h gs))
         (goal-each h g seen (k ++ rest) x y (more (instance h g) (instance_all h gs)) c.0 a (λ x' y' a' e'.
-        executed b (name g) (count_trees (arguments g)) rest x' y' (more (instance h g) (instance_all h gs))
-        (ap (λ t. more t (instance_all h gs)) (sym e') ∙ ap (λ gs. more (applied (name g) (spread x' 1 (count_trees (arguments g)))) (instance_all h gs)) (last_goal g gs e))))
+        ap (λ t. more t (instance_all h gs)) (sym e') ∙ ap (λ gs. more (applied (name g) (spread x' 1 (count_trees (arguments g)))) (instance_all h gs)) (last_goal g gs e)))
     go ih false e =
-        let k : List Step = asking g ∷ body_code b gs (add_vars g seen) in
+        let k : List Step = asking g ∷ body_code gs (add_vars g seen) in
         reassoc_back (goal_code g seen) k rest none x y (more (instance h g) (instance_all h gs))
         (goal-each h g seen (k ++ rest) x y (more (instance h g) (instance_all h gs)) c.0 a (λ x' y' a' e'.
-        asks-each (is_builtin g) (name g) (count_trees (arguments g)) (body_code b gs (add_vars g seen) ++ rest) x' y' (more (instance h g) (instance_all h gs)) (instance_all h gs)
+        asks-each (is_builtin g) (name g) (count_trees (arguments g)) (body_code gs (add_vars g seen) ++ rest) x' y' (more (instance h g) (instance_all h gs)) (instance_all h gs)
         (ap (λ t. more t (instance_all h gs)) (sym e')) (λ z. ih z y' c.1 a')))
 
 -- ---- heads
 
-fresh_var : (seen : List ℕ) (v : ℕ) (ts : Trees) → fresh (more (var v) ts) seen ≡ true → (has seen v ≡ false) × (fresh ts (seen ++ v ∷ []) ≡ true)
+pub fresh_var : (seen : List ℕ) (v : ℕ) (ts : Trees) → fresh (more (var v) ts) seen ≡ true → (has seen v ≡ false) × (fresh ts (seen ++ v ∷ []) ≡ true)
 fresh_var seen v ts h = go (has seen v) refl h
   where
     go : (b : Bool) → has seen v ≡ b → (if b then false else fresh ts (seen ++ v ∷ [])) ≡ true → (has seen v ≡ false) × (fresh ts (seen ++ v ∷ []) ≡ true)
     go true e k = absurd (false≢true k)
     go false e k = (e, k)
 
-unseen_add : (seen : List ℕ) (v : ℕ) → has seen v ≡ false → add_vars (var v) seen ≡ seen ++ v ∷ []
+pub unseen_add : (seen : List ℕ) (v : ℕ) → has seen v ≡ false → add_vars (var v) seen ≡ seen ++ v ∷ []
 unseen_add seen v e = ap (λ b. if b then seen else seen ++ v ∷ []) e
 
 module _ (bs : Trees) (rest : List Step) (x : ℕ → Tree) where
@@ -501,32 +484,22 @@ module _ (bs : Trees) where
 
 -- ---- the whole clause
 
-framed-only : (b : Bool) (is : List Step) (x y : ℕ → Tree) (bs : Trees) → Runs (frames b ++ is) none x y bs → Runs is none x y bs
-framed-only true is x y bs r = r
-framed-only false is x y bs r = r
-
-framed-each : (b : Bool) (is : List Step) (x y : ℕ → Tree) (bs : Trees) → Runs is none x y bs → Runs (frames b ++ is) none x y bs
-framed-each true is x y bs r = r
-framed-each false is x y bs r = r
-
-pub reads : (b : Bool) (rest : List Step) (c : Clause) → all_callable (plain_goals c.body) ≡ true → Reads (clause_code b c.head (plain_goals c.body) ++ rest) c
-reads b rest c i =
+pub reads : (rest : List Step) (c : Clause) → all_callable (plain_goals c.body) ≡ true → Reads (clause_code c.head (plain_goals c.body) ++ rest) c
+reads rest c i =
     let m : ℕ = count_trees (arguments c.head) + 1 in
     let seen : List ℕ = add_all_vars (arguments c.head) [] in
     let head : List Step = gets (arguments c.head) 1 [] m in
-    let body : List Step = body_code b (plain_goals c.body) seen in
-    let split : clause_code b c.head (plain_goals c.body) ++ rest ≡ frames b ++ (head ++ (body ++ rest)) = append_assoc (frames b) (head ++ body) rest ∙ ap (λ q. frames b ++ q) (append_assoc head body rest) in
+    let body : List Step = body_code (plain_goals c.body) seen in
+    let split : clause_code c.head (plain_goals c.body) ++ rest ≡ head ++ (body ++ rest) = append_assoc head body rest in
     record {
       only = λ x y bs r.
-          let s = framed-only b (head ++ (body ++ rest)) x y bs (subst (λ q. Runs q none x y bs) split r) in
-          let g = gets-only bs (arguments c.head) 1 [] m (body ++ rest) x y (let l : 1 + count_trees (arguments c.head) ≤ count_trees (arguments c.head) + 1 = omega arith in l) s in
-          let d = body-only b (plain_goals c.body) seen rest g.0 g.1 bs i g.5 in
+          let g = gets-only bs (arguments c.head) 1 [] m (body ++ rest) x y (let l : 1 + count_trees (arguments c.head) ≤ count_trees (arguments c.head) + 1 = omega arith in l) (subst (λ q. Runs q none x y bs) split r) in
+          let d = body-only (plain_goals c.body) seen rest g.0 g.1 bs i g.5 in
           (d.0, g.4 ∙ seen_same_all (arguments c.head) [] g.1 d.0 d.1, d.2);
       each = λ x y bs a.
-          subst (Runs (clause_code b c.head (plain_goals c.body) ++ rest) none x y) (sym a.2)
+          subst (Runs (clause_code c.head (plain_goals c.body) ++ rest) none x y) (sym a.2)
           (subst (λ q. Runs q none x y (instance_all a.0 (plain_goals c.body))) (sym split)
-          (framed-each b (head ++ (body ++ rest)) x y (instance_all a.0 (plain_goals c.body))
           (gets-each (instance_all a.0 (plain_goals c.body)) a.0 (arguments c.head) 1 [] m (body ++ rest) x y
           (let l : 1 + count_trees (arguments c.head) ≤ count_trees (arguments c.head) + 1 = omega arith in l) (λ w o. absurd (false≢true o)) a.1
-          (λ x' y' a'. body-each a.0 b (plain_goals c.body) seen rest x' y' i a'))));
+          (λ x' y' a'. body-each a.0 (plain_goals c.body) seen rest x' y' i a')));
     }

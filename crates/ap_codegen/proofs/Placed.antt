@@ -11,7 +11,7 @@ use Rattle.ap_instr.specs.declared.instruction.Instr.{Instr}
 use Rattle.ap_instr.specs.declared.instruction.Instr.TheVariants.{Fail, Try}
 use Rattle.ap_instr.specs.Code.{Compiled}
 use Rattle.ap_instr.specs.Step.{Step, other, steps_of as said}
-use Rattle.ap_instr.specs.Runs.{Reads, set, spread, arguments}
+use Rattle.ap_instr.specs.Runs.{Reads, AsksOpenly, set, spread, arguments}
 use Rattle.ap_instr.specs.StandsFor.{tried, alternatives, ReadsAt}
 use Rattle.ap_codegen.specs.Assembled.{AreCoded, places, retries, choices, chosen, together}
 use Rattle.ap_codegen.proofs.Registers.{set_here}
@@ -76,7 +76,7 @@ tried_retries : (at : ℕ) (is : List Instr) (bs : List (List Instr)) (later : L
 tried_retries at is [] later = refl
 tried_retries at is (b ∷ bs) later = ap (λ l. at ∷ l) (tried_retries (at + length is) b bs later)
 
-length_retries : (at : ℕ) (bs : List (List Instr)) → length (retries at bs) ≡ length bs
+pub length_retries : (at : ℕ) (bs : List (List Instr)) → length (retries at bs) ≡ length bs
 length_retries at [] = refl
 length_retries at (is ∷ []) = refl
 length_retries at (is ∷ b ∷ bs) = ap suc (length_retries (at + length is) (b ∷ bs))
@@ -88,32 +88,45 @@ places_read code at (is ∷ bs) later [] h e = h
 places_read code at (is ∷ bs) later (c ∷ cs) h e =
     let d : drop at code.instructions ≡ is ++ (together bs ++ later) = e ∙ append_assoc is (together bs) later in
     let f : said code (drop at code.instructions) ≡ said code is ++ said code (together bs ++ later) = ap (said code) d ∙ map-append _ is (together bs ++ later) in (
-      subst (λ q. Reads q c) (sym f) (h.0 (said code (together bs ++ later))),
+      record {
+        reads = subst (λ q. Reads q c) (sym f) (h.0.says.reads (said code (together bs ++ later)));
+        openly = subst AsksOpenly (sym f) (h.0.says.openly (said code (together bs ++ later)));
+      },
       places_read code (at + length is) bs later cs h.1 (drop_twice at (length is) code.instructions ∙ ap (drop (length is)) d ∙ drop_append is (together bs ++ later)),
     )
 
-chosen_many : (n : ℕ) → chosen (suc (suc n)) ≡ suc (suc n)
+pub chosen_many : (n : ℕ) → chosen (suc (suc n)) ≡ suc (suc n)
 chosen_many n = go (1 == suc (suc n)) refl
   where
     go : (b : Bool) → (1 == suc (suc n)) ≡ b → (if b then 0 else suc (suc n)) ≡ suc (suc n)
     go true e = absurd (let k : 1 ≡ suc (suc n) = (Decides-eqb 1 (suc (suc n))).0 e in omega arith)
     go false e = refl
 
+-- where its clauses begin, by its instructions
+pub block_places : (code : Compiled) (start base : ℕ) (bs : List (List Instr)) (later : List Instr) (cs : List Clause) → AreCoded code bs cs
+    → base ≡ start + chosen (length bs) → drop start code.instructions ≡ choices base bs ++ (together bs ++ later)
+    → alternatives start (drop start code.instructions) ≡ places base bs
+block_places code start base [] later cs h b e = ap (alternatives start) e
+block_places code start base (is ∷ []) later [] h b e = absurd h
+block_places code start base (is ∷ []) later (c ∷ cs) h b e =
+    let same : start ≡ base = omega (arith, b) in
+    single code start (drop start code.instructions) c (places_read code start (is ∷ []) later (c ∷ cs) h e).0.reads ∙ ap (λ n. n ∷ []) same
+block_places code start base (is ∷ i ∷ bs) later cs h b e = ap (alternatives start) e ∙ ap (λ l. base ∷ l) (tried_retries (base + length is) i bs (together (is ∷ i ∷ bs) ++ later))
+
 -- the clauses of a predicate whose instructions begin at a place
 pub block_read : (code : Compiled) (start base : ℕ) (bs : List (List Instr)) (later : List Instr) (cs : List Clause) → AreCoded code bs cs
     → base ≡ start + chosen (length bs) → drop start code.instructions ≡ choices base bs ++ (together bs ++ later)
     → AllZip (ReadsAt code) (alternatives start (drop start code.instructions)) cs
-block_read code start base [] later [] h b e = subst (λ is. AllZip (ReadsAt code) (alternatives start is) []) (sym e) tt
-block_read code start base [] later (c ∷ cs) h b e = absurd h
-block_read code start base (is ∷ []) later [] h b e = absurd h
-block_read code start base (is ∷ []) later (c ∷ cs) h b e =
-    let r = places_read code start (is ∷ []) later (c ∷ cs) h e in
-    subst (λ l. AllZip (ReadsAt code) l (c ∷ cs)) (sym (single code start (drop start code.instructions) c r.0)) r
-block_read code start base (is ∷ i ∷ bs) later cs h b e =
-    let ks : List Instr = retries (base + length is) (i ∷ bs) in
-    let n : base ≡ start + suc (length ks) = b ∙ ap (λ n. start + n) (chosen_many (length bs)) ∙ ap (λ n. start + suc n) (sym (length_retries (base + length is) (i ∷ bs))) in
-    let d : drop base code.instructions ≡ together (is ∷ i ∷ bs) ++ later =
-    ap (λ k. drop k code.instructions) n ∙ drop_twice start (suc (length ks)) code.instructions ∙ ap (drop (suc (length ks))) e ∙ drop_append (choices base (is ∷ i ∷ bs)) (together (is ∷ i ∷ bs) ++ later) in
-    let p : alternatives start (drop start code.instructions) ≡ places base (is ∷ i ∷ bs) =
-    ap (alternatives start) e ∙ ap (λ l. base ∷ l) (tried_retries (base + length is) i bs (together (is ∷ i ∷ bs) ++ later)) in
-    subst (λ l. AllZip (ReadsAt code) l cs) (sym p) (places_read code base (is ∷ i ∷ bs) later cs h d)
+block_read code start base bs later cs h b e = subst (λ l. AllZip (ReadsAt code) l cs) (sym (block_places code start base bs later cs h b e)) (go bs cs h b e)
+  where
+    go : (bs : List (List Instr)) (cs : List Clause) → AreCoded code bs cs → base ≡ start + chosen (length bs) → drop start code.instructions ≡ choices base bs ++ (together bs ++ later) → AllZip (ReadsAt code) (places base bs) cs
+    go [] [] h b e = tt
+    go [] (c ∷ cs) h b e = absurd h
+    go (is ∷ []) cs h b e =
+        let same : base ≡ start = omega (arith, b) in
+        places_read code base (is ∷ []) later cs h (ap (λ n. drop n code.instructions) same ∙ e)
+    go (is ∷ i ∷ bs) cs h b e =
+        let ks : List Instr = retries (base + length is) (i ∷ bs) in
+        let n : base ≡ start + suc (length ks) = b ∙ ap (λ n. start + n) (chosen_many (length bs)) ∙ ap (λ n. start + suc n) (sym (length_retries (base + length is) (i ∷ bs))) in
+        places_read code base (is ∷ i ∷ bs) later cs h
+        (ap (λ k. drop k code.instructions) n ∙ drop_twice start (suc (length ks)) code.instructions ∙ ap (drop (suc (length ks))) e ∙ drop_append (choices base (is ∷ i ∷ bs)) (together (is ∷ i ∷ bs) ++ later))

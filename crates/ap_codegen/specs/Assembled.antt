@@ -1,20 +1,32 @@
 -- Code as it is put together: what its tables hold so far, and what it says wherever they hold that.
-use Rattle.std.specs.Prelude.{◌≡◌, ℕ, ◌+◌, Bool, false, ◌&&◌, ◌==◌, if◌then◌else◌, ℤ, List, [], ◌∷◌, ◌++◌, length, slice_get, Some}
+use Rattle.std.specs.Prelude.{◌≡◌, ℕ, ◌+◌, Bool, false, ◌&&◌, ◌==◌, if◌then◌else◌, ℤ, List, [], ◌∷◌, ◌++◌, length, slice_get, Option, Some, None}
 use Rattle.std.specs.List.{AllZip, filter, flat_map}
 use Rattle.ap_term.specs.Tree.{Tree, atom, node, count_trees}
 use Rattle.ap_term.specs.Goals.{Clause, Program}
 use Rattle.ap_instr.specs.declared.instruction.Instr.{Instr}
-use Rattle.ap_instr.specs.declared.instruction.Instr.TheVariants.{Fail, Try, Retry, Trust}
+use Rattle.ap_instr.specs.declared.instruction.Instr.TheVariants.{Allocate, Deallocate, Fail, Try, Retry, Trust}
 use Rattle.ap_instr.specs.declared.compiled.Predicate.{Predicate}
 use Rattle.ap_instr.specs.Code.{Compiled}
-use Rattle.ap_instr.specs.Step.{Step, steps_of as said}
-use Rattle.ap_instr.specs.Runs.{Reads}
+use Rattle.ap_instr.specs.Step.{step_of as said_by, steps_of as said}
+use Rattle.ap_instr.specs.Runs.{arguments}
+use Rattle.ap_codecheck.specs.Shape.{entry}
+use Rattle.ap_codecheck.specs.Walk.{Walks, IsLaid}
+use Rattle.ap_codecheck.specs.Rules.{InRange, GoesInside, CallsKnown, IsSound}
+use Rattle.ap_codegen.specs.declared.steps.Step.{Step as Emitted}
+use Rattle.ap_codegen.specs.declared.steps.Step.TheVariants.{Allocate as EnterStep, Deallocate as LeaveStep}
+use Rattle.ap_codegen.specs.Emitted.{step_of}
 use Rattle.ap_instr.specs.StandsFor.{ReadsAt, clause_places, clauses_of, StandsFor}
+use Rattle.ap_codegen.specs.Permanent.{is_builtin_key}
+use Rattle.ap_codegen.specs.CodeOf.{IsCodeOf}
 
 -- the integers, and the names and arities of predicates, each at its number
 pub record Numbered : Type 0 where
   pub integers : List ℤ
   pub predicates : List (ℕ × ℕ)
+
+-- none is the name and arity of built-in goals
+abbrev pub AreApart : List (ℕ × ℕ) → Type 0
+AreApart ks = (i : ℕ) (k : ℕ × ℕ) → slice_get ks i ≡ Some k → is_builtin_key k ≡ false
 
 -- what stands in a list stays at its place
 abbrev pub Keeps : {A : Type 0} → List A → List A → Type 0
@@ -29,9 +41,39 @@ pub record Holds (t : Numbered) (code : Compiled) : Type 0 where
   pub integers : Keeps t.integers code.integers
   pub predicates : (i : ℕ) (k : ℕ × ℕ) → slice_get t.predicates i ≡ Some k → (q : Predicate) × (slice_get code.predicates i ≡ Some q) × (q.name ≡ k.0) × (q.arity ≡ k.1)
 
--- each code reads as its clause, whatever stands behind it
+-- what an instruction does with an environment: make one for so many variables, or give it back
+abbrev pub frame_of : Instr → Option (Option ℕ)
+frame_of (Allocate n) = Some (Some n)
+frame_of Deallocate = Some None
+frame_of _ = None
+
+abbrev pub frame_in : Emitted → Option (Option ℕ)
+frame_in (EnterStep n) = Some (Some n)
+frame_in LeaveStep = Some None
+frame_in _ = None
+
+-- the instruction says the step
+pub record IsSaid (code : Compiled) (e : Emitted) (i : Instr) : Type 0 where
+  pub says : said_by code i ≡ step_of e
+  pub frame : frame_of i ≡ frame_in e
+
+-- the rules that an instruction keeps by itself, in any predicate
+abbrev pub IsAlone : Compiled → Instr → Type 0
+IsAlone code i = InRange code i × CallsKnown code i × ((p : Predicate) → GoesInside code p i)
+
+abbrev pub AreAlone : Compiled → List Instr → Type 0
+AreAlone code [] = Unit {0}
+AreAlone code (i ∷ is) = IsAlone code i × AreAlone code is
+
+-- the instructions are a clause's code, and keep the rules of code from the clause's first one on
+pub record AreInstructionsOf (code : Compiled) (c : Clause) (is : List Instr) : Type 0 where
+  pub says : IsCodeOf c (said code is)
+  pub walks : (later : List Instr) → Walks code (is ++ later) (entry (count_trees (arguments c.head)))
+  pub alone : AreAlone code is
+
+-- each is its clause's code
 abbrev pub AreCoded : Compiled → List (List Instr) → List Clause → Type 0
-AreCoded code bs cs = AllZip (λ is c. (rest : List Step) → Reads (said code is ++ rest) c) bs cs
+AreCoded code bs cs = AllZip (λ is c. AreInstructionsOf code c is) bs cs
 
 -- where clauses begin that stand one behind another from a place on
 abbrev pub places : ℕ → List (List Instr) → List ℕ
@@ -57,23 +99,28 @@ chosen n = if 1 == n then 0 else n
 abbrev pub together : List (List Instr) → List Instr
 together bs = flat_map (λ is. is) bs
 
+abbrev pub is_key : ℕ × ℕ → ℕ × ℕ → Bool
+is_key k l = (k.0 == l.0) && (k.1 == l.1)
+
 -- whether a head is of this name and arity
 abbrev pub heads : ℕ × ℕ → Tree → Bool
-heads k (atom a) = (a == k.0) && (k.1 == 0)
-heads k (node a ts) = (a == k.0) && (count_trees ts == k.1)
+heads k (atom a) = is_key (a, 0) k
+heads k (node a ts) = is_key (a, count_trees ts) k
 heads k _ = false
 
 abbrev pub clauses_for : ℕ × ℕ → Program → Program
 clauses_for k p = filter (λ c. heads k c.head) p
 
 -- The first predicates of tables are made: wherever the instructions are followed by others, each is read as the program's
--- clauses for it.
+-- clauses for it, and is laid out as code has to be.
 pub record IsMade (t : Numbered) (is : List Instr) (qs : List Predicate) (p : Program) : Type 0 where
   pub named : (n : ℕ) (q : Predicate) → slice_get qs n ≡ Some q → slice_get t.predicates n ≡ Some (q.name, q.arity)
+  pub apart : (n : ℕ) (q : Predicate) → slice_get qs n ≡ Some q → is_builtin_key (q.name, q.arity) ≡ false
   pub placed : (code : Compiled) (later : List Instr) → Holds t code → code.instructions ≡ is ++ later
       → (n : ℕ) (q : Predicate) → slice_get qs n ≡ Some q → AllZip (ReadsAt code) (clause_places code q) (clauses_of q p)
+  pub laid : (code : Compiled) (later : List Instr) → Holds t code → code.instructions ≡ is ++ later → (n : ℕ) (q : Predicate) → slice_get qs n ≡ Some q → IsLaid code q
 
--- code for a program, with the query's predicate in its table
+-- sound code for a program, with the query's predicate in its table
 pub record StandsBeside (code : Compiled) (k : ℕ × ℕ) (p : Program) : Type 0 where
   pub number : ℕ
   pub predicate : Predicate
@@ -82,3 +129,4 @@ pub record StandsBeside (code : Compiled) (k : ℕ × ℕ) (p : Program) : Type 
   pub named : predicate.name ≡ k.0
   pub arity : predicate.arity ≡ k.1
   pub stands : StandsFor code p
+  pub sound : IsSound code

@@ -5,3 +5,7 @@ pub mod Emitted
 pub mod Permanent
 pub mod Assembled
 pub mod Temporary
+pub mod CodeOf
+pub mod Framed
+pub mod Paces
+pub mod Index

@@ -6,7 +6,7 @@ use Rattle.ap_term.specs.Tree.{Tree, Trees, var, int, atom, node, none, more, co
 use Rattle.ap_term.specs.Vars.{has, add_vars, add_all_vars}
 use Rattle.ap_term.specs.Builtins.{relation_named}
 use Rattle.ap_instr.specs.declared.instruction.Slot.TheVariants.{X, Y}
-use Rattle.ap_instr.specs.Step.{Step, get_variable, get_value, get_constant, get_structure, put_variable, put_value, put_constant, put_structure, unify_variable, unify_value, unify_constant, call, execute, builtin, proceed, frame}
+use Rattle.ap_instr.specs.Step.{Step, get_variable, get_value, get_constant, get_structure, put_variable, put_value, put_constant, put_structure, unify_variable, unify_value, unify_constant, call, execute, builtin, proceed}
 use Rattle.ap_instr.specs.Runs.{arguments}
 
 abbrev pub name : Tree → ℕ
@@ -20,6 +20,10 @@ abbrev pub is_builtin : Tree → Bool
 is_builtin (atom a) = (a == TRUE) || (a == FAIL)
 is_builtin (node a ts) = (count_trees ts == 2) && is_some (relation_named a)
 is_builtin _ = false
+
+-- whether goals of this name and so many arguments are such
+abbrev pub is_builtin_key : ℕ × ℕ → Bool
+is_builtin_key k = (((k.0 == TRUE) || (k.0 == FAIL)) && (k.1 == 0)) || (is_some (relation_named k.0) && (k.1 == 2))
 
 abbrev mutual
   -- makes the variables of a term that were not seen yet, with a temporary
@@ -68,10 +72,6 @@ puts (more t ts) a m = build t a m ++ puts ts (a + 1) m
 abbrev pub goal_code : Tree → List ℕ → List Step
 goal_code g seen = inits g seen (count_trees (arguments g) + 1) ++ puts (arguments g) 1 (count_trees (arguments g) + 1)
 
--- an environment is made or given back, where there is one
-abbrev pub frames : Bool → List Step
-frames b = if b then frame ∷ [] else []
-
 -- whether a goal is a call with no goal behind it
 abbrev pub is_last_call : Tree → Trees → Bool
 is_last_call g none = not (is_builtin g)
@@ -80,12 +80,12 @@ is_last_call g (more t ts) = false
 abbrev pub asking : Tree → Step
 asking g = if is_builtin g then builtin (name g) (count_trees (arguments g)) else call (name g) (count_trees (arguments g))
 
-abbrev pub body_code : Bool → Trees → List ℕ → List Step
-body_code b none seen = frames b ++ proceed ∷ []
-body_code b (more g gs) seen =
+abbrev pub body_code : Trees → List ℕ → List Step
+body_code none seen = proceed ∷ []
+body_code (more g gs) seen =
     if is_last_call g gs
-    then goal_code g seen ++ (frames b ++ execute (name g) (count_trees (arguments g)) ∷ [])
-    else goal_code g seen ++ (asking g ∷ body_code b gs (add_vars g seen))
+    then goal_code g seen ++ execute (name g) (count_trees (arguments g)) ∷ []
+    else goal_code g seen ++ (asking g ∷ body_code gs (add_vars g seen))
 
 -- constants and new variables alone, each once
 abbrev pub fresh : Trees → List ℕ → Bool
@@ -116,7 +116,6 @@ abbrev pub gets : Trees → ℕ → List ℕ → ℕ → List Step
 gets none a seen m = []
 gets (more t ts) a seen m = get t a seen m ++ gets ts (a + 1) (add_vars t seen) m
 
--- the code of a clause, with an environment or without
-abbrev pub clause_code : Bool → Tree → Trees → List Step
-clause_code b head goals =
-    frames b ++ (gets (arguments head) 1 [] (count_trees (arguments head) + 1) ++ body_code b goals (add_all_vars (arguments head) []))
+-- the code of a clause but for its environment
+abbrev pub clause_code : Tree → Trees → List Step
+clause_code head goals = gets (arguments head) 1 [] (count_trees (arguments head) + 1) ++ body_code goals (add_all_vars (arguments head) [])

@@ -55,11 +55,11 @@ fn add_clauses(alloc: Global, clauses: &[Clause], out: &mut Program) -> Result<(
 }
 
 /// The program with the query, in that form, behind it.
-pub fn asked_program(alloc: Global, program: &Program, query: &Query) -> Result<Program, NoMemory>
+pub fn asked_program(alloc: Global, program: &[Clause], query: &Query) -> Result<Program, NoMemory>
     ensures { IfOk result (λ p. p ≡ joined program.now (asked_query query.now)) }
 {
     let mut all = Program::new(alloc);
-    add_clauses(alloc, program.as_slice(), &mut all)?;
+    add_clauses(alloc, program, &mut all)?;
     all.push(asked(alloc, query)?)?;
     add_clauses(alloc, query.lifted(), &mut all)?;
     Ok(all)

@@ -1,20 +1,25 @@
 //! From a clause's instructions to those of code, which have numbers of its tables.
 
-ghost use Rattle.std.specs.Prelude.{◌≡◌, [], ◌∷◌, ◌++◌, IfOk, OnOk};
+ghost use Rattle.std.specs.Prelude.{◌≡◌, true, IfOk, OnOk};
+ghost use Rattle.std.specs.List.{list_all, AllZip};
 ghost use Rattle.ap_instr.specs.Code.{Compiled};
-ghost use Rattle.ap_instr.specs.Step.{step_of as said_by, steps_of as said};
-ghost use Rattle.ap_codegen.specs.Assembled.{Grows, Holds};
+ghost use Rattle.ap_instr.specs.Step.{step_of as said_by};
+ghost use Rattle.ap_codegen.specs.Assembled.{Grows, Holds, frame_of, frame_in, IsSaid};
 ghost use Rattle.ap_codegen.specs.Emitted.{step_of, steps_of};
+ghost use Rattle.ap_codegen.specs.CodeOf.{calls_apart};
 
 use crate::steps::Step;
 use crate::tables::Tables;
 use ap_instr::Instr;
 use ap_term::NoMemory;
+use std::alloc::Global;
 
 /// The instruction, with numbers for what the tables hold.
 fn numbered(tables: &mut Tables, step: Step) -> Result<Instr, NoMemory>
+    requires { calls_apart (step_of step) ≡ true }
     ensures grows { OnOk result (Grows tables.old tables.new) }
     ensures said { IfOk result (λ instr. (code : Compiled) → Holds tables.new code → said_by code instr ≡ step_of step) }
+    ensures frame { IfOk result (λ instr. frame_of instr ≡ frame_in step) }
 {
     match step {
         Step::GetVariable(v, a) => Ok(Instr::GetVariable(v, a)),
@@ -41,13 +46,14 @@ fn numbered(tables: &mut Tables, step: Step) -> Result<Instr, NoMemory>
 }
 
 /// The instructions of a clause.
-pub fn assemble(tables: &mut Tables, steps: &[Step], out: &mut Vec<Instr>) -> Result<(), NoMemory>
+pub fn assemble(alloc: Global, tables: &mut Tables, steps: &[Step]) -> Result<Vec<Instr>, NoMemory>
+    requires { list_all calls_apart (steps_of steps.now) ≡ true }
     ensures grows { OnOk result (Grows tables.old tables.new) }
-    ensures said { OnOk result ((code : Compiled) → Holds tables.new code → said code out.new.items ≡ said code out.old.items ++ steps_of steps.now) }
+    ensures said { IfOk result (λ out. (code : Compiled) → Holds tables.new code → AllZip (IsSaid code) steps.now out.items) }
 {
+    let mut out = Vec::new(alloc);
     for step in steps {
-        let instr = numbered(tables, *step)?;
-        out.push(instr)?;
+        out.push(numbered(tables, *step)?)?;
     }
-    Ok(())
+    Ok(out)
 }

@@ -1,14 +1,16 @@
-//! The whole code of a clause whose variables stand in its environment.
+//! The code of a clause whose variables stand in its environment.
 
-ghost use Rattle.std.specs.Prelude.{◌≡◌, ◌+◌, ◌==◌, ◌&&◌, not, [], ◌∷◌, ◌++◌, List, map, IfOk, OnOk};
+ghost use Rattle.std.specs.Prelude.{◌≡◌, ◌+◌, ◌==◌, ◌&&◌, not, [], ◌∷◌, ◌++◌, map, IfOk, OnOk};
 ghost use Rattle.ap_term.specs.Tree.{count_trees};
 ghost use Rattle.ap_term.specs.TermView.{tree_of, trees_of};
 ghost use Rattle.ap_term.specs.Vars.{add_vars, add_all_vars};
 ghost use Rattle.ap_laws.specs.Plain.{plain_goals, append_trees};
-ghost use Rattle.ap_instr.specs.Step.{Step as Said, execute};
-ghost use Rattle.ap_instr.specs.Runs.{arguments, Reads};
+ghost use Rattle.ap_instr.specs.Step.{execute};
+ghost use Rattle.ap_instr.specs.Runs.{arguments};
+ghost use Rattle.ap_codegen.specs.CodeOf.{IsCodeOf};
+ghost use Rattle.ap_codegen.specs.Paces.{Paces, inside};
 ghost use Rattle.ap_codegen.specs.Emitted.{steps_of};
-ghost use Rattle.ap_codegen.specs.Permanent.{name, is_builtin, goal_code, asking, frames, body_code, gets};
+ghost use Rattle.ap_codegen.specs.Permanent.{name, is_builtin, goal_code, asking, body_code, gets};
 
 use crate::builtin_goals::builtin_of;
 use crate::permanent::{above, gets, goal};
@@ -39,26 +41,6 @@ fn goals_of<'a>(alloc: Global, body: &'a Body) -> Result<Vec<&'a Term>, NoMemory
     Ok(goals)
 }
 
-/// The environment is made, where there is one.
-fn enter(code: &mut Vec<Step>, framed: bool, vars: u8) -> Result<(), NoMemory>
-    ensures { OnOk result (steps_of code.new.items ≡ steps_of code.old.items ++ frames framed) }
-{
-    if framed {
-        add(code, Step::Allocate(vars))?;
-    }
-    Ok(())
-}
-
-/// The environment is given back, where there is one.
-fn leave(code: &mut Vec<Step>, framed: bool) -> Result<(), NoMemory>
-    ensures { OnOk result (steps_of code.new.items ≡ steps_of code.old.items ++ frames framed) }
-{
-    if framed {
-        add(code, Step::Deallocate)?;
-    }
-    Ok(())
-}
-
 /// A goal with others behind it, or a built-in one.
 fn ask(code: &mut Vec<Step>, t: &Term, seen: &mut Vec<u64>) -> Result<(), NoMemory>
     ensures code { OnOk result (steps_of code.new.items ≡ steps_of code.old.items ++ (goal_code (tree_of t.now) seen.old.items ++ asking (tree_of t.now) ∷ [])) }
@@ -72,16 +54,10 @@ fn ask(code: &mut Vec<Step>, t: &Term, seen: &mut Vec<u64>) -> Result<(), NoMemo
 }
 
 /// The last goal, a call.
-fn ask_last(
-    code: &mut Vec<Step>,
-    t: &Term,
-    seen: &mut Vec<u64>,
-    framed: bool,
-) -> Result<(), NoMemory>
-    ensures { OnOk result (steps_of code.new.items ≡ steps_of code.old.items ++ (goal_code (tree_of t.now) seen.old.items ++ (frames framed ++ execute (name (tree_of t.now)) (count_trees (arguments (tree_of t.now))) ∷ []))) }
+fn ask_last(code: &mut Vec<Step>, t: &Term, seen: &mut Vec<u64>) -> Result<(), NoMemory>
+    ensures { OnOk result (steps_of code.new.items ≡ steps_of code.old.items ++ (goal_code (tree_of t.now) seen.old.items ++ execute (name (tree_of t.now)) (count_trees (arguments (tree_of t.now))) ∷ [])) }
 {
     let (p, n) = goal(code, t, seen)?;
-    leave(code, framed)?;
     add(code, Step::Execute(p, n))
 }
 
@@ -92,23 +68,17 @@ fn is_last_call(t: &Term, left: usize) -> bool
 }
 
 /// The goals of a body, one after another.
-fn body(
-    code: &mut Vec<Step>,
-    goals: &[&Term],
-    seen: &mut Vec<u64>,
-    framed: bool,
-) -> Result<(), NoMemory>
-    ensures { OnOk result (steps_of code.new.items ≡ steps_of code.old.items ++ body_code framed (trees_of (map (λ t. t.now) goals.now)) seen.old.items) }
+fn body(code: &mut Vec<Step>, goals: &[&Term], seen: &mut Vec<u64>) -> Result<(), NoMemory>
+    ensures { OnOk result (steps_of code.new.items ≡ steps_of code.old.items ++ body_code (trees_of (map (λ t. t.now) goals.now)) seen.old.items) }
 {
     let mut left = goals.len();
     for t in goals {
         left -= 1;
         if is_last_call(t, left) {
-            return ask_last(code, t, seen, framed);
+            return ask_last(code, t, seen);
         }
         ask(code, t, seen)?;
     }
-    leave(code, framed)?;
     add(code, Step::Proceed)
 }
 
@@ -125,16 +95,15 @@ fn head(code: &mut Vec<Step>, t: &Term, seen: &mut Vec<u64>) -> Result<(), NoMem
     }
 }
 
-/// The code of a clause, whatever stands behind it, with an environment or without.
-pub fn permanent_code(alloc: Global, clause: &Clause, framed: bool) -> Result<Vec<Step>, NoMemory>
-    ensures { IfOk result (λ code. (rest : List Said) → Reads (steps_of code.items ++ rest) clause.now) }
+/// The code of a clause but for its environment.
+pub fn permanent_code(alloc: Global, clause: &Clause) -> Result<Vec<Step>, NoMemory>
+    ensures code { IfOk result (λ code. IsCodeOf clause.now (steps_of code.items)) }
+    ensures paced { IfOk result (λ code. Paces (steps_of code.items) (inside clause.now.vars (count_trees (arguments clause.now.head)))) }
 {
     let goals = goals_of(alloc, clause.body())?;
-    let vars = clause.vars() as u8;
     let mut code = Vec::new(alloc);
     let mut seen = Vec::new(alloc);
-    enter(&mut code, framed, vars)?;
     head(&mut code, clause.head(), &mut seen)?;
-    body(&mut code, goals.as_slice(), &mut seen, framed)?;
+    body(&mut code, goals.as_slice(), &mut seen)?;
     Ok(code)
 }

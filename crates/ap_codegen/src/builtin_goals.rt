@@ -1,11 +1,11 @@
 //! Which goals an instruction runs.
 
-ghost use Rattle.std.specs.Prelude.{◌≡◌, true, false, MatchOption};
+ghost use Rattle.std.specs.Prelude.{◌≡◌, true, false, not, MatchOption};
 ghost use Rattle.ap_term.specs.Tree.{count_trees, atom};
 ghost use Rattle.ap_term.specs.TermView.{tree_of};
 ghost use Rattle.ap_instr.specs.Builtin.{builtin_name, builtin_arity};
 ghost use Rattle.ap_instr.specs.Runs.{arguments};
-ghost use Rattle.ap_codegen.specs.Permanent.{name, is_builtin};
+ghost use Rattle.ap_codegen.specs.Permanent.{name, is_builtin, is_builtin_key};
 
 use ap_instr::Builtin;
 use ap_term::{Atom, Relation, Term, fixed};
@@ -40,4 +40,13 @@ pub fn builtin_of(goal: &Term) -> Option<Builtin>
             }
         }
     }
+}
+
+/// Whether goals of this name and arity are no built-in ones.
+pub fn is_apart(name: Atom, arity: u8) -> bool
+    ensures { result ≡ not (is_builtin_key (name, arity)) }
+{
+    let is_control = name.number() == fixed::TRUE || name.number() == fixed::FAIL;
+    let is_relation = Relation::named(name).is_some();
+    !(is_control && arity == 0 || is_relation && arity == 2)
 }

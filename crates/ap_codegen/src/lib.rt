@@ -1,14 +1,15 @@
 //! From clauses to instructions.
 //!
-//! Stands on `ap_instr` for instructions and what they mean, on `ap_term` for clauses, on `indexmap` for the tables. The one
-//! contract used above: the code that `compile` makes stands for the program beside the query. A test of code whose registers
-//! are chosen more freely stands in `specs/Follow`, with its law.
+//! Stands on `ap_certify` for programs, on `ap_instr` for instructions and what they mean, on `ap_codecheck` for the rules
+//! of code, on `ap_term` for clauses, on `indexmap` for the tables. The one contract used above: the code that `compile` makes stands for the program
+//! beside the query, and is sound. A test of code whose registers are chosen more freely stands in `specs/Follow`, with its law.
 #![tactic(auto)]
 
 mod asking;
 mod assembly;
 mod bodies;
 mod builtin_goals;
+mod index;
 pub mod laws;
 mod layout;
 mod permanent;

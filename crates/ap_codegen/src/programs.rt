@@ -1,65 +1,69 @@
 //! Code for a whole program beside a query.
 
-ghost use Rattle.std.specs.Prelude.{◌≡◌, ℕ, ◌+◌, [], ◌∷◌, ◌++◌, List, map, length, slice_get, Some, None, IfOk, OnOk};
+ghost use Rattle.std.specs.Prelude.{◌≡◌, ◌+◌, false, map, length, slice_get, Some, None, IfOk, OnOk};
 ghost use Rattle.ap_term.specs.declared.fixed.TheConstants.{QUERY};
-ghost use Rattle.ap_term.specs.TermView.{tree_of};
+ghost use Rattle.ap_term.specs.Goals.{Program};
 ghost use Rattle.ap_instr.specs.Code.{Compiled};
-ghost use Rattle.ap_instr.specs.Step.{Step as Said, steps_of as said};
-ghost use Rattle.ap_instr.specs.Runs.{Reads};
 ghost use Rattle.ap_instr.specs.StandsFor.{StandsForQuery};
-ghost use Rattle.ap_codegen.specs.Assembled.{Grows, Holds, AreCoded, heads, clauses_for, IsMade, StandsBeside};
+ghost use Rattle.ap_codecheck.specs.Rules.{IsSound};
+ghost use Rattle.ap_codegen.specs.Assembled.{Grows, Holds, AreInstructionsOf, AreCoded, IsMade, StandsBeside};
+ghost use Rattle.ap_codegen.specs.Index.{clauses_at, Indexes};
+ghost use Rattle.ap_codegen.specs.Permanent.{is_builtin_key};
 
 use crate::asking::asked_program;
 use crate::assembly::assemble;
+use crate::builtin_goals::is_apart;
+use crate::index::{Index, index_of};
 use crate::layout::lay;
 use crate::permanent::{above, count};
 use crate::tables::Tables;
 use crate::temporary::clause_steps;
+use ap_certify::Certified;
 use ap_instr::{Code, Instr, Predicate};
-use ap_term::{Atom, Clause, NoMemory, Program, Query, Term, fixed};
+use ap_term::{Atom, Clause, NoMemory, Query, Term, fixed};
 use std::alloc::Global;
 
-/// Whether a head has this name and arity.
-fn is_head(t: &Term, name: u32, arity: u8) -> bool
-    ensures { result ≡ heads (name, arity) (tree_of t.now) }
-{
-    match t {
-        Term::Var(_) | Term::Int(_) => false,
-        Term::Atom(a) => a.number() == name && arity == 0,
-        Term::Node(a, args) => a.number() == name && args.len() == usize::from(arity),
-    }
-}
-
-/// The code of a clause, whatever stands behind it.
+/// The code of a clause.
 fn clause_code(alloc: Global, tables: &mut Tables, clause: &Clause) -> Result<Vec<Instr>, NoMemory>
     ensures grows { OnOk result (Grows tables.old tables.new) }
-    ensures code { IfOk result (λ is. (code : Compiled) (rest : List Said) → Holds tables.new code → Reads (said code is.items ++ rest) clause.now) }
+    ensures code { IfOk result (λ is. (code : Compiled) → Holds tables.new code → AreInstructionsOf code clause.now is.items) }
 {
     let steps = clause_steps(alloc, clause)?;
-    let mut out = Vec::new(alloc);
-    assemble(tables, steps.as_slice(), &mut out)?;
+    let out = assemble(alloc, tables, steps.as_slice())?;
     Ok(out)
 }
 
-/// The codes of a predicate's clauses, in order.
+/// The codes of clauses, in order.
 fn clause_codes(
     alloc: Global,
     tables: &mut Tables,
-    clauses: &[Clause],
+    clauses: &[&Clause],
+) -> Result<Vec<Vec<Instr>>, NoMemory>
+    ensures grows { OnOk result (Grows tables.old tables.new) }
+    ensures codes { IfOk result (λ codes. (code : Compiled) → Holds tables.new code → AreCoded code (map (λ v. v.items) codes.items) (map (λ c. c.now) clauses.now)) }
+{
+    let mut codes = Vec::new(alloc);
+    for clause in clauses {
+        codes.push(clause_code(alloc, tables, clause)?)?;
+    }
+    Ok(codes)
+}
+
+/// The codes of a predicate's clauses.
+fn predicate_codes(
+    alloc: Global,
+    tables: &mut Tables,
+    index: &Index,
     name: u32,
     arity: u8,
 ) -> Result<Vec<Vec<Instr>>, NoMemory>
     ensures grows { OnOk result (Grows tables.old tables.new) }
-    ensures codes { IfOk result (λ codes. (code : Compiled) → Holds tables.new code → AreCoded code (map (λ v. v.items) codes.items) (clauses_for (name, arity) clauses.now)) }
+    ensures codes { IfOk result (λ codes. (code : Compiled) → Holds tables.new code → AreCoded code (map (λ v. v.items) codes.items) (clauses_at index.now (name, arity))) }
 {
-    let mut codes = Vec::new(alloc);
-    for clause in clauses {
-        if is_head(clause.head(), name, arity) {
-            let code = clause_code(alloc, tables, clause)?;
-            codes.push(code)?;
-        }
+    match index.get(&(name, arity)) {
+        Some(own) => clause_codes(alloc, tables, own.as_slice()),
+        None => Ok(Vec::new(alloc)),
     }
-    Ok(codes)
 }
 
 /// Instructions and predicates so far.
@@ -73,18 +77,19 @@ struct Made {
 fn add_predicate(
     alloc: Global,
     tables: &mut Tables,
-    clauses: &[Clause],
+    index: &Index,
     name: u32,
     arity: u8,
     is_listed: bool,
     made: &mut Made,
 ) -> Result<(), NoMemory>
+    requires { is_builtin_key (name, arity) ≡ false }
     ensures grows { OnOk result (Grows tables.old tables.new) }
     ensures count { OnOk result (length made.new.predicates.items ≡ length made.old.predicates.items + 1) }
-    ensures made { OnOk result (slice_get tables.old.predicates (length made.old.predicates.items) ≡ Some (name, arity) → IsMade tables.old made.old.instructions.items made.old.predicates.items clauses.now → IsMade tables.new made.new.instructions.items made.new.predicates.items clauses.now) }
+    ensures made { OnOk result ((p : Program) → Indexes index.now p → slice_get tables.old.predicates (length made.old.predicates.items) ≡ Some (name, arity) → IsMade tables.old made.old.instructions.items made.old.predicates.items p → IsMade tables.new made.new.instructions.items made.new.predicates.items p) }
 {
     let start = above(0, made.instructions.len())?;
-    let codes = clause_codes(alloc, tables, clauses, name, arity)?;
+    let codes = predicate_codes(alloc, tables, index, name, arity)?;
     lay(codes.as_slice(), &mut made.instructions)?;
     let end = above(0, made.instructions.len())?;
     made.predicates.push(Predicate {
@@ -97,17 +102,23 @@ fn add_predicate(
     Ok(())
 }
 
+/// A number for the predicate of this name and arity, unless it is that of built-in goals, which no clause answers.
+fn add_head(tables: &mut Tables, name: Atom, arity: u8) -> Result<(), NoMemory> {
+    if is_apart(name, arity) {
+        tables.predicate(name, arity)?;
+    }
+    Ok(())
+}
+
 /// Numbers for the predicates of clauses, in order.
 fn add_heads(tables: &mut Tables, clauses: &[Clause]) -> Result<(), NoMemory> {
     for clause in clauses {
         match clause.head() {
             Term::Var(_) | Term::Int(_) => {}
-            Term::Atom(a) => {
-                tables.predicate(*a, 0)?;
-            }
+            Term::Atom(a) => add_head(tables, *a, 0)?,
             Term::Node(a, args) => {
                 let arity = count(args)?;
-                tables.predicate(*a, arity)?;
+                add_head(tables, *a, arity)?;
             }
         }
     }
@@ -118,12 +129,12 @@ fn add_heads(tables: &mut Tables, clauses: &[Clause]) -> Result<(), NoMemory> {
 fn predicates(
     alloc: Global,
     tables: &mut Tables,
-    clauses: &[Clause],
+    index: &Index,
     listed: usize,
 ) -> Result<Made, NoMemory>
     ensures grows { OnOk result (Grows tables.old tables.new) }
     ensures all { IfOk result (λ made. slice_get tables.new.predicates (length made.predicates.items) ≡ None) }
-    ensures made { IfOk result (λ made. IsMade tables.new made.instructions.items made.predicates.items clauses.now) }
+    ensures made { IfOk result (λ made. (p : Program) → Indexes index.now p → IsMade tables.new made.instructions.items made.predicates.items p) }
 {
     let mut made = Made {
         instructions: Vec::new(alloc),
@@ -134,7 +145,7 @@ fn predicates(
             return Ok(made);
         };
         let is_listed = number < listed;
-        add_predicate(alloc, tables, clauses, name, arity, is_listed, &mut made)?;
+        add_predicate(alloc, tables, index, name, arity, is_listed, &mut made)?;
     }
     Err(NoMemory)
 }
@@ -153,10 +164,11 @@ fn compile_clauses(
     let listed = tables.predicate_count();
     add_heads(&mut tables, clauses)?;
     let query = tables.predicate(Atom::at(fixed::QUERY), arity)?;
+    let index = index_of(alloc, clauses)?;
     let Made {
         instructions,
         predicates,
-    } = predicates(alloc, &mut tables, clauses, listed)?;
+    } = predicates(alloc, &mut tables, &index, listed)?;
     let integers = Vec::from_slice(alloc, tables.integers())?;
     Ok(Code::new(instructions, integers, predicates, Some(query)))
 }
@@ -166,11 +178,13 @@ fn compile_clauses(
 /// Warren's (An Abstract Prolog Instruction Set, 1983); a head structure in which a variable stands again is built and
 /// unified, so that the occurs check is never missed. A group is compiled as its goals one after another. A structure of more
 /// than 255 arguments, and more than 4,294,967,295 places or registers, are want of memory.
-pub fn compile(alloc: Global, program: &Program, query: &Query) -> Result<Code, NoMemory>
-    ensures { IfOk result (λ code. StandsForQuery code program.now query.now) }
+pub fn compile(alloc: Global, program: &Certified, query: &Query) -> Result<Code, NoMemory>
+    ensures stands { IfOk result (λ code. StandsForQuery code program.now.program query.now) }
+    ensures sound { IfOk result (λ code. IsSound code) }
 {
-    let all = asked_program(alloc, program, query)?;
+    let own = program.clauses();
+    let all = asked_program(alloc, own, query)?;
     let arity = query.question().vars() as u8;
-    let code = compile_clauses(alloc, all.as_slice(), program.as_slice(), arity)?;
+    let code = compile_clauses(alloc, all.as_slice(), own, arity)?;
     Ok(code)
 }

@@ -1,12 +1,15 @@
 //! A clause that calls nothing but its last goal has its variables in X registers and no environment.
 
-ghost use Rattle.std.specs.Prelude.{◌≡◌, [], ◌∷◌, ◌++◌, List, map, IfOk};
+ghost use Rattle.std.specs.Prelude.{◌≡◌, [], ◌∷◌, ◌++◌, map, IfOk, OnOk};
 ghost use Rattle.ap_instr.specs.declared.instruction.Slot.{Slot};
+ghost use Rattle.ap_term.specs.Tree.{count_trees};
 ghost use Rattle.ap_instr.specs.Builtin.{builtin_arity};
-ghost use Rattle.ap_instr.specs.Step.{Step as Said};
-ghost use Rattle.ap_instr.specs.Runs.{Reads};
+ghost use Rattle.ap_instr.specs.Runs.{arguments};
 ghost use Rattle.ap_codegen.specs.Emitted.{step_of, steps_of};
 ghost use Rattle.ap_codegen.specs.Temporary.{moved_slot, moved, fits_slot, fits, ends, all_fit};
+ghost use Rattle.ap_codegen.specs.CodeOf.{IsCodeOf};
+ghost use Rattle.ap_codegen.specs.Framed.{leaving};
+ghost use Rattle.ap_codegen.specs.Paces.{ArePaced};
 
 use crate::bodies::permanent_code;
 use crate::permanent::above;
@@ -139,6 +142,29 @@ fn moved(step: Step, k: u32) -> Result<Step, NoMemory>
     }
 }
 
+/// A step, before which the environment is given back where nothing behind it runs.
+fn add_leaving(out: &mut Vec<Step>, step: &Step) -> Result<(), NoMemory>
+    ensures { OnOk result (out.new.items ≡ out.old.items ++ leaving (step.now ∷ [])) }
+{
+    if ends(*step) {
+        out.push(Step::Deallocate)?;
+    }
+    out.push(*step)?;
+    Ok(())
+}
+
+/// The steps inside an environment for so many variables.
+fn framed(alloc: Global, steps: &[Step], vars: u8) -> Result<Vec<Step>, NoMemory>
+    ensures { IfOk result (λ out. out.items ≡ Step.Allocate vars ∷ leaving steps.now) }
+{
+    let mut out = Vec::new(alloc);
+    out.push(Step::Allocate(vars))?;
+    for step in steps {
+        add_leaving(&mut out, step)?;
+    }
+    Ok(out)
+}
+
 fn all_moved(alloc: Global, steps: &[Step], k: u32) -> Result<Vec<Step>, NoMemory>
     ensures { IfOk result (λ out. steps_of out.items ≡ map (moved k) (steps_of steps.now)) }
 {
@@ -157,17 +183,18 @@ fn greatest_of(steps: &[Step]) -> u32 {
     k
 }
 
-/// The code of a clause, whatever stands behind it: with no environment where it calls nothing but its last goal.
+/// The code of a clause: with no environment where it calls nothing but its last goal.
 pub fn clause_steps(alloc: Global, clause: &Clause) -> Result<Vec<Step>, NoMemory>
-    ensures { IfOk result (λ code. (rest : List Said) → Reads (steps_of code.items ++ rest) clause.now) }
+    ensures code { IfOk result (λ code. IsCodeOf clause.now (steps_of code.items)) }
+    ensures paced { IfOk result (λ code. ArePaced (count_trees (arguments clause.now.head)) code.items) }
 {
-    let steps = permanent_code(alloc, clause, false)?;
+    let steps = permanent_code(alloc, clause)?;
     let own = steps.as_slice();
     let k = greatest_of(own);
     if all_fit(own, k) {
         let moved = all_moved(alloc, own, k)?;
         return Ok(moved);
     }
-    let framed = permanent_code(alloc, clause, true)?;
+    let framed = framed(alloc, own, clause.vars() as u8)?;
     Ok(framed)
 }

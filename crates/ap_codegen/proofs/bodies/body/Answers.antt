@@ -6,5 +6,5 @@ use Rattle.ap_codegen.proofs.bodies.body.Goals as goal
 
 pub loop-t-preserved : goal.loop-t-preserved
 loop-t-preserved c =
-    goal_turn (λ (t : Bor Term). t.now) c.args.goals.now c.loop-t.t-index c.t-item.result c.loop-t.left c.args.framed c.is_last_call.result c.loop-t.seen.items c.ask.new.seen.items
+    goal_turn (λ (t : Bor Term). t.now) c.args.goals.now c.loop-t.t-index c.t-item.result c.loop-t.left c.is_last_call.result c.loop-t.seen.items c.ask.new.seen.items
     (steps_of c.loop-t.code.items) (steps_of c.ask.new.code.items) _ (omega arith) c.t-item.is c.loop-t.invariant.0 c.is_last_call.ensures c.if-is_last_call.false c.in_ok-ask.ensures.code c.in_ok-ask.ensures.seen c.loop-t.invariant.1

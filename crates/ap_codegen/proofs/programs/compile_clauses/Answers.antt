@@ -12,6 +12,6 @@ returns c =
     let predicates = ap (λ (r : Compiled). r.predicates) c.new.ensures in
     let own_instructions = ap (λ (v : Vec Instr Global). v.items) c.in_ok-instructions.instructions-is in
     let own_predicates = ap (λ (v : Vec Predicate Global). v.items) c.in_ok-instructions.predicates-is in
-    made_all c.predicates.new.tables c.in_ok-instructions.field-0.instructions.items c.in_ok-instructions.field-0.predicates.items c.args.clauses.now c.new.result c.in_ok-query.query (QUERY, c.args.arity) c.in_ok-instructions.ensures.made
+    made_all c.predicates.new.tables c.in_ok-instructions.field-0.instructions.items c.in_ok-instructions.field-0.predicates.items c.args.clauses.now c.new.result c.in_ok-query.query (QUERY, c.args.arity) (c.in_ok-instructions.ensures.made c.args.clauses.now c.in_ok-index.ensures)
     c.in_ok-instructions.ensures.all (c.in_ok-instructions.ensures.grows.predicates c.in_ok-query.query (QUERY, c.args.arity) (c.in_ok-query.ensures.number ∙ ap (λ a. Some (a, c.args.arity)) c.at.ensures))
     (cc) (ap (λ r. r.integers) c.new.ensures ∙ c.in_ok-integers.ensures.items ∙ c.integers.ensures) (cc) (ap (λ r. r.query) c.new.ensures)

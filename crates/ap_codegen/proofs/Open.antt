@@ -1,0 +1,210 @@
+-- Behind each goal the code of a clause tests nothing, and it calls no predicate of built-in goals.
+use Rattle.std.proofs.Common.{◌≡◌, ℕ, ◌+◌, ◌==◌, Bool, true, false, not, ◌&&◌, ◌||◌, is_some, if◌then◌else◌, List, [], ◌∷◌, ◌++◌, refl, ap, sym, ◌∙◌, subst, arith, append_assoc}
+use Rattle.std.specs.List.{list_all}
+use Rattle.std.proofs.lemmas.Bool.{false≢true}
+use Rattle.std.proofs.lemmas.Bool.Decides.{Decides-eqb}
+use Rattle.std.proofs.lemmas.List.Folds.{list_all-append}
+use Rattle.ap_term.specs.declared.fixed.TheConstants.{TRUE, FAIL}
+use Rattle.ap_term.specs.Tree.{Tree, Trees, var, int, atom, node, none, more, count_trees}
+use Rattle.ap_term.specs.Vars.{has, add_vars, add_all_vars}
+use Rattle.ap_term.specs.Substitution.{instance_all}
+use Rattle.ap_term.specs.Builtins.{relation_named}
+use Rattle.ap_term.specs.WellFormed.{callable, all_callable}
+use Rattle.ap_instr.specs.declared.instruction.Slot.TheVariants.{X, Y}
+use Rattle.ap_instr.specs.Step.{Step, get_variable, get_value, get_structure, put_variable, put_structure, call, execute, builtin, proceed}
+use Rattle.ap_instr.specs.Runs.{arguments, IsOpen, AsksOpenly}
+use Rattle.ap_codegen.specs.Permanent.{name, is_builtin, is_builtin_key, inits, inits_all, fills, build, nested, puts, goal_code, is_last_call, asking, body_code, fresh, takes, get, gets, clause_code}
+use Rattle.ap_codegen.specs.CodeOf.{calls_apart}
+use Rattle.ap_codegen.proofs.Registers.{both_true}
+use Rattle.ap_codegen.proofs.PermanentReads.{body-each}
+
+-- whether a step asks for no goal, and the next one runs
+abbrev is_quiet : Step → Bool
+is_quiet (call p n) = false
+is_quiet (execute p n) = false
+is_quiet (builtin p n) = false
+is_quiet proceed = false
+is_quiet _ = true
+
+abbrev Quiet : List Step → Type 0
+Quiet is = list_all is_quiet is ≡ true
+
+quiet_both : (us bs : List Step) → Quiet us → Quiet bs → Quiet (us ++ bs)
+quiet_both us bs f g = list_all-append is_quiet us bs ∙ ap (λ a. a && list_all is_quiet bs) f ∙ g
+
+quiet_openly : (us is : List Step) → Quiet us → AsksOpenly is → AsksOpenly (us ++ is)
+quiet_openly [] is q o = o
+quiet_openly (call p n ∷ us) is q o = absurd (false≢true q)
+quiet_openly (execute p n ∷ us) is q o = absurd (false≢true q)
+quiet_openly (builtin p n ∷ us) is q o = absurd (false≢true q)
+quiet_openly (proceed ∷ us) is q o = absurd (false≢true q)
+quiet_openly (i ∷ us) is q o = quiet_openly us is q o
+
+quiet_apart : (us bs : List Step) → Quiet us → list_all calls_apart bs ≡ true → list_all calls_apart (us ++ bs) ≡ true
+quiet_apart [] bs q o = o
+quiet_apart (call p n ∷ us) bs q o = absurd (false≢true q)
+quiet_apart (execute p n ∷ us) bs q o = absurd (false≢true q)
+quiet_apart (builtin p n ∷ us) bs q o = absurd (false≢true q)
+quiet_apart (proceed ∷ us) bs q o = absurd (false≢true q)
+quiet_apart (i ∷ us) bs q o = quiet_apart us bs q o
+
+-- ---- what is quiet
+
+mutual
+  quiet_inits : (t : Tree) (seen : List ℕ) (m : ℕ) → Quiet (inits t seen m)
+  quiet_inits (var v) seen m = go (has seen v)
+    where
+      go : (b : Bool) → Quiet (if b then [] else put_variable (Y v) m ∷ [])
+      go true = refl
+      go false = refl
+  quiet_inits (int z) seen m = refl
+  quiet_inits (atom a) seen m = refl
+  quiet_inits (node a ts) seen m = quiet_inits_all ts seen m
+
+  quiet_inits_all : (ts : Trees) (seen : List ℕ) (m : ℕ) → Quiet (inits_all ts seen m)
+  quiet_inits_all none seen m = refl
+  quiet_inits_all (more t ts) seen m = quiet_both (inits t seen m) (inits_all ts (add_vars t seen) m) (quiet_inits t seen m) (quiet_inits_all ts (add_vars t seen) m)
+
+quiet_fills : (ts : Trees) (m : ℕ) → Quiet (fills ts m)
+quiet_fills none m = refl
+quiet_fills (more (var v) ts) m = quiet_fills ts (m + 1)
+quiet_fills (more (int z) ts) m = quiet_fills ts (m + 1)
+quiet_fills (more (atom a) ts) m = quiet_fills ts (m + 1)
+quiet_fills (more (node a us) ts) m = quiet_fills ts (m + 1)
+
+mutual
+  quiet_build : (t : Tree) (a m : ℕ) → Quiet (build t a m)
+  quiet_build (var v) a m = refl
+  quiet_build (int z) a m = refl
+  quiet_build (atom c) a m = refl
+  quiet_build (node f ts) a m = quiet_both (nested ts m) (put_structure f (count_trees ts) a ∷ fills ts m) (quiet_nested ts m) (quiet_fills ts m)
+
+  quiet_nested : (ts : Trees) (m : ℕ) → Quiet (nested ts m)
+  quiet_nested none m = refl
+  quiet_nested (more (var v) ts) m = quiet_nested ts (m + 1)
+  quiet_nested (more (int z) ts) m = quiet_nested ts (m + 1)
+  quiet_nested (more (atom a) ts) m = quiet_nested ts (m + 1)
+  quiet_nested (more (node a us) ts) m = quiet_both (build (node a us) m (m + 1 + count_trees ts)) (nested ts (m + 1)) (quiet_build (node a us) m (m + 1 + count_trees ts)) (quiet_nested ts (m + 1))
+
+quiet_puts : (ts : Trees) (a m : ℕ) → Quiet (puts ts a m)
+quiet_puts none a m = refl
+quiet_puts (more t ts) a m = quiet_both (build t a m) (puts ts (a + 1) m) (quiet_build t a m) (quiet_puts ts (a + 1) m)
+
+quiet_goal : (g : Tree) (seen : List ℕ) → Quiet (goal_code g seen)
+quiet_goal g seen =
+    let m : ℕ = count_trees (arguments g) + 1 in quiet_both (inits g seen m) (puts (arguments g) 1 m) (quiet_inits g seen m) (quiet_puts (arguments g) 1 m)
+
+quiet_takes : (ts : Trees) → Quiet (takes ts)
+quiet_takes none = refl
+quiet_takes (more (var v) ts) = quiet_takes ts
+quiet_takes (more (int z) ts) = quiet_takes ts
+quiet_takes (more (atom a) ts) = quiet_takes ts
+quiet_takes (more (node a us) ts) = quiet_takes ts
+
+quiet_get : (t : Tree) (a : ℕ) (seen : List ℕ) (m : ℕ) → Quiet (get t a seen m)
+quiet_get (var v) a seen m = go (has seen v)
+  where
+    go : (b : Bool) → Quiet (if b then get_value (Y v) a ∷ [] else get_variable (Y v) a ∷ [])
+    go true = refl
+    go false = refl
+quiet_get (int z) a seen m = refl
+quiet_get (atom c) a seen m = refl
+quiet_get (node f ts) a seen m = go (fresh ts seen)
+  where
+    go : (b : Bool) → Quiet (if b then get_structure f (count_trees ts) a ∷ takes ts else inits_all ts seen m ++ (build (node f ts) m (m + 1) ++ get_value (X m) a ∷ []))
+    go true = quiet_takes ts
+    go false =
+        quiet_both (inits_all ts seen m) (build (node f ts) m (m + 1) ++ get_value (X m) a ∷ []) (quiet_inits_all ts seen m)
+        (quiet_both (build (node f ts) m (m + 1)) (get_value (X m) a ∷ []) (quiet_build (node f ts) m (m + 1)) refl)
+
+quiet_gets : (ts : Trees) (a : ℕ) (seen : List ℕ) (m : ℕ) → Quiet (gets ts a seen m)
+quiet_gets none a seen m = refl
+quiet_gets (more t ts) a seen m = quiet_both (get t a seen m) (gets ts (a + 1) (add_vars t seen) m) (quiet_get t a seen m) (quiet_gets ts (a + 1) (add_vars t seen) m)
+
+-- ---- goals
+
+-- any values of the variables are some
+body_is_open : (gs : Trees) (seen : List ℕ) (rest : List Step) → all_callable gs ≡ true → IsOpen (body_code gs seen ++ rest)
+body_is_open gs seen rest c x y = (instance_all y gs, body-each y gs seen rest x y c (λ w o. refl))
+
+behind : (b : Bool) (p n : ℕ) (is : List Step) → IsOpen is → AsksOpenly is → AsksOpenly ((if b then builtin p n else call p n) ∷ is)
+behind true p n is o a = (o, a)
+behind false p n is o a = (o, a)
+
+body_asks_openly : (gs : Trees) (seen : List ℕ) (rest : List Step) → all_callable gs ≡ true → AsksOpenly (body_code gs seen ++ rest)
+body_asks_openly none seen rest c = tt
+body_asks_openly (more g gs) seen rest c = let d = (both_true (callable g) (all_callable gs) c).1 in go d (body_asks_openly gs (add_vars g seen) rest d) (is_last_call g gs)
+  where
+    go : all_callable gs ≡ true → AsksOpenly (body_code gs (add_vars g seen) ++ rest) → (l : Bool) → AsksOpenly ((if l then goal_code g seen ++ execute (name g) (count_trees (arguments g)) ∷ [] else goal_code g seen ++ (asking g ∷ body_code gs (add_vars g seen))) ++ rest)
+    go d o true = subst AsksOpenly (sym (append_assoc (goal_code g seen) (execute (name g) (count_trees (arguments g)) ∷ []) rest)) (quiet_openly (goal_code g seen) (execute (name g) (count_trees (arguments g)) ∷ rest) (quiet_goal g seen) tt)
+    go d o false =
+        let is : List Step = body_code gs (add_vars g seen) in
+        subst AsksOpenly (sym (append_assoc (goal_code g seen) (asking g ∷ is) rest))
+        (quiet_openly (goal_code g seen) (asking g ∷ (is ++ rest)) (quiet_goal g seen)
+        (behind (is_builtin g) (name g) (count_trees (arguments g)) (is ++ rest) (body_is_open gs (add_vars g seen) rest d) o))
+
+pub asks_openly : (head : Tree) (goals : Trees) (rest : List Step) → all_callable goals ≡ true → AsksOpenly (clause_code head goals ++ rest)
+asks_openly head goals rest c =
+    let us : List Step = gets (arguments head) 1 [] (count_trees (arguments head) + 1) in
+    let bs : List Step = body_code goals (add_all_vars (arguments head) []) in
+    subst AsksOpenly (sym (append_assoc us bs rest)) (quiet_openly us (bs ++ rest) (quiet_gets (arguments head) 1 [] (count_trees (arguments head) + 1)) (body_asks_openly goals (add_all_vars (arguments head) []) rest c))
+
+-- ---- what is called
+
+not_zero : (n : ℕ) → (n + 1 == 0) ≡ false
+not_zero n = go (n + 1 == 0) refl
+  where
+    go : (b : Bool) → (n + 1 == 0) ≡ b → b ≡ false
+    go true e = absurd (let k : n + 1 ≡ 0 = (Decides-eqb (n + 1) 0).0 e in omega arith)
+    go false e = refl
+
+key_apart : (g : Tree) → callable g ≡ true → is_builtin g ≡ false → is_builtin_key (name g, count_trees (arguments g)) ≡ false
+key_apart (var x) c e = absurd (false≢true c)
+key_apart (int z) c e = absurd (false≢true c)
+key_apart (atom a) c e = both ((a == TRUE) || (a == FAIL)) (is_some (relation_named a)) e
+  where
+    both : (b d : Bool) → b ≡ false → ((b && true) || (d && false)) ≡ false
+    both true d e = e
+    both false true e = refl
+    both false false e = refl
+key_apart (node a none) c e = absurd (false≢true c)
+key_apart (node a (more t ts)) c e =
+    let some : Bool = is_some (relation_named a) && (count_trees (more t ts) == 2) in
+    ap (λ z. (((a == TRUE) || (a == FAIL)) && z) || some) (not_zero (count_trees ts)) ∙ go ((a == TRUE) || (a == FAIL)) (is_some (relation_named a)) (count_trees (more t ts) == 2) e
+  where
+    go : (b d k : Bool) → (k && d) ≡ false → ((b && false) || (d && k)) ≡ false
+    go true true true q = q
+    go true true false q = refl
+    go true false k q = refl
+    go false true true q = q
+    go false true false q = refl
+    go false false k q = refl
+
+-- a goal that is called is none that an instruction runs
+last_apart : (g : Tree) (gs : Trees) → callable g ≡ true → is_last_call g gs ≡ true → calls_apart (execute (name g) (count_trees (arguments g))) ≡ true
+last_apart g none c e = ap not (key_apart g c (go (is_builtin g) e))
+  where
+    go : (b : Bool) → not b ≡ true → b ≡ false
+    go true d = absurd (false≢true d)
+    go false d = refl
+last_apart g (more t ts) c e = absurd (false≢true e)
+
+asking_apart : (g : Tree) (b : Bool) → callable g ≡ true → is_builtin g ≡ b → calls_apart (if b then builtin (name g) (count_trees (arguments g)) else call (name g) (count_trees (arguments g))) ≡ true
+asking_apart g true c e = refl
+asking_apart g false c e = ap not (key_apart g c e)
+
+body_apart : (gs : Trees) (seen : List ℕ) → all_callable gs ≡ true → list_all calls_apart (body_code gs seen) ≡ true
+body_apart none seen c = refl
+body_apart (more g gs) seen c = let d = both_true (callable g) (all_callable gs) c in go d.0 (body_apart gs (add_vars g seen) d.1) (is_last_call g gs) refl
+  where
+    go : callable g ≡ true → list_all calls_apart (body_code gs (add_vars g seen)) ≡ true → (l : Bool) → is_last_call g gs ≡ l
+        → list_all calls_apart (if l then goal_code g seen ++ execute (name g) (count_trees (arguments g)) ∷ [] else goal_code g seen ++ (asking g ∷ body_code gs (add_vars g seen))) ≡ true
+    go d o true e = quiet_apart (goal_code g seen) (execute (name g) (count_trees (arguments g)) ∷ []) (quiet_goal g seen) (ap (λ b. b && true) (last_apart g gs d e))
+    go d o false e =
+        quiet_apart (goal_code g seen) (asking g ∷ body_code gs (add_vars g seen)) (quiet_goal g seen)
+        (ap (λ b. b && list_all calls_apart (body_code gs (add_vars g seen))) (asking_apart g (is_builtin g) d refl) ∙ o)
+
+pub calls_are_apart : (head : Tree) (goals : Trees) → all_callable goals ≡ true → list_all calls_apart (clause_code head goals) ≡ true
+calls_are_apart head goals c =
+    quiet_apart (gets (arguments head) 1 [] (count_trees (arguments head) + 1)) (body_code goals (add_all_vars (arguments head) [])) (quiet_gets (arguments head) 1 [] (count_trees (arguments head) + 1))
+    (body_apart goals (add_all_vars (arguments head) []) c)

@@ -1,0 +1,301 @@
+-- Steps with numbers of tables keep the rules of code.
+use Rattle.std.proofs.Common.{◌≡◌, ℕ, ◌<◌, nat_lt, ◌==◌, Bool, true, false, if◌then◌else◌, is_some, ℤ, List, [], ◌∷◌, ◌++◌, inl, inr, Option, Some, None, refl, ap, sym, ◌∙◌, subst, arith}
+use Rattle.std.specs.List.{AllZip, slice_get}
+use Rattle.std.proofs.lemmas.Bool.{false≢true}
+use Rattle.std.proofs.lemmas.Bool.Decides.{nat_tests}
+use Rattle.std.proofs.lemmas.Option.{slice_get_within}
+use Rattle.ap_term.specs.Tree.{count_trees}
+use Rattle.ap_term.specs.Goals.{Clause}
+use Rattle.ap_instr.specs.declared.instruction.Slot.{Slot}
+use Rattle.ap_instr.specs.declared.instruction.Slot.TheVariants.{X, Y}
+use Rattle.ap_instr.specs.declared.instruction.Instr.{Instr}
+use Rattle.ap_instr.specs.declared.instruction.Instr.TheVariants.{GetVariable, GetValue, GetConstant, GetInteger, GetStructure, PutVariable, PutValue, PutConstant, PutInteger, PutStructure, UnifyVariable, UnifyValue, UnifyConstant, UnifyInteger, Allocate, Deallocate, Call, Execute, Proceed, Builtin, Jump, Fail, Try, Retry, Trust}
+use Rattle.ap_instr.specs.declared.compiled.Predicate.{Predicate}
+use Rattle.ap_instr.specs.Code.{Compiled}
+use Rattle.ap_instr.specs.Step.{Step, get_constant, put_constant, unify_constant, call, execute, proceed, with_integer, with_predicate, step_of as said_by, steps_of as said}
+use Rattle.ap_instr.specs.Runs.{arguments}
+use Rattle.ap_codecheck.specs.Shape.{Shape, entry, passed, after}
+use Rattle.ap_codecheck.specs.Rules.{ReadsSet, HasRoom, FitsEnvironment, IsInTurn, arity_in, ArgumentsSet, IsNumbered as IsFromOne}
+use Rattle.ap_codecheck.specs.Walk.{is_last, is_inner, Walks}
+use Rattle.ap_codegen.specs.declared.steps.Step.{Step as Emitted}
+use Rattle.ap_codegen.specs.declared.steps.Step.TheVariants.{Allocate as EnterStep, Deallocate as LeaveStep}
+use Rattle.ap_codegen.specs.Emitted.{step_of, steps_of}
+use Rattle.ap_codegen.specs.Temporary.{ends}
+use Rattle.ap_codegen.specs.Framed.{leaving}
+use Rattle.ap_codegen.specs.Paces.{IsSlot, Paces, inside, ArePaced}
+use Rattle.ap_codegen.specs.CodeOf.{IsCodeOf}
+use Rattle.ap_codegen.specs.Assembled.{frame_of, IsSaid, IsAlone, AreAlone, AreInstructionsOf}
+
+room_of : (v : Slot) (s : Shape) → IsSlot v s → HasRoom v s
+room_of (X n) s i = tt
+room_of (Y n) s i = i.1
+
+from_one : (v : Slot) (s : Shape) → IsSlot v s → IsFromOne v
+from_one (X n) s i = i
+from_one (Y n) s i = i.0
+
+turn_none : (s : Shape) → s.pending ≡ 0 → false ≡ nat_lt 0 s.pending
+turn_none s e = sym (ap (nat_lt 0) e)
+
+turn_some : (s : Shape) → 0 < s.pending → true ≡ nat_lt 0 s.pending
+turn_some s e = sym (go s.pending e)
+  where
+    go : (p : ℕ) → 0 < p → nat_lt 0 p ≡ true
+    go p l = grind (arith, nat_tests)
+
+-- an instruction within a clause
+record Inner (code : Compiled) (i : Instr) (is : List Step) (s : Shape) : Type 0 where
+  reads : ReadsSet code i s
+  fits : FitsEnvironment i s
+  turn : IsInTurn i s
+  inner : is_inner i ≡ true
+  next : Paces is (after i s)
+
+inner_walk : (code : Compiled) (i : Instr) (is : List Step) (s : Shape) → ends (said_by code i) ≡ false → Paces (said_by code i ∷ is) s → Inner code i is s
+inner_walk code (GetVariable v a) is s e p = record { reads = p.2; fits = room_of v s p.0; turn = turn_none s p.3; inner = refl; next = p.4 }
+inner_walk code (GetValue v a) is s e p = record { reads = (p.2, p.3); fits = room_of v s p.0; turn = turn_none s p.4; inner = refl; next = p.5 }
+inner_walk code (GetConstant c a) is s e p = record { reads = p.1; fits = tt; turn = turn_none s p.2; inner = refl; next = p.3 }
+inner_walk code (GetInteger j a) is s e p = go (slice_get code.integers j) p
+  where
+    go : (o : Option ℤ) → Paces (with_integer o (λ c. get_constant c a) ∷ is) s → Inner code (GetInteger j a) is s
+    go None p = absurd p
+    go (Some z) p = record { reads = p.1; fits = tt; turn = turn_none s p.2; inner = refl; next = p.3 }
+inner_walk code (GetStructure f n a) is s e p = record { reads = p.1; fits = tt; turn = turn_none s p.2; inner = refl; next = p.3 }
+inner_walk code (PutVariable v a) is s e p = record { reads = tt; fits = room_of v s p.0; turn = turn_none s p.2; inner = refl; next = p.3 }
+inner_walk code (PutValue v a) is s e p = record { reads = p.2; fits = room_of v s p.0; turn = turn_none s p.3; inner = refl; next = p.4 }
+inner_walk code (PutConstant c a) is s e p = record { reads = tt; fits = tt; turn = turn_none s p.1; inner = refl; next = p.2 }
+inner_walk code (PutInteger j a) is s e p = go (slice_get code.integers j) p
+  where
+    go : (o : Option ℤ) → Paces (with_integer o (λ c. put_constant c a) ∷ is) s → Inner code (PutInteger j a) is s
+    go None p = absurd p
+    go (Some z) p = record { reads = tt; fits = tt; turn = turn_none s p.1; inner = refl; next = p.2 }
+inner_walk code (PutStructure f n a) is s e p = record { reads = tt; fits = tt; turn = turn_none s p.1; inner = refl; next = p.2 }
+inner_walk code (UnifyVariable v) is s e p = record { reads = tt; fits = room_of v s p.0; turn = turn_some s p.1; inner = refl; next = p.2 }
+inner_walk code (UnifyValue v) is s e p = record { reads = p.1; fits = room_of v s p.0; turn = turn_some s p.2; inner = refl; next = p.3 }
+inner_walk code (UnifyConstant c) is s e p = record { reads = tt; fits = tt; turn = turn_some s p.0; inner = refl; next = p.1 }
+inner_walk code (UnifyInteger j) is s e p = go (slice_get code.integers j) p
+  where
+    go : (o : Option ℤ) → Paces (with_integer o unify_constant ∷ is) s → Inner code (UnifyInteger j) is s
+    go None p = absurd p
+    go (Some z) p = record { reads = tt; fits = tt; turn = turn_some s p.0; inner = refl; next = p.1 }
+inner_walk code (Allocate n) is s e p = absurd p
+inner_walk code Deallocate is s e p = absurd p
+inner_walk code (Call q) is s e p = go (slice_get code.predicates q) refl p
+  where
+    go : (o : Option Predicate) → slice_get code.predicates q ≡ o → Paces (with_predicate o call ∷ is) s → Inner code (Call q) is s
+    go None d p = absurd p
+    go (Some r) d p = record { reads = subst (λ o. ArgumentsSet (arity_in o) s) (sym d) p.0; fits = p.1; turn = turn_none s p.2; inner = refl; next = p.3 }
+inner_walk code (Execute q) is s e p = go (slice_get code.predicates q) e p
+  where
+    go : (o : Option Predicate) → ends (with_predicate o execute) ≡ false → Paces (with_predicate o execute ∷ is) s → Inner code (Execute q) is s
+    go None d p = absurd p
+    go (Some r) d p = absurd (false≢true (sym d))
+inner_walk code Proceed is s e p = absurd (false≢true (sym e))
+inner_walk code (Builtin b) is s e p = record { reads = p.0; fits = tt; turn = turn_none s p.1; inner = refl; next = p.2 }
+inner_walk code (Jump l) is s e p = absurd p
+inner_walk code Fail is s e p = absurd p
+inner_walk code (Try l) is s e p = absurd p
+inner_walk code (Retry l) is s e p = absurd p
+inner_walk code (Trust l) is s e p = absurd p
+
+-- an instruction that ends a clause, where the environment was given back
+record Last (code : Compiled) (i : Instr) (is : List Step) (z : Shape) : Type 0 where
+  reads : ReadsSet code i z
+  fits : FitsEnvironment i z
+  turn : IsInTurn i z
+  last : is_last i ≡ true
+  alone : is ≡ []
+
+last_walk : (code : Compiled) (i : Instr) (is : List Step) (s z : Shape) → ends (said_by code i) ≡ true → ((w : ℕ) → s.x w ≡ true → z.x w ≡ true) → z.pending ≡ s.pending → is_some z.room ≡ false → Paces (said_by code i ∷ is) s → Last code i is z
+last_walk code (Execute q) is s z e x n r p = go (slice_get code.predicates q) refl e p
+  where
+    go : (o : Option Predicate) → slice_get code.predicates q ≡ o → ends (with_predicate o execute) ≡ true → Paces (with_predicate o execute ∷ is) s → Last code (Execute q) is z
+    go None d e p = absurd p
+    go (Some c) d e p =
+        record { reads = subst (λ o. ArgumentsSet (arity_in o) z) (sym d) (λ a l h. x a (p.0 a l h)); fits = r; turn = turn_none z (n ∙ p.1); last = refl; alone = p.2 }
+last_walk code Proceed is s z e x n r p = record { reads = tt; fits = r; turn = turn_none z (n ∙ p.0); last = refl; alone = p.1 }
+last_walk code (GetInteger j a) is s z e x n r p = go (slice_get code.integers j) e p
+  where
+    go : (o : Option ℤ) → ends (with_integer o (λ c. get_constant c a)) ≡ true → Paces (with_integer o (λ c. get_constant c a) ∷ is) s → Last code (GetInteger j a) is z
+    go None e p = absurd p
+    go (Some k) e p = absurd (false≢true e)
+last_walk code (PutInteger j a) is s z e x n r p = go (slice_get code.integers j) e p
+  where
+    go : (o : Option ℤ) → ends (with_integer o (λ c. put_constant c a)) ≡ true → Paces (with_integer o (λ c. put_constant c a) ∷ is) s → Last code (PutInteger j a) is z
+    go None e p = absurd p
+    go (Some k) e p = absurd (false≢true e)
+last_walk code (UnifyInteger j) is s z e x n r p = go (slice_get code.integers j) e p
+  where
+    go : (o : Option ℤ) → ends (with_integer o unify_constant) ≡ true → Paces (with_integer o unify_constant ∷ is) s → Last code (UnifyInteger j) is z
+    go None e p = absurd p
+    go (Some k) e p = absurd (false≢true e)
+last_walk code (Call q) is s z e x n r p = go (slice_get code.predicates q) e p
+  where
+    go : (o : Option Predicate) → ends (with_predicate o call) ≡ true → Paces (with_predicate o call ∷ is) s → Last code (Call q) is z
+    go None e p = absurd p
+    go (Some k) e p = absurd (false≢true e)
+last_walk code _ is s z e x n r p = absurd (false≢true e)
+
+-- ---- no instruction but one of an environment changes whether there is one
+
+passed_room : (b : Bool) (s : Shape) → (passed b s).room ≡ s.room
+passed_room true s = refl
+passed_room false s = refl
+
+same_room : (code : Compiled) (i : Instr) (is : List Step) (s : Shape) → Paces (said_by code i ∷ is) s → (after i s).room ≡ s.room
+same_room code (UnifyVariable v) is s p = passed_room (s.pending == 1) _
+same_room code (UnifyValue v) is s p = passed_room (s.pending == 1) s
+same_room code (UnifyConstant c) is s p = passed_room (s.pending == 1) s
+same_room code (UnifyInteger c) is s p = passed_room (s.pending == 1) s
+same_room code (Allocate n) is s p = absurd p
+same_room code Deallocate is s p = absurd p
+same_room code _ is s p = refl
+
+-- ---- an instruction by itself
+
+alone_walk : (code : Compiled) (i : Instr) (is : List Step) (s : Shape) → Paces (said_by code i ∷ is) s → IsAlone code i
+alone_walk code (GetVariable v a) is s p = ((from_one v s p.0, p.1), tt, λ q. tt)
+alone_walk code (GetValue v a) is s p = ((from_one v s p.0, p.1), tt, λ q. tt)
+alone_walk code (GetConstant c a) is s p = (p.0, tt, λ q. tt)
+alone_walk code (GetInteger j a) is s p = go (slice_get code.integers j) refl p
+  where
+    go : (o : Option ℤ) → slice_get code.integers j ≡ o → Paces (with_integer o (λ c. get_constant c a) ∷ is) s → IsAlone code (GetInteger j a)
+    go None d p = absurd p
+    go (Some z) d p = ((slice_get_within code.integers j z d, p.0), tt, λ q. tt)
+alone_walk code (GetStructure f n a) is s p = (p.0, tt, λ q. tt)
+alone_walk code (PutVariable v a) is s p = ((from_one v s p.0, p.1), tt, λ q. tt)
+alone_walk code (PutValue v a) is s p = ((from_one v s p.0, p.1), tt, λ q. tt)
+alone_walk code (PutConstant c a) is s p = (p.0, tt, λ q. tt)
+alone_walk code (PutInteger j a) is s p = go (slice_get code.integers j) refl p
+  where
+    go : (o : Option ℤ) → slice_get code.integers j ≡ o → Paces (with_integer o (λ c. put_constant c a) ∷ is) s → IsAlone code (PutInteger j a)
+    go None d p = absurd p
+    go (Some z) d p = ((slice_get_within code.integers j z d, p.0), tt, λ q. tt)
+alone_walk code (PutStructure f n a) is s p = (p.0, tt, λ q. tt)
+alone_walk code (UnifyVariable v) is s p = (from_one v s p.0, tt, λ q. tt)
+alone_walk code (UnifyValue v) is s p = (from_one v s p.0, tt, λ q. tt)
+alone_walk code (UnifyConstant c) is s p = (tt, tt, λ q. tt)
+alone_walk code (UnifyInteger j) is s p = go (slice_get code.integers j) refl p
+  where
+    go : (o : Option ℤ) → slice_get code.integers j ≡ o → Paces (with_integer o unify_constant ∷ is) s → IsAlone code (UnifyInteger j)
+    go None d p = absurd p
+    go (Some z) d p = (slice_get_within code.integers j z d, tt, λ q. tt)
+alone_walk code (Allocate n) is s p = absurd p
+alone_walk code Deallocate is s p = absurd p
+alone_walk code (Call k) is s p = go (slice_get code.predicates k) refl p
+  where
+    go : (o : Option Predicate) → slice_get code.predicates k ≡ o → Paces (with_predicate o call ∷ is) s → IsAlone code (Call k)
+    go None d p = absurd p
+    go (Some r) d p = (tt, slice_get_within code.predicates k r d, λ q. tt)
+alone_walk code (Execute k) is s p = go (slice_get code.predicates k) refl p
+  where
+    go : (o : Option Predicate) → slice_get code.predicates k ≡ o → Paces (with_predicate o execute ∷ is) s → IsAlone code (Execute k)
+    go None d p = absurd p
+    go (Some r) d p = (tt, slice_get_within code.predicates k r d, λ q. tt)
+alone_walk code Proceed is s p = (tt, tt, λ q. tt)
+alone_walk code (Builtin b) is s p = (tt, tt, λ q. tt)
+alone_walk code (Jump l) is s p = absurd p
+alone_walk code Fail is s p = absurd p
+alone_walk code (Try l) is s p = absurd p
+alone_walk code (Retry l) is s p = absurd p
+alone_walk code (Trust l) is s p = absurd p
+
+-- ---- clauses with no environment
+
+empty_said : (code : Compiled) (is : List Instr) → said code is ≡ [] → is ≡ []
+empty_said code [] e = refl
+empty_said code (i ∷ is) e = cc
+
+pub plain_walk : (code : Compiled) (is later : List Instr) (s : Shape) → s.room ≡ None → Paces (said code is) s → Walks code (is ++ later) s
+plain_walk code [] later s r p = absurd p
+plain_walk code (i ∷ is) later s r p = go (ends (said_by code i)) refl (λ q. plain_walk code is later (after i s) (same_room code i (said code is) s p ∙ r) q)
+  where
+    go : (b : Bool) → ends (said_by code i) ≡ b → (Paces (said code is) (after i s) → Walks code (is ++ later) (after i s)) → Walks code (i ∷ (is ++ later)) s
+    go true e ih = let d = last_walk code i (said code is) s s e (λ w h. h) refl (ap is_some r) p in (d.reads, d.fits, d.turn, inl d.last)
+    go false e ih = let d = inner_walk code i (said code is) s e p in (d.reads, d.fits, d.turn, inr (d.inner, ih d.next))
+
+pub plain_alone : (code : Compiled) (is : List Instr) (s : Shape) → Paces (said code is) s → AreAlone code is
+plain_alone code [] s p = tt
+plain_alone code (i ∷ is) s p = (alone_walk code i (said code is) s p, go (ends (said_by code i)) refl (λ q. plain_alone code is (after i s) q))
+  where
+    go : (b : Bool) → ends (said_by code i) ≡ b → (Paces (said code is) (after i s) → AreAlone code is) → AreAlone code is
+    go true e ih =
+        let d = last_walk code i (said code is) s (record { x = s.x; y = s.y; room = None; pending = s.pending; target = s.target }) e (λ w h. h) refl refl p in
+        subst (AreAlone code) (sym (empty_said code is d.alone)) tt
+    go false e ih = ih (inner_walk code i (said code is) s e p).next
+
+-- ---- clauses inside an environment
+
+leaves : (i : Instr) → frame_of i ≡ Some None → i ≡ Deallocate
+leaves Deallocate e = refl
+leaves (Allocate n) e = cc
+leaves _ e = cc
+
+none_left : (code : Compiled) (fs : List Emitted) (is : List Instr) → AllZip (IsSaid code) (leaving fs) is → steps_of fs ≡ [] → is ≡ []
+none_left code [] [] h e = refl
+none_left code [] (i ∷ is) h e = absurd h
+none_left code (f ∷ fs) is h e = cc
+
+-- the walk and what each instruction keeps by itself
+abbrev pub Goes : Compiled → List Instr → Shape → Type 0
+Goes code is s = ((later : List Instr) → Walks code (is ++ later) s) × AreAlone code is
+
+turn_end : (t : Step) (ts : List Step) (s : Shape) → ends t ≡ true → Paces (t ∷ ts) s → false ≡ nat_lt 0 s.pending
+turn_end (execute q k) ts s e p = turn_none s p.1
+turn_end proceed ts s e p = turn_none s p.0
+turn_end _ ts s e p = absurd (false≢true e)
+
+pub left_walk : (code : Compiled) (n : ℕ) (fs : List Emitted) (is : List Instr) (s : Shape) → AllZip (IsSaid code) (leaving fs) is → s.room ≡ Some n → Paces (steps_of fs) s → Goes code is s
+left_walk code n [] is s h r p = absurd p
+left_walk code n (f ∷ fs) is s h r p = go (ends (step_of f)) refl is h (λ js z k q d. left_walk code n fs js z k q d)
+  where
+    go : (b : Bool) → ends (step_of f) ≡ b → (is : List Instr) → AllZip (IsSaid code) (if b then LeaveStep ∷ f ∷ leaving fs else f ∷ leaving fs) is
+        → ((js : List Instr) (z : Shape) → AllZip (IsSaid code) (leaving fs) js → z.room ≡ Some n → Paces (steps_of fs) z → Goes code js z) → Goes code is s
+    go true e [] h ih = absurd h
+    go true e (j ∷ []) h ih = absurd h.1
+    go true e (j ∷ i ∷ is) h ih =
+        let out : j ≡ Deallocate = leaves j h.0.frame in
+        let q : Paces (said_by code i ∷ steps_of fs) s = subst (λ t. Paces (t ∷ steps_of fs) s) (sym h.1.0.says) p in
+        let d = last_walk code i (steps_of fs) s (after Deallocate s) (ap ends h.1.0.says ∙ e) (λ w k. k) refl refl q in
+        let none : is ≡ [] = none_left code fs is h.1.1 d.alone in
+        let turn : false ≡ nat_lt 0 s.pending = turn_end (step_of f) (steps_of fs) s e p in
+        subst (λ j. Goes code (j ∷ i ∷ is) s) (sym out) (
+          λ later. (tt, ap is_some r, turn, inr (refl, (d.reads, d.fits, d.turn, inl d.last))),
+          ((tt, tt, λ q. tt), (alone_walk code i (steps_of fs) s q, subst (AreAlone code) (sym none) tt)),
+        )
+    go false e [] h ih = absurd h
+    go false e (i ∷ is) h ih =
+        let q : Paces (said_by code i ∷ steps_of fs) s = subst (λ t. Paces (t ∷ steps_of fs) s) (sym h.0.says) p in
+        let d = inner_walk code i (steps_of fs) s (ap ends h.0.says ∙ e) q in
+        let k = ih is (after i s) h.1 (same_room code i (steps_of fs) s q ∙ r) d.next in
+        (λ later. (d.reads, d.fits, d.turn, inr (d.inner, k.0 later)), (alone_walk code i (steps_of fs) s q, k.1))
+
+-- ---- the instructions of a clause
+
+zip_said : (code : Compiled) (es : List Emitted) (is : List Instr) → AllZip (IsSaid code) es is → said code is ≡ steps_of es
+zip_said code [] [] h = refl
+zip_said code [] (i ∷ is) h = absurd h
+zip_said code (e ∷ es) [] h = absurd h
+zip_said code (e ∷ es) (i ∷ is) h = ap (λ t. t ∷ said code is) h.0.says ∙ ap (λ ts. step_of e ∷ ts) (zip_said code es is h.1)
+
+goes : (code : Compiled) (arity : ℕ) (es : List Emitted) (is : List Instr) → AllZip (IsSaid code) es is → ArePaced arity es → Goes code is (entry arity)
+goes code arity es is h (inl p) =
+    let q : Paces (said code is) (entry arity) = subst (λ ts. Paces ts (entry arity)) (sym (zip_said code es is h)) p in
+    (λ later. plain_walk code is later (entry arity) refl q, plain_alone code is (entry arity) q)
+goes code arity es is h (inr (vars, fs, e, p)) = inside_goes is (subst (λ es. AllZip (IsSaid code) es is) e h)
+  where
+    enters : (i : Instr) → frame_of i ≡ Some (Some vars) → i ≡ Allocate vars
+    enters (Allocate n) d = let k : n ≡ vars = cc in ap Allocate k
+    enters Deallocate d = cc
+    enters _ d = cc
+
+    inside_goes : (is : List Instr) → AllZip (IsSaid code) (EnterStep vars ∷ leaving fs) is → Goes code is (entry arity)
+    inside_goes [] h = absurd h
+    inside_goes (i ∷ is) h =
+        let k = left_walk code vars fs is (inside vars arity) h.1 refl p in
+        subst (λ i. Goes code (i ∷ is) (entry arity)) (sym (enters i h.0.frame)) (λ later. (tt, refl, refl, inr (refl, k.0 later)), ((tt, tt, λ q. tt), k.1))
+
+pub clause_instructions : (code : Compiled) (c : Clause) (es : List Emitted) (is : List Instr) → AllZip (IsSaid code) es is → IsCodeOf c (steps_of es) → ArePaced (count_trees (arguments c.head)) es → AreInstructionsOf code c is
+clause_instructions code c es is h k p =
+    let g = goes code (count_trees (arguments c.head)) es is h p in
+    record { says = subst (IsCodeOf c) (sym (zip_said code es is h)) k; walks = g.0; alone = g.1 }
