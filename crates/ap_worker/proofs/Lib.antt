@@ -4,3 +4,4 @@ pub mod Reaching
 pub mod SolvedBlocks
 pub mod Solving
 pub mod Spans
+pub mod Stripped

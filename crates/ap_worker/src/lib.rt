@@ -6,12 +6,14 @@
 #![tactic(auto)]
 
 mod answers;
+mod code;
 mod emission;
 pub mod laws;
 mod machine;
 mod parcels;
 
 pub use answers::Answers;
+pub use code::compiled;
 pub use emission::{End, emit_answers};
 pub use machine::{Machine, Turn};
 pub use parcels::terms_of;
