@@ -1,8 +1,9 @@
-//! From the turns of a machine to a query's answers, emitted one by one as they are found, and how they end.
+//! From a query to its answers, emitted one by one as they are found, and how they end.
 //!
-//! Stands on `ap_standing` for turns of the model, and on `ap_outside`. The one contract used above: whatever machine makes
-//! the turns of the model and says where its states have an answer, what `emit_answers` emits is exactly what sequential
-//! search finds within the budget, or the first of it, as much as the limit says; `laws` says that this is a block.
+//! Stands on `ap_standing` for turns of the model, on `ap_codegen` and `ap_codecheck` for code, on `ap_copy` for parcels, on
+//! `ap_outside` for sinks. The one contract used above: whatever machine makes the turns of the model and says where its
+//! states have an answer, what `emit_answers` puts is exactly what sequential search finds within the budget, or the first
+//! of it, as much as the limit says; `laws` says that this is a block.
 #![tactic(auto)]
 
 mod answers;
