@@ -6,5 +6,4 @@ pub mod Refusals
 pub mod Output
 pub mod Lines
 pub mod Model
-pub mod Widths
 pub mod Ends
