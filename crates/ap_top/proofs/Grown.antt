@@ -22,22 +22,22 @@ use Rattle.ap_clause.specs.declared.source.Source.TheVariants as source
 use Rattle.ap_clause.specs.Fresh.{lift_name}
 use Rattle.ap_clause.specs.Reads.{Position, Taken, Verdict, Refused, Took, Sentence, fits, table_after, refused_if, refused_outside, refused_past, judged, JudgesOpen, JudgesBy, beside, AcceptsQuery}
 
-clash : (r : Refusal) (t : Taken) → Refused r ≡ Took t → ⊥
+pub clash : (r : Refusal) (t : Taken) → Refused r ≡ Took t → ⊥
 clash r t h = cc
 
-took_if : (b : Bool) (r : Refusal) (v : Verdict) (t : Taken) → refused_if b r v ≡ Took t → v ≡ Took t
+pub took_if : (b : Bool) (r : Refusal) (v : Verdict) (t : Taken) → refused_if b r v ≡ Took t → v ≡ Took t
 took_if true r v t h = absurd (clash r t h)
 took_if false r v t h = h
 
-took_outside : (o : Option ℕ) (line : ℕ) (v : Verdict) (t : Taken) → refused_outside o line v ≡ Took t → v ≡ Took t
+pub took_outside : (o : Option ℕ) (line : ℕ) (v : Verdict) (t : Taken) → refused_outside o line v ≡ Took t → v ≡ Took t
 took_outside None line v t h = h
 took_outside (Some a) line v t h = absurd (clash _ t h)
 
-took_past : (o : Option What) (line : ℕ) (v : Verdict) (t : Taken) → refused_past o line v ≡ Took t → v ≡ Took t
+pub took_past : (o : Option What) (line : ℕ) (v : Verdict) (t : Taken) → refused_past o line v ≡ Took t → v ≡ Took t
 took_past None line v t h = h
 took_past (Some a) line v t h = absurd (clash _ t h)
 
-took : {a b : Taken} → Took a ≡ Took b → a ≡ b
+pub took : {a b : Taken} → Took a ≡ Took b → a ≡ b
 took e = cc
 
 put_one : (table : List Text) (n : Text) → (others : List Text) × (insert_name table n ≡ table ++ others)
@@ -47,7 +47,7 @@ put_one table n = go (is_held table n)
     go true = ([], sym (append-nil table))
     go false = (n ∷ [], refl)
 
-put_behind : (table ns : List Text) → (others : List Text) × (insert_names table ns ≡ table ++ others)
+pub put_behind : (table ns : List Text) → (others : List Text) × (insert_names table ns ≡ table ++ others)
 put_behind table [] = ([], sym (append-nil table))
 put_behind table (n ∷ ns) =
     let one = put_one table n in
@@ -68,7 +68,7 @@ open_behind : (full : Bool) (source : Source) (p : Position) (ts : List Placed) 
 open_behind true source p ts t h = absurd (clash _ t (sym h))
 open_behind false source p ts t h = sentence_behind source p (first_line ts) h.0 t (sym h.2)
 
-by_behind : (bad : Option ℕ) (source : Source) (p : Position) (ts : List Placed) (t : Taken) → JudgesBy bad source p ts (Took t) → (ns : List Text) × (t.after.table ≡ insert_names p.table ns)
+pub by_behind : (bad : Option ℕ) (source : Source) (p : Position) (ts : List Placed) (t : Taken) → JudgesBy bad source p ts (Took t) → (ns : List Text) × (t.after.table ≡ insert_names p.table ns)
 by_behind (Some line) source p ts t h = absurd (clash _ t (sym h))
 by_behind None source p ts t h = open_behind (nat_lt MAX_OPEN (most_open 0 ts)) source p ts t h
 

@@ -1,7 +1,8 @@
+pub mod Uncalled
+pub mod Turned
 pub mod Sources
 pub mod Booleans
 pub mod Widths
-pub mod Blocks
 pub mod Outputs
 pub mod Printing
 pub mod Pieces

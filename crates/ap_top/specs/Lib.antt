@@ -4,8 +4,8 @@ pub mod Words
 pub mod Parted
 pub mod Refusals
 pub mod Output
-pub mod EndView
-pub mod Widths
+pub mod Lines
+pub mod Model
 pub mod ShowWords
 pub mod ShowParted
 pub mod Patterns

@@ -1,15 +1,16 @@
 //! Printing the block of a query. Each line is one put.
 
-ghost use Rattle.std.specs.Prelude.{◌≡◌, ℕ, List, ◌≤◌, ◌^◌, map, length, true, IfOk};
-ghost use Rattle.ap_outside.specs.Halting.{Finishes, Prints, SinkCount};
+ghost use Rattle.std.specs.Prelude.{◌≡◌, ℕ, List, ◌≤◌, ◌^◌, length, IfOk};
+ghost use Rattle.ap_outside.specs.Halting.{Finishes, SinkCount};
 ghost use Rattle.ap_term.specs.Tree.{Trees, count_trees};
+ghost use Rattle.ap_worker.specs.Ends.{end_of};
 ghost use Rattle.ap_top.specs.Output.{line_of, end_line, is_spent, IsQueryBlock};
-ghost use Rattle.ap_top.specs.Widths.{are_wide};
-ghost use Rattle.ap_top.specs.EndView.{end_of, end_by};
+ghost use Rattle.ap_top.specs.Lines.{line_same};
 
+use crate::model::solve;
 use ap_outside::{Halt, Sink, put_line};
-use ap_spec::search;
 use ap_term::{Args, Atoms, NoMemory, Program, Query};
+use ap_worker::{Answers, End};
 use ap_writer::answer_line;
 use std::alloc::Global;
 
@@ -28,43 +29,20 @@ pub const BOUNDS: Bounds = Bounds {
     answers: 1_000_000,
 };
 
-/// How a block ends.
-#[derive(Clone, Copy, Debug, PartialEq, Eq)]
-enum End {
-    NoMore,
-    BudgetSpent,
-    Stopped,
+fn end_line(end: End) -> &'static [u8]
+    ensures { result.now ≡ end_line (end_of end) }
+{
+    match end {
+        End::NoMore => b"no more.\n",
+        End::Spent => b"budget spent.\n",
+        End::Stopped => b"stopped.\n",
+    }
 }
 
-impl End {
-    // The end behind so many answer lines, of a search that ended or not.
-    fn behind(count: usize, limit: usize, ended: bool) -> End
-        ensures { end_of result ≡ end_by limit count ended }
-    {
-        if count == limit {
-            End::Stopped
-        } else if ended {
-            End::NoMore
-        } else {
-            End::BudgetSpent
-        }
-    }
-
-    fn line(self) -> &'static [u8]
-        ensures { result.now ≡ end_line (end_of self) }
-    {
-        match self {
-            End::NoMore => b"no more.\n",
-            End::BudgetSpent => b"budget spent.\n",
-            End::Stopped => b"stopped.\n",
-        }
-    }
-
-    fn is_spent(self) -> bool
-        ensures { result ≡ is_spent (end_of self) }
-    {
-        matches!(self, End::BudgetSpent)
-    }
+fn is_spent(end: End) -> bool
+    ensures { result ≡ is_spent (end_of end) }
+{
+    matches!(end, End::Spent)
 }
 
 // The line of an answer, with its line feed.
@@ -77,27 +55,26 @@ fn make_line(alloc: Global, query: &Query, tuple: &Args, atoms: &Atoms) -> Resul
     Ok(line)
 }
 
-fn print_answers<K: Sink>(
-    alloc: Global,
-    query: &Query,
-    tuples: &[Args],
-    atoms: &Atoms,
-    out: &mut K,
-) -> Result<(), Halt>
-    requires { are_wide (length query.now.names) tuples.now ≡ true }
-    ensures lines { Prints (K.pieces out.old) (K.pieces out.new) (λ put. put ≡ map (line_of atoms.now query.now) tuples.now) result }
-    ensures count { SinkCount (K.faults out.old) (K.faults out.new) result }
-{
-    for tuple in tuples {
-        let Ok(line) = make_line(alloc, query, tuple, atoms) else {
-            return Err(Halt::NoMemory);
-        };
-        put_line(&line, out)?;
-    }
-    Ok(())
+/// A query beside the table of names, by which its answers are written.
+#[derive(Drop)]
+struct Lines<'a> {
+    query: &'a Query,
+    atoms: &'a Atoms,
 }
 
-/// Prints the block of a query. Whether its budget was spent.
+impl Answers for Lines<'_> {
+    ghost width = { λ a. length a.query.now.names };
+
+    ghost line = { λ a. line_of a.atoms.now a.query.now };
+
+    fn line(&self, alloc: Global, tuple: &Args) -> Result<Vec<u8>, NoMemory> {
+        make_line(alloc, self.query, tuple, self.atoms)
+    }
+
+    ghost names = { λ a t u h. line_same a.atoms.now a.query.now t u h };
+}
+
+/// Prints the block of a query, each answer as it is found. Whether its budget was spent.
 pub fn print_query<K: Sink>(
     alloc: Global,
     program: &Program,
@@ -106,18 +83,12 @@ pub fn print_query<K: Sink>(
     atoms: &Atoms,
     out: &mut K,
 ) -> Result<bool, Halt>
-    requires { bounds.budget ≤ 2 ^ 54 }
     ensures lines { Finishes (K.pieces out.old) (K.pieces out.new) (IsQueryBlock bounds.budget bounds.answers program.now atoms.now query.now) result }
     ensures count { SinkCount (K.faults out.old) (K.faults out.new) result }
 {
-    let Ok(found) = search(alloc, program, query, bounds.budget) else {
-        return Err(Halt::NoMemory);
-    };
-    let _width = query.names();
-    let tuples = found.answers.as_slice();
-    let count = tuples.len().min(bounds.answers);
-    print_answers(alloc, query, &tuples[..count], atoms, out)?;
-    let end = End::behind(count, bounds.answers, found.ended);
-    put_line(end.line(), out)?;
-    Ok(end.is_spent())
+    let lines = Lines { query, atoms };
+    let limit = bounds.answers as u64;
+    let end = solve(alloc, program, query, bounds.budget, limit, &lines, out)?;
+    put_line(end_line(end), out)?;
+    Ok(is_spent(end))
 }

@@ -7,6 +7,7 @@
 mod answers;
 mod closing;
 mod command;
+mod model;
 mod patterns;
 mod queries;
 mod refusals;

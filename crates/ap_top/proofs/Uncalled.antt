@@ -1,0 +1,199 @@
+-- A text that is accepted never calls `?-`: the name is refused in goals, and those of lifted predicates are new.
+use Rattle.std.proofs.Common.{◌≡◌, ℕ, zero, suc, ◌+◌, ◌≤◌, Bool, true, false, List, [], ◌∷◌, ◌++◌, length, length-append, Option, Some, None, refl, ap, sym, ◌∙◌, subst, arith}
+use Rattle.std.specs.Prelude.{nat_lt, not, slice_index}
+use Rattle.std.specs.List.{AllByRecursion}
+use Rattle.ap_lexer.specs.Lexeme.{Text}
+use Rattle.ap_lexer.specs.declared.cut.Piece.{Piece}
+use Rattle.ap_lexer.specs.Piece.{pieces}
+use Rattle.ap_lexer.specs.Token.{Placed, tokens}
+use Rattle.ap_term.specs.declared.fixed.TheConstants.{QUERY}
+use Rattle.ap_term.specs.declared.clauses.Check.{Check}
+use Rattle.ap_term.specs.Tree.{Tree, Trees, var, int, atom, node, none, more}
+use Rattle.ap_term.specs.Goals.{Part, Program, Query, joined}
+use Rattle.ap_term.specs.Search.{variables}
+use Rattle.ap_laws.specs.Plain.{append_trees, plain_goals}
+use Rattle.ap_laws.proofs.Views.{plain_goals-append}
+use Rattle.ap_laws.proofs.Zips.{AllByRecursion-append}
+use Rattle.ap_reader.specs.declared.written.TheConstants.{MAX_OPEN}
+use Rattle.ap_reader.specs.declared.depth.TheConstants.{MAX_DEPTH}
+use Rattle.ap_reader.specs.Bracket.{most_open}
+use Rattle.ap_reader.specs.Depth.{depth}
+use Rattle.ap_reader.specs.Reading.{first_line, term_of}
+use Rattle.ap_lifting.specs.Body.{Body, goal, conjunction, disjunction, parallel, conditional}
+use Rattle.ap_lifting.specs.Rule.{Rule}
+use Rattle.ap_lifting.specs.Lifted.{Lifted, applied, stays, number_inside, checks_of, lifted, raised_unless, lifted_if, lifted_rule, lifted_rules, lifted_program, clause_of}
+use Rattle.ap_clause.specs.Clause.{Halves}
+use Rattle.ap_clause.specs.Fresh.{atoms_from, names_by}
+use Rattle.ap_clause.specs.Outside.{is_refused, some_if, or_else, outside_goal, outside_head, outside_body, outside_rest, first_outside}
+use Rattle.ap_clause.specs.declared.refusal.Refusal.{Refusal}
+use Rattle.ap_clause.specs.declared.source.Source.{Source}
+use Rattle.ap_clause.specs.declared.source.Source.TheVariants as source
+use Rattle.ap_clause.specs.Reads.{Position, Taken, Verdict, Refused, Took, Stopped, Whole, Sentence, fits, refused_outside, judged, JudgesOpen, JudgesBy, Judges, Goes, Reads, start, beside, AcceptsProgram, AcceptsQuery}
+use Rattle.ap_worker.specs.Asking.{IsOther, AreOthers, BodyIsOther, NeverCalls}
+use Rattle.ap_worker.proofs.Asked.{append-other}
+use Rattle.ap_top.proofs.Grown.{clash, took_if, took_outside, took_past, took, put_behind, by_behind}
+
+-- ---- goals
+
+none-some : {A : Type 0} (a : A) → Some a ≡ None → ⊥
+none-some a e = cc
+
+refused-goal : (a : ℕ) → some_if (is_refused a) a ≡ None → a ≡ QUERY → ⊥
+refused-goal a e q = none-some QUERY (sym (ap (λ b. some_if (is_refused b) b) q) ∙ e)
+
+goal-other : (t : Tree) → outside_goal t ≡ None → IsOther QUERY t
+goal-other (var x) e = absurd (none-some _ e)
+goal-other (int z) e = tt
+goal-other (atom a) e = refused-goal a e
+goal-other (node a ts) e = refused-goal a e
+
+both-none : (a b : Option ℕ) → or_else a b ≡ None → (a ≡ None) × (b ≡ None)
+both-none None b e = (refl, e)
+both-none (Some a) b e = absurd (none-some a e)
+
+-- ---- lifting
+
+abbrev IsInside : Lifted → Type 0
+IsInside x = AreOthers QUERY (plain_goals x.parts) × NeverCalls QUERY x.clauses
+
+append-parts : (ps qs : List Part) → AreOthers QUERY (plain_goals ps) → AreOthers QUERY (plain_goals qs) → AreOthers QUERY (plain_goals (ps ++ qs))
+append-parts ps qs h k = subst (AreOthers QUERY) (sym (plain_goals-append ps qs)) (append-other QUERY (plain_goals ps) (plain_goals qs) h k)
+
+append-clauses : (p q : Program) → NeverCalls QUERY p → NeverCalls QUERY q → NeverCalls QUERY (p ++ q)
+append-clauses p q h k = AllByRecursion-append (BodyIsOther QUERY) p q h k
+
+module _ (names : ℕ → ℕ) (vars line : ℕ) (new : (n : ℕ) → names n ≡ QUERY → ⊥) where
+  lifted-other : (n : ℕ) (ts : Trees) → IsOther QUERY (applied (names n) ts)
+  lifted-other n none = new n
+  lifted-other n (more t ts) = new n
+
+  raised-inside : (b : Bool) (n : ℕ) (x : Lifted) → IsInside x → IsInside (raised_unless names vars line b n x)
+  raised-inside true n x h = h
+  raised-inside false n x h = ((lifted-other n (variables vars), tt), (h.0, h.1))
+
+  lifted-inside : (b : Body) (cs : List Check) (n : ℕ) → outside_body b ≡ None → IsInside (lifted names vars line b cs n)
+  lifted-inside (goal t) cs n e = ((goal-other t e, tt), tt)
+  lifted-inside (conjunction a b) cs n e =
+      let s = both-none (outside_body a) (outside_body b) e in
+      let x = lifted names vars line a [] n in
+      let h = lifted-inside a [] n s.0 in
+      let k = lifted-inside b [] x.next s.1 in
+      (append-parts x.parts (lifted names vars line b [] x.next).parts h.0 k.0, append-clauses x.clauses (lifted names vars line b [] x.next).clauses h.1 k.1)
+  lifted-inside (disjunction a b) cs n e =
+      let s = both-none (outside_body a) (outside_body b) e in
+      let x = lifted names vars line a [] (n + 1) in
+      let h = lifted-inside a [] (n + 1) s.0 in
+      let k = lifted-inside b [] x.next s.1 in
+      ((lifted-other n (variables vars), tt), (h.0, (k.0, append-clauses x.clauses (lifted names vars line b [] x.next).clauses h.1 k.1)))
+  lifted-inside (parallel a b) cs n e =
+      let s = both-none (outside_body a) (outside_body b) e in
+      let x = raised_unless names vars line (stays false a) n (lifted names vars line a [] (number_inside (stays false a) n)) in
+      let y = raised_unless names vars line (stays true b) x.next (lifted names vars line b [] (number_inside (stays true b) x.next)) in
+      let h = raised-inside (stays false a) n (lifted names vars line a [] (number_inside (stays false a) n)) (lifted-inside a [] (number_inside (stays false a) n) s.0) in
+      let k = raised-inside (stays true b) x.next (lifted names vars line b [] (number_inside (stays true b) x.next)) (lifted-inside b [] (number_inside (stays true b) x.next) s.1) in
+      (append-other QUERY (append_trees (plain_goals x.parts) (plain_goals y.parts)) none (append-other QUERY (plain_goals x.parts) (plain_goals y.parts) h.0 k.0) tt, append-clauses x.clauses y.clauses h.1 k.1)
+  lifted-inside (conditional ds b) cs n e = lifted-inside b (checks_of ds) n e
+
+  if-inside : (b : Option Body) (n : ℕ) → outside_rest b ≡ None → IsInside (lifted_if names vars line b n)
+  if-inside None n e = (tt, tt)
+  if-inside (Some b) n e = lifted-inside b [] n e
+
+-- a rule whose goals have no name from outside
+abbrev IsInsideRule : Rule → Type 0
+IsInsideRule r = outside_rest r.body ≡ None
+
+module _ (names : ℕ → ℕ) (new : (n : ℕ) → names n ≡ QUERY → ⊥) where
+  rules-inside : (rs : List Rule) (n : ℕ) → AllByRecursion IsInsideRule rs → NeverCalls QUERY (lifted_rules names rs n).clauses × NeverCalls QUERY (lifted_rules names rs n).lifted
+  rules-inside [] n h = (tt, tt)
+  rules-inside (r ∷ rs) n h =
+      let x = lifted_rule names r n in
+      let here = if-inside names r.vars r.line new r.body n h.0 in
+      let rest = rules-inside rs x.next h.1 in
+      ((here.0, rest.0), append-clauses x.clauses (lifted_rules names rs x.next).lifted here.1 rest.1)
+
+  program-inside : (rs : List Rule) → AllByRecursion IsInsideRule rs → NeverCalls QUERY (lifted_program names rs)
+  program-inside rs h = let x = rules-inside rs 0 h in append-clauses (lifted_rules names rs 0).clauses (lifted_rules names rs 0).lifted x.0 x.1
+
+-- ---- names of lifted predicates
+
+names-new : (table : List Text) (ks : List ℕ) → 28 ≤ length table → (n : ℕ) → names_by table ks n ≡ QUERY → ⊥
+names-new table ks le n e = go (length table) ks n le e
+  where
+    go : (at : ℕ) (ks : List ℕ) (n : ℕ) → 28 ≤ at → slice_index (atoms_from at ks) n ≡ QUERY → ⊥
+    go at [] n le e = cc
+    go at (k ∷ ks) zero le e = let f : at ≡ 27 = e in omega arith
+    go at (k ∷ ks) (suc n) le e = go (at + 1) ks n (omega arith) e
+
+-- ---- what is read
+
+not-refused : (o : Option ℕ) (line : ℕ) (v : Verdict) (t : Taken) → refused_outside o line v ≡ Took t → o ≡ None
+not-refused None line v t h = refl
+not-refused (Some a) line v t h = absurd (clash _ t h)
+
+body-inside : (s : Source) (h : Halves) → first_outside s h ≡ None → outside_rest h.1 ≡ None
+body-inside source.Program h e = (both-none (outside_head h.0) (outside_rest h.1) e).1
+body-inside source.Query h e = e
+
+sentence-inside : (s : Source) (p : Position) (line : ℕ) (o : Option Sentence) (t : Taken) → judged s p line o ≡ Took t → IsInsideRule t.rule
+sentence-inside s p line None t h = absurd (clash _ t h)
+sentence-inside s p line (Some x) t h =
+    let form = took_if (not (fits s (term_of x.front x.tree))) _ _ t h in
+    let deep = took_if (nat_lt MAX_DEPTH (depth (term_of x.front x.tree))) _ _ t form in
+    let room = took_if _ _ _ t deep in
+    let out = not-refused _ line _ t room in
+    let whole = took (took_past _ line _ t (took_outside _ line _ t room)) in
+    subst (λ u. IsInsideRule u.rule) whole (body-inside s _ out)
+
+open-inside : (full : Bool) (s : Source) (p : Position) (ts : List Placed) (t : Taken) → JudgesOpen full s p ts (Took t) → IsInsideRule t.rule
+open-inside true s p ts t h = absurd (clash _ t (sym h))
+open-inside false s p ts t h = sentence-inside s p (first_line ts) h.0 t (sym h.2)
+
+by-inside : (bad : Option ℕ) (s : Source) (p : Position) (ts : List Placed) (t : Taken) → JudgesBy bad s p ts (Took t) → IsInsideRule t.rule
+by-inside (Some line) s p ts t h = absurd (clash _ t (sym h))
+by-inside None s p ts t h = open-inside (nat_lt MAX_OPEN (most_open 0 ts)) s p ts t h
+
+by-longer : (bad : Option ℕ) (s : Source) (p : Position) (ts : List Placed) (t : Taken) → JudgesBy bad s p ts (Took t) → 28 ≤ length p.table → 28 ≤ length t.after.table
+by-longer bad s p ts t h le =
+    let b = by_behind bad s p ts t h in
+    let c = put_behind p.table b.0 in
+    let e : length t.after.table ≡ length (p.table ++ c.0) = ap length (b.1 ∙ c.1) in
+    omega (arith, length-append p.table c.0)
+
+whole-is : {rules rules' : List Rule} {p p' : Position} → Whole rules p ≡ Whole rules' p' → (rules ≡ rules') × (p ≡ p')
+whole-is e = (cc, cc)
+
+stopped-whole : (r : Refusal) (rules : List Rule) (p : Position) → Whole rules p ≡ Stopped r → ⊥
+stopped-whole r rules p e = cc
+
+reads-inside : (text : Text) (ps : List Piece) (p q : Position) (rules all : List Rule) → Reads text ps p rules (Whole all q) → AllByRecursion IsInsideRule rules → 28 ≤ length p.table
+    → AllByRecursion IsInsideRule all × (28 ≤ length q.table)
+reads-inside text [] p q rules all h k le =
+    let e = whole-is h in
+    (subst (AllByRecursion IsInsideRule) (sym e.0) k, subst (λ u. 28 ≤ length u.table) (sym e.1) le)
+reads-inside text (piece ∷ ps) p q rules all h k le = go h.0 h.1 h.2 (λ p' rules' g k' le'. reads-inside text ps p' q rules' all g k' le')
+  where
+    go : (v : Verdict) → Judges source.Program text p piece v → Goes (Reads text ps) rules v (Whole all q)
+        → ((p' : Position) (rules' : List Rule) → Reads text ps p' rules' (Whole all q) → AllByRecursion IsInsideRule rules' → 28 ≤ length p'.table → AllByRecursion IsInsideRule all × (28 ≤ length q.table))
+        → AllByRecursion IsInsideRule all × (28 ≤ length q.table)
+    go (Refused r) j g on = absurd (stopped-whole r all q g)
+    go (Took t) j g on =
+        on t.after (rules ++ t.rule ∷ []) g
+        (AllByRecursion-append IsInsideRule rules (t.rule ∷ []) k (by-inside piece.bad source.Program p (tokens text piece) t j, tt))
+        (by-longer piece.bad source.Program p (tokens text piece) t j le)
+
+-- ---- programs and queries
+
+pub program-never-asks : (text : Text) (table : List Text) (program : Program) (new : List Text) → 28 ≤ length table → AcceptsProgram text table program new → NeverCalls QUERY program
+program-never-asks text table program new le h =
+    let r = reads-inside text (pieces text) (start table) h.1 [] h.0 h.3 tt le in
+    subst (NeverCalls QUERY) (sym h.6) (program-inside (names_by h.1.table h.2) (names-new h.1.table h.2 r.1) h.0 r.0)
+
+pub query-never-asks : (text : Text) (piece : Piece) (program : Program) (table : List Text) (query : Query) (new : List Text) → 28 ≤ length table
+    → NeverCalls QUERY program → AcceptsQuery text piece program table query new → NeverCalls QUERY (joined program query)
+query-never-asks text piece program table query new le never h =
+    let t = h.0 in
+    let names = names_by t.after.table h.1 in
+    let long = by-longer piece.bad source.Query (beside program table) (tokens text piece) t h.2 le in
+    let x = if-inside names t.rule.vars t.rule.line (names-new t.after.table h.1 long) t.rule.body 0 (by-inside piece.bad source.Query (beside program table) (tokens text piece) t h.2) in
+    subst (λ q. NeverCalls QUERY (joined program q)) (sym h.5)
+    (append-clauses program (clause_of t.rule (lifted_rule names t.rule 0).parts ∷ (lifted_rule names t.rule 0).clauses) never (x.0, x.1))

@@ -1,0 +1,5 @@
+pub mod Asking
+pub mod Ends
+pub mod Laws
+pub mod Reached
+pub mod Turns

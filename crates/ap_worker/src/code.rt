@@ -1,0 +1,23 @@
+//! A program beside a query as sound code.
+
+ghost use Rattle.std.specs.Prelude.{IfOk};
+ghost use Rattle.ap_instr.specs.StandsFor.{StandsForQuery};
+
+use ap_certify::plain;
+use ap_codecheck::{CodeErr, Sound, check};
+use ap_codegen::compile;
+use ap_term::{NoMemory, Program, Query};
+use std::alloc::Global;
+
+/// Code for a program beside a query, in which a group's goals are called one after another.
+pub fn compiled(alloc: Global, program: &Program, query: &Query) -> Result<Sound, NoMemory>
+    ensures { IfOk result (λ sound. StandsForQuery sound program.now query.now) }
+{
+    let plain = plain(alloc, program)?;
+    let code = compile(alloc, &plain, query)?;
+    match check(alloc, code) {
+        Ok(sound) => Ok(sound),
+        Err(CodeErr::Bad { .. }) => unreachable!(),
+        Err(CodeErr::NoMemory) => Err(NoMemory),
+    }
+}
