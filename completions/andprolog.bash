@@ -3,12 +3,13 @@ _andprolog() {
   local word=${COMP_WORDS[COMP_CWORD]} before=${COMP_WORDS[COMP_CWORD - 1]} known options=() option seen
   COMPREPLY=()
   if [ "$COMP_CWORD" -eq 1 ]; then
-    mapfile -t COMPREPLY < <(compgen -W 'run show' -- "$word")
+    mapfile -t COMPREPLY < <(compgen -W 'run show code' -- "$word")
     return
   fi
   case ${COMP_WORDS[1]} in
     run) known=(--budget --answers) ;;
     show) known=(--entry --annotator) ;;
+    code) known=() ;;
     *) return ;;
   esac
   case $before in

@@ -12,11 +12,14 @@ use Rattle.ap_patterns.specs.declared.entries.Entries.{Entries}
 use Rattle.ap_top.specs.Words.{Asked, IsCommand}
 use Rattle.ap_top.specs.Status.{status_of, tally}
 use Rattle.ap_top.specs.Counts.{RunSinkCount}
-use Rattle.ap_top.specs.Ends.{SourceEnds, TextEnds, FileEnds, OtherEnds, RunEnds, IsFile, IsAnswering, NamesProgram, IsShowing, ShowsProgram}
+use Rattle.ap_top.specs.Ends.{SourceEnds, TextEnds, FileEnds, OtherEnds, RunEnds, IsFile, IsAnswering, NamesProgram, IsShowing, ShowsProgram, CodesProgram}
 use Rattle.ap_top.specs.ShowWords.{Shown, IsShow}
 use Rattle.ap_top.specs.Patterns.{AreEntries}
 use Rattle.ap_top.specs.Shows.{ProgramShows, TextShows, FileShows}
+use Rattle.ap_top.specs.CodeWords.{IsCode}
+use Rattle.ap_top.specs.Codes.{TextCodes, FileCodes}
 use Rattle.ap_top.proofs.ShowCommands.{show_is}
+use Rattle.ap_top.proofs.CodeWords.{one_code}
 use Rattle.ap_top.specs.declared.status.Status.{Status}
 use Rattle.ap_top.specs.declared.status.Status.TheVariants as status
 use Rattle.ap_top.proofs.Commands.{command_is}
@@ -76,19 +79,26 @@ one_show words a b h k = same (sym (show_is words a h) ∙ show_is words b k)
     same : Some a ≡ Some b → a ≡ b
     same e = cc
 
-second : List (List ℕ) → List ℕ
+abbrev second : List (List ℕ) → List ℕ
 second (a ∷ b ∷ words) = b
 second _ = []
 
-not_both_commands : (words : List (List ℕ)) (a : Asked) (b : Shown) → IsCommand words a → IsShow words b → ⊥
-unfolding second
-not_both_commands words a b h k =
-    let same : codes "run" ≡ codes "show" = ap second (sym h.words_are ∙ k.words_are) in
-    let size : length (codes "run") ≡ length (codes "show") = ap length same in
-    unlike (length (codes "run")) (length (codes "show")) size (omega arith)
-  where
-    unlike : (n m : ℕ) → n ≡ m → n < m → ⊥
-    unlike n m e l = omega arith
+abbrev initial : List ℕ → ℕ
+initial (b ∷ bs) = b
+initial _ = 0
+
+-- words of which the second begin apart are other words
+apart : (words others : List (List ℕ)) → initial (second words) < initial (second others) → words ≡ others → ⊥
+apart words others less e = let same = ap (λ w. initial (second w)) e in omega (arith, same, less)
+
+not_run_and_show : (words : List (List ℕ)) (a : Asked) (b : Shown) → IsCommand words a → IsShow words b → ⊥
+not_run_and_show words a b h k = apart (h.program ∷ (codes "run" ∷ h.behind)) (k.program ∷ (codes "show" ∷ k.behind)) (omega arith) (sym h.words_are ∙ k.words_are)
+
+not_run_and_code : (words : List (List ℕ)) (a : Asked) (file : List ℕ) → IsCommand words a → IsCode words file → ⊥
+not_run_and_code words a file h k = apart (k.program ∷ codes "code" ∷ file ∷ []) (h.program ∷ (codes "run" ∷ h.behind)) (omega arith) (sym k.words_are ∙ h.words_are)
+
+not_show_and_code : (words : List (List ℕ)) (a : Shown) (file : List ℕ) → IsShow words a → IsCode words file → ⊥
+not_show_and_code words a file h k = apart (k.program ∷ codes "code" ∷ file ∷ []) (h.program ∷ (codes "show" ∷ h.behind)) (omega arith) (sym k.words_are ∙ h.words_are)
 
 module _ (FilesRose : Type 0) (quiet : FilesRose → ⊥) where
   program_shows : (what : Shown) (program : Program) (table : List (List ℕ)) (E : Entries) → AreEntries what.entry program table E → (s : Status) (ls : List (List ℕ)) → ProgramShows what program table s ls → IsShowing s
@@ -116,7 +126,8 @@ module _ (FilesRose : Type 0) (quiet : FilesRose → ⊥) where
       text_shows what other program table E (subst (λ b. AcceptsProgram b fixed_names program table) same h) is s ls ends
 
   other_shows : (words : List (List ℕ)) (entries : Option (List (List ℕ × List ℕ))) → ShowsProgram words entries → (s : Status) (ls : List (List ℕ)) → OtherEnds words entries FilesRose s ls → IsShowing s
-  other_shows words entries names _ ls (OtherEnds.usage _ none e) = absurd (none names.what names.command)
+  other_shows words entries names _ ls (OtherEnds.usage _ none uncoded e) = absurd (none names.what names.command)
+  other_shows words entries names _ ls (OtherEnds.coded file s _ is ends) = absurd (not_show_and_code words names.what file names.command is)
   other_shows words entries names _ ls (OtherEnds.shown what s _ is ends) =
       let same : what ≡ names.what = one_show words what names.what is names.command in
       file_shows names.what entries names.bytes names.program names.table names.calls names.file names.short names.accepted names.entry s ls (subst (λ w. FileShows w entries FilesRose s ls) same ends)
@@ -124,7 +135,39 @@ module _ (FilesRose : Type 0) (quiet : FilesRose → ⊥) where
   pub run_shows : (source : Option (List ℕ)) (SourceRose : Type 0) (words : List (List ℕ)) (entries : Option (List (List ℕ × List ℕ))) → ShowsProgram words entries → (s : Status) (ls : List (List ℕ))
       → RunEnds words entries source FilesRose SourceRose s ls → IsShowing s
   run_shows source SourceRose words entries names _ ls (RunEnds.other s _ none o) = other_shows words entries names s ls o
-  run_shows source SourceRose words entries names _ ls (RunEnds.named what s _ is f) = absurd (not_both_commands words what names.what is names.command)
+  run_shows source SourceRose words entries names _ ls (RunEnds.named what s _ is f) = absurd (not_run_and_show words what names.what is names.command)
+
+-- ---- `code`
+
+module _ (FilesRose : Type 0) (quiet : FilesRose → ⊥) where
+  text_codes : (bytes : List ℕ) (program : Program) (table : List (List ℕ)) → AcceptsProgram bytes fixed_names program table → (s : Status) (ls : List (List ℕ)) → TextCodes bytes s ls → IsShowing s
+  text_codes bytes program table h _ ls (TextCodes.refused r _ n e) = absurd (not_both bytes fixed_names table program r h n)
+  text_codes bytes program table h _ ls (TextCodes.accepted p t _ r l) = tt
+
+  file_codes : (file : List ℕ) (entries : Option (List (List ℕ × List ℕ))) (bytes : List ℕ) (program : Program) (table : List (List ℕ)) → IsFile entries file bytes → length bytes ≤ 16777216
+      → AcceptsProgram bytes fixed_names program table → (s : Status) (ls : List (List ℕ)) → FileCodes file entries FilesRose s ls → IsShowing s
+  file_codes file None bytes program table f short h s ls ends = absurd f
+  file_codes file (Some entries) bytes program table f short h _ ls (FileCodes.fault _ r e) = absurd (quiet r)
+  file_codes file (Some entries) bytes program table f short h _ ls (FileCodes.too_long _ has e) =
+      let same : bytes ≡ has.0 = one_content bytes has.0 (sym f ∙ has.1) in
+      let size : length bytes ≡ length has.0 = ap length same in
+      let long = has.2 in
+      absurd (omega (arith, size, long, short))
+  file_codes file (Some entries) bytes program table f short h _ ls (FileCodes.read other s _ has k ends) =
+      let same : bytes ≡ other = one_content bytes other (sym f ∙ has.1 ∙ ap Some has.2) in
+      text_codes other program table (subst (λ b. AcceptsProgram b fixed_names program table) same h) s ls ends
+
+  other_codes : (words : List (List ℕ)) (entries : Option (List (List ℕ × List ℕ))) → CodesProgram words entries → (s : Status) (ls : List (List ℕ)) → OtherEnds words entries FilesRose s ls → IsShowing s
+  other_codes words entries names _ ls (OtherEnds.usage _ unshown none e) = absurd (none names.wanted names.command)
+  other_codes words entries names _ ls (OtherEnds.shown what s _ is ends) = absurd (not_show_and_code words what names.wanted is names.command)
+  other_codes words entries names _ ls (OtherEnds.coded file s _ is ends) =
+      let same : file ≡ names.wanted = one_code words file names.wanted is names.command in
+      file_codes names.wanted entries names.bytes names.program names.table names.file names.short names.accepted s ls (subst (λ f. FileCodes f entries FilesRose s ls) same ends)
+
+  pub run_codes : (source : Option (List ℕ)) (SourceRose : Type 0) (words : List (List ℕ)) (entries : Option (List (List ℕ × List ℕ))) → CodesProgram words entries → (s : Status) (ls : List (List ℕ))
+      → RunEnds words entries source FilesRose SourceRose s ls → IsShowing s
+  run_codes source SourceRose words entries names _ ls (RunEnds.other s _ none o) = other_codes words entries names s ls o
+  run_codes source SourceRose words entries names _ ls (RunEnds.named what s _ is f) = absurd (not_run_and_code words what names.wanted is names.command)
 
 pub shown_given_up : (before now : ℕ) (s : Status) → (Rises before now → ⊥) → (s ≡ status.NoMemory) ⊎ (s ≡ status.SinkFault) → RunSinkCount before now s → IsShowing s
 shown_given_up before now s calm (inl is) count = subst IsShowing (sym is) tt

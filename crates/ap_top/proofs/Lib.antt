@@ -9,6 +9,9 @@ pub mod Pieces
 pub mod ShowCommands
 pub mod PatternWords
 pub mod ShowLayers
+pub mod TextLines
+pub mod CodeWords
+pub mod CodeLayers
 pub mod Layers
 pub mod Numbers
 pub mod Commands

@@ -19,7 +19,9 @@ use Rattle.ap_top.specs.Refusals.{refusal_line}
 use Rattle.ap_top.specs.ShowWords.{Shown, shown_of, IsShow}
 use Rattle.ap_top.specs.Patterns.{AreEntries}
 use Rattle.ap_top.specs.Shows.{IsPrinted, ProgramShows, TextShows, FileShows}
+use Rattle.ap_top.specs.CodeWords.{IsCode}
 use Rattle.ap_top.specs.Ends.{OtherEnds}
+use Rattle.ap_top.proofs.CodeLayers.{code_status}
 use Rattle.ap_top.specs.Counts.{FilesCount, SourceCount}
 use Rattle.ap_top.specs.declared.show_words.ShowCommand.{ShowCommand}
 use Rattle.ap_top.specs.declared.status.Status.{Status}
@@ -87,8 +89,9 @@ file_status what entries FilesRose _ ls (FileShows.too_long _ r e) = (λ f. cc, 
 file_status what entries FilesRose _ ls (FileShows.read bytes s _ c l t) = let k = text_status what bytes s ls t in (k.1, k.2)
 
 pub other_status : (words : List (List ℕ)) (entries : Option (List (List ℕ × List ℕ))) (FilesRose : Type 0) (s : Status) (ls : List (List ℕ)) → OtherEnds words entries FilesRose s ls → IsQuiet s
-other_status words entries FilesRose _ ls (OtherEnds.usage _ n e) = (λ f. cc, λ f. cc)
+other_status words entries FilesRose _ ls (OtherEnds.usage _ n m e) = (λ f. cc, λ f. cc)
 other_status words entries FilesRose _ ls (OtherEnds.shown what s _ n f) = file_status what entries FilesRose s ls f
+other_status words entries FilesRose _ ls (OtherEnds.coded file s _ n f) = code_status file entries FilesRose s ls f
 
 -- over the bytes of a file that was read, the files' count stays
 pub show_files_kept : (a b : Option (List (List ℕ))) (what : Shown) (bytes : List ℕ) (before now : ℕ) (r : Result Status Halt) → now ≡ before → Finishes a b (TextShows what bytes) r → FilesCount before now r
@@ -125,6 +128,6 @@ other_source_kept a b words entries FilesRose count (Ok status.EntryRefused) put
 pub not_shown : (words : List (List ℕ)) (r : Option ShowCommand) → r ≡ None → ((what : Shown) → IsShow words what → option_map shown_of r ≡ Some what) → (what : Shown) → IsShow words what → ⊥
 not_shown words r e only what is = let none : None ≡ Some what = ap (option_map shown_of) (sym e) ∙ only what is in cc
 
-pub usage : (words : List (List ℕ)) (entries : Option (List (List ℕ × List ℕ))) (FilesRose : Type 0) → ((what : Shown) → IsShow words what → ⊥) →
+pub usage : (words : List (List ℕ)) (entries : Option (List (List ℕ × List ℕ))) (FilesRose : Type 0) → ((what : Shown) → IsShow words what → ⊥) → ((file : List ℕ) → IsCode words file → ⊥) →
     (s : Status) (ls : List (List ℕ)) → (s ≡ status.Usage) × (ls ≡ codes "usage: andprolog run FILE | show FILE | code FILE | load SEED SIZE\n" ∷ []) → OtherEnds words entries FilesRose s ls
-usage words entries FilesRose none s ls h = subst (λ t. OtherEnds words entries FilesRose t ls) (sym h.0) (OtherEnds.usage ls none h.1)
+usage words entries FilesRose unshown uncoded s ls h = subst (λ t. OtherEnds words entries FilesRose t ls) (sym h.0) (OtherEnds.usage ls unshown uncoded h.1)

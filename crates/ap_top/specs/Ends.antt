@@ -15,6 +15,8 @@ use Rattle.ap_top.specs.Words.{Asked, IsCommand}
 use Rattle.ap_top.specs.ShowWords.{Shown, IsShow}
 use Rattle.ap_top.specs.Patterns.{AreEntries}
 use Rattle.ap_top.specs.Shows.{FileShows}
+use Rattle.ap_top.specs.CodeWords.{IsCode}
+use Rattle.ap_top.specs.Codes.{FileCodes}
 use Rattle.ap_top.specs.Status.{status_of}
 use Rattle.ap_top.specs.declared.status.Tally.{Tally}
 use Rattle.ap_top.specs.declared.status.Status.{Status}
@@ -57,8 +59,9 @@ pub data FileEnds (what : Asked) (entries : Option (List (List ℕ × List ℕ))
 
 -- words that aren't a command line of `run`
 pub data OtherEnds (words : List (List ℕ)) (entries : Option (List (List ℕ × List ℕ))) (FilesRose : Type 0) : Status → List (List ℕ) → Type 0 where
-  usage : (lines : List (List ℕ)) → ((what : Shown) → IsShow words what → ⊥) → lines ≡ codes "usage: andprolog run FILE | show FILE | code FILE | load SEED SIZE\n" ∷ [] → OtherEnds words entries FilesRose Usage lines
+  usage : (lines : List (List ℕ)) → ((what : Shown) → IsShow words what → ⊥) → ((file : List ℕ) → IsCode words file → ⊥) → lines ≡ codes "usage: andprolog run FILE | show FILE | code FILE | load SEED SIZE\n" ∷ [] → OtherEnds words entries FilesRose Usage lines
   shown : (what : Shown) (status : Status) (lines : List (List ℕ)) → IsShow words what → FileShows what entries FilesRose status lines → OtherEnds words entries FilesRose status lines
+  coded : (file : List ℕ) (status : Status) (lines : List (List ℕ)) → IsCode words file → FileCodes file entries FilesRose status lines → OtherEnds words entries FilesRose status lines
 
 -- a command line
 pub data RunEnds (words : List (List ℕ)) (entries : Option (List (List ℕ × List ℕ))) (source : Option (List ℕ)) (FilesRose SourceRose : Type 0) : Status → List (List ℕ) → Type 0 where
@@ -106,7 +109,7 @@ pub record NamesProgram (words : List (List ℕ)) (entries : Option (List (List 
   pub short : length bytes ≤ 16777216
   pub accepted : AcceptsProgram bytes fixed_names program table
 
--- where nothing outside failed, a command line that shows a program for an entry ends so
+-- where nothing outside failed, a command line that shows a program for an entry, or its code, ends so
 abbrev pub IsShowing : Status → Type 0
 IsShowing Done = ⊤
 IsShowing NoMemory = ⊤
@@ -124,3 +127,14 @@ pub record ShowsProgram (words : List (List ℕ)) (entries : Option (List (List 
   pub short : length bytes ≤ 16777216
   pub accepted : AcceptsProgram bytes fixed_names program table
   pub entry : AreEntries what.entry program table calls
+
+-- a command line asks for the code of a program, as the files tell
+pub record CodesProgram (words : List (List ℕ)) (entries : Option (List (List ℕ × List ℕ))) : Type 0 where
+  pub wanted : List ℕ
+  pub bytes : List ℕ
+  pub program : Program
+  pub table : List (List ℕ)
+  pub command : IsCode words wanted
+  pub file : IsFile entries wanted bytes
+  pub short : length bytes ≤ 16777216
+  pub accepted : AcceptsProgram bytes fixed_names program table

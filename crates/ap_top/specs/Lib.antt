@@ -10,4 +10,7 @@ pub mod ShowWords
 pub mod ShowParted
 pub mod Patterns
 pub mod Shows
+pub mod TextLines
+pub mod CodeWords
+pub mod Codes
 pub mod Ends

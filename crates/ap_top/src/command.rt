@@ -7,11 +7,13 @@ ghost use Rattle.ap_outside.specs.Halting.{Finishes, SinkCount};
 ghost use Rattle.ap_term.specs.AtomTable.{fixed_names};
 ghost use Rattle.ap_top.specs.Output.{IsOutput, judged};
 ghost use Rattle.ap_top.specs.Words.{Asked, IsCommand, asked_of};
-ghost use Rattle.ap_top.specs.Ends.{IsAnswering, NamesProgram, ShowsProgram, IsShowing, SaysNoMemory, SourceEnds, TextEnds, FileEnds, OtherEnds, RunEnds, Whole};
+ghost use Rattle.ap_top.specs.Ends.{IsAnswering, NamesProgram, ShowsProgram, CodesProgram, IsShowing, SaysNoMemory, SourceEnds, TextEnds, FileEnds, OtherEnds, RunEnds, Whole};
 ghost use Rattle.ap_top.specs.Counts.{EndsSource, RunEndsSource, SourceCount, FilesCount, RunSinkCount, RunSourceCount, RunFilesCount};
 
 use crate::answers::Bounds;
 use crate::closing::close;
+use crate::code::code_file;
+use crate::code_words::coded_by;
 use crate::queries::{print_pieces, print_refusal};
 use crate::show::show_file;
 use crate::show_words::show_command_of;
@@ -153,9 +155,12 @@ fn run_other<F: Files, K: Sink>(
     ensures sink { SinkCount (K.faults out.old) (K.faults out.new) result }
     ensures files { FilesCount (F.faults files.old) (F.faults files.new) result }
 {
-    match show_command_of(words) {
+    if let Some(command) = show_command_of(words) {
+        return show_file(alloc, &command, files, out);
+    }
+    match coded_by(words) {
         None => close(USAGE, Status::Usage, out),
-        Some(command) => show_file(alloc, &command, files, out),
+        Some(file) => code_file(alloc, file, files, out),
     }
 }
 
@@ -202,6 +207,8 @@ fn give_up<K: Sink>(out: &mut K) -> Status
 ///
 /// `show FILE` reads the file as a program and puts a line for each clause, with the groups that may run side by side
 /// in every query that is as the entry says.
+///
+/// `code FILE` reads the file as a program and puts the lines of its code's listing.
 pub fn run<R, F: Files, S: Source, K: Sink, G: Gate>(
     _rt: &R,
     alloc: Global,
@@ -231,6 +238,9 @@ pub fn run<R, F: Files, S: Source, K: Sink, G: Gate>(
     // Where the words show a program for an entry that is a pattern, and nothing outside failed, its lines are put, or
     // memory was wanting.
     ensures shows { ShowsProgram (map (λ w. w.now) words.now) (F.entries files.old) → (Rises (F.faults files.old) (F.faults files.new) → ⊥) → (Rises (K.faults out.old) (K.faults out.new) → ⊥) → IsShowing result }
+
+    // Where the words ask for a program's code, and nothing outside failed, its listing is put, or memory was wanting.
+    ensures codes { CodesProgram (map (λ w. w.now) words.now) (F.entries files.old) → (Rises (F.faults files.old) (F.faults files.new) → ⊥) → (Rises (K.faults out.old) (K.faults out.new) → ⊥) → IsShowing result }
 {
     match run_words(alloc, words, files, queries, out) {
         Ok(status) => status,

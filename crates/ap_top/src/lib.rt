@@ -1,11 +1,14 @@
 //! The top call: from the words of a command line and the outside to a status.
 //!
-//! It stands on the outside, on the reader of clauses, on the search and on the writer of answers, and for `show` on the
-//! annotators. What is used above it is the contract of `run`: which lines are put, and which status they go with.
+//! It stands on the outside, on the reader of clauses, on the search and on the writer of answers, for `show` on the
+//! annotators, and for `code` on the compiler and its check. What is used above it is the contract of `run`: which lines
+//! are put, and which status they go with.
 #![tactic(auto)]
 
 mod answers;
 mod closing;
+mod code;
+mod code_words;
 mod command;
 mod model;
 mod patterns;
@@ -15,6 +18,7 @@ mod show;
 mod show_words;
 mod source;
 mod status;
+mod text_lines;
 mod words;
 
 pub use answers::{BOUNDS, Bounds};
@@ -22,6 +26,8 @@ pub use command::run;
 pub use source::LIMIT;
 pub use status::Status;
 
+#[cfg(test)]
+mod code_tests;
 #[cfg(test)]
 mod show_tests;
 #[cfg(test)]

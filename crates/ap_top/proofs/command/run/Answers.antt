@@ -7,7 +7,7 @@ use Rattle.ap_top.specs.Ends.{RunEnds, Whole}
 use Rattle.ap_top.specs.declared.status.Status.TheVariants as status
 use Rattle.ap_top.specs.Counts.{RunSinkCount}
 use Rattle.ap_top.specs.declared.status.Status.{Status}
-use Rattle.ap_top.proofs.Complete.{run_answers, run_shows, sink_rose, memory_stays, given_up, shown_given_up}
+use Rattle.ap_top.proofs.Complete.{run_answers, run_shows, run_codes, sink_rose, memory_stays, given_up, shown_given_up}
 use Rattle.ap_top.proofs.Layers.{sink_kept, sink_lines, memory_lines, end_given_up}
 use Rattle.ap_top.proofs.command.run.Goals as goal
 
@@ -65,6 +65,21 @@ returns-in-Err-Sink-clause-shows g c = λ names quiet still. absurd (still (sink
 
 pub returns-in-Err-NoMemory-clause-shows : goal.returns-in-Err-NoMemory-clause-shows
 returns-in-Err-NoMemory-clause-shows g c =
+    let before = memory_stays Status _ _ c.in-Err-NoMemory.field-0 c.in-Err-NoMemory.field-0-is c.in-Err-NoMemory.ensures.sink in
+    λ names quiet still. shown_given_up (g.K.Sink.faults c.args.out.now) (g.K.Sink.faults c.give_up.new.out) c.give_up.result still c.give_up.ensures.only
+    (subst (λ n. RunSinkCount n (g.K.Sink.faults c.give_up.new.out) c.give_up.result) before c.give_up.ensures.count)
+
+pub returns-in-Ok-clause-codes : goal.returns-in-Ok-clause-codes
+returns-in-Ok-clause-codes g c =
+    let Fault = Rises (g.F.Files.faults c.args.files.now) (g.F.Files.faults c.run_words.new.files) in
+    let Rose = Rises (g.S.Source.faults c.args.queries.now) (g.S.Source.faults c.run_words.new.queries) in
+    λ names quiet still. run_codes Fault quiet (g.S.Source.left c.args.queries.now) Rose (map (λ w. w.now) c.args.words.now) (g.F.Files.entries c.args.files.now) names c.in-Ok.status c.in-Ok.ensures.lines.0 c.in-Ok.ensures.lines.2
+
+pub returns-in-Err-Sink-clause-codes : goal.returns-in-Err-Sink-clause-codes
+returns-in-Err-Sink-clause-codes g c = λ names quiet still. absurd (still (sink_rose Status _ _ c.in-Err-Sink.field-0 c.in-Err-Sink.field-0-is c.in-Err-Sink.ensures.sink))
+
+pub returns-in-Err-NoMemory-clause-codes : goal.returns-in-Err-NoMemory-clause-codes
+returns-in-Err-NoMemory-clause-codes g c =
     let before = memory_stays Status _ _ c.in-Err-NoMemory.field-0 c.in-Err-NoMemory.field-0-is c.in-Err-NoMemory.ensures.sink in
     λ names quiet still. shown_given_up (g.K.Sink.faults c.args.out.now) (g.K.Sink.faults c.give_up.new.out) c.give_up.result still c.give_up.ensures.only
     (subst (λ n. RunSinkCount n (g.K.Sink.faults c.give_up.new.out) c.give_up.result) before c.give_up.ensures.count)
