@@ -120,6 +120,7 @@ impl Environments {
     pub fn pop(&mut self, y: &mut [u32]) -> Option<u32>
         ensures none { result ≡ None → self.old.returns ≡ [] }
         ensures none_kept { result ≡ None → self.new ≡ self.old }
+        ensures registers_kept { result ≡ None → y.new ≡ y.old }
         ensures some { IfSome result (λ place. (w : Return) × (ws : List Return) × (self.old.returns ≡ w ∷ ws) × (w.place ≡ place) × (self.new ≡ record { returns = ws; moments = self.old.moments }) × ((n : ℕ) → length w.y ≤ length y.old → held y.new n ≡ held w.y n)) }
         ensures len { length y.new ≡ length y.old }
     {
