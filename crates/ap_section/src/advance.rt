@@ -43,14 +43,14 @@ impl Section {
     /// Goes on, without a call, to what is due.
     fn settle(&mut self, code: &Code) -> Result<Due, NoMemory> {
         loop {
-            match self.now {
+            match self.next {
                 Now::Calling(number) => return Ok(Due::Call(number)),
                 Now::Inside(at) => {
                     if let Some(builtin) = builtin_at(code, at) {
                         return Ok(Due::Goal(builtin, at));
                     }
                     self.run(code, at)?;
-                    if let Now::Inside(to) = self.now {
+                    if let Now::Inside(to) = self.next {
                         self.transfer(code, to)?;
                     }
                 }
@@ -95,7 +95,7 @@ impl Section {
                 }
             }
         };
-        self.now = if holds {
+        self.next = if holds {
             Now::Inside(at + 1)
         } else {
             Now::Failed

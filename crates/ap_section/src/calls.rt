@@ -11,17 +11,17 @@ impl Section {
     /// Enters a predicate of the table: a choice point keeps all its clauses, unless there is one alone.
     pub(crate) fn enter(&mut self, code: &Code, number: u32) -> Result<(), NoMemory> {
         let Some(predicate) = code.predicates().get(number as usize).copied() else {
-            self.now = Now::Failed;
+            self.next = Now::Failed;
             return Ok(());
         };
         match first(code, &predicate) {
-            None => self.now = Now::Failed,
+            None => self.next = Now::Failed,
             Some(Alternative {
                 place,
                 behind: None,
             }) => {
                 self.y.fill(0);
-                self.now = Now::Inside(place as usize);
+                self.next = Now::Inside(place as usize);
             }
             Some(Alternative { place, behind }) => {
                 let mark = self.cells.mark();
@@ -34,7 +34,7 @@ impl Section {
                 };
                 let arguments = &self.x[..predicate.arity as usize + 1];
                 self.environments.keep(choice, arguments)?;
-                self.now = Now::Failed;
+                self.next = Now::Failed;
             }
         }
         Ok(())
@@ -96,7 +96,7 @@ impl Section {
             Some(found) => self.environments.set_place(found.place, found.behind),
             None => self.environments.forget(),
         }
-        self.now = Now::Inside(choice.place as usize);
+        self.next = Now::Inside(choice.place as usize);
         Ok(true)
     }
 }

@@ -1,5 +1,11 @@
 //! A section, and what is read of it.
 
+ghost use Rattle.std.specs.Prelude.{◌≡◌, ◌+◌, ◌^◌, ◌<◌, [], ◌∷◌, false, IfOk};
+ghost use Rattle.ap_term.specs.UpToNames.{SameUpToNames};
+ghost use Rattle.ap_cells.specs.Trees.{tree_at, trees};
+ghost use Rattle.ap_steps.specs.Standing.{tuple_under};
+ghost use Rattle.ap_standing.specs.Machine.{failed};
+
 use ap_arith::Pending;
 use ap_cells::{CellMark, Cells, Walk};
 use ap_checks::Comparison;
@@ -8,6 +14,7 @@ use ap_environments::Environments;
 use ap_term::NoMemory;
 use ap_unify::Work;
 use std::alloc::Global;
+use std::marker::Model;
 
 /// What a section does next.
 #[derive(Clone, Copy)]
@@ -32,7 +39,7 @@ pub struct Section {
     pub(crate) y: Vec<u32>,
     /// The places of the tuple.
     pub(crate) roots: Vec<usize>,
-    pub(crate) now: Now,
+    pub(crate) next: Now,
     pub(crate) spent: u64,
     pub(crate) budget: u64,
     pub(crate) room: usize,
@@ -44,29 +51,51 @@ pub struct Section {
     pub(crate) alloc: Global,
 }
 
+impl Model for Section {
+    ghost use Rattle.ap_section.specs.View.{Paused, machine_of};
+    ghost use Rattle.ap_section.specs.Sane.{Sane};
+
+    ghost Value = { Paused };
+
+    ghost view = { λ a. record { machine = machine_of a.cells a.environments a.x.items a.y.items a.roots.items a.next; spent = a.spent; budget = a.budget; room = a.room } };
+
+    ghost invariant = { λ a. Sane a.cells a.environments a.x.items a.y.items a.roots.items };
+}
+
 impl Section {
     /// How many calls were made.
-    pub fn spent(&self) -> u64 {
+    pub fn spent(&self) -> u64
+        ensures { result ≡ self.now.spent }
+    {
         self.spent
     }
 
     /// Leaves so many calls to make.
-    pub fn grant(&mut self, rest: u64) {
-        self.budget = self.spent.saturating_add(rest);
+    pub fn grant(&mut self, rest: u64)
+        requires { self.old.spent + rest < 2 ^ 64 }
+        ensures { self.new ≡ record self.old { budget = self.old.spent + rest } }
+    {
+        self.budget = self.spent + rest;
     }
 
     /// Whether an alternative is left.
-    pub fn has_more(&self) -> bool {
+    pub fn has_more(&self) -> bool
+        ensures { result ≡ false → self.now.machine.points ≡ [] }
+    {
         self.environments.newest().is_some()
     }
 
     /// Leaves the answer at which it stands; the search goes on behind it.
-    pub fn redo(&mut self) {
-        self.now = Now::Failed;
+    pub fn redo(&mut self)
+        ensures { self.new ≡ record self.old { machine = record self.old.machine { now = failed } } }
+    {
+        self.next = Now::Failed;
     }
 
     /// The tuple of the answer at which it stands.
-    pub fn answer(&self) -> Result<Parcelled, NoMemory> {
+    pub fn answer(&self) -> Result<Parcelled, NoMemory>
+        ensures { IfOk result (λ parcel. SameUpToNames parcel (tuple_under (tree_at (trees self.now.machine.cells)) self.now.machine.roots)) }
+    {
         let mut walk = Walk::new(self.alloc);
         copy_out(self.alloc, &self.cells, &self.roots, &mut walk)
     }

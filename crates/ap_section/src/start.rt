@@ -47,7 +47,7 @@ impl Section {
             x,
             y: registers(alloc, widths.y)?,
             roots,
-            now: Now::Calling(predicate),
+            next: Now::Calling(predicate),
             spent: 0,
             budget: rest,
             room: most_room(code)?,
