@@ -1,22 +1,22 @@
 -- What is kept when a store grows and when it goes back.
-use Rattle.std.proofs.Common.{◌≡◌, ℕ, zero, suc, ◌+◌, ◌<◌, ◌≤◌, List, [], ◌∷◌, length, take, drop, map, get_or, set, ◌⊎◌, ◌≢◌, inl, inr, refl, ap, ap₂, sym, ◌∙◌, subst, arith}
+use Rattle.std.proofs.Common.{◌≡◌, ℕ, ◌<◌, ◌≤◌, List, [], ◌∷◌, length, drop, map, get_or, set, ◌⊎◌, ◌≢◌, inl, inr, refl, ap, ap₂, sym, ◌∙◌, subst, arith}
 use Rattle.std.specs.List.{AllByRecursion}
-use Rattle.std.proofs.lemmas.List.{length-take, get_or-take, length-set, drop_all, get_or-set_same, get_or-set_other}
+use Rattle.std.proofs.lemmas.List.{get_or-take, length-set, drop_all, get_or-set_same, get_or-set_other}
 use Rattle.std.proofs.lemmas.Bool.{cases_eq}
 use Rattle.ap_term.specs.Tree.{Tree, atom}
 use Rattle.ap_term.specs.Substitution.{instance}
 use Rattle.ap_cells.specs.declared.cells.Raw.{Raw}
 use Rattle.ap_cells.specs.declared.cells.Raw.TheVariants.{Free, Atom}
-use Rattle.ap_cells.specs.Trees.{tree_at, trees, step, Stand, Finite}
+use Rattle.ap_cells.specs.Trees.{trees, step, Stand, Finite}
 use Rattle.ap_cells.specs.Store.{Store, freed, undone, IsMark, IsStore, Keeps}
 use Rattle.ap_cells.proofs.Rounds.{trees_are}
 use Rattle.ap_match.specs.Fits.{Fits}
-use Rattle.ap_environments.specs.Kept.{Moment, Kept}
+use Rattle.ap_environments.specs.Kept.{Moment}
 use Rattle.ap_steps.specs.Moves.{held, HoldPlaces}
 use Rattle.ap_steps.specs.Standing.{Return}
-use Rattle.ap_standing.specs.Machine.{Point, AreWithin}
+use Rattle.ap_standing.specs.Machine.{AreWithin}
 use Rattle.ap_section.specs.View.{point_of}
-use Rattle.ap_section.specs.Sane.{AreShort, HasBottom, IsMoment, AreMoments, Sane}
+use Rattle.ap_section.specs.Sane.{HasBottom, IsMoment, AreMoments}
 
 -- ---- more places
 

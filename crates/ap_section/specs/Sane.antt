@@ -2,7 +2,7 @@
 use Rattle.std.specs.Prelude.{◌≡◌, ℕ, ◌<◌, ◌≤◌, List, [], ◌∷◌, length}
 use Rattle.std.specs.List.{AllByRecursion}
 use Rattle.ap_cells.specs.declared.cells.Raw.TheVariants.{Atom}
-use Rattle.ap_cells.specs.Store.{Store, undone, IsMark, IsStore}
+use Rattle.ap_cells.specs.Store.{Store, undone, IsMark}
 use Rattle.ap_environments.specs.Kept.{Moment, Kept}
 use Rattle.ap_steps.specs.Moves.{HoldPlaces}
 use Rattle.ap_steps.specs.Standing.{Return}
