@@ -5,14 +5,8 @@
 //! the model's list of states after as many turns as were counted.
 #![tactic(auto)]
 
-mod advance;
 mod calls;
-mod control;
+mod goals;
 mod section;
-mod start;
 
-pub use advance::{Hook, Turn};
 pub use section::Section;
-
-#[cfg(test)]
-mod tests;
