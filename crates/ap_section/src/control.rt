@@ -12,7 +12,7 @@ ghost use Rattle.ap_standing.specs.Machine.{inside, returning};
 ghost use Rattle.ap_standing.specs.Holds.{Holds};
 ghost use Rattle.ap_standing.specs.Laws.{KeepsStanding};
 ghost use Rattle.ap_section.specs.View.{IsFor};
-ghost use Rattle.ap_section.specs.Turns.{Stays};
+ghost use Rattle.ap_section.specs.Choices.{Stays};
 
 use crate::section::{Now, Section};
 use ap_cells::Cells;

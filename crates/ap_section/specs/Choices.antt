@@ -47,3 +47,8 @@ pub record LeavesOut (code : Compiled) (m : Machine) (ls rest : List ℕ) : Type
 abbrev pub alternatives : Compiled → List Point → ℕ
 alternatives code [] = 0
 alternatives code (q ∷ qs) = length (places code q) + alternatives code qs
+
+-- the choice points where of the newest one an alternative, and those behind it, are left
+abbrev pub points_left : Option Alternative → Point → List Point → List Point
+points_left None q qs = qs
+points_left (Some a) q qs = record q { place = a.place; behind = a.behind } ∷ qs
