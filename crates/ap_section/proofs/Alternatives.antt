@@ -1,25 +1,14 @@
 -- Choice points as their section's caller sees them, and what is left of their clauses.
-use Rattle.std.proofs.Common.{◌≡◌, ℕ, zero, suc, ◌+◌, ◌<◌, ◌≤◌, Bool, true, false, List, [], ◌∷◌, ◌++◌, length, take, drop, map, Option, Some, None, slice_get, refl, ap, sym, ◌∙◌, subst, arith}
+use Rattle.std.proofs.Common.{◌≡◌, ℕ, suc, ◌<◌, List, ◌∷◌, ◌++◌, length, take, drop, refl, ap, sym, ◌∙◌, subst, arith}
 use Rattle.std.proofs.lemmas.List.{take-append-le, take_all}
-use Rattle.ap_term.specs.Goals.{Program}
-use Rattle.ap_term.specs.WellFormed.{IsProgram}
-use Rattle.ap_term.specs.Search.{State}
-use Rattle.ap_instr.specs.declared.compiled.Predicate.{Predicate}
 use Rattle.ap_instr.specs.Code.{Compiled}
-use Rattle.ap_instr.specs.StandsFor.{StandsFor, clause_places}
-use Rattle.ap_control.specs.declared.alternatives.Alternative.{Alternative}
-use Rattle.ap_cells.specs.declared.cells.Raw.{Raw}
 use Rattle.ap_steps.specs.Moves.{held, IsStuck}
 use Rattle.ap_steps.specs.Ways.{AllHaveTargets, steps_from}
-use Rattle.ap_steps.specs.Standing.{Return}
-use Rattle.ap_standing.specs.Machine.{Point, calling, inside, failed, Machine, places_from, places}
-use Rattle.ap_standing.specs.Holds.{HoldsPoints, HoldsRest, Holds, Turned}
-use Rattle.ap_standing.specs.Laws.{machine, IsTurn}
-use Rattle.ap_standing.proofs.Calls.{turned, taken, skipped, renamed}
-use Rattle.ap_standing.proofs.Turns.{rest-none}
-use Rattle.ap_standing.proofs.Machines.{points-failed, failed-points}
+use Rattle.ap_standing.specs.Machine.{Point, Machine}
+use Rattle.ap_standing.specs.Holds.{HoldsRest}
+use Rattle.ap_standing.proofs.Calls.{skipped}
 use Rattle.ap_section.specs.View.{Paused, IsFor}
-use Rattle.ap_section.specs.Choices.{Stays, AtNewest, Returned, LeavesOut, places_of, alternatives}
+use Rattle.ap_section.specs.Choices.{Stays, AtNewest, Returned, LeavesOut}
 
 pub Stays-trans : (s t u : Paused) → Stays s t → Stays t u → Stays s u
 Stays-trans s t u h k = record { x = k.x ∙ h.x; y = k.y ∙ h.y; roots = k.roots ∙ h.roots; spent = k.spent ∙ h.spent; budget = k.budget ∙ h.budget; room = k.room ∙ h.room }

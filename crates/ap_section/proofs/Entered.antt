@@ -1,5 +1,5 @@
 -- A call, and the clause that is taken next.
-use Rattle.std.proofs.Common.{◌≡◌, ℕ, suc, ◌+◌, ◌<◌, ◌≤◌, List, [], ◌∷◌, length, take, map, Option, Some, None, slice_get, refl, ap, sym, ◌∙◌, subst, arith}
+use Rattle.std.proofs.Common.{◌≡◌, ℕ, ◌+◌, ◌<◌, ◌≤◌, List, [], ◌∷◌, length, take, map, Option, Some, None, slice_get, refl, ap, sym, ◌∙◌, subst, arith}
 use Rattle.std.proofs.lemmas.List.{get_or-take}
 use Rattle.ap_term.specs.Goals.{Program}
 use Rattle.ap_term.specs.WellFormed.{IsProgram}
@@ -11,14 +11,13 @@ use Rattle.ap_instr.specs.StandsFor.{StandsFor, clause_places}
 use Rattle.ap_steps.specs.Moves.{held}
 use Rattle.ap_steps.specs.Standing.{Return}
 use Rattle.ap_standing.specs.Machine.{Point, calling, inside, failed, Machine, places_from, places}
-use Rattle.ap_standing.specs.Holds.{AreOpen, HoldsPoints, HoldsRest, Holds, Turned}
+use Rattle.ap_standing.specs.Holds.{AreOpen, HoldsPoints, HoldsRest, Holds}
 use Rattle.ap_standing.specs.Laws.{machine, IsTurn, KeepsStanding, SameArguments}
 use Rattle.ap_standing.proofs.Calls.{turned, taken, renamed}
 use Rattle.ap_standing.proofs.Turns.{rest-none}
 use Rattle.ap_standing.proofs.Machines.{points-failed, failed-points}
 use Rattle.ap_cells.specs.Store.{Store, undone}
 use Rattle.ap_environments.specs.Kept.{Kept}
-use Rattle.ap_environments.specs.declared.environments.Choice.{Choice}
 use Rattle.ap_section.specs.declared.section.Now.{Now as Kind}
 use Rattle.ap_section.specs.declared.section.Now.TheVariants.{Inside, Failed}
 use Rattle.ap_section.specs.View.{Paused, now_of, point_of, machine_of}

@@ -1,5 +1,5 @@
 -- A store since a mark.
-use Rattle.std.proofs.Common.{◌≡◌, ℕ, ◌≤◌, List, length, drop, take, refl, ap, sym, ◌∙◌, subst, arith}
+use Rattle.std.proofs.Common.{◌≡◌, ℕ, ◌≤◌, length, drop, take, ap, sym, ◌∙◌, subst, arith}
 use Rattle.ap_cells.specs.Store.{Store, freed, undone, IsMark, IsTrail, Keeps}
 use Rattle.ap_control.proofs.Marks.{mark-whole}
 

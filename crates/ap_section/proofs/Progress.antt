@@ -1,15 +1,13 @@
 -- Moves and turns, one behind another.
-use Rattle.std.proofs.Common.{◌≡◌, ℕ, zero, suc, ◌+◌, ◌<◌, ◌≤◌, List, [], ◌∷◌, ◌++◌, length, drop, slice_get, Option, Some, None, refl, ap, sym, ◌∙◌, subst, arith}
+use Rattle.std.proofs.Common.{◌≡◌, ℕ, zero, suc, ◌+◌, ◌<◌, ◌≤◌, List, [], ◌∷◌, ◌++◌, length, drop, slice_get, None, refl, ap, sym, ◌∙◌, subst, arith}
 use Rattle.ap_term.specs.Goals.{Program}
 use Rattle.ap_term.specs.WellFormed.{IsProgram}
 use Rattle.ap_term.specs.Search.{State, children}
 use Rattle.ap_term.specs.Tree.{Trees}
-use Rattle.ap_instr.specs.declared.compiled.Predicate.{Predicate}
 use Rattle.ap_instr.specs.Code.{Compiled}
 use Rattle.ap_instr.specs.StandsFor.{StandsFor}
-use Rattle.ap_steps.specs.Moves.{held}
 use Rattle.ap_steps.specs.Ways.{AllHaveTargets, room}
-use Rattle.ap_standing.specs.Machine.{Now, calling, failed, Machine, standing}
+use Rattle.ap_standing.specs.Machine.{calling, failed, Machine, standing}
 use Rattle.ap_standing.specs.Holds.{AtCallOf, SetAt, SetOf, Holds, Turned}
 use Rattle.ap_standing.specs.Laws.{KeepsStanding, IsTurn}
 use Rattle.ap_standing.proofs.Machines.{holds-failed}

@@ -1,15 +1,14 @@
 -- The section at its newest choice point again.
-use Rattle.std.proofs.Common.{◌≡◌, ℕ, ◌≤◌, List, [], ◌∷◌, length, map, refl, ap, ap₂, sym, ◌∙◌, subst, arith}
-use Rattle.ap_cells.specs.Store.{Store, undone, IsMark, Keeps}
+use Rattle.std.proofs.Common.{◌≡◌, ℕ, List, ◌∷◌, length, map, ap, sym, ◌∙◌, subst}
+use Rattle.ap_cells.specs.Store.{Store, IsMark, Keeps}
 use Rattle.ap_environments.specs.Kept.{Moment, Kept}
-use Rattle.ap_steps.specs.Moves.{held, HoldPlaces}
 use Rattle.ap_standing.specs.Machine.{Point}
 use Rattle.ap_section.specs.declared.section.Now.{Now as Kind}
-use Rattle.ap_section.specs.View.{Paused, now_of, point_of, machine_of}
+use Rattle.ap_section.specs.View.{Paused, point_of, machine_of}
 use Rattle.ap_section.specs.Sane.{AreMoments, Sane}
 use Rattle.ap_section.specs.Back.{CanGoBack, WentBack}
-use Rattle.ap_section.specs.Choices.{Stays, AtNewest, Returned}
-use Rattle.ap_section.proofs.Kept.{AreMoments-now, points-keep, HasBottom-keeps}
+use Rattle.ap_section.specs.Choices.{Returned}
+use Rattle.ap_section.proofs.Kept.{AreMoments-now, HasBottom-keeps}
 use Rattle.ap_section.proofs.Sanity.{some-moment, can-go-back, points-same, Sane-back, points-stay}
 
 -- from v by way of w, which keeps the marks of v, to u

@@ -1,5 +1,5 @@
 -- What always holds of a section goes on to hold.
-use Rattle.std.proofs.Common.{◌≡◌, ℕ, zero, suc, ◌+◌, ◌<◌, ◌≤◌, List, [], ◌∷◌, length, take, map, replicate, Option, None, Some, refl, ap, ap₂, sym, ◌∙◌, subst, arith}
+use Rattle.std.proofs.Common.{◌≡◌, ℕ, zero, suc, ◌<◌, ◌≤◌, List, [], ◌∷◌, length, take, map, replicate, Option, None, Some, refl, ap, ap₂, sym, ◌∙◌, subst, arith}
 use Rattle.std.specs.List.{AllByRecursion}
 use Rattle.std.specs.Option.{IfSome}
 use Rattle.ap_cells.specs.Store.{Store, undone, IsMark, IsTrail, Keeps}
@@ -11,7 +11,7 @@ use Rattle.ap_steps.specs.Standing.{Return}
 use Rattle.ap_standing.specs.Machine.{Point, AreWithin}
 use Rattle.ap_section.specs.declared.section.Now.{Now as Kind}
 use Rattle.ap_section.specs.View.{Paused, now_of, point_of, machine_of}
-use Rattle.ap_section.specs.Sane.{AreShort, HasBottom, IsMoment, AreMoments, Sane}
+use Rattle.ap_section.specs.Sane.{AreShort, HasBottom, AreMoments, Sane}
 use Rattle.ap_section.specs.Back.{CanGoBack, WentBack}
 use Rattle.ap_section.proofs.Kept.{HoldPlaces-more, AreWithin-more, inside-more, AreMoments-now, points-keep, HasBottom-keeps, AreMoments-back, points-back, HasBottom-back}
 

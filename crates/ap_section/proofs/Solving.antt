@@ -1,5 +1,5 @@
 -- A built-in goal is a turn, whatever it is.
-use Rattle.std.proofs.Common.{◌≡◌, ℕ, ◌+◌, ◌<◌, Bool, true, false, List, [], ◌∷◌, length, map, slice_get, Some, Result, Ok, Err, refl, ap, ap₂, sym, ◌∙◌, subst}
+use Rattle.std.proofs.Common.{◌≡◌, ℕ, ◌<◌, Bool, List, length, map, slice_get, Some, Result, Ok, Err, ap, ap₂, sym, ◌∙◌, subst}
 use Rattle.std.specs.List.{AllByRecursion}
 use Rattle.std.specs.Prelude.{OnErr}
 use Rattle.ap_cells.specs.Store.{Store, Keeps}
@@ -13,7 +13,7 @@ use Rattle.ap_instr.specs.declared.instruction.Instr.TheVariants.{Builtin as bui
 use Rattle.ap_instr.specs.Code.{Compiled}
 use Rattle.ap_steps.specs.Moves.{held, HoldPlaces}
 use Rattle.ap_steps.specs.Standing.{Return}
-use Rattle.ap_standing.specs.Machine.{Point, Now, inside, failed, Machine, AreWithin}
+use Rattle.ap_standing.specs.Machine.{Point, Now, inside, Machine, AreWithin}
 use Rattle.ap_standing.specs.Laws.{machine, IsTurn, behind_goal}
 use Rattle.ap_standing.proofs.Builtins.{solved-turn, true-turn, fail-turn}
 use Rattle.ap_standing.proofs.Machines.{steps-at}

@@ -1,4 +1,4 @@
-use Rattle.std.proofs.Common.{◌≡◌, ℕ, length}
+use Rattle.std.proofs.Common.{length}
 use Rattle.ap_section.proofs.Sanity.{went-back, few-arguments}
 use Rattle.ap_section.proofs.calls.back_to_newest.Goals as goal
 

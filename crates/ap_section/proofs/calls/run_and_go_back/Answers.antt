@@ -1,4 +1,4 @@
-use Rattle.std.proofs.Common.{◌≡◌, ℕ, ◌≤◌, length, arith}
+use Rattle.std.proofs.Common.{◌≤◌, length, arith}
 use Rattle.ap_section.proofs.calls.run_and_go_back.Goals as goal
 
 pub back_to_newest-requires : goal.back_to_newest-requires

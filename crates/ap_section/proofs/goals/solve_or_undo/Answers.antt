@@ -1,4 +1,4 @@
-use Rattle.std.proofs.Common.{◌≡◌, ◌≤◌, length, ap, arith}
+use Rattle.std.proofs.Common.{◌≤◌, length, ap, arith}
 use Rattle.ap_control.proofs.Marks.{Keeps-trans, back-to}
 use Rattle.ap_section.proofs.Marked.{Keeps-same, no-fewer}
 use Rattle.ap_section.proofs.goals.solve_or_undo.Goals as goal

@@ -1,5 +1,5 @@
-use Rattle.std.proofs.Common.{◌≡◌, List, ◌∷◌, ap, sym, ◌∙◌, subst}
-use Rattle.ap_section.specs.View.{Paused, machine_of, now_of, point_of}
+use Rattle.std.proofs.Common.{ap, ◌∙◌}
+use Rattle.ap_section.specs.View.{Paused}
 use Rattle.ap_section.proofs.Sanity.{some-moment, Sane-forgotten, points-forgotten}
 use Rattle.ap_section.proofs.section.Section.forget.Goals as goal
 

@@ -1,4 +1,4 @@
-use Rattle.std.proofs.Common.{◌≡◌, ℕ, List, length, ap, sym, ◌∙◌, subst}
+use Rattle.std.proofs.Common.{ℕ, List, length, ap, sym, ◌∙◌, subst}
 use Rattle.ap_control.proofs.Marks.{Keeps-refl}
 use Rattle.ap_section.specs.Back.{CanGoBack}
 use Rattle.ap_section.proofs.Alternatives.{written}

@@ -1,4 +1,3 @@
-use Rattle.std.proofs.Common.{◌≡◌, List, ◌∷◌, ap, sym, ◌∙◌, subst}
 use Rattle.ap_section.proofs.Sanity.{newest-of}
 use Rattle.ap_section.proofs.section.Section.newest.Goals as goal
 

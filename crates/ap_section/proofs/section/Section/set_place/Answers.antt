@@ -1,4 +1,4 @@
-use Rattle.std.proofs.Common.{◌≡◌, List, ◌∷◌, ap, sym, ◌∙◌, subst}
+use Rattle.std.proofs.Common.{ap, ◌∙◌}
 use Rattle.ap_section.specs.View.{Paused}
 use Rattle.ap_section.proofs.Sanity.{some-moment, Sane-renamed, points-renamed}
 use Rattle.ap_section.proofs.section.Section.set_place.Goals as goal

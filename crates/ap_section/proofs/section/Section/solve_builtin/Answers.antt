@@ -1,4 +1,3 @@
-use Rattle.std.proofs.Common.{◌≡◌}
 use Rattle.ap_section.proofs.Sanity.{Sane-keeps}
 use Rattle.ap_section.proofs.Solving.{kept-on-err, view-kept, turn-of-goal}
 use Rattle.ap_section.proofs.section.Section.solve_builtin.Goals as goal
