@@ -1,0 +1,165 @@
+-- A call, and the clause that is taken next.
+use Rattle.std.proofs.Common.{◌≡◌, ℕ, ◌+◌, ◌<◌, ◌≤◌, List, [], ◌∷◌, length, take, map, Option, Some, None, slice_get, refl, ap, sym, ◌∙◌, subst, arith}
+use Rattle.std.proofs.lemmas.List.{get_or-take}
+use Rattle.ap_term.specs.Goals.{Program}
+use Rattle.ap_term.specs.WellFormed.{IsProgram}
+use Rattle.ap_term.specs.Search.{State}
+use Rattle.ap_cells.specs.declared.cells.Raw.{Raw}
+use Rattle.ap_instr.specs.declared.compiled.Predicate.{Predicate}
+use Rattle.ap_instr.specs.Code.{Compiled}
+use Rattle.ap_instr.specs.StandsFor.{StandsFor, clause_places}
+use Rattle.ap_steps.specs.Moves.{held}
+use Rattle.ap_steps.specs.Standing.{Return}
+use Rattle.ap_standing.specs.Machine.{Point, calling, inside, failed, Machine, places_from, places}
+use Rattle.ap_standing.specs.Holds.{AreOpen, HoldsPoints, HoldsRest, Holds}
+use Rattle.ap_standing.specs.Laws.{machine, IsTurn, KeepsStanding, SameArguments}
+use Rattle.ap_standing.proofs.Calls.{turned, taken, renamed}
+use Rattle.ap_standing.proofs.Turns.{rest-none}
+use Rattle.ap_standing.proofs.Machines.{points-failed, failed-points}
+use Rattle.ap_cells.specs.Store.{Store, undone}
+use Rattle.ap_environments.specs.Kept.{Kept}
+use Rattle.ap_section.specs.declared.section.Now.{Now as Kind}
+use Rattle.ap_section.specs.declared.section.Now.TheVariants.{Inside, Failed}
+use Rattle.ap_section.specs.View.{Paused, now_of, point_of, machine_of}
+use Rattle.ap_section.proofs.Solving.{IsTurn-from}
+use Rattle.ap_control.specs.declared.alternatives.Alternative.{Alternative}
+use Rattle.ap_section.specs.Choices.{Stays, AtNewest, Returned, LeavesOut, places_of, points_left, alternatives}
+use Rattle.ap_section.proofs.Alternatives.{Returned-trans}
+
+module _ (code : Compiled) (cs : List Raw) (x y : List ℕ) (ws : List Return) (roots : List ℕ) (qs : List Point) (number : ℕ)
+    (q : Predicate) (known : slice_get code.predicates number ≡ Some q) (p : Program) (good : IsProgram p) (stands : StandsFor code p) where
+  abbrev before : Machine
+  before = machine cs x y ws roots qs (calling number)
+
+  pub entered-none : clause_places code q ≡ [] → IsTurn code p before (machine cs x y ws roots qs failed)
+  entered-none e ss h =
+      let point : Point = record { cells = cs; returns = ws; arguments = x; predicate = number; place = 0; behind = None } in
+      let t = turned code roots qs p good stands q point known x y (λ w a b. refl) ss h in
+      let r : HoldsRest code roots point [] qs t.0 = subst (λ ls. HoldsRest code roots point ls qs t.0) e t.2 in
+      (t.0, t.1, points-failed code (machine cs x y ws roots qs failed) refl h.5 t.0 (rest-none code roots point qs t.0 r))
+
+  pub entered-one : (l : ℕ) (behind : Option ℕ) → clause_places code q ≡ l ∷ places_from code behind → behind ≡ None → IsTurn code p before (machine cs x y ws roots qs (inside l))
+  entered-one l behind e alone ss h =
+      let point : Point = record { cells = cs; returns = ws; arguments = x; predicate = number; place = 0; behind = None } in
+      let t = turned code roots qs p good stands q point known x y (λ w a b. refl) ss h in
+      let r : HoldsRest code roots point (l ∷ []) qs t.0 = subst (λ ls. HoldsRest code roots point ls qs t.0) (e ∙ ap (λ o. l ∷ places_from code o) alone) t.2 in
+      (t.0, t.1, taken code roots qs point l [] qs x y (λ n w a b. refl) (λ left u. rest-none code roots point qs left u) t.0 r)
+
+  pub entered-many : (us : List Raw) → us ≡ cs → (args : List ℕ) → args ≡ take (q.arity + 1) x → (place : ℕ) (behind : Option ℕ) → clause_places code q ≡ place ∷ places_from code behind
+      → IsTurn code p before (machine cs x y ws roots (record { cells = us; returns = ws; arguments = args; predicate = number; place = place; behind = behind } ∷ qs) failed)
+  entered-many us eu args ea place behind e ss h =
+      let point : Point = record { cells = cs; returns = ws; arguments = take (q.arity + 1) x; predicate = number; place = place; behind = behind } in
+      let other : Point = record { cells = us; returns = ws; arguments = args; predicate = number; place = place; behind = behind } in
+      let same : SameArguments q.arity (held x) (held point.arguments) = λ w a b. sym (get_or-take (q.arity + 1) x w 0 b) in
+      let t = turned code roots qs p good stands q point known x y same ss h in
+      let r : HoldsRest code roots point (places code other) qs t.0 = subst (λ ls. HoldsRest code roots point ls qs t.0) e t.2 in
+      (t.0, t.1, points-failed code (machine cs x y ws roots (other ∷ qs) failed) refl h.5 t.0 (renamed code roots qs point other eu refl ea refl (places code other) t.0 r))
+
+-- ---- the next clause of the newest choice point
+
+module _ (code : Compiled) (s u : Paused) (back : Returned s u) (due : s.machine.now ≡ failed) (q : Point) (qs : List Point) (is : s.machine.points ≡ q ∷ qs) where
+  at : AtNewest u.machine
+  at = back.at
+
+  same : at.point ≡ q
+  same = let e : at.point ∷ at.others ≡ q ∷ qs = sym at.points ∙ back.points ∙ is in cc
+
+  left-of : (ss : List State) → Holds code s.machine ss → HoldsRest code u.machine.roots q (places code q) qs ss
+  left-of ss h =
+      subst (λ rs. HoldsPoints code rs (q ∷ qs) ss) (sym back.stays.roots)
+      (subst (λ ps. HoldsPoints code s.machine.roots ps ss) is (failed-points code s.machine due ss h))
+
+  pub still-failed : KeepsStanding code s.machine u.machine
+  still-failed ss h =
+      let l = left-of ss h in
+      let opens : AreOpen code u.machine.returns = subst (AreOpen code) (sym (at.returns ∙ ap (λ (p : Point). p.returns) same)) l.0.open_returns in
+      points-failed code u.machine (back.now ∙ due) opens ss (subst (λ ps. HoldsPoints code u.machine.roots ps ss) (sym (back.points ∙ is)) l)
+
+  pub retaken : (t : Paused) → Returned s t → Returned t u → (rest : List ℕ) → LeavesOut code t.machine (places_from code q.behind) rest → (points : List Point)
+      → ((left : List State) → HoldsRest code u.machine.roots q rest qs left → HoldsPoints code u.machine.roots points left) → (place : ℕ) → q.place ≡ place
+      → KeepsStanding code s.machine (machine u.machine.cells u.machine.x u.machine.y u.machine.returns u.machine.roots points (inside place))
+  retaken t first second rest out points keep place ep ss h =
+      let roots : List ℕ = u.machine.roots in
+      let keeps : (left : List State) → HoldsRest code roots q (places_from code q.behind) qs left → HoldsRest code roots q rest qs left =
+      subst (λ rs. (left : List State) → HoldsRest code rs q (places_from code q.behind) qs left → HoldsRest code rs q rest qs left) (sym second.stays.roots) (out.keeps q qs (first.points ∙ is))
+      in
+      let t = taken code roots qs q q.place (places_from code q.behind) points u.machine.x u.machine.y (λ n w a b. at.x w ∙ ap (λ (p : Point). held p.arguments w) same) (λ left r. keep left (keeps left r)) ss (left-of ss h) in
+      subst (λ l. Holds code (machine u.machine.cells u.machine.x u.machine.y u.machine.returns roots points (inside l)) ss) ep
+      (subst (λ cs. Holds code (machine cs u.machine.x u.machine.y u.machine.returns roots points (inside q.place)) ss) (sym (at.cells ∙ ap (λ (p : Point). p.cells) same))
+      (subst (λ ws. Holds code (machine q.cells u.machine.x u.machine.y ws roots points (inside q.place)) ss) (sym (at.returns ∙ ap (λ (p : Point). p.returns) same)) t))
+
+-- what the other clauses' places are called
+pub named-anew : (code : Compiled) (roots : List ℕ) (q : Point) (qs : List Point) (place : ℕ) (behind : Option ℕ) (left : List State)
+    → HoldsRest code roots q (place ∷ places_from code behind) qs left → HoldsPoints code roots (record q { place = place; behind = behind } ∷ qs) left
+named-anew code roots q qs place behind left h = renamed code roots qs q (record q { place = place; behind = behind }) refl refl refl refl (place ∷ places_from code behind) left h
+
+-- ---- the section behind a call
+
+module _ (v : Store) (k : Kept) (x y roots : List ℕ) (next : Kind) (spent budget room : ℕ) (s : Paused)
+    (view : record { machine = machine_of v k x y roots next; spent = spent; budget = budget; room = room } ≡ s)
+    (code : Compiled) (number : ℕ) (due : s.machine.now ≡ calling number) (predicate : Predicate) (found : Some predicate ≡ slice_get code.predicates number)
+    (p : Program) (q : Predicate) (known : slice_get code.predicates number ≡ Some q) (good : IsProgram p) (stands : StandsFor code p) where
+  same-predicate : predicate ≡ q
+  same-predicate = let e : Some predicate ≡ Some q = found ∙ known in cc
+
+  enters : (m' : Machine) → IsTurn code p (machine v.cells x y k.returns roots (map (point_of v) k.moments) (calling number)) m' → IsTurn code p s.machine m'
+  enters m' t = IsTurn-from code p s.machine v.cells x y k.returns roots (map (point_of v) k.moments) (now_of next) (calling number) m' (ap (λ (t : Paused). t.machine) view) due t
+
+  pub turns-to-none : clause_places code predicate ≡ [] → IsTurn code p s.machine (machine_of v k x y roots Failed)
+  turns-to-none e =
+      enters (machine_of v k x y roots Failed)
+      (entered-none code v.cells x y k.returns roots (map (point_of v) k.moments) number q known p good stands (ap (clause_places code) (sym same-predicate) ∙ e))
+
+  pub turns-to-one : (l : ℕ) (behind : Option ℕ) → clause_places code predicate ≡ l ∷ places_from code behind → behind ≡ None → IsTurn code p s.machine (machine_of v k x y roots (Inside l))
+  turns-to-one l behind e alone =
+      enters (machine_of v k x y roots (Inside l))
+      (entered-one code v.cells x y k.returns roots (map (point_of v) k.moments) number q known p good stands l behind (ap (clause_places code) (sym same-predicate) ∙ e) alone)
+
+  pub turns-to-many : (cells trail place : ℕ) (behind : Option ℕ) (args : List ℕ) (l : Kept)
+      → l ≡ record { returns = k.returns; moments = record { choice = record { cells = cells; trail = trail; predicate = number; place = place; behind = behind }; returns = k.returns; arguments = args } ∷ k.moments }
+      → undone v cells trail ≡ v.cells → args ≡ take (predicate.arity + 1) x → clause_places code predicate ≡ place ∷ places_from code behind
+      → IsTurn code p s.machine (machine_of v l x y roots Failed)
+  turns-to-many cells trail place behind args l el leads ea e =
+      subst (λ j. IsTurn code p s.machine (machine_of v j x y roots Failed)) (sym el)
+      (enters (machine_of v (record { returns = k.returns; moments = record { choice = record { cells = cells; trail = trail; predicate = number; place = place; behind = behind }; returns = k.returns; arguments = args } ∷ k.moments }) x y roots Failed)
+      (entered-many code v.cells x y k.returns roots (map (point_of v) k.moments) number q known p good stands (undone v cells trail) leads args
+      (ea ∙ ap (λ (r : Predicate). take (r.arity + 1) x) same-predicate) place behind (ap (clause_places code) (sym same-predicate) ∙ e)))
+
+module _ (code : Compiled) (s t u n r : Paused) (q : Point) (qs : List Point) (is : s.machine.points ≡ q ∷ qs) (due : s.machine.now ≡ failed) (first : Returned s t) (second : Returned t u)
+    (behind : Option ℕ) (eb : q.behind ≡ behind) (place : ℕ) (ep : q.place ≡ place) (found : Option Alternative) (out : LeavesOut code t.machine (places_from code behind) (places_of code found))
+    (en : (q : Point) (qs : List Point) → u.machine.points ≡ q ∷ qs → n ≡ record u { machine = record u.machine { points = points_left found q qs } })
+    (er : r ≡ record n { machine = record n.machine { now = inside place } }) where
+  back : Returned s u
+  back = Returned-trans s t u first second
+
+  left-out : LeavesOut code t.machine (places_from code q.behind) (places_of code found)
+  left-out = subst (λ o. LeavesOut code t.machine (places_from code o) (places_of code found)) (sym eb) out
+
+  abbrev whole : Paused
+  whole = record u { machine = machine u.machine.cells u.machine.x u.machine.y u.machine.returns u.machine.roots (points_left found q qs) (inside place) }
+
+  is-whole : r ≡ whole
+  is-whole = er ∙ ap (λ (n : Paused). record n { machine = record n.machine { now = inside place } }) (en q qs (back.points ∙ is))
+
+  keep : (roots : List ℕ) (found : Option Alternative) (left : List State) → HoldsRest code roots q (places_of code found) qs left → HoldsPoints code roots (points_left found q qs) left
+  keep roots None left h = rest-none code roots q qs left h
+  keep roots (Some a) left h = named-anew code roots q qs a.place a.behind left h
+
+  pub retried-holds : KeepsStanding code s.machine r.machine
+  retried-holds =
+      subst (λ (w : Paused). KeepsStanding code s.machine w.machine) (sym is-whole)
+      (retaken code s u back due q qs is t first second (places_of code found) left-out (points_left found q qs) (keep u.machine.roots found) place ep)
+
+  fewer : (found : Option Alternative) → length (places_of code found) ≤ length (places_from code q.behind) → alternatives code (points_left found q qs) < alternatives code (q ∷ qs)
+  fewer None l = omega arith
+  fewer (Some a) l = omega arith
+
+  pub retried-fewer : alternatives code r.machine.points < alternatives code s.machine.points
+  retried-fewer =
+      subst (λ (w : Paused). alternatives code w.machine.points < alternatives code s.machine.points) (sym is-whole)
+      (subst (λ ps. alternatives code (points_left found q qs) < alternatives code ps) (sym is) (fewer found left-out.fewer))
+
+  pub retried-stays : Stays s r
+  retried-stays =
+      subst (Stays s) (sym is-whole)
+      (record { x = back.stays.x; y = back.stays.y; roots = back.stays.roots; spent = back.stays.spent; budget = back.stays.budget; room = back.stays.room })

@@ -1,0 +1,71 @@
+-- The section at its newest choice point again.
+use Rattle.std.proofs.Common.{◌≡◌, ℕ, List, ◌∷◌, length, map, ap, sym, ◌∙◌, subst}
+use Rattle.ap_cells.specs.Store.{Store, IsMark, Keeps}
+use Rattle.ap_environments.specs.Kept.{Moment, Kept}
+use Rattle.ap_standing.specs.Machine.{Point}
+use Rattle.ap_section.specs.declared.section.Now.{Now as Kind}
+use Rattle.ap_section.specs.View.{Paused, point_of, machine_of}
+use Rattle.ap_section.specs.Sane.{AreMoments, Sane}
+use Rattle.ap_section.specs.Back.{CanGoBack, WentBack}
+use Rattle.ap_section.specs.Choices.{Returned}
+use Rattle.ap_section.proofs.Kept.{AreMoments-now, HasBottom-keeps}
+use Rattle.ap_section.proofs.Sanity.{some-moment, can-go-back, points-same, Sane-back, points-stay}
+
+-- from v by way of w, which keeps the marks of v, to u
+module _ (v w u : Store) (k l : Kept) (x y x' y' roots : List ℕ) (next : Kind) (spent budget room : ℕ) (s : Paused)
+    (view : record { machine = machine_of v k x y roots next; spent = spent; budget = budget; room = room } ≡ s) (sane : Sane v k x y roots)
+    (some : (q : Point) × (qs : List Point) × (s.machine.points ≡ q ∷ qs)) where
+  pub can-return : CanGoBack v k.moments (length x)
+  can-return = can-go-back v (length x) (length y) roots (length v.cells) (length v.trail) k.moments sane.moments (some.0, some.1, ap (λ (t : Paused). t.machine.points) view ∙ some.2)
+
+  m : (m : Moment) × (ms : List Moment) × (k.moments ≡ m ∷ ms)
+  m = some-moment v k.moments (some.0, some.1, ap (λ (t : Paused). t.machine.points) view ∙ some.2)
+
+  module _ (keeps : Keeps v w) (went : (m : Moment) (ms : List Moment) → k.moments ≡ m ∷ ms → WentBack w u k l x' y' m) (ex : length x' ≡ length x) (ey : length y' ≡ length y) where
+    back : WentBack w u k l x' y' m.0
+    back = went m.0 m.1 m.2
+
+    now : AreMoments w (length x) (length y) roots (length w.cells) (length w.trail) k.moments
+    now = AreMoments-now v w (length x) (length y) roots (length v.cells) (length v.trail) k.moments keeps sane.moments
+
+    pub Sane-returned : Sane u l x' y' roots
+    Sane-returned = Sane-back w u k l x y x' y' roots (length w.cells) (length w.trail) m.0 m.1 m.2 now (HasBottom-keeps v w keeps sane.bottom) back ex ey
+
+    same-points : map (point_of u) l.moments ≡ map (point_of v) k.moments
+    same-points =
+        points-stay w u k l x y x' y' roots (length w.cells) (length w.trail) m.0 m.1 m.2 now (HasBottom-keeps v w keeps sane.bottom) back ex ey
+        ∙ points-same v w k x y roots keeps sane
+
+    mark : IsMark v.cells v.trail m.0.choice.cells m.0.choice.trail
+    mark = (subst (AreMoments v (length x) (length y) roots (length v.cells) (length v.trail)) m.2 sane.moments).2.mark
+
+    pub returned : Returned s (record { machine = machine_of u l x' y' roots next; spent = spent; budget = budget; room = room })
+    returned = record {
+      stays = record {
+        x = ex ∙ ap (λ (t : Paused). length t.machine.x) view;
+        y = ey ∙ ap (λ (t : Paused). length t.machine.y) view;
+        roots = ap (λ (t : Paused). t.machine.roots) view;
+        spent = ap (λ (t : Paused). t.spent) view;
+        budget = ap (λ (t : Paused). t.budget) view;
+        room = ap (λ (t : Paused). t.room) view;
+      };
+      points = same-points ∙ ap (λ (t : Paused). t.machine.points) view;
+      now = ap (λ (t : Paused). t.machine.now) view;
+      at = record {
+        point = point_of v m.0;
+        others = map (point_of v) m.1;
+        points = same-points ∙ ap (map (point_of v)) m.2;
+        cells = back.cells ∙ keeps.leads m.0.choice.cells m.0.choice.trail mark;
+        returns = ap (λ (j : Kept). j.returns) back.kept;
+        x = back.hold_x;
+      };
+    }
+
+    -- the same of registers that were written
+    pub Sane-written : (x'' y'' : List ℕ) → x'' ≡ x' → y'' ≡ y' → Sane u l x'' y'' roots
+    Sane-written x'' y'' fx fy = subst (λ xs. Sane u l xs y'' roots) (sym fx) (subst (λ ys. Sane u l x' ys roots) (sym fy) Sane-returned)
+
+    pub returned-written : (x'' y'' : List ℕ) → x'' ≡ x' → y'' ≡ y' → Returned s (record { machine = machine_of u l x'' y'' roots next; spent = spent; budget = budget; room = room })
+    returned-written x'' y'' fx fy =
+        subst (λ xs. Returned s (record { machine = machine_of u l xs y'' roots next; spent = spent; budget = budget; room = room })) (sym fx)
+        (subst (λ ys. Returned s (record { machine = machine_of u l x' ys roots next; spent = spent; budget = budget; room = room })) (sym fy) returned)

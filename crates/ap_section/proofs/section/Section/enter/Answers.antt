@@ -1,0 +1,45 @@
+use Rattle.std.proofs.Common.{◌≡◌, ℕ, ◌+◌, ◌<◌, ◌∷◌, length, take, Option, Some, refl, ap, sym, ◌∙◌, subst, arith}
+use Rattle.std.proofs.lemmas.List.{length-take}
+use Rattle.ap_standing.specs.Machine.{places_from}
+use Rattle.ap_section.specs.View.{Paused}
+use Rattle.ap_section.specs.Sane.{Sane}
+use Rattle.ap_section.proofs.Sanity.{Sane-kept}
+use Rattle.ap_section.proofs.Entered.{turns-to-none, turns-to-one, turns-to-many}
+use Rattle.ap_section.proofs.section.Section.enter.Goals as goal
+
+pub slice_bounds-arguments-end : goal.slice_bounds-arguments-end
+slice_bounds-arguments-end c =
+    let l : c.in-Some.predicate.arity < length c.args.self.now.machine.x = c.requires.is_for.arities c.args.number c.in-Some.predicate (sym c.in-Some.ensures) in
+    let e : length c.self.inside.x.items ≡ length c.args.self.now.machine.x = ap (λ (s : Paused). length s.machine.x) c.self.view_is in
+    let f : length c.deref.result.now ≡ length c.self.inside.x.items = ap length c.deref.ensures.value in
+    let k = length-take (c.in-Some.predicate.arity + 1) c.deref.result.now in
+    omega arith
+
+pub invariant_of-self-in-Some-behind : goal.invariant_of-self-in-Some-behind
+invariant_of-self-in-Some-behind c =
+    let i = c.self.inside in
+    let l : c.in-Some.predicate.arity < length c.args.self.now.machine.x = c.requires.is_for.arities c.args.number c.in-Some.predicate (sym c.in-Some.ensures) in
+    let e : length i.x.items ≡ length c.args.self.now.machine.x = ap (λ (s : Paused). length s.machine.x) c.self.view_is in
+    subst (λ k. Sane i.cells k i.x.items i.y.items i.roots.items) (sym c.in_ok-keep-in-Some-behind.ensures.ok)
+    (Sane-kept i.cells i.environments i.x.items i.y.items i.roots.items _ c.is_store.ensures.is_trail c.mark-mark.ensures.is_mark c.mark-mark.ensures.leads refl
+    (c.in-Some.predicate.arity + 1) (omega arith) (ap (take (c.in-Some.predicate.arity + 1)) c.deref.ensures.value) c.self.invariant)
+
+pub returns-in_default-first-clause-turn : goal.returns-in_default-first-clause-turn
+returns-in_default-first-clause-turn c = λ p q known good stands.
+    let i = c.self.inside in
+    turns-to-none i.cells i.environments i.x.items i.y.items i.roots.items i.next i.spent i.budget i.room c.args.self.now c.self.view_is c.args.code.now c.args.number c.requires.due c.in-Some.predicate c.in-Some.ensures p q known good stands
+    (c.first.ensures.none c.in_default-first.is)
+
+pub returns-in-None-clause-turn : goal.returns-in-None-clause-turn
+returns-in-None-clause-turn c = λ p q known good stands.
+    let i = c.self.inside in
+    turns-to-one i.cells i.environments i.x.items i.y.items i.roots.items i.next i.spent i.budget i.room c.args.self.now c.self.view_is c.args.code.now c.args.number c.requires.due c.in-Some.predicate c.in-Some.ensures p q known good stands
+    c.in-Some-first.alternative.place c.in-Some-first.alternative.behind c.in-Some-first.ensures.some c.in-None.is
+
+pub returns-in_ok-keep-in-Some-behind-clause-turn : goal.returns-in_ok-keep-in-Some-behind-clause-turn
+returns-in_ok-keep-in-Some-behind-clause-turn c = λ p q known good stands.
+    let i = c.self.inside in
+    turns-to-many i.cells i.environments i.x.items i.y.items i.roots.items i.next i.spent i.budget i.room c.args.self.now c.self.view_is c.args.code.now c.args.number c.requires.due c.in-Some.predicate c.in-Some.ensures p q known good stands
+    c.mark-mark.result.cells c.mark-mark.result.trail c.in-Some-first.alternative.place (Some c.in-Some-behind.behind) _ c.keep.new.self c.in_ok-keep-in-Some-behind.ensures.ok c.mark-mark.ensures.leads
+    (ap (take (c.in-Some.predicate.arity + 1)) c.deref.ensures.value)
+    (c.in-Some-first.ensures.some ∙ ap (λ (o : Option ℕ). c.in-Some-first.alternative.place ∷ places_from c.args.code.now o) c.in-Some-behind.is)

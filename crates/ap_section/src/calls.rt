@@ -1,0 +1,190 @@
+//! Calls, and the clauses that are tried.
+
+ghost use Rattle.std.specs.Prelude.{◌≡◌, ℕ, ◌<◌, ◌≤◌, List, [], ◌∷◌, length, drop, slice_get, Some, None, Ok, true, false, IfOk, IfSome, OnOk, OnErr};
+ghost use Rattle.ap_term.specs.Goals.{Program};
+ghost use Rattle.ap_term.specs.WellFormed.{IsProgram};
+ghost use Rattle.ap_instr.specs.declared.compiled.Predicate.{Predicate as PredicateOf};
+ghost use Rattle.ap_instr.specs.StandsFor.{StandsFor};
+ghost use Rattle.ap_environments.specs.Kept.{Moment};
+ghost use Rattle.ap_cells.specs.Store.{Store, Keeps};
+ghost use Rattle.ap_steps.specs.Moves.{held, HoldPlaces, IsStuck};
+ghost use Rattle.ap_steps.specs.Ways.{AllHaveTargets, room, steps_from};
+ghost use Rattle.ap_standing.specs.Machine.{Point, calling, inside, failed, places_from};
+ghost use Rattle.ap_standing.specs.Laws.{IsTurn, KeepsStanding};
+ghost use Rattle.ap_section.specs.View.{IsFor};
+ghost use Rattle.ap_section.specs.Choices.{Stays, AtNewest, Returned, LeavesOut, places_of, points_left, alternatives};
+ghost use Rattle.ap_section.specs.Back.{CanGoBack, WentBack};
+
+use crate::section::{Now, Section};
+use ap_cells::{CellMark, Cells};
+use ap_control::{Alternative, first, run_to_transfer};
+use ap_environments::{Choice, Environments};
+use ap_instr::{Code, Predicate};
+use ap_term::NoMemory;
+use ap_unify::Work;
+
+/// A predicate of the table.
+fn predicate_at(code: &Code, number: u32) -> Option<Predicate>
+    ensures { result ≡ slice_get code.now.predicates number }
+{
+    code.predicates().get(number as usize).copied()
+}
+
+/// Goes back to the newest choice point.
+fn back_to_newest(cells: &mut Cells, environments: &mut Environments, x: &mut [u32], y: &mut [u32])
+    requires { CanGoBack cells.old environments.old.moments (length x.old) }
+    ensures back { (m : Moment) (ms : List Moment) → environments.old.moments ≡ m ∷ ms → WentBack cells.old cells.new environments.old environments.new x.new y.new m }
+    ensures x_len { length x.new ≡ length x.old }
+    ensures y_len { length y.new ≡ length y.old }
+{
+    if let Some(choice) = environments.newest() {
+        cells.undo_to(CellMark {
+            cells: choice.cells,
+            trail: choice.trail,
+        });
+        environments.go_back(x);
+        y.fill(0);
+    }
+}
+
+/// Whether the head of the clause at a place can be taken, and back to the newest choice point.
+fn run_and_go_back(
+    cells: &mut Cells,
+    environments: &mut Environments,
+    x: &mut [u32],
+    y: &mut [u32],
+    code: &Code,
+    at: usize,
+    work: &mut Work,
+) -> Result<bool, NoMemory>
+    requires room { room (drop at code.now.instructions) ≤ cells.old.spare }
+    requires targets { (p : ℕ) → AllHaveTargets (drop p code.now.instructions) (length x.old) (length y.old) }
+    requires holds_x { HoldPlaces (length cells.old.cells) x.old }
+    requires holds_y { HoldPlaces (length cells.old.cells) y.old }
+    requires back { CanGoBack cells.old environments.old.moments (length x.old) }
+    ensures stuck { IfOk result (λ b. b ≡ false → IsStuck cells.old.cells (held x.old) (held y.old) (steps_from code.now at)) }
+    ensures back { (w : Store) × Keeps cells.old w × ((m : Moment) (ms : List Moment) → environments.old.moments ≡ m ∷ ms → WentBack w cells.new environments.old environments.new x.new y.new m) }
+    ensures x_len { length x.new ≡ length x.old }
+    ensures y_len { length y.new ≡ length y.old }
+{
+    let outcome = run_to_transfer(cells, x, y, code, at, work);
+    back_to_newest(cells, environments, x, y);
+    match outcome {
+        Ok(Some(_)) => Ok(true),
+        Ok(None) => Ok(false),
+        Err(error) => Err(error),
+    }
+}
+
+impl Section {
+    /// Enters a predicate of the table, which is a turn: a choice point keeps all its clauses, unless there is one alone.
+    /// Without memory nothing changes.
+    pub(crate) fn enter(&mut self, code: &Code, number: u32) -> Result<(), NoMemory>
+        requires due { self.old.machine.now ≡ calling number }
+        requires is_for { IsFor code.now self.old }
+        ensures turn { OnOk result ((p : Program) (q : PredicateOf) → slice_get code.now.predicates number ≡ Some q → IsProgram p → StandsFor code.now p → IsTurn code.now p self.old.machine self.new.machine) }
+        ensures kept { OnErr result (self.new ≡ self.old) }
+        ensures stays { Stays self.old self.new }
+    {
+        let Some(predicate) = predicate_at(code, number) else {
+            self.next = Now::Failed;
+            return Ok(());
+        };
+        let Some(alternative) = first(code, &predicate) else {
+            self.next = Now::Failed;
+            return Ok(());
+        };
+        match alternative.behind {
+            None => self.next = Now::Inside(alternative.place as usize),
+            Some(behind) => {
+                self.cells.is_store();
+                let mark = self.cells.mark();
+                let choice = Choice {
+                    cells: mark.cells,
+                    trail: mark.trail,
+                    predicate: number,
+                    place: alternative.place,
+                    behind: Some(behind),
+                };
+                let arguments = &self.x[..predicate.arity as usize + 1];
+                self.environments.keep(choice, arguments)?;
+                self.next = Now::Failed;
+            }
+        }
+        Ok(())
+    }
+
+    /// The newest choice point.
+    fn newest(&self) -> Option<Choice>
+        ensures none { result ≡ None → self.now.machine.points ≡ [] }
+        ensures some { IfSome result (λ c. (q : Point) × (qs : List Point) × (self.now.machine.points ≡ q ∷ qs) × (q.place ≡ c.place) × (q.behind ≡ c.behind)) }
+    {
+        self.environments.newest()
+    }
+
+    /// Goes back to the newest choice point.
+    fn go_back(&mut self)
+        requires { (q : Point) × (qs : List Point) × (self.old.machine.points ≡ q ∷ qs) }
+        ensures { Returned self.old self.new }
+    {
+        back_to_newest(
+            &mut self.cells,
+            &mut self.environments,
+            &mut self.x,
+            &mut self.y,
+        );
+    }
+
+    /// Whether a clause's head unifies with the call of the newest choice point, where the section stands.
+    fn try_clause(&mut self, code: &Code, place: u32) -> Result<bool, NoMemory>
+        requires is_for { IsFor code.now self.old }
+        requires at { AtNewest self.old.machine }
+        ensures stuck { IfOk result (λ b. b ≡ false → IsStuck self.old.machine.cells (held self.old.machine.x) (held self.old.machine.y) (steps_from code.now place)) }
+        ensures back { Returned self.old self.new }
+    {
+        self.cells.reserve(self.room)?;
+        run_and_go_back(
+            &mut self.cells,
+            &mut self.environments,
+            &mut self.x,
+            &mut self.y,
+            code,
+            place as usize,
+            &mut self.work,
+        )
+    }
+
+    /// The newest choice point names these clauses.
+    fn set_place(&mut self, place: u32, behind: Option<usize>)
+        requires { (q : Point) × (qs : List Point) × (self.old.machine.points ≡ q ∷ qs) }
+        ensures { (q : Point) (qs : List Point) → self.old.machine.points ≡ q ∷ qs → self.new ≡ record self.old { machine = record self.old.machine { points = record q { place = place; behind = behind } ∷ qs } } }
+    {
+        self.environments.set_place(place, behind);
+    }
+
+    /// Forgets the newest choice point.
+    fn forget(&mut self)
+        requires { (q : Point) × (qs : List Point) × (self.old.machine.points ≡ q ∷ qs) }
+        ensures { (q : Point) (qs : List Point) → self.old.machine.points ≡ q ∷ qs → self.new ≡ record self.old { machine = record self.old.machine { points = qs } } }
+    {
+        self.environments.forget();
+    }
+
+    /// Leaves an alternative of the newest choice point, with those behind it.
+    fn leave(&mut self, found: Option<Alternative>)
+        requires { (q : Point) × (qs : List Point) × (self.old.machine.points ≡ q ∷ qs) }
+        ensures { (q : Point) (qs : List Point) → self.old.machine.points ≡ q ∷ qs → self.new ≡ record self.old { machine = record self.old.machine { points = points_left found q qs } } }
+    {
+        match found {
+            Some(alternative) => self.set_place(alternative.place, alternative.behind),
+            None => self.forget(),
+        }
+    }
+
+    /// Control is at a place in a clause.
+    fn resume(&mut self, place: usize)
+        ensures { self.new ≡ record self.old { machine = record self.old.machine { now = inside place } } }
+    {
+        self.next = Now::Inside(place);
+    }
+}

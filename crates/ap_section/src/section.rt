@@ -1,0 +1,127 @@
+//! A section, and what is read of it.
+
+ghost use Rattle.std.specs.Prelude.{◌≡◌, ◌+◌, ◌-◌, ◌^◌, ◌<◌, ◌≤◌, [], ◌∷◌, false, true, IfOk};
+ghost use Rattle.ap_term.specs.UpToNames.{SameUpToNames};
+ghost use Rattle.ap_cells.specs.Trees.{tree_at, trees};
+ghost use Rattle.ap_steps.specs.Standing.{tuple_under};
+ghost use Rattle.ap_standing.specs.Machine.{failed};
+ghost use Rattle.ap_section.specs.View.{now_of};
+
+use ap_arith::Pending;
+use ap_cells::{CellMark, Cells, Walk};
+use ap_checks::Comparison;
+use ap_copy::{Parcelled, copy_out};
+use ap_environments::Environments;
+use ap_term::NoMemory;
+use ap_unify::Work;
+use std::alloc::Global;
+use std::marker::Model;
+
+/// What a section does next.
+#[derive(Clone, Copy)]
+pub enum Now {
+    /// A call of a predicate of the table, on the argument registers.
+    Calling(u32),
+    /// The instruction at a place in a clause.
+    Inside(usize),
+    /// A clause has ended.
+    Returning,
+    /// Nothing is left to do but what choice points keep.
+    Failed,
+}
+
+/// A search that is paused: cells, returns, choice points and registers. `room`, and how many registers there are, are those
+/// of the code that it was started with.
+#[derive(Drop)]
+pub struct Section {
+    pub(crate) cells: Cells,
+    pub(crate) environments: Environments,
+    pub(crate) x: Vec<u32>,
+    pub(crate) y: Vec<u32>,
+    /// The places of the tuple.
+    pub(crate) roots: Vec<usize>,
+    pub(crate) next: Now,
+    pub(crate) spent: u64,
+    pub(crate) budget: u64,
+    pub(crate) room: usize,
+    pub(crate) before_x: Vec<u32>,
+    pub(crate) before_y: Vec<u32>,
+    pub(crate) work: Work,
+    pub(crate) pending: Pending,
+    pub(crate) comparison: Comparison,
+    pub(crate) alloc: Global,
+}
+
+impl Model for Section {
+    ghost use Rattle.ap_section.specs.View.{Paused, machine_of};
+    ghost use Rattle.ap_section.specs.Sane.{Sane};
+
+    ghost Value = { Paused };
+
+    ghost view = { λ a. record { machine = machine_of a.cells a.environments a.x.items a.y.items a.roots.items a.next; spent = a.spent; budget = a.budget; room = a.room } };
+
+    ghost invariant = { λ a. Sane a.cells a.environments a.x.items a.y.items a.roots.items };
+}
+
+impl Section {
+    /// How many calls were made.
+    pub fn spent(&self) -> u64
+        ensures { result ≡ self.now.spent }
+    {
+        self.spent
+    }
+
+    /// Leaves so many calls to make.
+    pub fn grant(&mut self, rest: u64)
+        requires { self.old.spent + rest < 2 ^ 64 }
+        ensures { self.new ≡ record self.old { budget = self.old.spent + rest } }
+    {
+        self.budget = self.spent + rest;
+    }
+
+    /// What it does next.
+    pub(crate) fn now(&self) -> Now
+        ensures { self.now.machine.now ≡ now_of result }
+    {
+        self.next
+    }
+
+    /// Whether no call is left to make.
+    pub(crate) fn is_spent(&self) -> bool
+        ensures spent { result ≡ true → self.now.budget ≤ self.now.spent }
+        ensures left { result ≡ false → self.now.spent < self.now.budget }
+        ensures fits { self.now.budget < 2 ^ 64 }
+    {
+        self.spent >= self.budget
+    }
+
+    /// Counts a call.
+    pub(crate) fn count(&mut self)
+        requires { self.old.spent < 2 ^ 64 - 1 }
+        ensures { self.new ≡ record self.old { spent = self.old.spent + 1 } }
+    {
+        self.spent += 1;
+    }
+
+    /// Whether an alternative is left.
+    pub fn has_more(&self) -> bool
+        ensures { result ≡ false → self.now.machine.points ≡ [] }
+    {
+        self.environments.newest().is_some()
+    }
+
+    /// Leaves the answer at which it stands; the search goes on behind it.
+    pub fn redo(&mut self)
+        ensures { self.new ≡ record self.old { machine = record self.old.machine { now = failed } } }
+    {
+        self.next = Now::Failed;
+    }
+
+    /// The tuple of the answer at which it stands.
+    pub fn answer(&self) -> Result<Parcelled, NoMemory>
+        ensures { IfOk result (λ parcel. SameUpToNames parcel (tuple_under (tree_at (trees self.now.machine.cells)) self.now.machine.roots)) }
+    {
+        let mut walk = Walk::new(self.alloc);
+        copy_out(self.alloc, &self.cells, &self.roots, &mut walk)
+    }
+}
