@@ -17,7 +17,7 @@ ghost use Rattle.ap_section.specs.Back.{CanGoBack, WentBack};
 
 use crate::section::{Now, Section};
 use ap_cells::{CellMark, Cells};
-use ap_control::{Alternative, first, run_to_transfer};
+use ap_control::{Alternative, first, following, run_to_transfer};
 use ap_environments::{Choice, Environments};
 use ap_instr::{Code, Predicate};
 use ap_term::NoMemory;
@@ -154,6 +154,27 @@ impl Section {
         )
     }
 
+    /// The first clause behind a choice whose head unifies with the call of the newest choice point.
+    fn next_match(
+        &mut self,
+        code: &Code,
+        behind: Option<usize>,
+    ) -> Result<Option<Alternative>, NoMemory>
+        requires is_for { IsFor code.now self.old }
+        requires at { AtNewest self.old.machine }
+        ensures left { IfOk result (λ found. LeavesOut code.now self.old.machine (places_from code.now behind) (places_of code.now found)) }
+        ensures back { Returned self.old self.new }
+    {
+        let mut rest = behind;
+        while let Some(found) = following(code, rest) {
+            if self.try_clause(code, found.place)? {
+                return Ok(Some(found));
+            }
+            rest = found.behind;
+        }
+        Ok(None)
+    }
+
     /// The newest choice point names these clauses.
     fn set_place(&mut self, place: u32, behind: Option<usize>)
         requires { (q : Point) × (qs : List Point) × (self.old.machine.points ≡ q ∷ qs) }
@@ -186,5 +207,26 @@ impl Section {
         ensures { self.new ≡ record self.old { machine = record self.old.machine { now = inside place } } }
     {
         self.next = Now::Inside(place);
+    }
+
+    /// Takes the next clause of the newest choice point, which stays only where the head of another one unifies. False
+    /// where there is no choice point. Without memory the section is at the newest choice point, with all its clauses left.
+    pub(crate) fn retry(&mut self, code: &Code) -> Result<bool, NoMemory>
+        requires due { self.old.machine.now ≡ failed }
+        requires is_for { IsFor code.now self.old }
+        ensures holds { KeepsStanding code.now self.old.machine self.new.machine }
+        ensures ended { result ≡ Ok false → (self.new ≡ self.old) × (self.old.machine.points ≡ []) }
+        ensures fewer { result ≡ Ok true → alternatives code.now self.new.machine.points < alternatives code.now self.old.machine.points }
+        ensures still { OnErr result (self.new.machine.now ≡ failed) }
+        ensures stays { Stays self.old self.new }
+    {
+        let Some(choice) = self.newest() else {
+            return Ok(false);
+        };
+        self.go_back();
+        let found = self.next_match(code, choice.behind)?;
+        self.leave(found);
+        self.resume(choice.place as usize);
+        Ok(true)
     }
 }

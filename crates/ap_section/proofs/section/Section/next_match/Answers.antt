@@ -1,0 +1,42 @@
+use Rattle.std.proofs.Common.{◌≡◌, [], ◌∷◌}
+use Rattle.ap_standing.specs.Machine.{places_from}
+use Rattle.ap_section.proofs.Alternatives.{Returned-trans, Returned-refl, IsFor-stays, leaves-all, leaves-same, leaves-stuck}
+use Rattle.ap_section.proofs.section.Section.next_match.Goals as goal
+
+pub loop-found-init : goal.loop-found-init
+loop-found-init c = record {
+  back = Returned-refl c.args.self.now c.requires.at;
+  left = leaves-all c.args.code.now c.args.self.now.machine (places_from c.args.code.now c.args.behind);
+}
+
+pub try_clause-requires-clause-is_for : goal.try_clause-requires-clause-is_for
+try_clause-requires-clause-is_for c = IsFor-stays c.args.code.now c.args.self.now c.loop-found.self c.loop-found.invariant.back.stays c.requires.is_for
+
+pub try_clause-requires-clause-at : goal.try_clause-requires-clause-at
+try_clause-requires-clause-at c = c.loop-found.invariant.back.at
+
+pub returns-in_err-try_clause-clause-back : goal.returns-in_err-try_clause-clause-back
+returns-in_err-try_clause-clause-back c = Returned-trans c.args.self.now c.loop-found.self c.try_clause.new.self c.loop-found.invariant.back c.try_clause.ensures.back
+
+pub returns-then-branch-clause-left : goal.returns-then-branch-clause-left
+returns-then-branch-clause-left c =
+    leaves-same c.args.code.now c.args.self.now.machine (places_from c.args.code.now c.args.behind) (places_from c.args.code.now c.loop-found.rest)
+    (c.in-Some.found.place ∷ places_from c.args.code.now c.in-Some.found.behind) c.in-Some.ensures.some c.loop-found.invariant.left
+
+pub returns-then-branch-clause-back : goal.returns-then-branch-clause-back
+returns-then-branch-clause-back c = Returned-trans c.args.self.now c.loop-found.self c.try_clause.new.self c.loop-found.invariant.back c.try_clause.ensures.back
+
+pub loop-found-preserved : goal.loop-found-preserved
+loop-found-preserved c = record {
+  back = Returned-trans c.args.self.now c.loop-found.self c.try_clause.new.self c.loop-found.invariant.back c.try_clause.ensures.back;
+  left = leaves-stuck c.args.code.now c.args.self.now c.loop-found.self (places_from c.args.code.now c.args.behind) (places_from c.args.code.now c.loop-found.rest)
+      (places_from c.args.code.now c.in-Some.found.behind) c.in-Some.found.place c.loop-found.invariant.back c.loop-found.invariant.back.at c.loop-found.invariant.left c.in-Some.ensures.some
+      (c.in_ok-try_clause.ensures.stuck c.if-branch.false);
+}
+
+pub returns-clause-left : goal.returns-clause-left
+returns-clause-left c =
+    leaves-same c.args.code.now c.args.self.now.machine (places_from c.args.code.now c.args.behind) (places_from c.args.code.now c.loop-found.rest) [] (c.following.ensures.none c.in_default.is) c.loop-found.invariant.left
+
+pub returns-clause-back : goal.returns-clause-back
+returns-clause-back c = c.loop-found.invariant.back
