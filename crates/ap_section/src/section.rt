@@ -8,9 +8,9 @@ ghost use Rattle.ap_standing.specs.Machine.{failed};
 ghost use Rattle.ap_section.specs.View.{now_of};
 
 use ap_arith::Pending;
-use ap_cells::{CellMark, Cells, Walk};
+use ap_cells::{CellMark, Cells};
 use ap_checks::Comparison;
-use ap_copy::{Parcelled, copy_out};
+use ap_copy::{Packing, Parcelled, copy_out};
 use ap_environments::Environments;
 use ap_term::NoMemory;
 use ap_unify::Work;
@@ -121,7 +121,7 @@ impl Section {
     pub fn answer(&self) -> Result<Parcelled, NoMemory>
         ensures { IfOk result (λ parcel. SameUpToNames parcel (tuple_under (tree_at (trees self.now.machine.cells)) self.now.machine.roots)) }
     {
-        let mut walk = Walk::new(self.alloc);
-        copy_out(self.alloc, &self.cells, &self.roots, &mut walk)
+        let mut packing = Packing::new(self.alloc);
+        copy_out(self.alloc, &self.cells, &self.roots, &mut packing)
     }
 }
