@@ -5,7 +5,11 @@
 //! the model's list of states after as many turns as were counted.
 #![tactic(auto)]
 
+mod advance;
+mod calls;
 mod control;
+mod goals;
 mod section;
+mod settle;
 
 pub use section::Section;

@@ -1,10 +1,11 @@
 //! A section, and what is read of it.
 
-ghost use Rattle.std.specs.Prelude.{◌≡◌, ◌+◌, ◌^◌, ◌<◌, [], ◌∷◌, false, IfOk};
+ghost use Rattle.std.specs.Prelude.{◌≡◌, ◌+◌, ◌-◌, ◌^◌, ◌<◌, ◌≤◌, [], ◌∷◌, false, true, IfOk};
 ghost use Rattle.ap_term.specs.UpToNames.{SameUpToNames};
 ghost use Rattle.ap_cells.specs.Trees.{tree_at, trees};
 ghost use Rattle.ap_steps.specs.Standing.{tuple_under};
 ghost use Rattle.ap_standing.specs.Machine.{failed};
+ghost use Rattle.ap_section.specs.View.{now_of};
 
 use ap_arith::Pending;
 use ap_cells::{CellMark, Cells, Walk};
@@ -76,6 +77,30 @@ impl Section {
         ensures { self.new ≡ record self.old { budget = self.old.spent + rest } }
     {
         self.budget = self.spent + rest;
+    }
+
+    /// What it does next.
+    pub(crate) fn now(&self) -> Now
+        ensures { self.now.machine.now ≡ now_of result }
+    {
+        self.next
+    }
+
+    /// Whether no call is left to make.
+    pub(crate) fn is_spent(&self) -> bool
+        ensures spent { result ≡ true → self.now.budget ≤ self.now.spent }
+        ensures left { result ≡ false → self.now.spent < self.now.budget }
+        ensures fits { self.now.budget < 2 ^ 64 }
+    {
+        self.spent >= self.budget
+    }
+
+    /// Counts a call.
+    pub(crate) fn count(&mut self)
+        requires { self.old.spent < 2 ^ 64 - 1 }
+        ensures { self.new ≡ record self.old { spent = self.old.spent + 1 } }
+    {
+        self.spent += 1;
     }
 
     /// Whether an alternative is left.
