@@ -7,6 +7,7 @@ ghost use Rattle.std.specs.Prelude.{slice_get};
 ghost use Rattle.ap_standing.specs.Machine.{calling, inside};
 ghost use Rattle.ap_section.specs.View.{IsFor};
 ghost use Rattle.ap_section.specs.Advanced.{Advanced};
+ghost use Rattle.ap_section.specs.Ends.{IsEnd, IsTurnOrEnd};
 
 use crate::section::Section;
 use crate::settle::Due;
@@ -22,6 +23,8 @@ pub enum Turn {
     Failed,
     /// The budget is spent, and another call is due.
     Spent,
+    /// As many calls were made as were asked for.
+    More,
 }
 
 impl Section {
@@ -29,7 +32,8 @@ impl Section {
     fn make_call(&mut self, code: &Code, number: u32) -> Result<Option<Turn>, NoMemory>
         requires is_for { IsFor code.now self.old }
         requires due { (self.old.machine.now ≡ calling number) × ((q : Predicate) × (slice_get code.now.predicates number ≡ Some q)) }
-        ensures { Advanced code.now self.old self.new }
+        ensures advanced { Advanced code.now self.old self.new }
+        ensures end { IfOk result (λ end. IsTurnOrEnd self.old self.new end) }
     {
         if self.is_spent() {
             return Ok(Some(Turn::Spent));
@@ -48,7 +52,8 @@ impl Section {
     ) -> Result<Option<Turn>, NoMemory>
         requires is_for { IsFor code.now self.old }
         requires due { (self.old.machine.now ≡ inside at) × (slice_get code.now.instructions at ≡ Some (builtin_instr builtin)) }
-        ensures { Advanced code.now self.old self.new }
+        ensures advanced { Advanced code.now self.old self.new }
+        ensures end { IfOk result (λ end. IsTurnOrEnd self.old self.new end) }
     {
         if self.is_spent() {
             return Ok(Some(Turn::Spent));
@@ -61,7 +66,8 @@ impl Section {
     /// Goes on to what is due, and makes a call that is.
     pub(crate) fn turn(&mut self, code: &Code) -> Result<Option<Turn>, NoMemory>
         requires { IsFor code.now self.old }
-        ensures { Advanced code.now self.old self.new }
+        ensures advanced { Advanced code.now self.old self.new }
+        ensures end { IfOk result (λ end. IsTurnOrEnd self.old self.new end) }
     {
         match self.settle(code)? {
             Due::Answer => Ok(Some(Turn::Answer)),
@@ -69,5 +75,20 @@ impl Section {
             Due::Call(number) => self.make_call(code, number),
             Due::Goal(builtin, at) => self.make_goal(code, builtin, at),
         }
+    }
+
+    /// Searches on. It takes at most so many calls.
+    pub(crate) fn advance_by(&mut self, code: &Code, inferences: u64) -> Result<Turn, NoMemory>
+        requires { IsFor code.now self.old }
+        ensures advanced { Advanced code.now self.old self.new }
+        ensures end { IfOk result (λ end. IsEnd inferences self.old self.new end) }
+    {
+        for made in 0..inferences {
+            let _ = made;
+            if let Some(end) = self.turn(code)? {
+                return Ok(end);
+            }
+        }
+        Ok(Turn::More)
     }
 }

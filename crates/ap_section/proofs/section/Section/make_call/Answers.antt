@@ -4,10 +4,10 @@ use Rattle.ap_section.specs.Advanced.{Advanced}
 use Rattle.ap_section.proofs.Progress.{stopped, counted}
 use Rattle.ap_section.proofs.section.Section.make_call.Goals as goal
 
-pub returns-then-is_spent : goal.returns-then-is_spent
-returns-then-is_spent c = stopped c.args.code.now c.args.self.now
+pub returns-then-is_spent-clause-advanced : goal.returns-then-is_spent-clause-advanced
+returns-then-is_spent-clause-advanced c = stopped c.args.code.now c.args.self.now
 
-pub returns : goal.returns
-returns c =
+pub returns-clause-advanced : goal.returns-clause-advanced
+returns-clause-advanced c =
     let P : Paused → Type 0 = λ s. Advanced c.args.code.now c.args.self.now s in
     subst P (sym c.count.ensures) (counted c.args.code.now c.args.self.now c.enter.new.self (λ p good stands. c.in_ok-enter.ensures.turn p c.requires.due.1.0 c.requires.due.1.1 good stands) c.enter.ensures.stays)
