@@ -55,12 +55,11 @@ fn checks(
 ) -> Result<(), Fail> {
     let t = trial.term_at(alloc, a)?;
     let xs = vars(alloc, &t)?;
-    let ys = vars(alloc, &trial.term_at(alloc, b)?)?;
+    let u = trial.term_at(alloc, b)?;
+    let ys = vars(alloc, &u)?;
+    assert_eq!(rt; trial.identical(a, b)?, identical(&t, &u));
     assert_eq!(rt; trial.ground(a)?, xs.is_empty());
-    assert_eq!(rt;
-        trial.indep(alloc, a, b)?,
-        !xs.iter().any(|x| ys.contains(x))
-    );
+    assert_eq!(rt; trial.indep(a, b)?, !xs.iter().any(|x| ys.contains(x)));
     assert_eq!(rt; trial.eval(a)?, ap_spec::eval(&t));
     Ok(())
 }
@@ -258,8 +257,9 @@ fn deep_checks(
 ) -> Result<(), Fail> {
     assert_eq!(rt; trial.eval(a)?, Some(DEPTH as i64 + 1));
     assert!(rt; trial.ground(a)?);
-    assert!(rt; trial.indep(alloc, a, b)?);
-    assert!(rt; !trial.indep(alloc, b, b)?);
+    assert!(rt; trial.indep(a, b)?);
+    assert!(rt; !trial.indep(b, b)?);
+    assert!(rt; trial.identical(b, b)? && !trial.identical(a, b)?);
     Ok(())
 }
 

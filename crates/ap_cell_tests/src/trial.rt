@@ -5,8 +5,9 @@ ghost use Rattle.std.specs.Prelude.{◌≡◌, ◌<◌, length};
 use crate::building::{Step, deep, term};
 use ap_arith::{Pending, eval, test};
 use ap_cells::{Cell, Cells, Walk};
-use ap_checks::{ground, indep};
-use ap_copy::{Parcelled, Roots, copy_in, copy_out};
+use ap_checks::{Comparison, ground, identical, indep};
+use ap_copy::{Packing, Parcelled, Roots, copy_in, copy_out};
+use ap_marks::Marks;
 use ap_term::{NoMemory, Op, Term};
 use ap_unify::{Work, unify};
 use std::alloc::Global;
@@ -17,6 +18,9 @@ pub(crate) struct Trial {
     cells: Cells,
     variables: Vec<usize>,
     walk: Walk,
+    marks: Marks,
+    comparison: Comparison,
+    packing: Packing,
     work: Work,
     pending: Pending,
 }
@@ -27,6 +31,9 @@ impl Trial {
             cells: Cells::new(alloc),
             variables: Vec::new(alloc),
             walk: Walk::new(alloc),
+            marks: Marks::new(alloc),
+            comparison: Comparison::new(alloc),
+            packing: Packing::new(alloc),
             work: Work::new(alloc),
             pending: Pending::new(alloc),
         }
@@ -61,10 +68,18 @@ impl Trial {
         Err(NoMemory)
     }
 
-    pub(crate) fn indep(&mut self, alloc: Global, a: usize, b: usize) -> Result<bool, NoMemory> {
+    pub(crate) fn indep(&mut self, a: usize, b: usize) -> Result<bool, NoMemory> {
         let len = self.cells.len();
         if a < len && b < len {
-            return indep(alloc, &self.cells, a, b, &mut self.walk);
+            return indep(&self.cells, a, b, &mut self.walk, &mut self.marks);
+        }
+        Err(NoMemory)
+    }
+
+    pub(crate) fn identical(&mut self, a: usize, b: usize) -> Result<bool, NoMemory> {
+        let len = self.cells.len();
+        if a < len && b < len {
+            return identical(&self.cells, a, b, &mut self.comparison);
         }
         Err(NoMemory)
     }
@@ -112,7 +127,7 @@ impl Trial {
     ) -> Result<Parcelled, NoMemory> {
         let len = self.cells.len();
         if a < len && b < len {
-            return copy_out(alloc, &self.cells, &[a, b], &mut self.walk);
+            return copy_out(alloc, &self.cells, &[a, b], &mut self.packing);
         }
         Err(NoMemory)
     }

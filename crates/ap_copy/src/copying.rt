@@ -10,8 +10,8 @@ ghost use Rattle.ap_copy.specs.Copying.{Going, Copied, weight_turn, weight_frame
 
 use crate::variables::number_of;
 use ap_cells::{Cells, MAX_CELLS, Raw, Top};
+use ap_marks::Marks;
 use ap_term::{Atom, NoMemory};
-use indexmap::IndexSet;
 use std::alloc::Global;
 
 /// A compound term of which some arguments are copied already; those to copy are at places one behind another.
@@ -39,22 +39,30 @@ pub struct Copying {
 }
 
 impl Copying {
-    /// A block of so many variables.
-    pub fn new(alloc: Global, variables: usize) -> Result<Copying, NoMemory>
-        ensures block { IfOk result (λ copying. IsNames copying.block.items) }
-        ensures len { IfOk result (λ copying. length copying.block.items ≡ variables) }
-        ensures few { IfOk result (λ copying. variables ≤ 4294967295) }
-        ensures loose { IfOk result (λ copying. copying.loose.items ≡ []) }
-        ensures frames { IfOk result (λ copying. copying.frames.items ≡ []) }
+    /// Takes no memory.
+    pub fn new(alloc: Global) -> Copying {
+        Copying {
+            block: Vec::new(alloc),
+            loose: Vec::new(alloc),
+            frames: Vec::new(alloc),
+        }
+    }
+
+    /// Begins with a new block of so many variables.
+    pub fn start(&mut self, alloc: Global, variables: usize) -> Result<(), NoMemory>
+        ensures block { OnOk result (IsNames self.new.block.items) }
+        ensures len { OnOk result (length self.new.block.items ≡ variables) }
+        ensures few { OnOk result (variables ≤ 4294967295) }
+        ensures loose { OnOk result (self.new.loose.items ≡ []) }
+        ensures frames { OnOk result (self.new.frames.items ≡ []) }
     {
         if variables > MAX_CELLS {
             return Err(NoMemory);
         }
-        Ok(Copying {
-            block: unbound(alloc, variables)?,
-            loose: Vec::new(alloc),
-            frames: Vec::new(alloc),
-        })
+        self.loose.clear();
+        self.frames.clear();
+        self.block = unbound(alloc, variables)?;
+        Ok(())
     }
 }
 
@@ -72,20 +80,20 @@ fn unbound(alloc: Global, count: usize) -> Result<Vec<Raw>, NoMemory>
 /// Copies the terms of some places; their cells are put with the loose ones.
 pub fn copy_terms(
     cells: &Cells,
-    variables: &IndexSet<usize>,
+    marks: &Marks,
     roots: &[usize],
     copying: &mut Copying,
 ) -> Result<(), NoMemory>
     requires inside { Each (λ r. r < length cells.now.cells) roots.now }
-    requires known { KnownAll variables.now.keys (tuple_at (trees cells.now.cells) roots.now) }
+    requires known { KnownAll marks.now (tuple_at (trees cells.now.cells) roots.now) }
     requires idle { copying.old.frames.items ≡ [] }
     requires empty { copying.old.loose.items ≡ [] }
-    requires block { IsBlock variables.now.keys copying.old.block.items }
-    ensures copies { OnOk result (AreCopies variables.now.keys copying.new.block.items copying.new.loose.items (map (tree_at (trees cells.now.cells)) roots.now)) }
-    ensures block { OnOk result (IsBlock variables.now.keys copying.new.block.items) }
+    requires block { IsBlock marks.now copying.old.block.items }
+    ensures copies { OnOk result (AreCopies marks.now copying.new.block.items copying.new.loose.items (map (tree_at (trees cells.now.cells)) roots.now)) }
+    ensures block { OnOk result (IsBlock marks.now copying.new.block.items) }
 {
     for root in roots {
-        copy_term(cells, variables, *root, copying)?;
+        copy_term(cells, marks, *root, copying)?;
     }
     Ok(())
 }
@@ -93,24 +101,24 @@ pub fn copy_terms(
 /// Copies a place's term; its cell is put with the loose ones.
 fn copy_term(
     cells: &Cells,
-    variables: &IndexSet<usize>,
+    marks: &Marks,
     place: usize,
     copying: &mut Copying,
 ) -> Result<(), NoMemory>
     requires inside { place < length cells.now.cells }
-    requires known { Known variables.now.keys (tree_at (trees cells.now.cells) place) }
+    requires known { Known marks.now (tree_at (trees cells.now.cells) place) }
     requires idle { copying.old.frames.items ≡ [] }
-    requires block { IsBlock variables.now.keys copying.old.block.items }
-    ensures copied { OnOk result (Copied variables.now.keys copying.old.block.items copying.new.block.items copying.old.loose.items copying.new.loose.items (tree_at (trees cells.now.cells) place)) }
+    requires block { IsBlock marks.now copying.old.block.items }
+    ensures copied { OnOk result (Copied marks.now copying.old.block.items copying.new.block.items copying.old.loose.items copying.new.loose.items (tree_at (trees cells.now.cells) place)) }
     ensures idle { OnOk result (copying.new.frames.items ≡ []) }
-    ensures block { OnOk result (IsBlock variables.now.keys copying.new.block.items) }
+    ensures block { OnOk result (IsBlock marks.now copying.new.block.items) }
 {
     let places = cells.len();
     prove!(place < places);
     let mut turn = Turn::Open(place);
     loop {
         turn = match turn {
-            Turn::Open(at) => open(cells, variables, at, &mut copying.frames)?,
+            Turn::Open(at) => open(cells, marks, at, &mut copying.frames)?,
             Turn::Close(cell) => match copying.frames.pop() {
                 Some(frame) => close(frame, cell, copying)?,
                 None => {
@@ -125,18 +133,18 @@ fn copy_term(
 /// Begins the copy of a place's term.
 fn open(
     cells: &Cells,
-    variables: &IndexSet<usize>,
+    marks: &Marks,
     place: usize,
     frames: &mut Vec<Frame>,
 ) -> Result<Turn, NoMemory>
     requires inside { place < length cells.now.cells }
-    requires known { Known variables.now.keys (tree_at (trees cells.now.cells) place) }
-    requires few { length variables.now.keys ≤ 4294967295 }
-    ensures going { IfOk result (λ turn. (root : Tree) (old block before loose : List Raw) → Going (trees cells.now.cells) variables.now.keys root old before frames.old.items loose block (Turn.Open place) → Going (trees cells.now.cells) variables.now.keys root old before frames.new.items loose block turn) }
+    requires known { Known marks.now (tree_at (trees cells.now.cells) place) }
+    requires few { length marks.now ≤ 4294967295 }
+    ensures going { IfOk result (λ turn. (root : Tree) (old block before loose : List Raw) → Going (trees cells.now.cells) marks.now root old before frames.old.items loose block (Turn.Open place) → Going (trees cells.now.cells) marks.now root old before frames.new.items loose block turn) }
     ensures less { IfOk result (λ turn. weight_frames (trees cells.now.cells) frames.new.items + weight_turn (trees cells.now.cells) turn < weight_frames (trees cells.now.cells) frames.old.items + weight_turn (trees cells.now.cells) (Turn.Open place)) }
 {
     match cells.top(place) {
-        Top::Free(variable) => Ok(Turn::Close(Raw::Same(number_of(variables, variable) as u32))),
+        Top::Free(variable) => Ok(Turn::Close(Raw::Same(number_of(marks, variable) as u32))),
         Top::Int(z) => Ok(Turn::Close(Raw::Int(z))),
         Top::Atom(a) => Ok(Turn::Close(Raw::Atom(a))),
         Top::Node(name, first, count) => {

@@ -12,11 +12,13 @@ ghost use Rattle.ap_copy.specs.Parcels.{raw_moved};
 ghost use Rattle.ap_cells.specs.Raws.{raw_of};
 
 use crate::copying::{Copying, copy_terms, settle};
-use crate::variables::variables_of;
+use crate::variables::mark_variables;
 use ap_cells::{Cell, Cells, Raw, Walk};
+use ap_marks::Marks;
 use ap_term::NoMemory;
 use std::alloc::Global;
 use std::marker::Model;
+use std::mem;
 
 /// A tuple that stands alone, in one block of cells: first its variables, last the cells of its terms.
 #[derive(Drop)]
@@ -58,29 +60,41 @@ pub struct Roots {
     pub count: usize,
 }
 
+/// The lists of a copy out of a store, whose memory is kept for the next one.
+#[derive(Drop)]
+pub struct Packing {
+    walk: Walk,
+    marks: Marks,
+    copying: Copying,
+}
+
+impl Packing {
+    /// Takes no memory.
+    pub fn new(alloc: Global) -> Packing {
+        Packing {
+            walk: Walk::new(alloc),
+            marks: Marks::new(alloc),
+            copying: Copying::new(alloc),
+        }
+    }
+}
+
 /// Copies the terms of some places out of a store, which stays as it is. Variables that they share stay shared.
 pub fn copy_out(
     alloc: Global,
     cells: &Cells,
     roots: &[usize],
-    walk: &mut Walk,
+    packing: &mut Packing,
 ) -> Result<Parcelled, NoMemory>
     requires { Each (λ r. r < length cells.now.cells) roots.now }
     ensures { IfOk result (λ parcel. SameUpToNames parcel (tuple_at (trees cells.now.cells) roots.now)) }
 {
-    let variables = variables_of(alloc, cells, roots, walk)?;
-    let mut copying = Copying::new(alloc, variables.len())?;
-    copy_terms(cells, &variables, roots, &mut copying)?;
-    settle(roots.len(), &mut copying)?;
-    let Copying {
-        block,
-        loose,
-        frames,
-    } = copying;
-    drop(loose);
-    drop(frames);
+    mark_variables(cells, roots, &mut packing.walk, &mut packing.marks)?;
+    packing.copying.start(alloc, packing.marks.len())?;
+    copy_terms(cells, &packing.marks, roots, &mut packing.copying)?;
+    settle(roots.len(), &mut packing.copying)?;
     Ok(Parcelled {
-        cells: block,
+        cells: mem::replace(&mut packing.copying.block, Vec::new(alloc)),
         count: roots.len(),
     })
 }

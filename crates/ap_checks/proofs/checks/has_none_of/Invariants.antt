@@ -1,5 +1,5 @@
 use Rattle.std.proofs.Common.{◌≡◌, ℕ, true, nat_eq, length}
-use Rattle.std.specs.HashSet.{contains}
+use Rattle.std.specs.List.{list_any}
 use Rattle.ap_term.specs.Vars.{has, occurs}
 use Rattle.ap_cells.specs.Trees.{tree_at, trees}
 use Rattle.ap_cells.specs.Walks.{AreRanges, left}
@@ -7,7 +7,7 @@ use Rattle.ap_checks.proofs.checks.has_none_of.Given as goal
 
 abbrev pub invariant-loop-variable : goal.invariant-loop-variable
 invariant-loop-variable l = record {
-  rest : (x : ℕ) → contains nat_eq l.variables x ≡ true → has (left (trees l.cells.cells) l.walk) x ≡ occurs x (tree_at (trees l.cells.cells) l.place);
+  rest : (x : ℕ) → list_any (nat_eq x) l.marks ≡ true → has (left (trees l.cells.cells) l.walk) x ≡ occurs x (tree_at (trees l.cells.cells) l.place);
   inside : AreRanges (length l.cells.cells) l.walk;
 }
 

@@ -11,7 +11,7 @@ pub loop-turn-init : goal.loop-turn-init
 loop-turn-init c =
     let ts = trees c.args.cells.now.cells in
     let z = trees-length c.args.cells.now.cells in
-    going-start ts c.args.variables.now.keys (tree_at ts c.args.place) c.args.copying.now.block.items c.args.copying.now.loose.items c.args.place c.args.copying.now.frames.items c.requires.idle refl (omega arith) c.requires.block
+    going-start ts c.args.marks.now (tree_at ts c.args.place) c.args.copying.now.block.items c.args.copying.now.loose.items c.args.place c.args.copying.now.frames.items c.requires.idle refl (omega arith) c.requires.block
 
 pub open-requires-clause-inside : goal.open-requires-clause-inside
 open-requires-clause-inside c =
@@ -29,13 +29,13 @@ open-requires-clause-known c x o =
 pub close-requires-clause-left : goal.close-requires-clause-left
 close-requires-clause-left c =
     let ts = trees c.args.cells.now.cells in
-    (going-counts ts c.args.variables.now.keys (tree_at ts c.args.place) c.args.copying.now.block.items c.args.copying.now.loose.items c.loop-turn.copying.frames.items c.pop.new.self.items c.in-Some.frame
+    (going-counts ts c.args.marks.now (tree_at ts c.args.place) c.args.copying.now.block.items c.args.copying.now.loose.items c.loop-turn.copying.frames.items c.pop.new.self.items c.in-Some.frame
     c.loop-turn.copying.loose.items c.loop-turn.copying.block.items c.loop-turn.turn c.in-Some.ensures.items c.loop-turn.invariant).left
 
 pub close-requires-clause-fits : goal.close-requires-clause-fits
 close-requires-clause-fits c =
     let ts = trees c.args.cells.now.cells in
-    let k = going-counts ts c.args.variables.now.keys (tree_at ts c.args.place) c.args.copying.now.block.items c.args.copying.now.loose.items c.loop-turn.copying.frames.items c.pop.new.self.items c.in-Some.frame
+    let k = going-counts ts c.args.marks.now (tree_at ts c.args.place) c.args.copying.now.block.items c.args.copying.now.loose.items c.loop-turn.copying.frames.items c.pop.new.self.items c.in-Some.frame
     c.loop-turn.copying.loose.items c.loop-turn.copying.block.items c.loop-turn.turn c.in-Some.ensures.items c.loop-turn.invariant in
     let i = k.inside in
     let z = trees-length c.args.cells.now.cells in
@@ -45,13 +45,13 @@ close-requires-clause-fits c =
 pub close-requires-clause-loose : goal.close-requires-clause-loose
 close-requires-clause-loose c =
     let ts = trees c.args.cells.now.cells in
-    (going-counts ts c.args.variables.now.keys (tree_at ts c.args.place) c.args.copying.now.block.items c.args.copying.now.loose.items c.loop-turn.copying.frames.items c.pop.new.self.items c.in-Some.frame
+    (going-counts ts c.args.marks.now (tree_at ts c.args.place) c.args.copying.now.block.items c.args.copying.now.loose.items c.loop-turn.copying.frames.items c.pop.new.self.items c.in-Some.frame
     c.loop-turn.copying.loose.items c.loop-turn.copying.block.items c.loop-turn.turn c.in-Some.ensures.items c.loop-turn.invariant).enough
 
 pub returns-in-None-clause-copied : goal.returns-in-None-clause-copied
 returns-in-None-clause-copied c =
     let ts = trees c.args.cells.now.cells in
     let e = nil_from_length c.loop-turn.copying.frames.items (let k = c.in-None.ensures.cases.0 in omega arith) in
-    let g = subst (Going ts c.args.variables.now.keys (tree_at ts c.args.place) c.args.copying.now.block.items c.args.copying.now.loose.items c.loop-turn.copying.frames.items c.loop-turn.copying.loose.items c.loop-turn.copying.block.items) c.in-Close.is c.loop-turn.invariant in
+    let g = subst (Going ts c.args.marks.now (tree_at ts c.args.place) c.args.copying.now.block.items c.args.copying.now.loose.items c.loop-turn.copying.frames.items c.loop-turn.copying.loose.items c.loop-turn.copying.block.items) c.in-Close.is c.loop-turn.invariant in
     rw c.in_ok-push-in-None.ensures.items
-    (going-done ts c.args.variables.now.keys (tree_at ts c.args.place) c.args.copying.now.block.items c.args.copying.now.loose.items c.loop-turn.copying.frames.items c.loop-turn.copying.loose.items c.loop-turn.copying.block.items c.in-Close.cell e g)
+    (going-done ts c.args.marks.now (tree_at ts c.args.place) c.args.copying.now.block.items c.args.copying.now.loose.items c.loop-turn.copying.frames.items c.loop-turn.copying.loose.items c.loop-turn.copying.block.items c.in-Close.cell e g)

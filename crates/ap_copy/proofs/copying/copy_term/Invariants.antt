@@ -5,7 +5,7 @@ use Rattle.ap_copy.proofs.copying.copy_term.Given as goal
 
 abbrev pub invariant-loop-turn : goal.invariant-loop-turn
 invariant-loop-turn l =
-    Going (trees l.cells.cells) l.variables.keys (tree_at (trees l.cells.cells) l.place) l.fn.copying.block.items l.fn.copying.loose.items l.copying.frames.items l.copying.loose.items l.copying.block.items l.turn
+    Going (trees l.cells.cells) l.marks (tree_at (trees l.cells.cells) l.place) l.fn.copying.block.items l.fn.copying.loose.items l.copying.frames.items l.copying.loose.items l.copying.block.items l.turn
 
 abbrev pub decreases-loop-turn : goal.decreases-loop-turn
 decreases-loop-turn l = weight_frames (trees l.cells.cells) l.copying.frames.items + weight_turn (trees l.cells.cells) l.turn

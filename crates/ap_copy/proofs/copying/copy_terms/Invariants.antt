@@ -5,7 +5,7 @@ use Rattle.ap_copy.proofs.copying.copy_terms.Given as goal
 
 abbrev pub invariant-loop-root : goal.invariant-loop-root
 invariant-loop-root l = record {
-  copies : AreCopies l.variables.keys l.copying.block.items l.copying.loose.items (map (tree_at (trees l.cells.cells)) (take l.root-index l.roots));
-  block : IsBlock l.variables.keys l.copying.block.items;
+  copies : AreCopies l.marks l.copying.block.items l.copying.loose.items (map (tree_at (trees l.cells.cells)) (take l.root-index l.roots));
+  block : IsBlock l.marks l.copying.block.items;
   idle : l.copying.frames.items ≡ [];
 }

@@ -12,7 +12,7 @@ returns-in_ok-push-in-Node-clause-going c root old block before loose g =
     let ts = trees c.args.cells.now.cells in
     let z = trees-length c.args.cells.now.cells in
     let k : c.in-Node.first + c.in-Node.count ≤ length ts = omega (arith, c.in-Node.ensures.inside) in
-    let n = going-node ts c.args.variables.now.keys root old before c.args.frames.now.items loose block c.args.place c.in-Node.name c.in-Node.first c.in-Node.count c.in-Node.ensures.tree (omega arith) k g in
+    let n = going-node ts c.args.marks.now root old before c.args.frames.now.items loose block c.args.place c.in-Node.name c.in-Node.first c.in-Node.count c.in-Node.ensures.tree (omega arith) k g in
     rw c.in_ok-push-in-Node.ensures.items n
 
 pub returns-in_ok-push-in-Node-clause-less : goal.returns-in_ok-push-in-Node-clause-less

@@ -12,7 +12,7 @@ use Rattle.ap_copy.proofs.parcels.copy_out.Goals as goal
 pub settle-requires-clause-enough : goal.settle-requires-clause-enough
 settle-requires-clause-enough c =
     let ts = trees c.args.cells.now.cells in
-    let l = AreCopies-length c.in_ok-variables.variables.keys c.copy_terms.new.copying.block.items c.copy_terms.new.copying.loose.items (map (tree_at ts) c.args.roots.now) c.in_ok-copy_terms.ensures.copies
+    let l = AreCopies-length c.mark_variables.new.marks c.copy_terms.new.copying.block.items c.copy_terms.new.copying.loose.items (map (tree_at ts) c.args.roots.now) c.in_ok-copy_terms.ensures.copies
     ∙ length-map c.args.roots.now (tree_at ts) in
     omega arith
 
@@ -21,10 +21,11 @@ invariant_of-result c =
     let ts = trees c.args.cells.now.cells in
     let cs = c.copy_terms.new.copying.loose.items in
     let block = c.copy_terms.new.copying.block.items in
-    let l : length cs ≡ length c.args.roots.now = AreCopies-length c.in_ok-variables.variables.keys block cs (map (tree_at ts) c.args.roots.now) c.in_ok-copy_terms.ensures.copies ∙ length-map c.args.roots.now (tree_at ts) in
+    let l : length cs ≡ length c.args.roots.now = AreCopies-length c.mark_variables.new.marks block cs (map (tree_at ts) c.args.roots.now) c.in_ok-copy_terms.ensures.copies ∙ length-map c.args.roots.now (tree_at ts) in
     let z : length cs - length c.args.roots.now ≡ 0 = omega arith in
-    let e : c.settle.new.copying.block.items ≡ block ++ cs = c.in_ok-settle.ensures.block ∙ ap (λ n. block ++ drop n cs) z in
-    let L = laid c.in_ok-variables.variables.keys block cs (map (tree_at ts) c.args.roots.now) c.in_ok-copy_terms.ensures.block c.in_ok-copy_terms.ensures.copies (subst (λ xs. length xs ≤ 4294967295) e c.in_ok-settle.ensures.few) in
+    let e : c.replace.result.items ≡ block ++ cs = ap (λ v. v.items) c.replace.ensures.value ∙ c.in_ok-settle.ensures.block ∙ ap (λ n. block ++ drop n cs) z in
+    let f : c.settle.new.copying.block.items ≡ block ++ cs = c.in_ok-settle.ensures.block ∙ ap (λ n. block ++ drop n cs) z in
+    let L = laid c.mark_variables.new.marks block cs (map (tree_at ts) c.args.roots.now) c.in_ok-copy_terms.ensures.block c.in_ok-copy_terms.ensures.copies (subst (λ xs. length xs ≤ 4294967295) f c.in_ok-settle.ensures.few) in
     record {
       stand = rw e L.is_block.stand;
       below = rw e L.is_block.below;
@@ -35,18 +36,19 @@ invariant_of-result c =
 pub returns : goal.returns
 returns c =
     let ts = trees c.args.cells.now.cells in
-    let ks = c.in_ok-variables.variables.keys in
+    let ks = c.mark_variables.new.marks in
     let roots = c.args.roots.now in
     let cs = c.copy_terms.new.copying.loose.items in
     let block = c.copy_terms.new.copying.block.items in
     let l : length cs ≡ length roots = AreCopies-length ks block cs (map (tree_at ts) roots) c.in_ok-copy_terms.ensures.copies ∙ length-map roots (tree_at ts) in
     let z : length cs - length roots ≡ 0 = omega arith in
-    let e : c.settle.new.copying.block.items ≡ block ++ cs = c.in_ok-settle.ensures.block ∙ ap (λ n. block ++ drop n cs) z in
-    let L = laid ks block cs (map (tree_at ts) roots) c.in_ok-copy_terms.ensures.block c.in_ok-copy_terms.ensures.copies (subst (λ xs. length xs ≤ 4294967295) e c.in_ok-settle.ensures.few) in
+    let e : c.replace.result.items ≡ block ++ cs = ap (λ v. v.items) c.replace.ensures.value ∙ c.in_ok-settle.ensures.block ∙ ap (λ n. block ++ drop n cs) z in
+    let f : c.settle.new.copying.block.items ≡ block ++ cs = c.in_ok-settle.ensures.block ∙ ap (λ n. block ++ drop n cs) z in
+    let L = laid ks block cs (map (tree_at ts) roots) c.in_ok-copy_terms.ensures.block c.in_ok-copy_terms.ensures.copies (subst (λ xs. length xs ≤ 4294967295) f c.in_ok-settle.ensures.few) in
     let p : length (block ++ cs) - length roots ≡ length block = omega (arith, length-append block cs) in
     let t = ap (λ xs. span (trees xs) (length xs - length roots) (length roots)) e
     ∙ ap (λ n. span (trees (block ++ cs)) n (length roots)) p
     ∙ ap (span (trees (block ++ cs)) (length block)) (sym l)
     ∙ L.terms
     ∙ ap (instance_all (numbered ks)) (to_trees-map ts roots) in
-    subst (λ us. SameUpToNames us (tuple_at ts roots)) (sym t) (numbered-same ks (tuple_at ts roots) c.in_ok-variables.ensures)
+    subst (λ us. SameUpToNames us (tuple_at ts roots)) (sym t) (numbered-same ks (tuple_at ts roots) c.in_ok-mark_variables.ensures)

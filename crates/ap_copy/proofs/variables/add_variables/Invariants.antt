@@ -7,7 +7,7 @@ use Rattle.ap_copy.proofs.variables.add_variables.Given as goal
 
 abbrev pub invariant-loop-variable : goal.invariant-loop-variable
 invariant-loop-variable l = record {
-  found : (x : ℕ) → (list_any (nat_eq x) l.variables.keys || has (left (trees l.cells.cells) l.walk) x) ≡ (list_any (nat_eq x) l.fn.variables.keys || occurs x (tree_at (trees l.cells.cells) l.place));
+  found : (x : ℕ) → (list_any (nat_eq x) l.marks || has (left (trees l.cells.cells) l.walk) x) ≡ (list_any (nat_eq x) l.fn.marks || occurs x (tree_at (trees l.cells.cells) l.place));
   inside : AreRanges (length l.cells.cells) l.walk;
 }
 

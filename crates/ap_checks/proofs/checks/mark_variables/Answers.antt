@@ -4,12 +4,12 @@ use Rattle.ap_term.specs.Vars.{has}
 use Rattle.ap_cells.specs.Trees.{tree_at, trees}
 use Rattle.ap_cells.specs.Walks.{left}
 use Rattle.ap_checks.proofs.Steps.{has-begun}
-use Rattle.ap_checks.proofs.checks.variables_of.Goals as goal
+use Rattle.ap_checks.proofs.checks.mark_variables.Goals as goal
 
-pub loop-variables-init : goal.loop-variables-init
-loop-variables-init c =
+pub loop-variable-init : goal.loop-variable-init
+loop-variable-init c =
     let ts = trees c.args.cells.now.cells in
     record {
-      found = λ x. ap (λ ks. list_any (nat_eq x) ks || has (left ts c.start.new.self) x) c.new-variables.ensures.empty ∙ has-begun (tree_at ts c.args.place) (left ts c.start.new.self) c.in_ok-start.ensures.left x;
+      found = λ x. ap (λ ks. list_any (nat_eq x) ks || has (left ts c.start.new.self) x) c.clear.ensures ∙ has-begun (tree_at ts c.args.place) (left ts c.start.new.self) c.in_ok-start.ensures.left x;
       inside = c.in_ok-start.ensures.ranges;
     }

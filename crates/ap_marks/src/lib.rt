@@ -1,0 +1,13 @@
+//! A set of numbers that is emptied in no time and whose memory is kept: a list of its numbers, and for each number where
+//! in that list it stands (a sparse set, after Briggs and Torczon, 1993).
+//!
+//! What the crates above use: the numbers in the order in which they were put in, and `number_of`, which finds one's place
+//! among them.
+#![tactic(auto)]
+
+mod marks;
+
+pub use marks::Marks;
+
+#[cfg(test)]
+mod tests;

@@ -1,0 +1,115 @@
+//! Numbers that are marked.
+
+ghost use Rattle.std.specs.Prelude.{◌≡◌, ◌↔◌, ℕ, ◌<◌, ◌≤◌, ◌++◌, ◌∷◌, [], ◌||◌, true, false, nat_eq, length, slice_index_or, IsTrue, IfSome, IfNone, OnOk, OnErr, if◌then◌else◌};
+ghost use Rattle.std.specs.List.{list_any, position_or_len};
+
+use ap_term::NoMemory;
+use std::alloc::Global;
+use std::marker::Model;
+
+/// Each of `order` has its place there in `places`; what else `places` holds means nothing.
+#[derive(Drop)]
+pub struct Marks {
+    order: Vec<usize>,
+    places: Vec<usize>,
+}
+
+impl Model for Marks {
+    ghost use Rattle.std.specs.Prelude.{List, ℕ};
+
+    ghost Value = { List ℕ };
+
+    ghost use Rattle.ap_marks.specs.Marks.{IsMarks};
+
+    ghost view = { λ a. a.order.items };
+
+    ghost invariant = { IsMarks };
+}
+
+/// Makes the list long enough for the place x.
+fn make_room(places: &mut Vec<usize>, x: usize) -> Result<(), NoMemory>
+    ensures room { OnOk result (x < length places.new.items) }
+    ensures longer { length places.old.items ≤ length places.new.items }
+    ensures same { (k : ℕ) → k < length places.old.items → slice_index_or places.new.items k 0 ≡ slice_index_or places.old.items k 0 }
+{
+    if x < places.len() {
+        return Ok(());
+    }
+    match x.checked_add(1) {
+        Some(count) => {
+            places.resize(count, 0)?;
+            Ok(())
+        }
+        None => Err(NoMemory),
+    }
+}
+
+impl Marks {
+    /// Takes no memory.
+    pub fn new(alloc: Global) -> Marks
+        ensures { result ≡ [] }
+    {
+        Marks {
+            order: Vec::new(alloc),
+            places: Vec::new(alloc),
+        }
+    }
+
+    pub fn clear(&mut self)
+        ensures { self.new ≡ [] }
+    {
+        self.order.clear();
+    }
+
+    pub fn len(&self) -> usize
+        ensures { result ≡ length self.now }
+    {
+        self.order.len()
+    }
+
+    pub fn is_empty(&self) -> bool
+        ensures { IsTrue result ↔ (self.now ≡ []) }
+    {
+        self.order.is_empty()
+    }
+
+    /// Where a number stands among those that were put in, counted from 0.
+    pub fn number_of(&self, x: usize) -> Option<usize>
+        ensures absent { IfNone result (list_any (nat_eq x) self.now ≡ false) }
+        ensures there { IfSome result (λ n. list_any (nat_eq x) self.now ≡ true) }
+        ensures number { IfSome result (λ n. n ≡ position_or_len (nat_eq x) self.now) }
+        ensures below { IfSome result (λ n. n < length self.now) }
+    {
+        if x < self.places.len() {
+            let number = self.places[x];
+            if number < self.order.len() {
+                if self.order[number] == x {
+                    return Some(number);
+                }
+            }
+        }
+        None
+    }
+
+    pub fn contains(&self, x: usize) -> bool
+        ensures { result ≡ list_any (nat_eq x) self.now }
+    {
+        self.number_of(x).is_some()
+    }
+
+    /// Puts a number behind the others, if it isn't there. It takes time in proportion to a number that is greater than all
+    /// before, and else none that grows.
+    pub fn insert(&mut self, x: usize) -> Result<(), NoMemory>
+        ensures ok { OnOk result (self.new ≡ (if list_any (nat_eq x) self.old then self.old else self.old ++ x ∷ [])) }
+        ensures marked { OnOk result ((y : ℕ) → list_any (nat_eq y) self.new ≡ (list_any (nat_eq y) self.old || nat_eq y x)) }
+        ensures err { OnErr result (self.new ≡ self.old) }
+    {
+        if self.contains(x) {
+            return Ok(());
+        }
+        make_room(&mut self.places, x)?;
+        self.order.push(x)?;
+        self.places[x] = self.order.len() - 1;
+        Ok(())
+    }
+}
