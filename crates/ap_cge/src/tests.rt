@@ -1,7 +1,7 @@
 //! The lines of clauses, and what printing puts where the sink fails.
 
 use crate::{Annotated, PrintErr, hand_written, print, strip};
-use ap_lexer::{pieces, tokens};
+use ap_lexer::{Token, pieces, tokens};
 use ap_outside::{MemSink, Refusal, SteadySink};
 use ap_reader::read_term;
 use ap_term::{
@@ -10,16 +10,20 @@ use ap_term::{
 use std::alloc::Global;
 use std::test::Fail;
 
-fn read(alloc: Global, text: &str, atoms: &mut Atoms) -> Result<(Term, u64), Fail> {
+fn tokens_of(alloc: Global, text: &str) -> Result<Vec<Token>, Fail> {
     let found = pieces(alloc, text.as_bytes()).ok().ok_or("no memory")?;
-    for piece in &found {
-        let tokens = tokens(alloc, text.as_bytes(), piece)
+    let piece = found.as_slice().first().ok_or("no piece")?;
+    Ok(
+        tokens(alloc, text.as_bytes(), piece)
             .ok()
-            .ok_or("bad token")?;
-        let read = read_term(alloc, &tokens, atoms).ok().ok_or("no term")?;
-        return Ok((read.term, read.names.len() as u64));
-    }
-    Err(Fail::new("no piece"))
+            .ok_or("bad token")?,
+    )
+}
+
+fn read(alloc: Global, text: &str, atoms: &mut Atoms) -> Result<(Term, u64), Fail> {
+    let tokens = tokens_of(alloc, text)?;
+    let read = read_term(alloc, &tokens, atoms).ok().ok_or("no term")?;
+    Ok((read.term, read.names.len() as u64))
 }
 
 /// The elements of a list, at most 100.
@@ -152,19 +156,29 @@ const LINES: [(&str, &str); 30] = [
     ("['/*'].", "'/*'.\n"),
 ];
 
+fn lines(alloc: Global, annotated: &Annotated, atoms: &Atoms) -> Result<SteadySink, Fail> {
+    let mut sink = SteadySink::new(alloc);
+    print(alloc, annotated, atoms, &mut sink)
+        .ok()
+        .ok_or("no lines")?;
+    Ok(sink)
+}
+
+/// Whether a program of one clause is put as one line.
+fn is_line(alloc: Global, atoms: &mut Atoms, text: &str, line: &str) -> Result<bool, Fail> {
+    let program = program_of(alloc, &[text], atoms)?;
+    let sink = lines(alloc, &hand_written(alloc, &program)?, atoms)?;
+    match sink.pieces() {
+        [piece] => Ok(piece.as_slice() == line.as_bytes()),
+        _ => Ok(false),
+    }
+}
+
 #[test]
 fn a_clause_is_a_line(rt: HostRuntime) -> Result<(), Fail> {
-    let alloc = rt.alloc();
-    let mut atoms = Atoms::new(alloc)?;
+    let mut atoms = Atoms::new(rt.alloc())?;
     for (text, line) in &LINES {
-        let program = program_of(alloc, &[*text], &mut atoms)?;
-        let annotated = hand_written(alloc, &program)?;
-        let mut sink = SteadySink::new(alloc);
-        print(alloc, &annotated, &atoms, &mut sink)
-            .ok()
-            .ok_or(*text)?;
-        assert_eq!(rt; sink.pieces().len(), 1);
-        assert!(rt; sink.pieces()[0].as_slice() == line.as_bytes(), "{text}");
+        assert!(rt; is_line(rt.alloc(), &mut atoms, *text, *line)?, "{text}");
     }
     Ok(())
 }
@@ -177,22 +191,14 @@ const CLAUSES: [&str; 3] = [
 
 const SEQUENCES: [&str; 3] = ["[p(X),a,b(X),c].", "[a].", "[b(X),a,a,c(Y)]."];
 
-fn lines(alloc: Global, program: Program, atoms: &Atoms) -> Result<SteadySink, Fail> {
-    let mut sink = SteadySink::new(alloc);
-    print(alloc, &Annotated::new(program), atoms, &mut sink)
-        .ok()
-        .ok_or("no lines")?;
-    Ok(sink)
-}
-
 #[test]
 fn goals_of_groups_are_called_one_after_another(rt: HostRuntime) -> Result<(), Fail> {
     let alloc = rt.alloc();
     let mut atoms = Atoms::new(alloc)?;
     let annotated = Annotated::new(program_of(alloc, &CLAUSES, &mut atoms)?);
-    let stripped = lines(alloc, strip(alloc, &annotated)?, &atoms)?;
+    let stripped = lines(alloc, &Annotated::new(strip(alloc, &annotated)?), &atoms)?;
     let sequences = program_of(alloc, &SEQUENCES, &mut atoms)?;
-    let wanted = lines(alloc, sequences, &atoms)?;
+    let wanted = lines(alloc, &Annotated::new(sequences), &atoms)?;
     assert!(rt; stripped.pieces() == wanted.pieces());
     Ok(())
 }
