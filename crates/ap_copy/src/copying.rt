@@ -66,11 +66,12 @@ impl Copying {
     }
 }
 
+/// Variables, with room for the cells in which they stand: that is taken at once, and touched only as it is filled.
 fn unbound(alloc: Global, count: usize) -> Result<Vec<Raw>, NoMemory>
     ensures names { IfOk result (λ block. IsNames block.items) }
     ensures len { IfOk result (λ block. length block.items ≡ count) }
 {
-    let mut block = Vec::new(alloc);
+    let mut block = Vec::with_capacity(alloc, count.saturating_mul(4))?;
     for _ in 0..count {
         block.push(Raw::Free)?;
     }

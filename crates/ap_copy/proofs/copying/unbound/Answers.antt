@@ -5,7 +5,7 @@ use Rattle.ap_copy.proofs.Blocks.{names-none, names-push}
 use Rattle.ap_copy.proofs.copying.unbound.Goals as goal
 
 pub loop-init : goal.loop-init
-loop-init c = record { names = rw c.new-block.ensures.items names-none; len = rw c.new-block.ensures.items (omega arith) }
+loop-init c = record { names = rw c.in_ok-block.ensures.items names-none; len = rw c.in_ok-block.ensures.items (omega arith) }
 
 pub loop-preserved : goal.loop-preserved
 loop-preserved c = record {
