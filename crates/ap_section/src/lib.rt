@@ -10,5 +10,6 @@ mod calls;
 mod control;
 mod goals;
 mod section;
+mod start;
 
 pub use section::Section;
