@@ -8,7 +8,9 @@
 mod advance;
 mod calls;
 mod control;
+mod due;
 mod goals;
 mod section;
 
+pub use advance::{Hook, Turn};
 pub use section::Section;
