@@ -1,16 +1,13 @@
 -- Moves and turns, one behind another.
-use Rattle.std.proofs.Common.{◌≡◌, ℕ, zero, suc, ◌+◌, ◌<◌, ◌≤◌, List, [], ◌∷◌, ◌++◌, length, drop, slice_get, None, refl, ap, sym, ◌∙◌, subst, arith}
+use Rattle.std.proofs.Common.{◌≡◌, ℕ, zero, suc, ◌+◌, ◌-◌, ◌<◌, ◌≤◌, List, [], ◌∷◌, ◌++◌, length, drop, refl, sym, ◌∙◌, subst, arith}
 use Rattle.ap_term.specs.Goals.{Program}
 use Rattle.ap_term.specs.WellFormed.{IsProgram}
 use Rattle.ap_term.specs.Search.{State, children}
-use Rattle.ap_term.specs.Tree.{Trees}
 use Rattle.ap_instr.specs.Code.{Compiled}
 use Rattle.ap_instr.specs.StandsFor.{StandsFor}
 use Rattle.ap_steps.specs.Ways.{AllHaveTargets, room}
-use Rattle.ap_standing.specs.Machine.{calling, failed, Machine, standing}
-use Rattle.ap_standing.specs.Holds.{AtCallOf, SetAt, SetOf, Holds, Turned}
+use Rattle.ap_standing.specs.Holds.{Turned}
 use Rattle.ap_standing.specs.Laws.{KeepsStanding, IsTurn}
-use Rattle.ap_standing.proofs.Machines.{holds-failed}
 use Rattle.ap_section.specs.View.{Paused, IsFor}
 use Rattle.ap_section.specs.Choices.{Stays}
 use Rattle.ap_section.specs.Advanced.{Advanced}
@@ -32,14 +29,9 @@ as-wide code old new f ex ey er = record {
 pub still-for : (code : Compiled) (s t : Paused) → IsFor code s → Stays s t → IsFor code t
 still-for code s t f h = as-wide code s t f h.x h.y h.room
 
--- a call of no predicate of the table
-pub lost-call : (code : Compiled) (m : Machine) (number : ℕ) → m.now ≡ calling number → slice_get code.predicates number ≡ None → (ss : List State) → Holds code m ss → Holds code (record m { now = failed }) ss
-lost-call code m number e u ss h = holds-failed code m (record m { now = failed }) refl refl refl h.5 empty ss h
-  where
-    empty : (gs t : Trees) → SetOf code m gs t → ⊥
-    empty gs t i =
-        let j : AtCallOf code (standing m) m.x (slice_get code.predicates number) gs t = subst (λ n. SetAt code (standing m) m.x m.y n gs t) e i in
-        subst (λ q. AtCallOf code (standing m) m.x q gs t) u j
+-- a section that differs in what registers and room are not, by what it is equal to
+pub for-same : (code : Compiled) (s t u : Paused) → s ≡ u → length t.machine.x ≡ length s.machine.x → length t.machine.y ≡ length s.machine.y → t.room ≡ s.room → IsFor code u → IsFor code t
+for-same code s t u e ex ey er f = as-wide code s t (subst (IsFor code) (sym e) f) ex ey er
 
 -- ---- turns
 
@@ -51,25 +43,26 @@ Turned-then p (suc m) n (s ∷ ss) ts us h k =
 
 pub Advanced-then : (code : Compiled) (r s t : Paused) → Advanced code r s → Advanced code s t → Advanced code r t
 Advanced-then code r s t h k = record {
-  turns = h.turns + k.turns;
-  spent = let a : s.spent ≡ r.spent + h.turns = h.spent in let b : t.spent ≡ s.spent + k.turns = k.spent in omega arith;
+  more = omega arith;
   turned = λ p good stands ss held₁.
       let u = h.turned p good stands ss held₁ in
       let v = k.turned p good stands u.0 u.2 in
-      (v.0, Turned-then p h.turns k.turns ss u.0 v.0 u.1 v.1, v.2);
+      (v.0, subst (λ n. Turned p n ss v.0) sum (Turned-then p (s.spent - r.spent) (t.spent - s.spent) ss u.0 v.0 u.1 v.1), v.2);
   budget = k.budget ∙ h.budget;
   roots = k.roots ∙ h.roots;
   x = k.x ∙ h.x;
   y = k.y ∙ h.y;
   room = k.room ∙ h.room;
 }
+  where
+    sum : (s.spent - r.spent) + (t.spent - s.spent) ≡ t.spent - r.spent
+    sum = let a : r.spent ≤ s.spent = h.more in let b : s.spent ≤ t.spent = k.more in omega arith
 
 -- moves that are no calls
 pub settled : (code : Compiled) (s t : Paused) → KeepsStanding code s.machine t.machine → Stays s t → Advanced code s t
 settled code s t keeps h = record {
-  turns = 0;
-  spent = let a : t.spent ≡ s.spent = h.spent in omega arith;
-  turned = λ p good stands ss k. (ss, refl, keeps ss k);
+  more = let a : t.spent ≡ s.spent = h.spent in omega arith;
+  turned = λ p good stands ss k. (ss, subst (λ n. Turned p n ss ss) (let a : t.spent ≡ s.spent = h.spent in let q : 0 ≡ t.spent - s.spent = omega arith in q) refl, keeps ss k);
   budget = h.budget;
   roots = h.roots;
   x = h.x;
@@ -80,16 +73,27 @@ settled code s t keeps h = record {
 -- a call, which is counted
 pub counted : (code : Compiled) (s t : Paused) → ((p : Program) → IsProgram p → StandsFor code p → IsTurn code p s.machine t.machine) → Stays s t → Advanced code s (record t { spent = t.spent + 1 })
 counted code s t turn h = record {
-  turns = 1;
-  spent = ap (λ n. n + 1) h.spent;
-  turned = λ p good stands ss k. turn p good stands ss k;
+  more = let a : t.spent ≡ s.spent = h.spent in omega arith;
+  turned = λ p good stands ss k.
+      let u = turn p good stands ss k in
+      (u.0, subst (λ n. Turned p n ss u.0) one u.1, u.2);
   budget = h.budget;
   roots = h.roots;
   x = h.x;
   y = h.y;
   room = h.room;
 }
+  where
+    one : 1 ≡ (t.spent + 1) - s.spent
+    one = let a : t.spent ≡ s.spent = h.spent in omega arith
 
 -- nothing was done
 pub stopped : (code : Compiled) (s : Paused) → Advanced code s s
 stopped code s = settled code s s (λ ss h. h) (Stays-refl s)
+
+-- what came out is what there was
+pub unchanged : (code : Compiled) (s t : Paused) → t ≡ s → Advanced code s t
+unchanged code s t e = subst (Advanced code s) (sym e) (stopped code s)
+
+pub for-after : (code : Compiled) (s t : Paused) → IsFor code s → Advanced code s t → IsFor code t
+for-after code s t f h = as-wide code s t f h.x h.y h.room

@@ -8,8 +8,10 @@
 mod advance;
 mod calls;
 mod control;
+mod due;
 mod goals;
 mod section;
 mod start;
 
+pub use advance::{Hook, Turn};
 pub use section::Section;

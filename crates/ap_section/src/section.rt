@@ -1,11 +1,15 @@
 //! A section, and what is read of it.
 
-ghost use Rattle.std.specs.Prelude.{◌≡◌, ◌+◌, ◌-◌, ◌^◌, ◌<◌, ◌≤◌, [], ◌∷◌, false, true, IfOk};
+ghost use Rattle.std.specs.Prelude.{◌≡◌, ◌+◌, ◌-◌, ◌^◌, ◌<◌, ◌≤◌, List, [], ◌∷◌, length, false, true, IfOk};
 ghost use Rattle.ap_term.specs.UpToNames.{SameUpToNames};
-ghost use Rattle.ap_cells.specs.Trees.{tree_at, trees};
-ghost use Rattle.ap_steps.specs.Standing.{tuple_under};
+ghost use Rattle.std.specs.List.{AllByRecursion};
+ghost use Rattle.ap_term.specs.Tree.{count_trees};
+ghost use Rattle.ap_term.specs.Search.{State};
+ghost use Rattle.ap_instr.specs.Code.{Compiled};
 ghost use Rattle.ap_standing.specs.Machine.{failed};
-ghost use Rattle.ap_section.specs.View.{now_of};
+ghost use Rattle.ap_standing.specs.Holds.{Holds};
+ghost use Rattle.ap_section.specs.View.{now_of, IsFor};
+ghost use Rattle.ap_section.specs.Stands.{IsAtAnswer, tuple_of};
 
 use ap_arith::Pending;
 use ap_cells::{CellMark, Cells};
@@ -74,7 +78,8 @@ impl Section {
     /// Leaves so many calls to make.
     pub fn grant(&mut self, rest: u64)
         requires { self.old.spent + rest < 2 ^ 64 }
-        ensures { self.new ≡ record self.old { budget = self.old.spent + rest } }
+        ensures budget { self.new ≡ record self.old { budget = self.old.spent + rest } }
+        ensures is_for { (code : Compiled) → IsFor code self.old → IsFor code self.new }
     {
         self.budget = self.spent + rest;
     }
@@ -103,6 +108,13 @@ impl Section {
         self.spent += 1;
     }
 
+    /// The places of the tuple are those of cells.
+    pub(crate) fn roots_are_cells(&self)
+        ensures { AllByRecursion (λ r. r < length self.now.machine.cells) self.now.machine.roots }
+    {
+        let _ = &self.cells;
+    }
+
     /// Whether an alternative is left.
     pub fn has_more(&self) -> bool
         ensures { result ≡ false → self.now.machine.points ≡ [] }
@@ -112,14 +124,18 @@ impl Section {
 
     /// Leaves the answer at which it stands; the search goes on behind it.
     pub fn redo(&mut self)
-        ensures { self.new ≡ record self.old { machine = record self.old.machine { now = failed } } }
+        ensures failed { self.new ≡ record self.old { machine = record self.old.machine { now = failed } } }
+        ensures is_for { (code : Compiled) → IsFor code self.old → IsFor code self.new }
+        ensures left { IsAtAnswer self.old.machine → (code : Compiled) (s : State) (ss : List State) → Holds code self.old.machine (s ∷ ss) → Holds code self.new.machine ss }
     {
         self.next = Now::Failed;
     }
 
     /// The tuple of the answer at which it stands.
     pub fn answer(&self) -> Result<Parcelled, NoMemory>
-        ensures { IfOk result (λ parcel. SameUpToNames parcel (tuple_under (tree_at (trees self.now.machine.cells)) self.now.machine.roots)) }
+        ensures tuple { IfOk result (λ parcel. SameUpToNames parcel (tuple_of self.now.machine)) }
+        ensures width { IfOk result (λ parcel. count_trees parcel ≡ length self.now.machine.roots) }
+        ensures answered { IfOk result (λ parcel. IsAtAnswer self.now.machine → (code : Compiled) (s : State) (ss : List State) → Holds code self.now.machine (s ∷ ss) → SameUpToNames parcel s.tuple) }
     {
         let mut packing = Packing::new(self.alloc);
         copy_out(self.alloc, &self.cells, &self.roots, &mut packing)

@@ -1,13 +1,13 @@
 use Rattle.std.proofs.Common.{sym, subst}
 use Rattle.ap_section.specs.View.{Paused}
 use Rattle.ap_section.specs.Advanced.{Advanced}
-use Rattle.ap_section.proofs.Progress.{stopped, counted}
+use Rattle.ap_section.proofs.Progress.{unchanged, counted}
 use Rattle.ap_section.proofs.section.Section.make_goal.Goals as goal
 
-pub returns-then-is_spent : goal.returns-then-is_spent
-returns-then-is_spent c = stopped c.args.code.now c.args.self.now
+pub returns-in_err-solve_builtin-clause-advanced : goal.returns-in_err-solve_builtin-clause-advanced
+returns-in_err-solve_builtin-clause-advanced c = unchanged c.args.code.now c.args.self.now c.solve_builtin.new.self c.in_err-solve_builtin.ensures.kept
 
-pub returns : goal.returns
-returns c =
+pub returns-clause-advanced : goal.returns-clause-advanced
+returns-clause-advanced c =
     let P : Paused → Type 0 = λ s. Advanced c.args.code.now c.args.self.now s in
     subst P (sym c.count.ensures) (counted c.args.code.now c.args.self.now c.solve_builtin.new.self (λ p good stands. c.in_ok-solve_builtin.ensures.turn p good) c.solve_builtin.ensures.stays)

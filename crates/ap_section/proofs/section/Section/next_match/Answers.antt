@@ -1,4 +1,4 @@
-use Rattle.std.proofs.Common.{◌≡◌, [], ◌∷◌}
+use Rattle.std.proofs.Common.{[], ◌∷◌}
 use Rattle.ap_standing.specs.Machine.{places_from}
 use Rattle.ap_section.proofs.Alternatives.{Returned-trans, Returned-refl, IsFor-stays, leaves-all, leaves-same, leaves-stuck}
 use Rattle.ap_section.proofs.section.Section.next_match.Goals as goal

@@ -1,4 +1,4 @@
-use Rattle.std.proofs.Common.{◌≡◌, ℕ, length}
+use Rattle.std.proofs.Common.{length}
 use Rattle.ap_standing.specs.Machine.{places_from}
 use Rattle.ap_section.specs.Choices.{Returned, LeavesOut}
 use Rattle.ap_section.proofs.section.Section.next_match.Given as goal

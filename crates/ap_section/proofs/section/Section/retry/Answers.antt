@@ -1,4 +1,3 @@
-use Rattle.std.proofs.Common.{◌≡◌}
 use Rattle.ap_section.proofs.Entered.{retried-holds, retried-fewer, retried-stays}
 use Rattle.ap_section.proofs.section.Section.retry.Goals as goal
 

@@ -1,0 +1,20 @@
+-- The states that are left where a search ends.
+use Rattle.std.proofs.Common.{ℕ, ◌<◌, List, length}
+use Rattle.std.specs.List.{AllByRecursion}
+use Rattle.ap_term.specs.Search.{State}
+use Rattle.ap_instr.specs.Code.{Compiled}
+use Rattle.ap_standing.specs.Holds.{Holds}
+use Rattle.ap_section.specs.declared.advance.Turn.{Turn}
+use Rattle.ap_section.specs.declared.advance.Turn.TheVariants.{Answer, Failed, Spent, More, Stopped}
+use Rattle.ap_section.specs.View.{Paused}
+use Rattle.ap_section.specs.Ends.{Ends, AreStates}
+use Rattle.ap_section.proofs.Resting.{goals-left, answer-first, none-left}
+
+-- the states that are left
+pub states-left : (code : Compiled) (n : ℕ) (old new : Paused) → AllByRecursion (λ r. r < length new.machine.cells) new.machine.roots → (turn : Turn) → Ends code n old new turn
+    → (ss : List State) → Holds code new.machine ss → AreStates new.machine ss turn
+states-left code n old new inside Answer h ss held = answer-first code new.machine inside h ss held
+states-left code n old new inside Failed h ss held = none-left code new.machine h ss held
+states-left code n old new inside Spent h ss held = goals-left code new.machine h.0 ss held
+states-left code n old new inside More h ss held = goals-left code new.machine h.0 ss held
+states-left code n old new inside Stopped h ss held = tt

@@ -1,0 +1,16 @@
+use Rattle.std.proofs.Common.{ap, refl, sym, subst}
+use Rattle.ap_standing.specs.Machine.{failed}
+use Rattle.ap_standing.specs.Holds.{Holds}
+use Rattle.ap_section.specs.View.{Paused}
+use Rattle.ap_section.proofs.Progress.{for-same}
+use Rattle.ap_section.proofs.Resting.{roots-inside, answer-left}
+use Rattle.ap_section.proofs.section.Section.redo.Goals as goal
+
+pub returns-clause-is_for : goal.returns-clause-is_for
+returns-clause-is_for c = λ code h. for-same code _ _ c.args.self.now c.self.view_is refl refl refl h
+
+pub returns-clause-left : goal.returns-clause-left
+returns-clause-left c = λ at code s ss h.
+    let m = c.args.self.now.machine in
+    subst (λ k. Holds code k ss) (sym (ap (λ (t : Paused). record t.machine { now = failed }) c.self.view_is))
+    (answer-left code m (roots-inside _ c.args.self.now c.self.view_is c.self.invariant.inside) at s ss h)
