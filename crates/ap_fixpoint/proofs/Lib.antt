@@ -7,3 +7,4 @@ pub mod Reading
 pub mod Fixing
 pub mod Turns
 pub mod Puts
+pub mod Indexing
