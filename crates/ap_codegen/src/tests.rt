@@ -1,5 +1,5 @@
 // The listing of a small program, written by hand from the shape of the code: a head's variables are moved to places of
-// their own, a structure in which one stands again is built and unified, a goal's arguments are put, the last goal is executed.
+// their own, a structure's arguments are unified one by one, a goal's arguments are put, the last goal is executed.
 use crate::compile;
 use ap_certify::plain;
 use ap_instr::listing;
@@ -28,17 +28,15 @@ app/3:
   get_value X4 A3
   proceed
   get_list A1
+  unify_variable X4
   unify_variable X5
-  unify_variable X6
-  get_variable X7 A2
-  put_variable X8 A4
-  put_list A4
-  unify_value X5
-  unify_value X8
-  get_value X4 A3
-  put_value X6 A1
-  put_value X7 A2
-  put_value X8 A3
+  get_variable X6 A2
+  get_list A3
+  unify_value X4
+  unify_variable X7
+  put_value X5 A1
+  put_value X6 A2
+  put_value X7 A3
   execute app/3
 ";
 
