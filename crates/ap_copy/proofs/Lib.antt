@@ -3,3 +3,4 @@ pub mod Steps
 pub mod Names
 pub mod Tuples
 pub mod Moves
+pub mod Fresh

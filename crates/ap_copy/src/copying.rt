@@ -67,7 +67,7 @@ impl Copying {
 }
 
 /// Variables, with room for the cells in which they stand: that is taken at once, and touched only as it is filled.
-fn unbound(alloc: Global, count: usize) -> Result<Vec<Raw>, NoMemory>
+pub fn unbound(alloc: Global, count: usize) -> Result<Vec<Raw>, NoMemory>
     ensures names { IfOk result (λ block. IsNames block.items) }
     ensures len { IfOk result (λ block. length block.items ≡ count) }
 {

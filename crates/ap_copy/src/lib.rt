@@ -8,4 +8,4 @@ mod copying;
 mod parcels;
 mod variables;
 
-pub use parcels::{Packing, Parcelled, Roots, copy_in, copy_out};
+pub use parcels::{Packing, Parcelled, Roots, copy_in, copy_out, new_variables};

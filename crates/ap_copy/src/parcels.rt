@@ -4,6 +4,7 @@ ghost use Rattle.std.specs.Prelude.{◌≡◌, ◌+◌, ◌<◌, ◌≤◌, ◌+
 ghost use Rattle.ap_term.specs.Tree.{count_trees};
 ghost use Rattle.ap_term.specs.Substitution.{instance, instance_all, shift};
 ghost use Rattle.ap_term.specs.UpToNames.{SameUpToNames};
+ghost use Rattle.ap_term.specs.Search.{variables};
 ghost use Rattle.ap_cells.specs.Trees.{trees, span, Stand};
 ghost use Rattle.ap_cells.specs.Store.{Keeps};
 ghost use Rattle.ap_cells.specs.Walks.{Each};
@@ -11,9 +12,9 @@ ghost use Rattle.ap_copy.specs.Copies.{tuple_at, IsBelow};
 ghost use Rattle.ap_copy.specs.Parcels.{raw_moved};
 ghost use Rattle.ap_cells.specs.Raws.{raw_of};
 
-use crate::copying::{Copying, copy_terms, settle};
+use crate::copying::{Copying, copy_terms, settle, unbound};
 use crate::variables::mark_variables;
-use ap_cells::{Cell, Cells, Raw, Walk};
+use ap_cells::{Cell, Cells, MAX_CELLS, Raw, Walk};
 use ap_marks::Marks;
 use ap_term::NoMemory;
 use std::alloc::Global;
@@ -77,6 +78,18 @@ impl Packing {
             copying: Copying::new(alloc),
         }
     }
+}
+
+/// So many variables, each another one.
+pub fn new_variables(alloc: Global, count: usize) -> Result<Parcelled, NoMemory>
+    ensures names { IfOk result (λ parcel. SameUpToNames parcel (variables count)) }
+    ensures count { IfOk result (λ parcel. count_trees parcel ≡ count) }
+{
+    if count > MAX_CELLS {
+        return Err(NoMemory);
+    }
+    let cells = unbound(alloc, count)?;
+    Ok(Parcelled { cells, count })
 }
 
 /// Copies the terms of some places out of a store, which stays as it is. Variables that they share stay shared.

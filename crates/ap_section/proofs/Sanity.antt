@@ -215,7 +215,7 @@ module _ (v : Store) (k l : Kept) (x y roots : List ℕ) (next : Kind) (spent bu
 
 -- ---- going back
 
-held-zeros : (n k : ℕ) → held (replicate n 0) k ≡ 0
+pub held-zeros : (n k : ℕ) → held (replicate n 0) k ≡ 0
 held-zeros zero k = refl
 held-zeros (suc n) zero = refl
 held-zeros (suc n) (suc k) = held-zeros n k

@@ -24,7 +24,7 @@ use ap_term::NoMemory;
 use ap_unify::Work;
 
 /// A predicate of the table.
-fn predicate_at(code: &Code, number: u32) -> Option<Predicate>
+pub(crate) fn predicate_at(code: &Code, number: u32) -> Option<Predicate>
     ensures { result ≡ slice_get code.now.predicates number }
 {
     code.predicates().get(number as usize).copied()

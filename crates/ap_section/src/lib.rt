@@ -11,6 +11,7 @@ mod control;
 mod due;
 mod goals;
 mod section;
+mod start;
 
 pub use advance::{Hook, Turn};
 pub use section::Section;
