@@ -8,3 +8,4 @@ pub mod Fixing
 pub mod Turns
 pub mod Puts
 pub mod Indexing
+pub mod Grouping

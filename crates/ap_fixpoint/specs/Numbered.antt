@@ -1,18 +1,11 @@
 -- Numbers kept by slots.
-use Rattle.std.specs.Prelude.{ℕ, Bool, ◌==◌, ◌&&◌, List, [], Option, Some, None}
+use Rattle.std.specs.Prelude.{ℕ, List, [], Option, Some, None}
 use Rattle.std.specs.HashMap.{HashMap, get}
 use Rattle.std.proofs.Common.{Vec, Global}
-use Rattle.ap_patterns.specs.declared.tables.Predicate.{Predicate}
 use Rattle.ap_patterns.specs.declared.slots.Slot.{Slot}
 use Rattle.ap_patterns.specs.declared.slots.Slot.TheVariants.{Call, Success}
+use Rattle.ap_patterns.specs.Table.{key_of, is_key}
 use Rattle.ap_fixpoint.specs.declared.numbered.Numbered.{Numbered}
-
--- a predicate's name and arity
-abbrev pub key_of : Predicate → ℕ × ℕ
-key_of p = (p.name, p.arity)
-
-abbrev pub is_key : ℕ × ℕ → ℕ × ℕ → Bool
-is_key k l = (k.0 == l.0) && (k.1 == l.1)
 
 abbrev pub listed : Option (Vec ℕ Global) → List ℕ
 listed None = []

@@ -3,7 +3,8 @@
 ghost use Rattle.std.specs.Prelude.{◌≡◌, ℕ, [], ◌∷◌, ◌++◌, if◌then◌else◌, OnOk};
 ghost use Rattle.ap_patterns.specs.declared.slots.Slot.{Slot};
 ghost use Rattle.ap_fixpoint.specs.Fix.{same_slot};
-ghost use Rattle.ap_fixpoint.specs.Numbered.{is_key, key_of, numbers_at, numbers_of};
+ghost use Rattle.ap_patterns.specs.Table.{key_of, is_key};
+ghost use Rattle.ap_fixpoint.specs.Numbered.{numbers_at, numbers_of};
 
 use ap_patterns::{Predicate, Slot};
 use ap_term::NoMemory;
