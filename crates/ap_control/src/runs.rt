@@ -37,7 +37,7 @@ pub fn builtin_at(code: &Code, at: usize) -> Option<Builtin>
 }
 
 /// Whether an environment is made or given back at a place.
-fn is_frame_at(code: &Code, at: usize) -> bool
+pub(crate) fn is_frame_at(code: &Code, at: usize) -> bool
     ensures { result ≡ true → IsFrameAt code.now at }
 {
     match instruction_at(code, at) {
