@@ -11,7 +11,7 @@ pub returns-then-is_frame_at : goal.returns-then-is_frame_at
 returns-then-is_frame_at c =
     λ b y k bs h.
     let code = c.args.code.now in
-    let f : IsFrameAt code c.args.at = c.is_frame_at.ensures c.if-is_frame_at.true in
+    let f : IsFrameAt code c.args.at = c.is_frame_at.ensures.frame c.if-is_frame_at.true in
     let same : steps_from code c.args.at ≡ frame ∷ steps_from code (c.args.at + 1) =
     ap (steps_of code) (drop-here code.instructions c.args.at f.instr f.stands) ∙ ap (λ i. i ∷ steps_from code (c.args.at + 1)) f.is_frame in
     c.fails_at.ensures b y k bs (subst (λ is. Asked c.args.cells.now.cells (held c.args.x.now) y is k bs) same h)
