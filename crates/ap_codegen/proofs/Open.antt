@@ -13,7 +13,7 @@ use Rattle.ap_term.specs.WellFormed.{callable, all_callable}
 use Rattle.ap_instr.specs.declared.instruction.Slot.TheVariants.{X, Y}
 use Rattle.ap_instr.specs.Step.{Step, get_variable, get_value, get_structure, put_variable, put_value, put_structure, unify_variable, unify_value, call, execute, builtin, proceed}
 use Rattle.ap_instr.specs.Runs.{arguments, IsOpen, AsksOpenly}
-use Rattle.ap_codegen.specs.Permanent.{name, is_builtin, is_builtin_key, see, fills, see_built, see_nested, build, nested, puts, goal_code, is_last_call, asking, body_code, flat, get, gets, clause_code}
+use Rattle.ap_codegen.specs.Permanent.{name, is_builtin, is_builtin_key, see, fills, see_built, see_nested, build, nested, puts, goal_code, is_last_call, asking, body_code, see_all, see_taken, takes, get, opens, gets, clause_code}
 use Rattle.ap_codegen.specs.CodeOf.{calls_apart}
 use Rattle.ap_codegen.proofs.Registers.{both_true}
 use Rattle.ap_codegen.proofs.PermanentReads.{body-each}
@@ -90,19 +90,36 @@ quiet_puts (more t ts) a seen m = quiet_both (build t a seen m) (puts ts (a + 1)
 quiet_goal : (g : Tree) (seen : List ℕ) → Quiet (goal_code g seen)
 quiet_goal g seen = quiet_puts (arguments g) 1 seen (count_trees (arguments g) + 1)
 
-quiet_get : (t : Tree) (a : ℕ) (seen : List ℕ) (m : ℕ) → Quiet (get t a seen m)
-quiet_get (var v) a seen m = go (has seen v)
+quiet_takes : (ts : Trees) (seen : List ℕ) (m : ℕ) → Quiet (takes ts seen m)
+quiet_takes none seen m = refl
+quiet_takes (more (var v) ts) seen m = go (has seen v) (quiet_takes ts (see (var v) seen) (m + 1))
   where
-    go : (b : Bool) → Quiet (if b then get_value (Y v) a ∷ [] else get_variable (Y v) a ∷ [])
-    go true = refl
-    go false = refl
-quiet_get (int z) a seen m = refl
-quiet_get (atom c) a seen m = refl
-quiet_get (node f ts) a seen m = go (flat ts)
-  where
-    go : (b : Bool) → Quiet (if b then get_structure f (count_trees ts) a ∷ fills ts seen m else build (node f ts) m seen (m + 1) ++ get_value (X m) a ∷ [])
-    go true = quiet_fills ts seen m
-    go false = quiet_both (build (node f ts) m seen (m + 1)) (get_value (X m) a ∷ []) (quiet_build (node f ts) m seen (m + 1)) refl
+    go : (b : Bool) → Quiet (takes ts (see (var v) seen) (m + 1)) → Quiet ((if b then unify_value (Y v) else unify_variable (Y v)) ∷ takes ts (see (var v) seen) (m + 1))
+    go true q = q
+    go false q = q
+quiet_takes (more (int z) ts) seen m = quiet_takes ts seen (m + 1)
+quiet_takes (more (atom a) ts) seen m = quiet_takes ts seen (m + 1)
+quiet_takes (more (node a us) ts) seen m = quiet_takes ts seen (m + 1)
+
+mutual
+  quiet_get : (t : Tree) (a : ℕ) (seen : List ℕ) (m : ℕ) → Quiet (get t a seen m)
+  quiet_get (var v) a seen m = go (has seen v)
+    where
+      go : (b : Bool) → Quiet (if b then get_value (Y v) a ∷ [] else get_variable (Y v) a ∷ [])
+      go true = refl
+      go false = refl
+  quiet_get (int z) a seen m = refl
+  quiet_get (atom c) a seen m = refl
+  quiet_get (node f ts) a seen m = quiet_both (takes ts seen m) (opens ts (see_all ts seen) m) (quiet_takes ts seen m) (quiet_opens ts (see_all ts seen) m)
+
+  quiet_opens : (ts : Trees) (seen : List ℕ) (m : ℕ) → Quiet (opens ts seen m)
+  quiet_opens none seen m = refl
+  quiet_opens (more (var v) ts) seen m = quiet_opens ts seen (m + 1)
+  quiet_opens (more (int z) ts) seen m = quiet_opens ts seen (m + 1)
+  quiet_opens (more (atom a) ts) seen m = quiet_opens ts seen (m + 1)
+  quiet_opens (more (node a us) ts) seen m =
+      let seen1 : List ℕ = see_taken (node a us) seen in
+      quiet_both (get (node a us) m seen (m + 1 + count_trees ts)) (opens ts seen1 (m + 1)) (quiet_get (node a us) m seen (m + 1 + count_trees ts)) (quiet_opens ts seen1 (m + 1))
 
 quiet_gets : (ts : Trees) (a : ℕ) (seen : List ℕ) (m : ℕ) → Quiet (gets ts a seen m)
 quiet_gets none a seen m = refl

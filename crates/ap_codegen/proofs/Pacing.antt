@@ -13,10 +13,10 @@ use Rattle.ap_instr.specs.Step.{Step, get_variable, get_value, get_structure, pu
 use Rattle.ap_instr.specs.Runs.{set, arguments}
 use Rattle.ap_codecheck.specs.Shape.{Shape, write, with_target, passed, behind_argument, after}
 use Rattle.ap_codecheck.specs.Rules.{ArgumentsSet, IsRoomFor}
-use Rattle.ap_codegen.specs.Permanent.{name, is_builtin, see, see_all, fill, fills, see_built, see_nested, build, nested, puts, see_puts, goal_code, is_last_call, asking, body_code, flat, get, gets, clause_code}
+use Rattle.ap_codegen.specs.Permanent.{name, is_builtin, see, see_all, fill, fills, see_built, see_nested, build, nested, puts, see_puts, goal_code, is_last_call, asking, body_code, see_taken, see_opened, take, takes, get, opens, gets, clause_code}
 use Rattle.ap_codegen.specs.Paces.{IsSlot, Paces, inside}
 use Rattle.ap_codegen.proofs.Registers.{both_true, set_here, set_other}
-use Rattle.ap_codegen.proofs.PermanentReads.{has-push, built_sees, goal_sees, flat_sees}
+use Rattle.ap_codegen.proofs.PermanentReads.{has-push, goal_sees, taken_sees}
 
 -- outside of structures, in an environment for n variables
 record Fine (n : ℕ) (s : Shape) : Type 0 where
@@ -26,6 +26,9 @@ record Fine (n : ℕ) (s : Shape) : Type 0 where
 -- what is set stays set, of registers below m
 abbrev Keeps : ℕ → (ℕ → Bool) → (ℕ → Bool) → Type 0
 Keeps m x z = (w : ℕ) → w < m → x w ≡ true → z w ≡ true
+
+abbrev Grows : (ℕ → Bool) → (ℕ → Bool) → Type 0
+Grows y z = (w : ℕ) → y w ≡ true → z w ≡ true
 
 -- the variables seen are set
 abbrev Sees : List ℕ → (ℕ → Bool) → Type 0
@@ -112,12 +115,18 @@ other_temps (int v) ts m x h = h
 other_temps (atom v) ts m x h = h
 other_temps (node a us) ts m x h = h.1
 
-flat_temps : (ts : Trees) (m : ℕ) (x : ℕ → Bool) → flat ts ≡ true → Temps ts m x
-flat_temps none m x f = tt
-flat_temps (more (var v) ts) m x f = flat_temps ts (m + 1) x f
-flat_temps (more (int z) ts) m x f = flat_temps ts (m + 1) x f
-flat_temps (more (atom a) ts) m x f = flat_temps ts (m + 1) x f
-flat_temps (more (node a us) ts) m x f = absurd (false≢true f)
+join_temps : (t : Tree) (ts : Trees) (m : ℕ) (x : ℕ → Bool) → Temps (more t none) m x → Temps ts (m + 1) x → Temps (more t ts) m x
+join_temps (var v) ts m x h k = k
+join_temps (int v) ts m x h k = k
+join_temps (atom v) ts m x h k = k
+join_temps (node a us) ts m x h k = (h.0, k)
+
+temps_near : (ts : Trees) (m : ℕ) (x z : ℕ → Bool) → ((w : ℕ) → m ≤ w → w < m + count_trees ts → x w ≡ true → z w ≡ true) → Temps ts m x → Temps ts m z
+temps_near none m x z k t = tt
+temps_near (more (var v) ts) m x z k t = temps_near ts (m + 1) x z (λ w l j. k w (omega arith) (omega arith)) t
+temps_near (more (int v) ts) m x z k t = temps_near ts (m + 1) x z (λ w l j. k w (omega arith) (omega arith)) t
+temps_near (more (atom v) ts) m x z k t = temps_near ts (m + 1) x z (λ w l j. k w (omega arith) (omega arith)) t
+temps_near (more (node a us) ts) m x z k t = (k m (omega arith) (omega arith) t.0, temps_near ts (m + 1) x z (λ w l j. k w (omega arith) (omega arith)) t.1)
 
 -- where what stands behind is given for any shape that may come
 record Built (n a m : ℕ) (seen : List ℕ) (s z : Shape) : Type 0 where
@@ -270,51 +279,74 @@ module _ (n : ℕ) where
 
   -- ---- heads
 
-  takes_paces : (ts : Trees) (seen : List ℕ) (m : ℕ) (rest : List Step) (x y : ℕ → Bool) (r : Option ℕ) → 0 < m → flat ts ≡ true → numbered_all n ts ≡ true → r ≡ Some n → Sees seen y
-      → ((z : ℕ → Bool) → Sees (see_all ts seen) z → Paces rest (filling x z r None 0)) → Paces (fills ts seen m ++ rest) (filling x y r None (count_trees ts))
-  takes_paces none seen m rest x y r l f i e o c = c y o
-  takes_paces (more t ts) seen m rest x y r l f i e o c = fills_paces n t ts seen m rest x y r None l i o (flat_temps (more t ts) m x f) e c
+  take_paces : (t : Tree) (seen : List ℕ) (m : ℕ) (rest : List Step) (x y : ℕ → Bool) (r : Option ℕ) (p : ℕ) → 0 < m → numbered n t ≡ true → Sees seen y → r ≡ Some n → 0 < p
+      → ((u z : ℕ → Bool) → Grows x u → Sees (see t seen) z → Temps (more t none) m u → Paces rest (behind_argument (filling u z r None p))) → Paces (take t seen m ∷ rest) (filling x y r None p)
+  take_paces (var v) seen m rest x y r p l i o e q c = go (has seen v) refl c
+    where
+      go : (b : Bool) → has seen v ≡ b → ((u z : ℕ → Bool) → Grows x u → Sees (if b then seen else seen ++ v ∷ []) z → Unit {0} → Paces rest (behind_argument (filling u z r None p)))
+          → Paces ((if b then unify_value (Y v) else unify_variable (Y v)) ∷ rest) (filling x y r None p)
+      go true k c = (slot_of n v (filling x y r None p) i e, o v k, q, c x y (λ w h. h) o tt)
+      go false k c = (slot_of n v (filling x y r None p) i e, q, c x (set y v true) (λ w h. h) (sees_more seen y v o) tt)
+  take_paces (int z) seen m rest x y r p l i o e q c = (q, c x y (λ w h. h) o tt)
+  take_paces (atom a) seen m rest x y r p l i o e q c = (q, c x y (λ w h. h) o tt)
+  take_paces (node a us) seen m rest x y r p l i o e q c = (l, q, c (set x m true) y (λ w h. set_true x m w h) o (set_here x m true, tt))
 
-  get_paces : (t : Tree) (a : ℕ) (seen : List ℕ) (m : ℕ) (rest : List Step) (s : Shape) → 0 < a → a < m → numbered n t ≡ true → Fine n s → Sees seen s.y → s.x a ≡ true
-      → ((z : Shape) → Made n m (add_vars t seen) s z → Paces rest z) → Paces (get t a seen m ++ rest) s
-  get_paces (var v) a seen m rest s p l i f o h c = go (has seen v) refl
-    where
-      go : (b : Bool) → has seen v ≡ b → Paces ((if b then get_value (Y v) a ∷ [] else get_variable (Y v) a ∷ []) ++ rest) s
-      go true e = (slot_of n v s i f.room, p, o v e, h, f.settled, c s (record { fine = f; keeps = λ w j q. q; sees = subst (λ b. Sees (if b then seen else seen ++ v ∷ []) s.y) (sym e) o }))
-      go false e = (
-        slot_of n v s i f.room,
-        p,
-        h,
-        f.settled,
-        c (write (Y v) s) (record {
-          fine = record { settled = f.settled; room = f.room };
-          keeps = λ w j q. q;
-          sees = subst (λ b. Sees (if b then seen else seen ++ v ∷ []) (set s.y v true)) (sym e) (sees_more seen s.y v o);
-        }),
-      )
-  get_paces (int z) a seen m rest s p l i f o h c = (p, h, f.settled, c s (record { fine = f; keeps = λ w j q. q; sees = o }))
-  get_paces (atom b) a seen m rest s p l i f o h c = (p, h, f.settled, c s (record { fine = f; keeps = λ w j q. q; sees = o }))
-  get_paces (node g ts) a seen m rest s p l i f o h c = go (flat ts) refl
-    where
-      go : (b : Bool) → flat ts ≡ b
-          → Paces ((if b then get_structure g (count_trees ts) a ∷ fills ts seen m else build (node g ts) m seen (m + 1) ++ get_value (X m) a ∷ []) ++ rest) s
-      go true e = (
-        p,
-        h,
-        f.settled,
-        takes_paces ts seen m rest s.x s.y s.room (omega arith) e i f.room o (λ z oz.
-            c (filling s.x z s.room None 0) (record { fine = record { settled = refl; room = f.room }; keeps = λ w j q. q; sees = λ w q. oz w (flat_sees ts seen w e q) })),
-      )
-      go false e =
-          subst (λ q. Paces q s) (sym (append_assoc (build (node g ts) m seen (m + 1)) (get_value (X m) a ∷ []) rest))
-          (build_paces n (node g ts) m seen (m + 1) (get_value (X m) a ∷ rest) s (omega arith) (omega arith) i o f (λ u b. (
-            omega arith,
-            p,
-            b.there,
-            b.keeps a (omega arith) h,
-            b.fine.settled,
-            c u (record { fine = b.fine; keeps = λ w j q. b.keeps w (omega arith) q; sees = λ w q. b.sees w (built_sees (node g ts) seen w q) }),
-          )))
+  takes_paces : (ts : Trees) (seen : List ℕ) (m : ℕ) (rest : List Step) (x y : ℕ → Bool) (r : Option ℕ) → 0 < m → numbered_all n ts ≡ true → Sees seen y → r ≡ Some n
+      → ((u z : ℕ → Bool) → Grows x u → Sees (see_all ts seen) z → Temps ts m u → Paces rest (filling u z r None 0)) → Paces (takes ts seen m ++ rest) (filling x y r None (count_trees ts))
+  takes_paces none seen m rest x y r l i o e c = c x y (λ w h. h) o tt
+  takes_paces (more t none) seen m rest x y r l i o e c =
+      take_paces t seen m rest x y r 1 l (both_true (numbered n t) (numbered_all n none) i).0 o e (omega arith) c
+  takes_paces (more t (more d ds)) seen m rest x y r l i o e c =
+      let b = both_true (numbered n t) (numbered_all n (more d ds)) i in
+      take_paces t seen m (takes (more d ds) (see t seen) (m + 1) ++ rest) x y r (count_trees ds + 1 + 1) l b.0 o e (omega arith) (λ u z g1 o1 t1.
+      subst (Paces (takes (more d ds) (see t seen) (m + 1) ++ rest)) (sym (behind_filling u z r None (count_trees ds)))
+      (takes_paces (more d ds) (see t seen) (m + 1) rest u z r (omega arith) b.1 o1 e (λ u2 z2 g2 o2 t2.
+      c u2 z2 (λ w h. g2 w (g1 w h)) o2 (join_temps t (more d ds) m u2 (temps_keep (more t none) m u u2 (λ w k h. g2 w h) t1) t2))))
+
+  mutual
+    get_paces : (t : Tree) (a : ℕ) (seen : List ℕ) (m : ℕ) (rest : List Step) (s : Shape) → 0 < a → a < m → numbered n t ≡ true → Fine n s → Sees seen s.y → s.x a ≡ true
+        → ((z : Shape) → Made n m (see_taken t seen) s z → Paces rest z) → Paces (get t a seen m ++ rest) s
+    get_paces (var v) a seen m rest s p l i f o h c = go (has seen v) refl c
+      where
+        go : (b : Bool) → has seen v ≡ b → ((z : Shape) → Made n m (if b then seen else seen ++ v ∷ []) s z → Paces rest z) → Paces ((if b then get_value (Y v) a ∷ [] else get_variable (Y v) a ∷ []) ++ rest) s
+        go true e c = (slot_of n v s i f.room, p, o v e, h, f.settled, c s (record { fine = f; keeps = λ w j q. q; sees = o }))
+        go false e c = (
+          slot_of n v s i f.room,
+          p,
+          h,
+          f.settled,
+          c (write (Y v) s) (record { fine = record { settled = f.settled; room = f.room }; keeps = λ w j q. q; sees = sees_more seen s.y v o }),
+        )
+    get_paces (int z) a seen m rest s p l i f o h c = (p, h, f.settled, c s (record { fine = f; keeps = λ w j q. q; sees = o }))
+    get_paces (atom b) a seen m rest s p l i f o h c = (p, h, f.settled, c s (record { fine = f; keeps = λ w j q. q; sees = o }))
+    get_paces (node g ts) a seen m rest s p l i f o h c =
+        let seen1 : List ℕ = see_all ts seen in (
+          p,
+          h,
+          f.settled,
+          subst (λ q. Paces q (filling s.x s.y s.room None (count_trees ts))) (sym (append_assoc (takes ts seen m) (opens ts seen1 m) rest))
+              (takes_paces ts seen m (opens ts seen1 m ++ rest) s.x s.y s.room (omega arith) i o f.room (λ u z g1 o1 t1.
+              opens_paces ts seen1 m rest (filling u z s.room None 0) (omega arith) i o1 (record { settled = refl; room = f.room }) t1 (λ v d.
+              c v (record { fine = d.fine; keeps = λ w j q. d.keeps w j (g1 w q); sees = d.sees })))),
+        )
+
+    opens_paces : (ts : Trees) (seen : List ℕ) (m : ℕ) (rest : List Step) (s : Shape) → 0 < m → numbered_all n ts ≡ true → Sees seen s.y → Fine n s → Temps ts m s.x
+        → ((z : Shape) → Made n m (see_opened ts seen) s z → Paces rest z) → Paces (opens ts seen m ++ rest) s
+    opens_paces none seen m rest s l i o f t c = c s (record { fine = f; keeps = λ w j e. e; sees = o })
+    opens_paces (more (var v) ts) seen m rest s l i o f t c =
+        opens_paces ts seen (m + 1) rest s (omega arith) (both_true (in_range n v) (numbered_all n ts) i).1 o f t (λ z d. c z (record { fine = d.fine; keeps = λ w j. d.keeps w (omega arith); sees = d.sees }))
+    opens_paces (more (int v) ts) seen m rest s l i o f t c =
+        opens_paces ts seen (m + 1) rest s (omega arith) i o f t (λ z d. c z (record { fine = d.fine; keeps = λ w j. d.keeps w (omega arith); sees = d.sees }))
+    opens_paces (more (atom v) ts) seen m rest s l i o f t c =
+        opens_paces ts seen (m + 1) rest s (omega arith) i o f t (λ z d. c z (record { fine = d.fine; keeps = λ w j. d.keeps w (omega arith); sees = d.sees }))
+    opens_paces (more (node g us) ts) seen m rest s l i o f t c =
+        let b = both_true (numbered_all n us) (numbered_all n ts) i in
+        let seen1 : List ℕ = see_taken (node g us) seen in
+        let part : List Step = get (node g us) m seen (m + 1 + count_trees ts) in
+        subst (λ q. Paces q s) (sym (append_assoc part (opens ts seen1 (m + 1)) rest))
+        (get_paces (node g us) m seen (m + 1 + count_trees ts) (opens ts seen1 (m + 1) ++ rest) s l (omega arith) b.0 f o t.0 (λ z d.
+        opens_paces ts seen1 (m + 1) rest z (omega arith) b.1 d.sees d.fine (temps_near ts (m + 1) s.x z.x (λ w k j e. d.keeps w (omega arith) e) t.1) (λ v e.
+        c v (record { fine = e.fine; keeps = λ w j q. e.keeps w (omega arith) (d.keeps w (omega arith) q); sees = e.sees }))))
 
   gets_paces : (ts : Trees) (a : ℕ) (seen : List ℕ) (m : ℕ) (rest : List Step) (s : Shape) → 0 < a → a + count_trees ts ≤ m → numbered_all n ts ≡ true → Fine n s → Sees seen s.y
       → ((w : ℕ) → a ≤ w → w < m → s.x w ≡ true) → ((z : Shape) → Fine n z → Sees (add_all_vars ts seen) z.y → Paces rest z) → Paces (gets ts a seen m ++ rest) s
@@ -323,7 +355,7 @@ module _ (n : ℕ) where
       let b = both_true (numbered n t) (numbered_all n ts) i in
       subst (λ q. Paces q s) (sym (append_assoc (get t a seen m) (gets ts (a + 1) (add_vars t seen) m) rest))
       (get_paces t a seen m (gets ts (a + 1) (add_vars t seen) m ++ rest) s p (omega arith) b.0 f o (h a (omega arith) (omega arith)) (λ z d.
-      gets_paces ts (a + 1) (add_vars t seen) m rest z (omega arith) (omega arith) b.1 d.fine d.sees (λ w j q. d.keeps w q (h w (omega arith) q)) c))
+      gets_paces ts (a + 1) (add_vars t seen) m rest z (omega arith) (omega arith) b.1 d.fine (λ w q. d.sees w (taken_sees t seen w q)) (λ w j q. d.keeps w q (h w (omega arith) q)) c))
 
 entered : (w k : ℕ) → 1 ≤ w → w < k + 1 → (nat_le 1 w && nat_le w k) ≡ true
 entered w k h l = ap (λ b. b && nat_le w k) one ∙ other

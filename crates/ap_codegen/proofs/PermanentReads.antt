@@ -13,7 +13,7 @@ use Rattle.ap_laws.specs.Plain.{plain_goals}
 use Rattle.ap_instr.specs.declared.instruction.Slot.TheVariants.{X, Y}
 use Rattle.ap_instr.specs.Step.{Step, get_variable, get_value, get_structure, put_variable, put_value, put_structure, unify_variable, unify_value, call, execute, builtin}
 use Rattle.ap_instr.specs.Runs.{Runs, Reads, set, spread, lost, applied, arguments}
-use Rattle.ap_codegen.specs.Permanent.{name, is_builtin, see, see_all, fills, see_built, see_nested, build, nested, puts, see_puts, goal_code, is_last_call, asking, body_code, flat, get, gets, clause_code}
+use Rattle.ap_codegen.specs.Permanent.{name, is_builtin, see, see_all, fills, see_built, see_nested, build, nested, puts, see_puts, goal_code, is_last_call, asking, body_code, see_taken, see_opened, takes, get, opens, gets, clause_code}
 use Rattle.ap_codegen.proofs.Registers.{both_true, set_here, has_more, has_first}
 
 or_cases : (a b : Bool) → (a || b) ≡ true → (a ≡ true) ⊎ (b ≡ true)
@@ -197,9 +197,46 @@ see_puts-has w (more t ts) seen o =
       | inr p ↦ see_puts-has w ts (see_built t seen) p
     ]
 
+-- the same of a term that is taken apart
+mutual
+  see_taken-grows : (t : Tree) (seen : List ℕ) (w : ℕ) → has seen w ≡ true → has (see_taken t seen) w ≡ true
+  see_taken-grows (var v) seen w h = grows (var v) seen w h
+  see_taken-grows (int z) seen w h = h
+  see_taken-grows (atom a) seen w h = h
+  see_taken-grows (node f ts) seen w h = see_opened-grows ts (see_all ts seen) w (see_all-grows ts seen w h)
+
+  see_opened-grows : (ts : Trees) (seen : List ℕ) (w : ℕ) → has seen w ≡ true → has (see_opened ts seen) w ≡ true
+  see_opened-grows none seen w h = h
+  see_opened-grows (more (var v) ts) seen w h = see_opened-grows ts seen w h
+  see_opened-grows (more (int z) ts) seen w h = see_opened-grows ts seen w h
+  see_opened-grows (more (atom a) ts) seen w h = see_opened-grows ts seen w h
+  see_opened-grows (more (node a us) ts) seen w h = see_opened-grows ts (see_taken (node a us) seen) w (see_taken-grows (node a us) seen w h)
+
+mutual
+  see_taken-has : (w : ℕ) (t : Tree) (seen : List ℕ) → occurs w t ≡ true → has (see_taken t seen) w ≡ true
+  see_taken-has w (var v) seen o = has-add_vars w (var v) seen (or_right (has seen w) (nat_eq w v) o)
+  see_taken-has w (int z) seen o = absurd (false≢true o)
+  see_taken-has w (atom a) seen o = absurd (false≢true o)
+  see_taken-has w (node f ts) seen o = elim (is_taken w ts o) [ inl k ↦ see_opened-grows ts (see_all ts seen) w (k seen) | inr k ↦ k (see_all ts seen) ]
+
+  is_taken : (w : ℕ) (ts : Trees) → occurs_all w ts ≡ true → ((s : List ℕ) → has (see_all ts s) w ≡ true) ⊎ ((s : List ℕ) → has (see_opened ts s) w ≡ true)
+  is_taken w none o = absurd (false≢true o)
+  is_taken w (more (var v) ts) o =
+      elim (or_cases (nat_eq w v) (occurs_all w ts) o) [
+        | inl p ↦ inl (λ s. see_all-grows ts (see (var v) s) w (has-add_vars w (var v) s (or_right (has s w) (nat_eq w v) p)))
+        | inr p ↦ elim (is_taken w ts p) [ inl k ↦ inl (λ s. k (see (var v) s)) | inr k ↦ inr k ]
+      ]
+  is_taken w (more (int z) ts) o = is_taken w ts o
+  is_taken w (more (atom a) ts) o = is_taken w ts o
+  is_taken w (more (node a us) ts) o =
+      elim (or_cases (occurs_all w us) (occurs_all w ts) o) [
+        | inl p ↦ inr (λ s. see_opened-grows ts (see_taken (node a us) s) w (see_taken-has w (node a us) s p))
+        | inr p ↦ elim (is_taken w ts p) [ inl k ↦ inl k | inr k ↦ inr (λ s. k (see_taken (node a us) s)) ]
+      ]
+
 -- what stands in a term is seen behind it
-pub built_sees : (t : Tree) (seen : List ℕ) (w : ℕ) → has (add_vars t seen) w ≡ true → has (see_built t seen) w ≡ true
-built_sees t seen w h = elim (add_vars-has w t seen h) [ inl p ↦ see_built-grows t seen w p | inr p ↦ see_built-has w t seen p ]
+pub taken_sees : (t : Tree) (seen : List ℕ) (w : ℕ) → has (add_vars t seen) w ≡ true → has (see_taken t seen) w ≡ true
+taken_sees t seen w h = elim (add_vars-has w t seen h) [ inl p ↦ see_taken-grows t seen w p | inr p ↦ see_taken-has w t seen p ]
 
 pub goal_sees : (g : Tree) (seen : List ℕ) (w : ℕ) → callable g ≡ true → has (add_vars g seen) w ≡ true → has (see_puts (arguments g) seen) w ≡ true
 goal_sees (var v) seen w c h = absurd (false≢true c)
@@ -207,21 +244,7 @@ goal_sees (int z) seen w c h = h
 goal_sees (atom a) seen w c h = h
 goal_sees (node a ts) seen w c h = elim (add_all_vars-has w ts seen h) [ inl p ↦ see_puts-grows ts seen w p | inr p ↦ see_puts-has w ts seen p ]
 
-pub flat_sees : (ts : Trees) (seen : List ℕ) (w : ℕ) → flat ts ≡ true → has (add_all_vars ts seen) w ≡ true → has (see_all ts seen) w ≡ true
-flat_sees none seen w f h = h
-flat_sees (more (var v) ts) seen w f h = flat_sees ts (add_vars (var v) seen) w f h
-flat_sees (more (int z) ts) seen w f h = flat_sees ts seen w f h
-flat_sees (more (atom a) ts) seen w f h = flat_sees ts seen w f h
-flat_sees (more (node a us) ts) seen w f h = absurd (false≢true f)
-
 -- ---- the arguments of structures
-
-flat_temps : (ts : Trees) (m : ℕ) (x y : ℕ → Tree) → flat ts ≡ true → Temps ts m x y
-flat_temps none m x y f = tt
-flat_temps (more (var v) ts) m x y f = flat_temps ts (m + 1) x y f
-flat_temps (more (int z) ts) m x y f = flat_temps ts (m + 1) x y f
-flat_temps (more (atom a) ts) m x y f = flat_temps ts (m + 1) x y f
-flat_temps (more (node a us) ts) m x y f = absurd (false≢true f)
 
 module _ (bs : Trees) (rest : List Step) (x : ℕ → Tree) where
   -- the arguments of a structure are what they are to be, whatever the variables seen are later on
@@ -488,28 +511,117 @@ body-each h (more g gs) seen rest x y i a = go (λ x y i a. body-each h gs (add_
 
 -- ---- heads
 
+module _ (bs : Trees) (rest : List Step) where
+  -- what was taken of a structure is what it is to be, where the temporaries are
+  abbrev TakesOnly : Trees → Trees → List ℕ → ℕ → (ℕ → Tree) → (ℕ → Tree) → Type 0
+  TakesOnly ts us seen m x y =
+      (x' : ℕ → Tree) × (y' : ℕ → Tree) × Same m x x' × AgreeOn seen y y' × ((h : ℕ → Tree) → AgreeOn (see_all ts seen) y' h → Temps ts m x' h → us ≡ instance_all h ts) × Runs rest none x' y' bs
+
+  takes-only : (ts us : Trees) (seen : List ℕ) (m : ℕ) (x y : ℕ → Tree) → count_trees us ≡ count_trees ts → Runs (takes ts seen m ++ rest) us x y bs → TakesOnly ts us seen m x y
+  takes-only none none seen m x y c r = (x, y, λ w i. refl, λ w o. refl, λ h a t. refl, r)
+  takes-only none (more u us) seen m x y c r = absurd (omega arith)
+  takes-only (more (var v) ts) none seen m x y c r = absurd (omega arith)
+  takes-only (more (int v) ts) none seen m x y c r = absurd (omega arith)
+  takes-only (more (atom v) ts) none seen m x y c r = absurd (omega arith)
+  takes-only (more (node a vs) ts) none seen m x y c r = absurd (omega arith)
+  takes-only (more (var v) ts) (more u us) seen m x y c r = go (λ seen y r. takes-only ts us seen (m + 1) x y (omega arith) r) (has seen v) refl r
+    where
+      go : ((seen : List ℕ) (y : ℕ → Tree) → Runs (takes ts seen (m + 1) ++ rest) us x y bs → TakesOnly ts us seen (m + 1) x y)
+          → (b : Bool) → has seen v ≡ b → Runs ((if b then unify_value (Y v) else unify_variable (Y v)) ∷ (takes ts (if b then seen else seen ++ v ∷ []) (m + 1) ++ rest)) (more u us) x y bs
+          → (x' : ℕ → Tree) × (y' : ℕ → Tree) × Same m x x' × AgreeOn seen y y'
+          × ((h : ℕ → Tree) → AgreeOn (see_all ts (if b then seen else seen ++ v ∷ [])) y' h → Temps ts (m + 1) x' h → more u us ≡ more (h v) (instance_all h ts)) × Runs rest none x' y' bs
+      go ih true e r =
+          let k = ih seen y r.1 in (
+            k.0,
+            k.1,
+            λ w i. k.2 w (omega arith),
+            k.3,
+            λ h a t. ap (λ q. more q us) (sym r.0 ∙ k.3 v e ∙ a v (see_all-grows ts seen v e)) ∙ ap (more (h v)) (k.4 h a t),
+            k.5,
+          )
+      go ih false e r =
+          let k = ih (seen ++ v ∷ []) (set y v u) r in (
+            k.0,
+            k.1,
+            λ w i. k.2 w (omega arith),
+            λ w o. set_agrees seen y v u e w o ∙ k.3 w (has_more seen v w o),
+            λ h a t.
+                ap (λ q. more q us) (sym (set_here y v u) ∙ k.3 v (has_first seen v) ∙ a v (see_all-grows ts (seen ++ v ∷ []) v (has_first seen v))) ∙ ap (more (h v)) (k.4 h a t),
+            k.5,
+          )
+  takes-only (more (int z) ts) (more u us) seen m x y c r =
+      let k = takes-only ts us seen (m + 1) x y (omega arith) r.1 in (k.0, k.1, λ w i. k.2 w (omega arith), k.3, λ h a t. ap (λ q. more q us) r.0 ∙ ap (more (int z)) (k.4 h a t), k.5)
+  takes-only (more (atom a) ts) (more u us) seen m x y c r =
+      let k = takes-only ts us seen (m + 1) x y (omega arith) r.1 in (k.0, k.1, λ w i. k.2 w (omega arith), k.3, λ h g t. ap (λ q. more q us) r.0 ∙ ap (more (atom a)) (k.4 h g t), k.5)
+  takes-only (more (node a vs) ts) (more u us) seen m x y c r =
+      let k = takes-only ts us seen (m + 1) (set x m u) y (omega arith) r in (
+        k.0,
+        k.1,
+        λ w i. k.2 w (omega arith) ∙ set_other x m w u i,
+        k.3,
+        λ h g t. ap (λ q. more q us) (sym (k.2 m (omega arith) ∙ set_here x m u) ∙ t.0) ∙ ap (more (instance h (node a vs))) (k.4 h g t.1),
+        k.5,
+      )
+
+  takes-each : (h : ℕ → Tree) (ts : Trees) (seen : List ℕ) (m : ℕ) (x y : ℕ → Tree) → AgreeOn seen y h
+      → ((x' y' : ℕ → Tree) → Same m x x' → Temps ts m x' h → AgreeOn (see_all ts seen) y' h → Runs rest none x' y' bs) → Runs (takes ts seen m ++ rest) (instance_all h ts) x y bs
+  takes-each h none seen m x y a r = r x y (λ w i. refl) tt a
+  takes-each h (more (var v) ts) seen m x y a r = go (λ seen y a r. takes-each h ts seen (m + 1) x y a r) (has seen v) refl (λ x' y' s t a. r x' y' (λ w i. s w (omega arith)) t a)
+    where
+      go : ((seen : List ℕ) (y : ℕ → Tree) → AgreeOn seen y h → ((x' y' : ℕ → Tree) → Same (m + 1) x x' → Temps ts (m + 1) x' h → AgreeOn (see_all ts seen) y' h → Runs rest none x' y' bs)
+          → Runs (takes ts seen (m + 1) ++ rest) (instance_all h ts) x y bs)
+          → (b : Bool) → has seen v ≡ b
+          → ((x' y' : ℕ → Tree) → Same (m + 1) x x' → Temps ts (m + 1) x' h → AgreeOn (see_all ts (if b then seen else seen ++ v ∷ [])) y' h → Runs rest none x' y' bs)
+          → Runs ((if b then unify_value (Y v) else unify_variable (Y v)) ∷ (takes ts (if b then seen else seen ++ v ∷ []) (m + 1) ++ rest)) (more (h v) (instance_all h ts)) x y bs
+      go ih true e r = (a v e, ih seen y a r)
+      go ih false e r = ih (seen ++ v ∷ []) (set y v (h v)) (push_agrees seen y h v a) r
+  takes-each h (more (int z) ts) seen m x y a r = (refl, takes-each h ts seen (m + 1) x y a (λ x' y' s t a. r x' y' (λ w i. s w (omega arith)) t a))
+  takes-each h (more (atom c) ts) seen m x y a r = (refl, takes-each h ts seen (m + 1) x y a (λ x' y' s t a. r x' y' (λ w i. s w (omega arith)) t a))
+  takes-each h (more (node c us) ts) seen m x y a r =
+      let u : Tree = instance h (node c us) in
+      takes-each h ts seen (m + 1) (set x m u) y a (λ x' y' s t a. r x' y' (λ w i. s w (omega arith) ∙ set_other x m w u i) (s m (omega arith) ∙ set_here x m u, t) a)
+
 module _ (bs : Trees) where
-  get-only : (t : Tree) (a : ℕ) (seen : List ℕ) (m : ℕ) (rest : List Step) (x y : ℕ → Tree) → a < m → Runs (get t a seen m ++ rest) none x y bs
-      → (x' : ℕ → Tree) × (y' : ℕ → Tree) × Same m x x' × AgreeOn seen y y' × (x a ≡ instance y' t) × Runs rest none x' y' bs
-  get-only (var v) a seen m rest x y l r = go (has seen v) refl r
-    where
-      go : (b : Bool) → has seen v ≡ b → Runs ((if b then get_value (Y v) a ∷ [] else get_variable (Y v) a ∷ []) ++ rest) none x y bs
-          → (x' : ℕ → Tree) × (y' : ℕ → Tree) × Same m x x' × AgreeOn seen y y' × (x a ≡ y' v) × Runs rest none x' y' bs
-      go true e r = (x, y, λ w i. refl, λ w o. refl, sym r.0, r.1)
-      go false e r = (x, set y v (x a), λ w i. refl, set_agrees seen y v (x a) e, sym (set_here y v (x a)), r)
-  get-only (int z) a seen m rest x y l r = (x, y, λ w i. refl, λ w o. refl, r.0, r.1)
-  get-only (atom c) a seen m rest x y l r = (x, y, λ w i. refl, λ w o. refl, r.0, r.1)
-  get-only (node f ts) a seen m rest x y l r = go (flat ts) refl r
-    where
-      go : (b : Bool) → flat ts ≡ b
-          → Runs ((if b then get_structure f (count_trees ts) a ∷ fills ts seen m else build (node f ts) m seen (m + 1) ++ get_value (X m) a ∷ []) ++ rest) none x y bs
-          → (x' : ℕ → Tree) × (y' : ℕ → Tree) × Same m x x' × AgreeOn seen y y' × (x a ≡ instance y' (node f ts)) × Runs rest none x' y' bs
-      go true e r =
-          let k = fills-only bs rest x ts r.0 seen m y r.1 r.3 in
-          (x, k.0, λ w i. refl, k.1, r.2 ∙ ap (node f) (k.2 k.0 (λ w o. refl) (flat_temps ts m x k.0 e)), k.3)
-      go false e r =
-          let b = build-only bs (node f ts) m seen (m + 1) (get_value (X m) a ∷ rest) x y (omega arith) (reassoc (build (node f ts) m seen (m + 1)) (get_value (X m) a ∷ []) rest none x y bs r) in
-          (b.0, b.1, λ w i. b.4 w (omega arith) (omega arith), b.2, sym (b.4 a (omega arith) (omega arith)) ∙ sym b.5.0 ∙ b.3 b.1 (λ w o. refl), b.5.1)
+  mutual
+    get-only : (t : Tree) (a : ℕ) (seen : List ℕ) (m : ℕ) (rest : List Step) (x y : ℕ → Tree) → a < m → Runs (get t a seen m ++ rest) none x y bs
+        → (x' : ℕ → Tree) × (y' : ℕ → Tree) × Same m x x' × AgreeOn seen y y' × ((h : ℕ → Tree) → AgreeOn (see_taken t seen) y' h → x a ≡ instance h t) × Runs rest none x' y' bs
+    get-only (var v) a seen m rest x y l r = go (has seen v) refl r
+      where
+        go : (b : Bool) → has seen v ≡ b → Runs ((if b then get_value (Y v) a ∷ [] else get_variable (Y v) a ∷ []) ++ rest) none x y bs
+            → (x' : ℕ → Tree) × (y' : ℕ → Tree) × Same m x x' × AgreeOn seen y y' × ((h : ℕ → Tree) → AgreeOn (if b then seen else seen ++ v ∷ []) y' h → x a ≡ h v) × Runs rest none x' y' bs
+        go true e r = (x, y, λ w i. refl, λ w o. refl, λ h g. sym r.0 ∙ g v e, r.1)
+        go false e r = (x, set y v (x a), λ w i. refl, set_agrees seen y v (x a) e, λ h g. sym (set_here y v (x a)) ∙ g v (has_first seen v), r)
+    get-only (int z) a seen m rest x y l r = (x, y, λ w i. refl, λ w o. refl, λ h g. r.0, r.1)
+    get-only (atom c) a seen m rest x y l r = (x, y, λ w i. refl, λ w o. refl, λ h g. r.0, r.1)
+    get-only (node f ts) a seen m rest x y l r =
+        let seen1 : List ℕ = see_all ts seen in
+        let k = takes-only bs (opens ts seen1 m ++ rest) ts r.0 seen m x y r.1 (reassoc (takes ts seen m) (opens ts seen1 m) rest r.0 x y bs r.3) in
+        let n = opens-only ts seen1 m rest k.0 k.1 k.5 in (
+          n.0,
+          n.1,
+          λ w i. n.2 w i ∙ k.2 w i,
+          λ w o. k.3 w o ∙ n.3 w (see_all-grows ts seen w o),
+          λ h g. r.2 ∙ ap (node f) (k.4 h (λ w o. n.3 w o ∙ g w (see_opened-grows ts seen1 w o)) (n.4 h g)),
+          n.5,
+        )
+
+    opens-only : (ts : Trees) (seen : List ℕ) (m : ℕ) (rest : List Step) (x y : ℕ → Tree) → Runs (opens ts seen m ++ rest) none x y bs
+        → (x' : ℕ → Tree) × (y' : ℕ → Tree) × Same m x x' × AgreeOn seen y y' × ((h : ℕ → Tree) → AgreeOn (see_opened ts seen) y' h → Temps ts m x h) × Runs rest none x' y' bs
+    opens-only none seen m rest x y r = (x, y, λ w i. refl, λ w o. refl, λ h g. tt, r)
+    opens-only (more (var v) ts) seen m rest x y r = let n = opens-only ts seen (m + 1) rest x y r in (n.0, n.1, λ w i. n.2 w (omega arith), n.3, n.4, n.5)
+    opens-only (more (int v) ts) seen m rest x y r = let n = opens-only ts seen (m + 1) rest x y r in (n.0, n.1, λ w i. n.2 w (omega arith), n.3, n.4, n.5)
+    opens-only (more (atom v) ts) seen m rest x y r = let n = opens-only ts seen (m + 1) rest x y r in (n.0, n.1, λ w i. n.2 w (omega arith), n.3, n.4, n.5)
+    opens-only (more (node f us) ts) seen m rest x y r =
+        let seen1 : List ℕ = see_taken (node f us) seen in
+        let g = get-only (node f us) m seen (m + 1 + count_trees ts) (opens ts seen1 (m + 1) ++ rest) x y (omega arith) (reassoc (get (node f us) m seen (m + 1 + count_trees ts)) (opens ts seen1 (m + 1)) rest none x y bs r) in
+        let n = opens-only ts seen1 (m + 1) rest g.0 g.1 g.5 in (
+          n.0,
+          n.1,
+          λ w i. n.2 w (omega arith) ∙ g.2 w (omega arith),
+          λ w o. g.3 w o ∙ n.3 w (see_taken-grows (node f us) seen w o),
+          λ h k. (g.4 h (λ w o. n.3 w o ∙ k w (see_opened-grows ts seen1 w o)), Temps-same ts (m + 1) g.0 x h (λ w i j. sym (g.2 w (omega arith))) (n.4 h k)),
+          n.5,
+        )
 
   gets-only : (ts : Trees) (a : ℕ) (seen : List ℕ) (m : ℕ) (rest : List Step) (x y : ℕ → Tree) → a + count_trees ts ≤ m → Runs (gets ts a seen m ++ rest) none x y bs
       → (x' : ℕ → Tree) × (y' : ℕ → Tree) × Same m x x' × AgreeOn seen y y' × (spread x a (count_trees ts) ≡ instance_all y' ts) × Runs rest none x' y' bs
@@ -523,7 +635,7 @@ module _ (bs : Trees) where
         λ w i. k.2 w i ∙ g.2 w i,
         λ w o. g.3 w o ∙ k.3 w (grows t seen w o),
         ap (spread x a) e
-            ∙ ap (λ u. more u (spread x (a + 1) (count_trees ts))) (g.4 ∙ seen_same t seen g.1 k.1 k.3)
+            ∙ ap (λ u. more u (spread x (a + 1) (count_trees ts))) (g.4 g.1 (λ w o. refl) ∙ seen_same t seen g.1 k.1 k.3)
             ∙ ap (more (instance k.1 t)) (spread_under x g.0 (a + 1) (count_trees ts) (λ w i. sym (g.2 w (omega arith))) ∙ k.4),
         k.5,
       )
@@ -533,33 +645,38 @@ module _ (bs : Trees) where
       spread_under x x' p (suc n) h = ap (λ t. more t (spread x (p + 1) n)) (h p (omega arith)) ∙ ap (more (x' p)) (spread_under x x' (p + 1) n (λ w i. h w (omega arith)))
 
   module _ (h : ℕ → Tree) where
-    get-each : (t : Tree) (a : ℕ) (seen : List ℕ) (m : ℕ) (rest : List Step) (x y : ℕ → Tree) → a < m → AgreeOn seen y h → x a ≡ instance h t
-        → ((x' y' : ℕ → Tree) → Same m x x' → AgreeOn (add_vars t seen) y' h → Runs rest none x' y' bs) → Runs (get t a seen m ++ rest) none x y bs
-    get-each (var v) a seen m rest x y l ag e r = go (has seen v) refl
-      where
-        go : (b : Bool) → has seen v ≡ b → Runs ((if b then get_value (Y v) a ∷ [] else get_variable (Y v) a ∷ []) ++ rest) none x y bs
-        go true k = (ag v k ∙ sym e, r x y (λ w i. refl) (subst (λ b. AgreeOn (if b then seen else seen ++ v ∷ []) y h) (sym k) ag))
-        go false k =
-            r x (set y v (x a)) (λ w i. refl)
-            (subst (λ b. AgreeOn (if b then seen else seen ++ v ∷ []) (set y v (x a)) h) (sym k) (subst (λ t. AgreeOn (seen ++ v ∷ []) (set y v t) h) (sym e) (push_agrees seen y h v ag)))
-    get-each (int z) a seen m rest x y l ag e r = (e, r x y (λ w i. refl) ag)
-    get-each (atom c) a seen m rest x y l ag e r = (e, r x y (λ w i. refl) ag)
-    get-each (node f ts) a seen m rest x y l ag e r = go (flat ts) refl
-      where
-        go : (b : Bool) → flat ts ≡ b
-            → Runs ((if b then get_structure f (count_trees ts) a ∷ fills ts seen m else build (node f ts) m seen (m + 1) ++ get_value (X m) a ∷ []) ++ rest) none x y bs
-        go true k = (
-          instance_all h ts,
-          count-instance h ts,
-          e,
-          fills-each bs rest x h ts seen m y ag (flat_temps ts m x h k) (λ y' a'. r x y' (λ w i. refl) (λ w o. a' w (flat_sees ts seen w k o))),
-        )
-        go false k =
-            reassoc_back (build (node f ts) m seen (m + 1)) (get_value (X m) a ∷ []) rest none x y bs
-            (build-each bs h (node f ts) m seen (m + 1) (get_value (X m) a ∷ rest) x y (omega arith) ag (λ x' y' e' b' a'. (
-              e' ∙ sym e ∙ sym (b' a (omega arith) (omega arith)),
-              r x' y' (λ w i. b' w (omega arith) (omega arith)) (λ w o. a' w (built_sees (node f ts) seen w o)),
-            )))
+    mutual
+      get-each : (t : Tree) (a : ℕ) (seen : List ℕ) (m : ℕ) (rest : List Step) (x y : ℕ → Tree) → a < m → AgreeOn seen y h → x a ≡ instance h t
+          → ((x' y' : ℕ → Tree) → Same m x x' → AgreeOn (see_taken t seen) y' h → Runs rest none x' y' bs) → Runs (get t a seen m ++ rest) none x y bs
+      get-each (var v) a seen m rest x y l ag e r = go (has seen v) refl r
+        where
+          go : (b : Bool) → has seen v ≡ b → ((x' y' : ℕ → Tree) → Same m x x' → AgreeOn (if b then seen else seen ++ v ∷ []) y' h → Runs rest none x' y' bs)
+              → Runs ((if b then get_value (Y v) a ∷ [] else get_variable (Y v) a ∷ []) ++ rest) none x y bs
+          go true k r = (ag v k ∙ sym e, r x y (λ w i. refl) ag)
+          go false k r = r x (set y v (x a)) (λ w i. refl) (subst (λ t. AgreeOn (seen ++ v ∷ []) (set y v t) h) (sym e) (push_agrees seen y h v ag))
+      get-each (int z) a seen m rest x y l ag e r = (e, r x y (λ w i. refl) ag)
+      get-each (atom c) a seen m rest x y l ag e r = (e, r x y (λ w i. refl) ag)
+      get-each (node f ts) a seen m rest x y l ag e r =
+          let seen1 : List ℕ = see_all ts seen in (
+            instance_all h ts,
+            count-instance h ts,
+            e,
+            reassoc_back (takes ts seen m) (opens ts seen1 m) rest (instance_all h ts) x y bs
+                (takes-each bs (opens ts seen1 m ++ rest) h ts seen m x y ag (λ x1 y1 s1 t1 a1. opens-each ts seen1 m rest x1 y1 a1 t1 (λ x' y' s a. r x' y' (λ w i. s w i ∙ s1 w i) a))),
+          )
+
+      opens-each : (ts : Trees) (seen : List ℕ) (m : ℕ) (rest : List Step) (x y : ℕ → Tree) → AgreeOn seen y h → Temps ts m x h
+          → ((x' y' : ℕ → Tree) → Same m x x' → AgreeOn (see_opened ts seen) y' h → Runs rest none x' y' bs) → Runs (opens ts seen m ++ rest) none x y bs
+      opens-each none seen m rest x y a t r = r x y (λ w i. refl) a
+      opens-each (more (var v) ts) seen m rest x y a t r = opens-each ts seen (m + 1) rest x y a t (λ x' y' s a. r x' y' (λ w i. s w (omega arith)) a)
+      opens-each (more (int v) ts) seen m rest x y a t r = opens-each ts seen (m + 1) rest x y a t (λ x' y' s a. r x' y' (λ w i. s w (omega arith)) a)
+      opens-each (more (atom v) ts) seen m rest x y a t r = opens-each ts seen (m + 1) rest x y a t (λ x' y' s a. r x' y' (λ w i. s w (omega arith)) a)
+      opens-each (more (node f us) ts) seen m rest x y a t r =
+          let seen1 : List ℕ = see_taken (node f us) seen in
+          reassoc_back (get (node f us) m seen (m + 1 + count_trees ts)) (opens ts seen1 (m + 1)) rest none x y bs
+          (get-each (node f us) m seen (m + 1 + count_trees ts) (opens ts seen1 (m + 1) ++ rest) x y (omega arith) a t.0 (λ x1 y1 s1 a1.
+          opens-each ts seen1 (m + 1) rest x1 y1 a1 (Temps-same ts (m + 1) x x1 h (λ w i j. s1 w (omega arith)) t.1)
+          (λ x' y' s a. r x' y' (λ w i. s w (omega arith) ∙ s1 w (omega arith)) a)))
 
     gets-each : (ts : Trees) (a : ℕ) (seen : List ℕ) (m : ℕ) (rest : List Step) (x y : ℕ → Tree) → a + count_trees ts ≤ m → AgreeOn seen y h → spread x a (count_trees ts) ≡ instance_all h ts
         → ((x' y' : ℕ → Tree) → AgreeOn (add_all_vars ts seen) y' h → Runs rest none x' y' bs) → Runs (gets ts a seen m ++ rest) none x y bs
@@ -569,7 +686,7 @@ module _ (bs : Trees) where
         let d : more (x a) (spread x (a + 1) (count_trees ts)) ≡ more (instance h t) (instance_all h ts) = ap (spread x a) k ∙ e in
         reassoc_back (get t a seen m) (gets ts (a + 1) (add_vars t seen) m) rest none x y bs
         (get-each t a seen m (gets ts (a + 1) (add_vars t seen) m ++ rest) x y (omega arith) ag (cc) (λ x1 y1 s1 a1.
-        gets-each ts (a + 1) (add_vars t seen) m rest x1 y1 (omega arith) a1 (spread_under x1 x (a + 1) (count_trees ts) (λ w i. s1 w (omega arith)) ∙ cc) r))
+        gets-each ts (a + 1) (add_vars t seen) m rest x1 y1 (omega arith) (λ w o. a1 w (taken_sees t seen w o)) (spread_under x1 x (a + 1) (count_trees ts) (λ w i. s1 w (omega arith)) ∙ cc) r))
       where
         spread_under : (x x' : ℕ → Tree) (p n : ℕ) → ((w : ℕ) → w < p + n → x w ≡ x' w) → spread x p n ≡ spread x' p n
         spread_under x x' p zero h = refl

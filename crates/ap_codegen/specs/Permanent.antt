@@ -104,23 +104,48 @@ body_code (more g gs) seen =
     then goal_code g seen ++ execute (name g) (count_trees (arguments g)) ∷ []
     else goal_code g seen ++ (asking g ∷ body_code gs (add_vars g seen))
 
--- whether no argument is a structure
-abbrev pub flat : Trees → Bool
-flat none = true
-flat (more (var v) ts) = flat ts
-flat (more (int z) ts) = flat ts
-flat (more (atom a) ts) = flat ts
-flat (more (node a us) ts) = false
+-- an argument of a structure of the head; one that is a structure is taken into a temporary
+abbrev pub take : Tree → List ℕ → ℕ → Step
+take (var v) seen m = if has seen v then unify_value (Y v) else unify_variable (Y v)
+take (int z) seen m = unify_constant (int z)
+take (atom a) seen m = unify_constant (atom a)
+take (node a us) seen m = unify_variable (X m)
 
--- an argument of the head in X a
-abbrev pub get : Tree → ℕ → List ℕ → ℕ → List Step
-get (var v) a seen m = if has seen v then get_value (Y v) a ∷ [] else get_variable (Y v) a ∷ []
-get (int z) a seen m = get_constant (int z) a ∷ []
-get (atom c) a seen m = get_constant (atom c) a ∷ []
-get (node f ts) a seen m =
-    if flat ts
-    then get_structure f (count_trees ts) a ∷ fills ts seen m
-    else build (node f ts) m seen (m + 1) ++ get_value (X m) a ∷ []
+abbrev pub takes : Trees → List ℕ → ℕ → List Step
+takes none seen m = []
+takes (more t ts) seen m = take t seen m ∷ takes ts (see t seen) (m + 1)
+
+abbrev mutual
+  -- the variables seen behind a term that is taken apart
+  pub see_taken : Tree → List ℕ → List ℕ
+  see_taken (var v) seen = add_vars (var v) seen
+  see_taken (int z) seen = seen
+  see_taken (atom c) seen = seen
+  see_taken (node f ts) seen = see_opened ts (see_all ts seen)
+
+  -- behind the structures among terms
+  pub see_opened : Trees → List ℕ → List ℕ
+  see_opened none seen = seen
+  see_opened (more (var v) ts) seen = see_opened ts seen
+  see_opened (more (int z) ts) seen = see_opened ts seen
+  see_opened (more (atom a) ts) seen = see_opened ts seen
+  see_opened (more (node a us) ts) seen = see_opened ts (see_taken (node a us) seen)
+
+abbrev mutual
+  -- an argument of the head in X a, with the temporaries from m on
+  pub get : Tree → ℕ → List ℕ → ℕ → List Step
+  get (var v) a seen m = if has seen v then get_value (Y v) a ∷ [] else get_variable (Y v) a ∷ []
+  get (int z) a seen m = get_constant (int z) a ∷ []
+  get (atom c) a seen m = get_constant (atom c) a ∷ []
+  get (node f ts) a seen m = get_structure f (count_trees ts) a ∷ (takes ts seen m ++ opens ts (see_all ts seen) m)
+
+  -- takes those that are structures apart
+  pub opens : Trees → List ℕ → ℕ → List Step
+  opens none seen m = []
+  opens (more (var v) ts) seen m = opens ts seen (m + 1)
+  opens (more (int z) ts) seen m = opens ts seen (m + 1)
+  opens (more (atom a) ts) seen m = opens ts seen (m + 1)
+  opens (more (node a us) ts) seen m = get (node a us) m seen (m + 1 + count_trees ts) ++ opens ts (see_taken (node a us) seen) (m + 1)
 
 abbrev pub gets : Trees → ℕ → List ℕ → ℕ → List Step
 gets none a seen m = []

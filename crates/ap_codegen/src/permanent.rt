@@ -1,15 +1,14 @@
 //! The code of a clause each of whose variables has a place of its own in the environment.
 #![tactic(auto, using(ap_term::proofs::TermLists::arguments, ap_term::proofs::TermLists::item_less_deep))]
 
-ghost use Rattle.std.specs.Prelude.{◌≡◌, ◌+◌, ◌≤◌, [], ◌∷◌, ◌++◌, map, IfOk, OnOk};
-ghost use Rattle.ap_term.specs.Tree.{count_trees, none, more, node, var};
-ghost use Rattle.ap_term.specs.TermView.{tree_of, trees_of};
+ghost use Rattle.std.specs.Prelude.{◌≡◌, ◌+◌, [], ◌++◌, IfOk, OnOk};
+ghost use Rattle.ap_term.specs.Tree.{count_trees, var};
+ghost use Rattle.ap_term.specs.TermView.{tree_of};
 ghost use Rattle.ap_term.specs.Vars.{add_vars, add_all_vars};
-ghost use Rattle.ap_instr.specs.declared.instruction.Slot.TheVariants.{X, Y};
+ghost use Rattle.ap_instr.specs.declared.instruction.Slot.TheVariants.{Y};
 ghost use Rattle.ap_instr.specs.Runs.{arguments};
-ghost use Rattle.ap_instr.specs.Step.{get_structure, get_value};
 ghost use Rattle.ap_codegen.specs.Emitted.{step_of, steps_of};
-ghost use Rattle.ap_codegen.specs.Permanent.{name, see, see_all, fill, fills, see_built, see_nested, build, nested, puts, see_puts, goal_code, flat, get, gets};
+ghost use Rattle.ap_codegen.specs.Permanent.{name, see, see_all, fill, fills, see_built, see_nested, build, nested, puts, goal_code, take, takes, see_taken, see_opened, get, opens, gets};
 
 use crate::builtin_goals::builtin_of;
 use crate::steps::{Step, add};
@@ -155,18 +154,6 @@ fn puts(code: &mut Vec<Step>, args: &Args, seen: &mut Vec<u64>, m: u32) -> Resul
     Ok(())
 }
 
-/// Whether no argument is a structure.
-fn flat(args: &Args) -> bool
-    ensures { result ≡ flat args.now }
-{
-    for t in args.as_slice() {
-        if let Term::Node(_, _) = t {
-            return false;
-        }
-    }
-    true
-}
-
 fn see(args: &Args, seen: &mut Vec<u64>) -> Result<(), NoMemory>
     ensures { OnOk result (seen.new.items ≡ add_all_vars args.now seen.old.items) }
 {
@@ -176,63 +163,99 @@ fn see(args: &Args, seen: &mut Vec<u64>) -> Result<(), NoMemory>
     Ok(())
 }
 
+/// The instruction for one argument of a structure of the head; a structure is taken into a temporary.
+fn take(t: &Term, seen: &mut Vec<u64>, m: u32) -> Result<Step, NoMemory>
+    ensures step { IfOk result (λ step. step_of step ≡ take (tree_of t.now) seen.old.items m) }
+    ensures seen { IfOk result (λ _. seen.new.items ≡ see (tree_of t.now) seen.old.items) }
+{
+    match t {
+        Term::Var(v) => fill_variable(*v, seen),
+        Term::Int(z) => Ok(Step::UnifyInteger(*z)),
+        Term::Atom(a) => Ok(Step::UnifyConstant(*a)),
+        Term::Node(_, _) => Ok(Step::UnifyVariable(Slot::X(m))),
+    }
+}
+
+/// The arguments of a structure of the head.
+fn takes(code: &mut Vec<Step>, args: &Args, seen: &mut Vec<u64>, m: u32) -> Result<(), NoMemory>
+    ensures code { OnOk result (steps_of code.new.items ≡ steps_of code.old.items ++ takes args.now seen.old.items m) }
+    ensures seen { OnOk result (seen.new.items ≡ see_all args.now seen.old.items) }
+{
+    let mut at = m;
+    for t in args.as_slice() {
+        add(code, take(t, seen, at)?)?;
+        at = above(at, 1)?;
+    }
+    Ok(())
+}
+
+/// A variable of the head in X a.
+fn get_variable(code: &mut Vec<Step>, v: u64, a: u32, seen: &mut Vec<u64>) -> Result<(), NoMemory>
+    ensures code { OnOk result (steps_of code.new.items ≡ steps_of code.old.items ++ get (var v) a seen.old.items 0) }
+    ensures seen { OnOk result (seen.new.items ≡ add_vars (var v) seen.old.items) }
+{
+    let slot = home(v)?;
+    if seen.contains(&v) {
+        return add(code, Step::GetValue(slot, a));
+    }
+    seen.push(v)?;
+    add(code, Step::GetVariable(slot, a))
+}
+
+/// Takes a term of the head apart, which is in X a.
+#[cycle(take_apart)]
+fn take_apart(
+    code: &mut Vec<Step>,
+    t: &Term,
+    a: u32,
+    seen: &mut Vec<u64>,
+    m: u32,
+) -> Result<(), NoMemory>
+    ensures code { OnOk result (steps_of code.new.items ≡ steps_of code.old.items ++ get (tree_of t.now) a seen.old.items m) }
+    ensures seen { OnOk result (seen.new.items ≡ see_taken (tree_of t.now) seen.old.items) }
+{
+    match t {
+        Term::Var(v) => get_variable(code, *v, a, seen),
+        Term::Int(z) => add(code, Step::GetInteger(*z, a)),
+        Term::Atom(c) => add(code, Step::GetConstant(*c, a)),
+        Term::Node(f, args) => {
+            add(code, Step::GetStructure(*f, count(args)?, a))?;
+            takes(code, args, seen, m)?;
+            take_nested(code, args, seen, m)
+        }
+    }
+}
+
+#[cycle(take_apart)]
+fn take_nested(
+    code: &mut Vec<Step>,
+    args: &Args,
+    seen: &mut Vec<u64>,
+    m: u32,
+) -> Result<(), NoMemory>
+    ensures code { OnOk result (steps_of code.new.items ≡ steps_of code.old.items ++ opens args.now seen.old.items m) }
+    ensures seen { OnOk result (seen.new.items ≡ see_opened args.now seen.old.items) }
+{
+    let mut at = m;
+    let end = above(m, args.len())?;
+    for t in args.as_slice() {
+        if let Term::Node(_, _) = t {
+            take_apart(code, t, at, seen, end)?;
+        }
+        at = above(at, 1)?;
+    }
+    Ok(())
+}
+
 /// An argument of the head in X a.
 fn get(code: &mut Vec<Step>, t: &Term, a: u32, seen: &mut Vec<u64>, m: u32) -> Result<(), NoMemory>
     ensures code { OnOk result (steps_of code.new.items ≡ steps_of code.old.items ++ get (tree_of t.now) a seen.old.items m) }
     ensures seen { OnOk result (seen.new.items ≡ add_vars (tree_of t.now) seen.old.items) }
 {
-    match t {
-        Term::Var(v) => {
-            if seen.contains(v) {
-                add(code, Step::GetValue(home(*v)?, a))
-            } else {
-                add(code, Step::GetVariable(home(*v)?, a))?;
-                seen.push(*v)?;
-                Ok(())
-            }
-        }
-        Term::Int(z) => add(code, Step::GetInteger(*z, a)),
-        Term::Atom(c) => add(code, Step::GetConstant(*c, a)),
-        Term::Node(f, args) => {
-            let known = seen.clone()?;
-            if flat(args) {
-                get_structure(code, *f, args, a, known, m)?;
-            } else {
-                get_built(code, t, a, known, m)?;
-            }
-            see(args, seen)
-        }
-    }
-}
-
-/// A structure with no structures in it.
-fn get_structure(
-    code: &mut Vec<Step>,
-    f: Atom,
-    args: &Args,
-    a: u32,
-    mut seen: Vec<u64>,
-    m: u32,
-) -> Result<(), NoMemory>
-    ensures { OnOk result (steps_of code.new.items ≡ steps_of code.old.items ++ get_structure f (count_trees args.now) a ∷ fills args.now seen.items m) }
-{
-    add(code, Step::GetStructure(f, count(args)?, a))?;
-    fills(code, args, &mut seen, m)
-}
-
-/// A structure with structures in it.
-fn get_built(
-    code: &mut Vec<Step>,
-    t: &Term,
-    a: u32,
-    mut seen: Vec<u64>,
-    m: u32,
-) -> Result<(), NoMemory>
-    ensures { OnOk result (steps_of code.new.items ≡ steps_of code.old.items ++ (build (tree_of t.now) m seen.items (m + 1) ++ get_value (X m) a ∷ [])) }
-{
-    let next = above(m, 1)?;
-    build(code, t, m, &mut seen, next)?;
-    add(code, Step::GetValue(Slot::X(m), a))
+    let mut known = seen.clone()?;
+    take_apart(code, t, a, &mut known, m)?;
+    add_vars(t, seen)?;
+    Ok(())
 }
 
 /// The arguments of the head.
