@@ -16,16 +16,20 @@ use ap_instr::Slot;
 use ap_term::{Args, Atom, NoMemory, Term, add_vars};
 use std::alloc::Global;
 
+/// How many registers a clause may have. A term's depth is below it, so terms that are nested along their last arguments
+/// don't fill the machine's stack.
+const MAX_REGISTERS: usize = 131_072;
+
 /// The register n above another, where there is one.
 pub fn above(m: u32, n: usize) -> Result<u32, NoMemory>
     ensures { IfOk result (λ k. k ≡ m + n) }
 {
-    if n > 4294967295 {
+    if n >= MAX_REGISTERS {
         return Err(NoMemory);
     }
     match m.checked_add(n as u32) {
-        Some(k) => Ok(k),
-        None => Err(NoMemory),
+        Some(k) if (k as usize) < MAX_REGISTERS => Ok(k),
+        _ => Err(NoMemory),
     }
 }
 
