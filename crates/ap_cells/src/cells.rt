@@ -107,17 +107,36 @@ fn linked(end: usize, raw: Raw) -> Raw
     }
 }
 
+/// The least of three numbers.
+fn least(a: usize, b: usize, c: usize) -> usize
+    ensures first { result ≤ a }
+    ensures second { result ≤ b }
+    ensures third { result ≤ c }
+    ensures most { (n : ℕ) → n ≤ a → n ≤ b → n ≤ c → n ≤ result }
+{
+    a.min(b).min(c)
+}
+
+/// Makes places unbound.
+fn free_all(cells: &mut [Raw], places: &[u32])
+    requires { (k : ℕ) → k < length places.now → slice_index_or places.now k 0 < length cells.old }
+    ensures { cells.new ≡ freed places.now cells.old }
+{
+    for place in places {
+        cells[*place as usize] = Raw::Free;
+    }
+}
+
 /// Makes the places from `from` on in a trail unbound, and takes them off.
 fn unwind(cells: &mut Vec<Raw>, trail: &mut Vec<u32>, from: usize)
-    requires { (k : ℕ) → k < length trail.old.items → slice_index_or trail.old.items k 0 < length cells.old.items }
+    requires from { from ≤ length trail.old.items }
+    requires below { (k : ℕ) → k < length trail.old.items → slice_index_or trail.old.items k 0 < length cells.old.items }
     ensures cells { cells.new.items ≡ freed (drop from trail.old.items) cells.old.items }
     ensures trail { trail.new.items ≡ take from trail.old.items }
     ensures room { vec_capacity cells.new ≡ vec_capacity cells.old }
     ensures trail_room { vec_capacity trail.new ≡ vec_capacity trail.old }
 {
-    for i in from..trail.len() {
-        cells[trail[i] as usize] = Raw::Free;
-    }
+    free_all(cells.as_mut_slice(), &trail[from..]);
     trail.truncate(from);
 }
 
@@ -133,10 +152,11 @@ impl Cells {
         }
     }
 
-    /// How many cells there are; their places are the numbers below.
+    /// How many cells there are; their places are the numbers below. Those that can be pushed have places of 32 bits, too.
     pub fn len(&self) -> usize
         ensures place { result ≡ length self.now.cells }
         ensures few { length self.now.cells ≤ 4294967295 }
+        ensures room { length self.now.cells + self.now.spare ≤ 4294967295 }
     {
         self.cells.len()
     }
@@ -159,24 +179,36 @@ impl Cells {
         }
     }
 
-    /// Makes room for n more cells.
+    /// Makes room for n more cells. Where there is room already that is one comparison.
     pub fn reserve(&mut self, n: usize) -> Result<(), NoMemory>
         ensures cells { self.new.cells ≡ self.old.cells }
         ensures trail { self.new.trail ≡ self.old.trail }
         ensures spare { OnOk result (n ≤ self.new.spare) }
         ensures no_less { self.old.spare ≤ self.new.spare }
     {
-        let len = self.cells.len();
-        if n <= self.limit - len {
+        if n <= self.limit - self.cells.len() {
             return Ok(());
         }
+        self.grow(n)
+    }
+
+    /// Makes room for n more cells, and for as many as there are: the lists' memory is doubled, and all of it is room.
+    #[cold]
+    #[inline(never)]
+    fn grow(&mut self, n: usize) -> Result<(), NoMemory>
+        ensures cells { self.new.cells ≡ self.old.cells }
+        ensures trail { self.new.trail ≡ self.old.trail }
+        ensures spare { OnOk result (n ≤ self.new.spare) }
+        ensures no_less { self.old.spare ≤ self.new.spare }
+    {
+        let len = self.cells.len();
         if n > MAX_CELLS - len {
             return Err(NoMemory);
         }
         self.cells.reserve(n)?;
         self.trail
             .reserve(n + len.saturating_sub(self.trail.len()))?;
-        self.limit = len + n;
+        self.limit = least(MAX_CELLS, self.cells.capacity(), self.trail.capacity());
         Ok(())
     }
 
@@ -197,7 +229,7 @@ impl Cells {
     }
 
     /// The cell at a place, as it is kept.
-    fn raw_at(&self, place: usize) -> Raw
+    pub fn raw_at(&self, place: usize) -> Raw
         requires { place < length self.now.cells }
         ensures cell { (d : Raw) → result ≡ slice_index_or self.now.cells place d }
         ensures tree { tree_at (trees self.now.cells) place ≡ step (trees self.now.cells) place result }

@@ -4,7 +4,7 @@ ghost use Rattle.std.specs.Prelude.{◌≡◌, ℕ, ◌<◌, ◌≤◌, length};
 ghost use Rattle.ap_cells.specs.Trees.{tree_at, trees};
 ghost use Rattle.ap_cells.specs.Tops.{topped, IsTop};
 
-use crate::cells::{Cell, Cells};
+use crate::cells::{Cells, Raw};
 use ap_term::Atom;
 
 /// The outermost part of a term: an unbound variable by its place, an integer, an atom, or a compound term with the first
@@ -25,12 +25,12 @@ impl Cells {
         ensures inside { IsTop (trees self.now.cells) (length self.now.cells) result }
     {
         let end = self.deref(place);
-        match self.at(end) {
-            Cell::Free => Top::Free(end),
-            Cell::Same(_) => Top::Free(end),
-            Cell::Int(z) => Top::Int(z),
-            Cell::Atom(a) => Top::Atom(a),
-            Cell::Node(a, first, count) => Top::Node(a, first, count),
+        match self.raw_at(end) {
+            Raw::Free => Top::Free(end),
+            Raw::Same(_) => Top::Free(end),
+            Raw::Int(z) => Top::Int(z),
+            Raw::Atom(a) => Top::Atom(a),
+            Raw::Node(a, first, count) => Top::Node(a, first as usize, count),
         }
     }
 }

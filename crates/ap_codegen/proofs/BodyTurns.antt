@@ -200,4 +200,4 @@ module _ (c : Clause) (k0 k1 k2 : List Step) (s0 s1 : List ℕ) (goals : Trees) 
   pub whole_paces : IsClause c → Paces k2 (inside c.vars (count_trees (arguments c.head)))
   whole_paces i =
       subst (λ q. Paces q (inside c.vars (count_trees (arguments c.head)))) (sym whole)
-      (clause_paces c.vars c.head (plain_goals c.body) (both_true (callable c.head) (numbered c.vars c.head) i.head).1 (goals_numbered c.vars c.body i.body))
+      (clause_paces c.vars c.head (plain_goals c.body) (both_true (callable c.head) (numbered c.vars c.head) i.head).1 (goals_numbered c.vars c.body i.body) (goals_callable c.vars c.body i.body))

@@ -16,3 +16,5 @@ pub mod BuiltinGoals
 pub mod Pacing
 pub mod MovedPaces
 pub mod Walking
+pub mod JoinedReads
+pub mod JoinedPaces

@@ -11,9 +11,9 @@ use Rattle.ap_term.specs.Substitution.{instance_all}
 use Rattle.ap_term.specs.Builtins.{relation_named}
 use Rattle.ap_term.specs.WellFormed.{callable, all_callable}
 use Rattle.ap_instr.specs.declared.instruction.Slot.TheVariants.{X, Y}
-use Rattle.ap_instr.specs.Step.{Step, get_variable, get_value, get_structure, put_variable, put_structure, call, execute, builtin, proceed}
+use Rattle.ap_instr.specs.Step.{Step, get_variable, get_value, get_structure, put_variable, put_value, put_structure, unify_variable, unify_value, call, execute, builtin, proceed}
 use Rattle.ap_instr.specs.Runs.{arguments, IsOpen, AsksOpenly}
-use Rattle.ap_codegen.specs.Permanent.{name, is_builtin, is_builtin_key, inits, inits_all, fills, build, nested, puts, goal_code, is_last_call, asking, body_code, fresh, takes, get, gets, clause_code}
+use Rattle.ap_codegen.specs.Permanent.{name, is_builtin, is_builtin_key, see, fills, see_built, see_nested, build, nested, puts, goal_code, is_last_call, asking, body_code, see_all, see_taken, takes, get, opens, gets, clause_code}
 use Rattle.ap_codegen.specs.CodeOf.{calls_apart}
 use Rattle.ap_codegen.proofs.Registers.{both_true}
 use Rattle.ap_codegen.proofs.PermanentReads.{body-each}
@@ -50,72 +50,76 @@ quiet_apart (i ∷ us) bs q o = quiet_apart us bs q o
 
 -- ---- what is quiet
 
+quiet_fills : (ts : Trees) (seen : List ℕ) (m : ℕ) → Quiet (fills ts seen m)
+quiet_fills none seen m = refl
+quiet_fills (more (var v) ts) seen m = go (has seen v) (quiet_fills ts (see (var v) seen) (m + 1))
+  where
+    go : (b : Bool) → Quiet (fills ts (see (var v) seen) (m + 1)) → Quiet ((if b then unify_value (Y v) else unify_variable (Y v)) ∷ fills ts (see (var v) seen) (m + 1))
+    go true q = q
+    go false q = q
+quiet_fills (more (int z) ts) seen m = quiet_fills ts seen (m + 1)
+quiet_fills (more (atom a) ts) seen m = quiet_fills ts seen (m + 1)
+quiet_fills (more (node a us) ts) seen m = quiet_fills ts seen (m + 1)
+
 mutual
-  quiet_inits : (t : Tree) (seen : List ℕ) (m : ℕ) → Quiet (inits t seen m)
-  quiet_inits (var v) seen m = go (has seen v)
+  quiet_build : (t : Tree) (a : ℕ) (seen : List ℕ) (m : ℕ) → Quiet (build t a seen m)
+  quiet_build (var v) a seen m = go (has seen v)
     where
-      go : (b : Bool) → Quiet (if b then [] else put_variable (Y v) m ∷ [])
+      go : (b : Bool) → Quiet (if b then put_value (Y v) a ∷ [] else put_variable (Y v) a ∷ [])
       go true = refl
       go false = refl
-  quiet_inits (int z) seen m = refl
-  quiet_inits (atom a) seen m = refl
-  quiet_inits (node a ts) seen m = quiet_inits_all ts seen m
+  quiet_build (int z) a seen m = refl
+  quiet_build (atom c) a seen m = refl
+  quiet_build (node f ts) a seen m =
+      let seen1 : List ℕ = see_nested ts seen in
+      quiet_both (nested ts seen m) (put_structure f (count_trees ts) a ∷ fills ts seen1 m) (quiet_nested ts seen m) (quiet_fills ts seen1 m)
 
-  quiet_inits_all : (ts : Trees) (seen : List ℕ) (m : ℕ) → Quiet (inits_all ts seen m)
-  quiet_inits_all none seen m = refl
-  quiet_inits_all (more t ts) seen m = quiet_both (inits t seen m) (inits_all ts (add_vars t seen) m) (quiet_inits t seen m) (quiet_inits_all ts (add_vars t seen) m)
+  quiet_nested : (ts : Trees) (seen : List ℕ) (m : ℕ) → Quiet (nested ts seen m)
+  quiet_nested none seen m = refl
+  quiet_nested (more (var v) ts) seen m = quiet_nested ts seen (m + 1)
+  quiet_nested (more (int z) ts) seen m = quiet_nested ts seen (m + 1)
+  quiet_nested (more (atom a) ts) seen m = quiet_nested ts seen (m + 1)
+  quiet_nested (more (node a us) ts) seen m =
+      let seen1 : List ℕ = see_built (node a us) seen in
+      quiet_both (build (node a us) m seen (m + 1 + count_trees ts)) (nested ts seen1 (m + 1)) (quiet_build (node a us) m seen (m + 1 + count_trees ts)) (quiet_nested ts seen1 (m + 1))
 
-quiet_fills : (ts : Trees) (m : ℕ) → Quiet (fills ts m)
-quiet_fills none m = refl
-quiet_fills (more (var v) ts) m = quiet_fills ts (m + 1)
-quiet_fills (more (int z) ts) m = quiet_fills ts (m + 1)
-quiet_fills (more (atom a) ts) m = quiet_fills ts (m + 1)
-quiet_fills (more (node a us) ts) m = quiet_fills ts (m + 1)
-
-mutual
-  quiet_build : (t : Tree) (a m : ℕ) → Quiet (build t a m)
-  quiet_build (var v) a m = refl
-  quiet_build (int z) a m = refl
-  quiet_build (atom c) a m = refl
-  quiet_build (node f ts) a m = quiet_both (nested ts m) (put_structure f (count_trees ts) a ∷ fills ts m) (quiet_nested ts m) (quiet_fills ts m)
-
-  quiet_nested : (ts : Trees) (m : ℕ) → Quiet (nested ts m)
-  quiet_nested none m = refl
-  quiet_nested (more (var v) ts) m = quiet_nested ts (m + 1)
-  quiet_nested (more (int z) ts) m = quiet_nested ts (m + 1)
-  quiet_nested (more (atom a) ts) m = quiet_nested ts (m + 1)
-  quiet_nested (more (node a us) ts) m = quiet_both (build (node a us) m (m + 1 + count_trees ts)) (nested ts (m + 1)) (quiet_build (node a us) m (m + 1 + count_trees ts)) (quiet_nested ts (m + 1))
-
-quiet_puts : (ts : Trees) (a m : ℕ) → Quiet (puts ts a m)
-quiet_puts none a m = refl
-quiet_puts (more t ts) a m = quiet_both (build t a m) (puts ts (a + 1) m) (quiet_build t a m) (quiet_puts ts (a + 1) m)
+quiet_puts : (ts : Trees) (a : ℕ) (seen : List ℕ) (m : ℕ) → Quiet (puts ts a seen m)
+quiet_puts none a seen m = refl
+quiet_puts (more t ts) a seen m = quiet_both (build t a seen m) (puts ts (a + 1) (see_built t seen) m) (quiet_build t a seen m) (quiet_puts ts (a + 1) (see_built t seen) m)
 
 quiet_goal : (g : Tree) (seen : List ℕ) → Quiet (goal_code g seen)
-quiet_goal g seen =
-    let m : ℕ = count_trees (arguments g) + 1 in quiet_both (inits g seen m) (puts (arguments g) 1 m) (quiet_inits g seen m) (quiet_puts (arguments g) 1 m)
+quiet_goal g seen = quiet_puts (arguments g) 1 seen (count_trees (arguments g) + 1)
 
-quiet_takes : (ts : Trees) → Quiet (takes ts)
-quiet_takes none = refl
-quiet_takes (more (var v) ts) = quiet_takes ts
-quiet_takes (more (int z) ts) = quiet_takes ts
-quiet_takes (more (atom a) ts) = quiet_takes ts
-quiet_takes (more (node a us) ts) = quiet_takes ts
+quiet_takes : (ts : Trees) (seen : List ℕ) (m : ℕ) → Quiet (takes ts seen m)
+quiet_takes none seen m = refl
+quiet_takes (more (var v) ts) seen m = go (has seen v) (quiet_takes ts (see (var v) seen) (m + 1))
+  where
+    go : (b : Bool) → Quiet (takes ts (see (var v) seen) (m + 1)) → Quiet ((if b then unify_value (Y v) else unify_variable (Y v)) ∷ takes ts (see (var v) seen) (m + 1))
+    go true q = q
+    go false q = q
+quiet_takes (more (int z) ts) seen m = quiet_takes ts seen (m + 1)
+quiet_takes (more (atom a) ts) seen m = quiet_takes ts seen (m + 1)
+quiet_takes (more (node a us) ts) seen m = quiet_takes ts seen (m + 1)
 
-quiet_get : (t : Tree) (a : ℕ) (seen : List ℕ) (m : ℕ) → Quiet (get t a seen m)
-quiet_get (var v) a seen m = go (has seen v)
-  where
-    go : (b : Bool) → Quiet (if b then get_value (Y v) a ∷ [] else get_variable (Y v) a ∷ [])
-    go true = refl
-    go false = refl
-quiet_get (int z) a seen m = refl
-quiet_get (atom c) a seen m = refl
-quiet_get (node f ts) a seen m = go (fresh ts seen)
-  where
-    go : (b : Bool) → Quiet (if b then get_structure f (count_trees ts) a ∷ takes ts else inits_all ts seen m ++ (build (node f ts) m (m + 1) ++ get_value (X m) a ∷ []))
-    go true = quiet_takes ts
-    go false =
-        quiet_both (inits_all ts seen m) (build (node f ts) m (m + 1) ++ get_value (X m) a ∷ []) (quiet_inits_all ts seen m)
-        (quiet_both (build (node f ts) m (m + 1)) (get_value (X m) a ∷ []) (quiet_build (node f ts) m (m + 1)) refl)
+mutual
+  quiet_get : (t : Tree) (a : ℕ) (seen : List ℕ) (m : ℕ) → Quiet (get t a seen m)
+  quiet_get (var v) a seen m = go (has seen v)
+    where
+      go : (b : Bool) → Quiet (if b then get_value (Y v) a ∷ [] else get_variable (Y v) a ∷ [])
+      go true = refl
+      go false = refl
+  quiet_get (int z) a seen m = refl
+  quiet_get (atom c) a seen m = refl
+  quiet_get (node f ts) a seen m = quiet_both (takes ts seen m) (opens ts (see_all ts seen) m) (quiet_takes ts seen m) (quiet_opens ts (see_all ts seen) m)
+
+  quiet_opens : (ts : Trees) (seen : List ℕ) (m : ℕ) → Quiet (opens ts seen m)
+  quiet_opens none seen m = refl
+  quiet_opens (more (var v) ts) seen m = quiet_opens ts seen (m + 1)
+  quiet_opens (more (int z) ts) seen m = quiet_opens ts seen (m + 1)
+  quiet_opens (more (atom a) ts) seen m = quiet_opens ts seen (m + 1)
+  quiet_opens (more (node a us) ts) seen m =
+      let seen1 : List ℕ = see_taken (node a us) seen in
+      quiet_both (get (node a us) m seen (m + 1 + count_trees ts)) (opens ts seen1 (m + 1)) (quiet_get (node a us) m seen (m + 1 + count_trees ts)) (quiet_opens ts seen1 (m + 1))
 
 quiet_gets : (ts : Trees) (a : ℕ) (seen : List ℕ) (m : ℕ) → Quiet (gets ts a seen m)
 quiet_gets none a seen m = refl

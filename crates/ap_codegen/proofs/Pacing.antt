@@ -4,19 +4,19 @@ use Rattle.std.proofs.lemmas.Bool.{false≢true}
 use Rattle.std.proofs.lemmas.Bool.Decides.{Decides-eqb, nat_tests}
 use Rattle.ap_term.specs.Tree.{Tree, Trees, var, int, atom, node, none, more, count_trees}
 use Rattle.ap_term.specs.Vars.{has, add_vars, add_all_vars, occurs, occurs_all}
-use Rattle.ap_term.specs.WellFormed.{in_range, numbered, numbered_all}
+use Rattle.ap_term.specs.WellFormed.{in_range, numbered, numbered_all, callable, all_callable}
 use Rattle.ap_term.proofs.Solutions.{or_left, or_right, same_test}
 use Rattle.ap_term.proofs.Solvable.{has-add_all_vars}
 use Rattle.ap_instr.specs.declared.instruction.Slot.TheVariants.{X, Y}
 use Rattle.ap_instr.specs.declared.instruction.Instr.TheVariants.{PutStructure, Call}
-use Rattle.ap_instr.specs.Step.{Step, get_variable, get_value, get_structure, put_variable, put_structure, call, execute, builtin}
+use Rattle.ap_instr.specs.Step.{Step, get_variable, get_value, get_structure, put_variable, put_value, put_structure, unify_variable, unify_value, call, execute, builtin}
 use Rattle.ap_instr.specs.Runs.{set, arguments}
-use Rattle.ap_codecheck.specs.Shape.{Shape, write, passed, behind_argument, after}
+use Rattle.ap_codecheck.specs.Shape.{Shape, write, with_target, passed, behind_argument, after}
 use Rattle.ap_codecheck.specs.Rules.{ArgumentsSet, IsRoomFor}
-use Rattle.ap_codegen.specs.Permanent.{name, is_builtin, inits, inits_all, fill, fills, build, nested, puts, goal_code, is_last_call, asking, body_code, fresh, takes, get, gets, clause_code}
+use Rattle.ap_codegen.specs.Permanent.{name, is_builtin, see, see_all, fill, fills, see_built, see_nested, build, nested, puts, see_puts, goal_code, is_last_call, asking, body_code, see_taken, see_opened, take, takes, get, opens, gets, clause_code}
 use Rattle.ap_codegen.specs.Paces.{IsSlot, Paces, inside}
 use Rattle.ap_codegen.proofs.Registers.{both_true, set_here, set_other}
-use Rattle.ap_codegen.proofs.PermanentReads.{has-push, fresh_var, unseen_add}
+use Rattle.ap_codegen.proofs.PermanentReads.{has-push, goal_sees, taken_sees}
 
 -- outside of structures, in an environment for n variables
 record Fine (n : ℕ) (s : Shape) : Type 0 where
@@ -33,12 +33,6 @@ Grows y z = (w : ℕ) → y w ≡ true → z w ≡ true
 -- the variables seen are set
 abbrev Sees : List ℕ → (ℕ → Bool) → Type 0
 Sees seen y = (w : ℕ) → has seen w ≡ true → y w ≡ true
-
-abbrev Known : Tree → (ℕ → Bool) → Type 0
-Known t y = (w : ℕ) → occurs w t ≡ true → y w ≡ true
-
-abbrev KnownAll : Trees → (ℕ → Bool) → Type 0
-KnownAll ts y = (w : ℕ) → occurs_all w ts ≡ true → y w ≡ true
 
 -- the temporaries from m on for arguments that are structures are set
 abbrev Temps : Trees → ℕ → (ℕ → Bool) → Type 0
@@ -87,26 +81,17 @@ not_one c = go (c + 1 + 1 == 1) refl
 
 -- ---- structures that are built, and those that are taken apart
 
-abbrev filling : (ℕ → Bool) → (ℕ → Bool) → Option ℕ → ℕ → ℕ → Shape
-filling x y r a p = record { x = x; y = y; room = r; pending = p; target = Some a }
-
-abbrev taking : (ℕ → Bool) → (ℕ → Bool) → Option ℕ → ℕ → Shape
-taking x y r p = record { x = x; y = y; room = r; pending = p; target = None }
+abbrev filling : (ℕ → Bool) → (ℕ → Bool) → Option ℕ → Option ℕ → ℕ → Shape
+filling x y r g p = record { x = x; y = y; room = r; pending = p; target = g }
 
 less_one : (c : ℕ) → c + 1 - 1 ≡ c
 less_one c = omega arith
 
-behind_filling : (x y : ℕ → Bool) (r : Option ℕ) (a c : ℕ) → behind_argument (filling x y r a (c + 1 + 1)) ≡ filling x y r a (c + 1)
-behind_filling x y r a c = ap (λ b. passed b (filling x y r a (c + 1 + 1))) (not_one c) ∙ ap (filling x y r a) (less_one (c + 1))
+behind_filling : (x y : ℕ → Bool) (r g : Option ℕ) (c : ℕ) → behind_argument (filling x y r g (c + 1 + 1)) ≡ filling x y r g (c + 1)
+behind_filling x y r g c = ap (λ b. passed b (filling x y r g (c + 1 + 1))) (not_one c) ∙ ap (filling x y r g) (less_one (c + 1))
 
-begun : (s : Shape) (f a c : ℕ) → after (PutStructure f (c + 1) a) s ≡ filling (set s.x a false) s.y s.room a (c + 1)
+begun : (s : Shape) (f a c : ℕ) → after (PutStructure f (c + 1) a) s ≡ filling (set s.x a false) s.y s.room (Some a) (c + 1)
 begun s f a c = ap (λ b. record { x = set s.x a b; y = s.y; room = s.room; pending = c + 1; target = if b then None else Some a }) (not_zero c)
-
-behind_taking : (x y : ℕ → Bool) (r : Option ℕ) (c : ℕ) → behind_argument (taking x y r (c + 1)) ≡ taking x y r c
-behind_taking x y r zero = refl
-behind_taking x y r (suc c) =
-    let e : suc c + 1 ≡ c + 1 + 1 = omega arith in
-    ap (λ b. passed b (taking x y r (suc c + 1))) (ap (λ k. k == 1) e ∙ not_one c) ∙ ap (taking x y r) (less_one (suc c))
 
 below : (n k : ℕ) → nat_le n k ≡ true → n ≤ k
 below n k e = grind (arith, nat_tests)
@@ -130,11 +115,24 @@ other_temps (int v) ts m x h = h
 other_temps (atom v) ts m x h = h
 other_temps (node a us) ts m x h = h.1
 
+join_temps : (t : Tree) (ts : Trees) (m : ℕ) (x : ℕ → Bool) → Temps (more t none) m x → Temps ts (m + 1) x → Temps (more t ts) m x
+join_temps (var v) ts m x h k = k
+join_temps (int v) ts m x h k = k
+join_temps (atom v) ts m x h k = k
+join_temps (node a us) ts m x h k = (h.0, k)
+
+temps_near : (ts : Trees) (m : ℕ) (x z : ℕ → Bool) → ((w : ℕ) → m ≤ w → w < m + count_trees ts → x w ≡ true → z w ≡ true) → Temps ts m x → Temps ts m z
+temps_near none m x z k t = tt
+temps_near (more (var v) ts) m x z k t = temps_near ts (m + 1) x z (λ w l j. k w (omega arith) (omega arith)) t
+temps_near (more (int v) ts) m x z k t = temps_near ts (m + 1) x z (λ w l j. k w (omega arith) (omega arith)) t
+temps_near (more (atom v) ts) m x z k t = temps_near ts (m + 1) x z (λ w l j. k w (omega arith) (omega arith)) t
+temps_near (more (node a us) ts) m x z k t = (k m (omega arith) (omega arith) t.0, temps_near ts (m + 1) x z (λ w l j. k w (omega arith) (omega arith)) t.1)
+
 -- where what stands behind is given for any shape that may come
-record Built (n a m : ℕ) (s z : Shape) : Type 0 where
+record Built (n a m : ℕ) (seen : List ℕ) (s z : Shape) : Type 0 where
   fine : Fine n z
   keeps : Keeps m s.x z.x
-  grows : Grows s.y z.y
+  sees : Sees seen z.y
   there : z.x a ≡ true
 
 record Made (n m : ℕ) (seen : List ℕ) (s z : Shape) : Type 0 where
@@ -142,101 +140,92 @@ record Made (n m : ℕ) (seen : List ℕ) (s z : Shape) : Type 0 where
   keeps : Keeps m s.x z.x
   sees : Sees seen z.y
 
-written : (n a m : ℕ) (s : Shape) → Fine n s → Built n a m s (write (X a) s)
-written n a m s f = record {
+written : (n a m : ℕ) (seen : List ℕ) (s : Shape) (y : ℕ → Bool) → Fine n s → Sees seen y
+    → Built n a m seen s (record { x = set s.x a true; y = y; room = s.room; pending = s.pending; target = s.target })
+written n a m seen s y f o = record {
   fine = record { settled = f.settled; room = f.room };
   keeps = λ w i e. set_true s.x a w e;
-  grows = λ w e. e;
+  sees = o;
   there = set_here s.x a true;
 }
 
 module _ (n : ℕ) where
-  fill_paces : (t : Tree) (m : ℕ) (rest : List Step) (s : Shape) → 0 < m → numbered n t ≡ true → Known t s.y → Temps (more t none) m s.x → s.room ≡ Some n → 0 < s.pending
-      → Paces rest (behind_argument s) → Paces (fill t m ∷ rest) s
-  fill_paces (var v) m rest s l i k t r p c = (slot_of n v s i r, k v (same_test v v refl), p, c)
-  fill_paces (int z) m rest s l i k t r p c = (p, c)
-  fill_paces (atom a) m rest s l i k t r p c = (p, c)
-  fill_paces (node a us) m rest s l i k t r p c = (l, t.0, p, c)
+  fill_paces : (t : Tree) (seen : List ℕ) (m : ℕ) (rest : List Step) (x y : ℕ → Bool) (r g : Option ℕ) (p : ℕ) → 0 < m → numbered n t ≡ true → Sees seen y → Temps (more t none) m x → r ≡ Some n → 0 < p
+      → ((z : ℕ → Bool) → Sees (see t seen) z → Paces rest (behind_argument (filling x z r g p))) → Paces (fill t seen m ∷ rest) (filling x y r g p)
+  fill_paces (var v) seen m rest x y r g p l i o t e q c = go (has seen v) refl c
+    where
+      go : (b : Bool) → has seen v ≡ b → ((z : ℕ → Bool) → Sees (if b then seen else seen ++ v ∷ []) z → Paces rest (behind_argument (filling x z r g p)))
+          → Paces ((if b then unify_value (Y v) else unify_variable (Y v)) ∷ rest) (filling x y r g p)
+      go true k c = (slot_of n v (filling x y r g p) i e, o v k, q, c y o)
+      go false k c = (slot_of n v (filling x y r g p) i e, q, c (set y v true) (sees_more seen y v o))
+  fill_paces (int z) seen m rest x y r g p l i o t e q c = (q, c y o)
+  fill_paces (atom a) seen m rest x y r g p l i o t e q c = (q, c y o)
+  fill_paces (node a us) seen m rest x y r g p l i o t e q c = (l, t.0, q, c y o)
 
-  fills_paces : (t : Tree) (ts : Trees) (m : ℕ) (rest : List Step) (x y : ℕ → Bool) (r : Option ℕ) (a : ℕ) → 0 < m → numbered_all n (more t ts) ≡ true → KnownAll (more t ts) y → Temps (more t ts) m x
-      → r ≡ Some n → Paces rest (taking (set x a true) y r 0) → Paces (fills (more t ts) m ++ rest) (filling x y r a (count_trees (more t ts)))
-  fills_paces t none m rest x y r a l i k s e c =
+  fills_paces : (t : Tree) (ts : Trees) (seen : List ℕ) (m : ℕ) (rest : List Step) (x y : ℕ → Bool) (r g : Option ℕ) → 0 < m → numbered_all n (more t ts) ≡ true → Sees seen y → Temps (more t ts) m x
+      → r ≡ Some n → ((z : ℕ → Bool) → Sees (see_all (more t ts) seen) z → Paces rest (filling (with_target g x) z r None 0)) → Paces (fills (more t ts) seen m ++ rest) (filling x y r g (count_trees (more t ts)))
+  fills_paces t none seen m rest x y r g l i o s e c =
       let b = both_true (numbered n t) (numbered_all n none) i in
-      fill_paces t m rest (filling x y r a 1) l b.0 (λ w o. k w (or_left (occurs w t) false o)) (first_temp t none m x s) e (omega arith) c
-  fills_paces t (more u us) m rest x y r a l i k s e c =
+      fill_paces t seen m rest x y r g 1 l b.0 o (first_temp t none m x s) e (omega arith) c
+  fills_paces t (more u us) seen m rest x y r g l i o s e c =
       let b = both_true (numbered n t) (numbered_all n (more u us)) i in
-      fill_paces t m (fills (more u us) (m + 1) ++ rest) (filling x y r a (count_trees us + 1 + 1)) l b.0 (λ w o. k w (or_left (occurs w t) (occurs_all w (more u us)) o)) (first_temp t (more u us) m x s) e (omega arith)
-      (subst (Paces (fills (more u us) (m + 1) ++ rest)) (sym (behind_filling x y r a (count_trees us)))
-      (fills_paces u us (m + 1) rest x y r a (omega arith) b.1 (λ w o. k w (or_right (occurs w t) (occurs_all w (more u us)) o)) (other_temps t (more u us) m x s) e c))
+      fill_paces t seen m (fills (more u us) (see t seen) (m + 1) ++ rest) x y r g (count_trees us + 1 + 1) l b.0 o (first_temp t (more u us) m x s) e (omega arith) (λ z o1.
+      subst (Paces (fills (more u us) (see t seen) (m + 1) ++ rest)) (sym (behind_filling x z r g (count_trees us)))
+      (fills_paces u us (see t seen) (m + 1) rest x z r g (omega arith) b.1 o1 (other_temps t (more u us) m x s) e c))
 
-  structure_paces : (g : ℕ) (ts : Trees) (a m : ℕ) (rest : List Step) (s : Shape) → 0 < a → a < m → numbered_all n ts ≡ true → KnownAll ts s.y → Temps ts m s.x → Fine n s
-      → ((x : ℕ → Bool) → Grows s.x x → x a ≡ true → Paces rest (taking x s.y s.room 0)) → Paces (put_structure g (count_trees ts) a ∷ (fills ts m ++ rest)) s
-  structure_paces g none a m rest s p l i k t f c = (p, f.settled, c (set s.x a true) (λ w e. set_true s.x a w e) (set_here s.x a true))
-  structure_paces g (more u us) a m rest s p l i k t f c = (
+  structure_paces : (f : ℕ) (ts : Trees) (a : ℕ) (seen : List ℕ) (m : ℕ) (rest : List Step) (s : Shape) → 0 < a → a < m → numbered_all n ts ≡ true → Sees seen s.y → Temps ts m s.x → Fine n s
+      → ((z : Shape) → Built n a m (see_all ts seen) s z → Paces rest z) → Paces (put_structure f (count_trees ts) a ∷ (fills ts seen m ++ rest)) s
+  structure_paces f none a seen m rest s p l i o t k c = (
     p,
-    f.settled,
-    subst (Paces (fills (more u us) m ++ rest)) (sym (begun s g a (count_trees us)))
-        (fills_paces u us m rest (set s.x a false) s.y s.room a (omega arith) i k
-        (temps_keep (more u us) m s.x (set s.x a false) (λ w j e. set_other s.x a false w (λ q. absurd (omega arith)) ∙ e) t) f.room
-        (c (set (set s.x a false) a true) (λ w e. set_twice s.x a w false e) (set_here (set s.x a false) a true))),
+    k.settled,
+    c (filling (set s.x a true) s.y s.room None 0) (record { fine = record { settled = refl; room = k.room }; keeps = λ w j e. set_true s.x a w e; sees = o; there = set_here s.x a true }),
+  )
+  structure_paces f (more u us) a seen m rest s p l i o t k c = (
+    p,
+    k.settled,
+    subst (Paces (fills (more u us) seen m ++ rest)) (sym (begun s f a (count_trees us)))
+        (fills_paces u us seen m rest (set s.x a false) s.y s.room (Some a) (omega arith) i o
+        (temps_keep (more u us) m s.x (set s.x a false) (λ w j e. set_other s.x a false w (λ q. absurd (omega arith)) ∙ e) t) k.room
+        (λ z oz. c (filling (set (set s.x a false) a true) z s.room None 0) (record {
+          fine = record { settled = refl; room = k.room };
+          keeps = λ w j e. set_twice s.x a w false e;
+          sees = oz;
+          there = set_here (set s.x a false) a true;
+        }))),
   )
 
   mutual
-    build_paces : (t : Tree) (a m : ℕ) (rest : List Step) (s : Shape) → 0 < a → a < m → numbered n t ≡ true → Known t s.y → Fine n s → ((z : Shape) → Built n a m s z → Paces rest z)
-        → Paces (build t a m ++ rest) s
-    build_paces (var v) a m rest s p l i k f c = (slot_of n v s i f.room, p, k v (same_test v v refl), f.settled, c (write (X a) s) (written n a m s f))
-    build_paces (int z) a m rest s p l i k f c = (p, f.settled, c (write (X a) s) (written n a m s f))
-    build_paces (atom b) a m rest s p l i k f c = (p, f.settled, c (write (X a) s) (written n a m s f))
-    build_paces (node g ts) a m rest s p l i k f c =
-        subst (λ q. Paces q s) (sym (append_assoc (nested ts m) (put_structure g (count_trees ts) a ∷ fills ts m) rest))
-        (nested_paces ts m (put_structure g (count_trees ts) a ∷ (fills ts m ++ rest)) s (omega arith) i k f (λ z fz kz gz tz.
-        structure_paces g ts a m rest z p l i (λ w o. gz w (k w o)) tz fz (λ x kx ax.
-        c (taking x z.y z.room 0) (record { fine = record { settled = refl; room = fz.room }; keeps = λ w j e. kx w (kz w j e); grows = gz; there = ax }))))
-
-    nested_paces : (ts : Trees) (m : ℕ) (rest : List Step) (s : Shape) → 0 < m → numbered_all n ts ≡ true → KnownAll ts s.y → Fine n s
-        → ((z : Shape) → Fine n z → Keeps m s.x z.x → Grows s.y z.y → Temps ts m z.x → Paces rest z) → Paces (nested ts m ++ rest) s
-    nested_paces none m rest s l i k f c = c s f (λ w j e. e) (λ w e. e) tt
-    nested_paces (more (var v) ts) m rest s l i k f c =
-        nested_paces ts (m + 1) rest s (omega arith) (both_true (in_range n v) (numbered_all n ts) i).1 (λ w o. k w (or_right (nat_eq w v) (occurs_all w ts) o)) f (λ z fz kz gz tz. c z fz (λ w j. kz w (omega arith)) gz tz)
-    nested_paces (more (int v) ts) m rest s l i k f c = nested_paces ts (m + 1) rest s (omega arith) i k f (λ z fz kz gz tz. c z fz (λ w j. kz w (omega arith)) gz tz)
-    nested_paces (more (atom v) ts) m rest s l i k f c = nested_paces ts (m + 1) rest s (omega arith) i k f (λ z fz kz gz tz. c z fz (λ w j. kz w (omega arith)) gz tz)
-    nested_paces (more (node g us) ts) m rest s l i k f c =
-        let b = both_true (numbered_all n us) (numbered_all n ts) i in
-        let part : List Step = build (node g us) m (m + 1 + count_trees ts) in
-        subst (λ q. Paces q s) (sym (append_assoc part (nested ts (m + 1)) rest))
-        (build_paces (node g us) m (m + 1 + count_trees ts) (nested ts (m + 1) ++ rest) s l (omega arith) b.0 (λ w o. k w (or_left (occurs_all w us) (occurs_all w ts) o)) f (λ z h.
-        nested_paces ts (m + 1) rest z (omega arith) b.1 (λ w o. h.grows w (k w (or_right (occurs_all w us) (occurs_all w ts) o))) h.fine (λ u fu ku gu tu.
-        c u fu (λ w j e. ku w (omega arith) (h.keeps w (omega arith) e)) (λ w e. gu w (h.grows w e)) (ku m (omega arith) h.there, tu))))
-
-  mutual
-    inits_paces : (t : Tree) (seen : List ℕ) (m : ℕ) (rest : List Step) (s : Shape) → 0 < m → numbered n t ≡ true → Fine n s → Sees seen s.y → ((z : Shape) → Made n m (add_vars t seen) s z → Paces rest z)
-        → Paces (inits t seen m ++ rest) s
-    inits_paces (var v) seen m rest s l i f o c = go (has seen v) refl
+    build_paces : (t : Tree) (a : ℕ) (seen : List ℕ) (m : ℕ) (rest : List Step) (s : Shape) → 0 < a → a < m → numbered n t ≡ true → Sees seen s.y → Fine n s
+        → ((z : Shape) → Built n a m (see_built t seen) s z → Paces rest z) → Paces (build t a seen m ++ rest) s
+    build_paces (var v) a seen m rest s p l i o f c = go (has seen v) refl c
       where
-        go : (b : Bool) → has seen v ≡ b → Paces ((if b then [] else put_variable (Y v) m ∷ []) ++ rest) s
-        go true e = c s (record { fine = f; keeps = λ w j h. h; sees = subst (λ b. Sees (if b then seen else seen ++ v ∷ []) s.y) (sym e) o })
-        go false e = (
-          slot_of n v s i f.room,
-          l,
-          f.settled,
-          c (write (X m) (write (Y v) s)) (record {
-            fine = record { settled = f.settled; room = f.room };
-            keeps = λ w j h. set_true s.x m w h;
-            sees = subst (λ b. Sees (if b then seen else seen ++ v ∷ []) (set s.y v true)) (sym e) (sees_more seen s.y v o);
-          }),
-        )
-    inits_paces (int z) seen m rest s l i f o c = c s (record { fine = f; keeps = λ w j h. h; sees = o })
-    inits_paces (atom a) seen m rest s l i f o c = c s (record { fine = f; keeps = λ w j h. h; sees = o })
-    inits_paces (node a ts) seen m rest s l i f o c = inits_all_paces ts seen m rest s l i f o c
+        go : (b : Bool) → has seen v ≡ b → ((z : Shape) → Built n a m (if b then seen else seen ++ v ∷ []) s z → Paces rest z) → Paces ((if b then put_value (Y v) a ∷ [] else put_variable (Y v) a ∷ []) ++ rest) s
+        go true e c = (slot_of n v s i f.room, p, o v e, f.settled, c (write (X a) s) (written n a m seen s s.y f o))
+        go false e c = (slot_of n v s i f.room, p, f.settled, c (write (X a) (write (Y v) s)) (written n a m (seen ++ v ∷ []) s (set s.y v true) f (sees_more seen s.y v o)))
+    build_paces (int z) a seen m rest s p l i o f c = (p, f.settled, c (write (X a) s) (written n a m seen s s.y f o))
+    build_paces (atom b) a seen m rest s p l i o f c = (p, f.settled, c (write (X a) s) (written n a m seen s s.y f o))
+    build_paces (node g ts) a seen m rest s p l i o f c =
+        let seen1 : List ℕ = see_nested ts seen in
+        subst (λ q. Paces q s) (sym (append_assoc (nested ts seen m) (put_structure g (count_trees ts) a ∷ fills ts seen1 m) rest))
+        (nested_paces ts seen m (put_structure g (count_trees ts) a ∷ (fills ts seen1 m ++ rest)) s (omega arith) i o f (λ z fz kz oz tz.
+        structure_paces g ts a seen1 m rest z p l i oz tz fz (λ u b.
+        c u (record { fine = b.fine; keeps = λ w j e. b.keeps w j (kz w j e); sees = b.sees; there = b.there }))))
 
-    inits_all_paces : (ts : Trees) (seen : List ℕ) (m : ℕ) (rest : List Step) (s : Shape) → 0 < m → numbered_all n ts ≡ true → Fine n s → Sees seen s.y
-        → ((z : Shape) → Made n m (add_all_vars ts seen) s z → Paces rest z) → Paces (inits_all ts seen m ++ rest) s
-    inits_all_paces none seen m rest s l i f o c = c s (record { fine = f; keeps = λ w j h. h; sees = o })
-    inits_all_paces (more t ts) seen m rest s l i f o c =
-        let b = both_true (numbered n t) (numbered_all n ts) i in
-        subst (λ q. Paces q s) (sym (append_assoc (inits t seen m) (inits_all ts (add_vars t seen) m) rest))
-        (inits_paces t seen m (inits_all ts (add_vars t seen) m ++ rest) s l b.0 f o (λ z h.
-        inits_all_paces ts (add_vars t seen) m rest z l b.1 h.fine h.sees (λ u g. c u (record { fine = g.fine; keeps = λ w j e. g.keeps w j (h.keeps w j e); sees = g.sees }))))
+    nested_paces : (ts : Trees) (seen : List ℕ) (m : ℕ) (rest : List Step) (s : Shape) → 0 < m → numbered_all n ts ≡ true → Sees seen s.y → Fine n s
+        → ((z : Shape) → Fine n z → Keeps m s.x z.x → Sees (see_nested ts seen) z.y → Temps ts m z.x → Paces rest z) → Paces (nested ts seen m ++ rest) s
+    nested_paces none seen m rest s l i o f c = c s f (λ w j e. e) o tt
+    nested_paces (more (var v) ts) seen m rest s l i o f c =
+        nested_paces ts seen (m + 1) rest s (omega arith) (both_true (in_range n v) (numbered_all n ts) i).1 o f (λ z fz kz oz tz. c z fz (λ w j. kz w (omega arith)) oz tz)
+    nested_paces (more (int v) ts) seen m rest s l i o f c = nested_paces ts seen (m + 1) rest s (omega arith) i o f (λ z fz kz oz tz. c z fz (λ w j. kz w (omega arith)) oz tz)
+    nested_paces (more (atom v) ts) seen m rest s l i o f c = nested_paces ts seen (m + 1) rest s (omega arith) i o f (λ z fz kz oz tz. c z fz (λ w j. kz w (omega arith)) oz tz)
+    nested_paces (more (node g us) ts) seen m rest s l i o f c =
+        let b = both_true (numbered_all n us) (numbered_all n ts) i in
+        let seen1 : List ℕ = see_built (node g us) seen in
+        let part : List Step = build (node g us) m seen (m + 1 + count_trees ts) in
+        subst (λ q. Paces q s) (sym (append_assoc part (nested ts seen1 (m + 1)) rest))
+        (build_paces (node g us) m seen (m + 1 + count_trees ts) (nested ts seen1 (m + 1) ++ rest) s l (omega arith) b.0 o f (λ z h.
+        nested_paces ts seen1 (m + 1) rest z (omega arith) b.1 h.sees h.fine (λ u fu ku ou tu.
+        c u fu (λ w j e. ku w (omega arith) (h.keeps w (omega arith) e)) ou (ku m (omega arith) h.there, tu))))
 
 -- ---- goals
 
@@ -252,107 +241,112 @@ numbered_arguments n (int v) i = refl
 numbered_arguments n (atom v) i = refl
 numbered_arguments n (node a ts) i = i
 
-known_arguments : (g : Tree) (seen : List ℕ) (y : ℕ → Bool) → Sees (add_vars g seen) y → KnownAll (arguments g) y
-known_arguments (var v) seen y s w o = absurd (false≢true o)
-known_arguments (int v) seen y s w o = absurd (false≢true o)
-known_arguments (atom v) seen y s w o = absurd (false≢true o)
-known_arguments (node a ts) seen y s w o = s w (has-add_all_vars w ts seen (or_right (has seen w) (occurs_all w ts) o))
-
 module _ (n : ℕ) where
-  puts_paces : (ts : Trees) (a m : ℕ) (rest : List Step) (s : Shape) → 0 < a → a + count_trees ts ≤ m → numbered_all n ts ≡ true → KnownAll ts s.y → Fine n s
-      → ((z : Shape) → Fine n z → Keeps m s.x z.x → Grows s.y z.y → ((w : ℕ) → a ≤ w → w < a + count_trees ts → z.x w ≡ true) → Paces rest z) → Paces (puts ts a m ++ rest) s
-  puts_paces none a m rest s p l i k f c = c s f (λ w j e. e) (λ w e. e) (λ w j d. absurd (omega arith))
-  puts_paces (more t ts) a m rest s p l i k f c =
+  puts_paces : (ts : Trees) (a : ℕ) (seen : List ℕ) (m : ℕ) (rest : List Step) (s : Shape) → 0 < a → a + count_trees ts ≤ m → numbered_all n ts ≡ true → Sees seen s.y → Fine n s
+      → ((z : Shape) → Fine n z → Keeps m s.x z.x → Sees (see_puts ts seen) z.y → ((w : ℕ) → a ≤ w → w < a + count_trees ts → z.x w ≡ true) → Paces rest z) → Paces (puts ts a seen m ++ rest) s
+  puts_paces none a seen m rest s p l i o f c = c s f (λ w j e. e) o (λ w j d. absurd (omega arith))
+  puts_paces (more t ts) a seen m rest s p l i o f c =
       let b = both_true (numbered n t) (numbered_all n ts) i in
-      subst (λ q. Paces q s) (sym (append_assoc (build t a m) (puts ts (a + 1) m) rest))
-      (build_paces n t a m (puts ts (a + 1) m ++ rest) s p (omega arith) b.0 (λ w o. k w (or_left (occurs w t) (occurs_all w ts) o)) f (λ z h.
-      puts_paces ts (a + 1) m rest z (omega arith) (omega arith) b.1 (λ w o. h.grows w (k w (or_right (occurs w t) (occurs_all w ts) o))) h.fine (λ u fu ku gu au.
-      c u fu (λ w j e. ku w j (h.keeps w j e)) (λ w e. gu w (h.grows w e)) (λ w j d.
+      let seen1 : List ℕ = see_built t seen in
+      subst (λ q. Paces q s) (sym (append_assoc (build t a seen m) (puts ts (a + 1) seen1 m) rest))
+      (build_paces n t a seen m (puts ts (a + 1) seen1 m ++ rest) s p (omega arith) b.0 o f (λ z h.
+      puts_paces ts (a + 1) seen1 m rest z (omega arith) (omega arith) b.1 h.sees h.fine (λ u fu ku ou au.
+      c u fu (λ w j e. ku w j (h.keeps w j e)) ou (λ w j d.
       elim (split a w j) [ inl e ↦ ap u.x e ∙ ku a (omega arith) h.there | inr q ↦ au w q (omega arith) ]))))
 
-  goal_paces : (g : Tree) (seen : List ℕ) (rest : List Step) (s : Shape) → numbered n g ≡ true → Fine n s → Sees seen s.y
+  goal_paces : (g : Tree) (seen : List ℕ) (rest : List Step) (s : Shape) → numbered n g ≡ true → callable g ≡ true → Fine n s → Sees seen s.y
       → ((z : Shape) → Fine n z → Sees (add_vars g seen) z.y → ArgumentsSet (count_trees (arguments g)) z → Paces rest z) → Paces (goal_code g seen ++ rest) s
-  goal_paces g seen rest s i f o c =
-      let m : ℕ = count_trees (arguments g) + 1 in
-      subst (λ q. Paces q s) (sym (append_assoc (inits g seen m) (puts (arguments g) 1 m) rest))
-      (inits_paces n g seen m (puts (arguments g) 1 m ++ rest) s (omega arith) i f o (λ z h.
-      puts_paces (arguments g) 1 m rest z (omega arith) (omega arith) (numbered_arguments n g i) (known_arguments g seen z.y h.sees) h.fine (λ u fu ku gu au.
-      c u fu (λ w q. gu w (h.sees w q)) (λ a j d. au a (omega arith) (omega arith)))))
+  goal_paces g seen rest s i k f o c =
+      puts_paces (arguments g) 1 seen (count_trees (arguments g) + 1) rest s (omega arith) (omega arith) (numbered_arguments n g i) o f (λ z fz kz oz az.
+      c z fz (λ w q. oz w (goal_sees g seen w k q)) (λ a j d. az a (omega arith) (omega arith)))
 
   asks_pace : (b : Bool) (p k : ℕ) (rest : List Step) (z : Shape) → ArgumentsSet k z → Fine n z → ((u : Shape) → Fine n u → u.y ≡ z.y → Paces rest u) → Paces ((if b then builtin p k else call p k) ∷ rest) z
   asks_pace true p k rest z a f c = (a, f.settled, c z f refl)
   asks_pace false p k rest z a f c = (a, ap is_some f.room, f.settled, c (after (Call 0) z) (record { settled = f.settled; room = f.room }) refl)
 
-  body_paces : (gs : Trees) (seen : List ℕ) (s : Shape) → numbered_all n gs ≡ true → Fine n s → Sees seen s.y → Paces (body_code gs seen) s
-  body_paces none seen s i f o = (f.settled, refl)
-  body_paces (more g gs) seen s i f o = let b = both_true (numbered n g) (numbered_all n gs) i in go b.0 (λ z. body_paces gs (add_vars g seen) z b.1) (is_last_call g gs)
+  body_paces : (gs : Trees) (seen : List ℕ) (s : Shape) → numbered_all n gs ≡ true → all_callable gs ≡ true → Fine n s → Sees seen s.y → Paces (body_code gs seen) s
+  body_paces none seen s i k f o = (f.settled, refl)
+  body_paces (more g gs) seen s i k f o =
+      let b = both_true (numbered n g) (numbered_all n gs) i in
+      let d = both_true (callable g) (all_callable gs) k in go b.0 d.0 (λ z. body_paces gs (add_vars g seen) z b.1 d.1) (is_last_call g gs)
     where
-      go : numbered n g ≡ true → ((z : Shape) → Fine n z → Sees (add_vars g seen) z.y → Paces (body_code gs (add_vars g seen)) z) → (l : Bool)
+      go : numbered n g ≡ true → callable g ≡ true → ((z : Shape) → Fine n z → Sees (add_vars g seen) z.y → Paces (body_code gs (add_vars g seen)) z) → (l : Bool)
           → Paces (if l then goal_code g seen ++ execute (name g) (count_trees (arguments g)) ∷ [] else goal_code g seen ++ (asking g ∷ body_code gs (add_vars g seen))) s
-      go d ih true = goal_paces g seen (execute (name g) (count_trees (arguments g)) ∷ []) s d f o (λ z fz sz az. (az, fz.settled, refl))
-      go d ih false =
-          goal_paces g seen (asking g ∷ body_code gs (add_vars g seen)) s d f o (λ z fz sz az.
+      go d k ih true = goal_paces g seen (execute (name g) (count_trees (arguments g)) ∷ []) s d k f o (λ z fz sz az. (az, fz.settled, refl))
+      go d k ih false =
+          goal_paces g seen (asking g ∷ body_code gs (add_vars g seen)) s d k f o (λ z fz sz az.
           asks_pace (is_builtin g) (name g) (count_trees (arguments g)) (body_code gs (add_vars g seen)) z az fz (λ u fu e. ih u fu (subst (Sees (add_vars g seen)) (sym e) sz)))
 
   -- ---- heads
 
-  takes_paces : (ts : Trees) (x y : ℕ → Bool) (r : Option ℕ) (rest : List Step) (seen : List ℕ) → fresh ts seen ≡ true → numbered_all n ts ≡ true → r ≡ Some n → Sees seen y
-      → ((z : ℕ → Bool) → Sees (add_all_vars ts seen) z → Paces rest (taking x z r 0)) → Paces (takes ts ++ rest) (taking x y r (count_trees ts))
-  takes_paces none x y r rest seen f i e o c = c y o
-  takes_paces (more (var v) ts) x y r rest seen f i e o c =
-      let k = fresh_var seen v ts f in
-      let b = both_true (in_range n v) (numbered_all n ts) i in (
-        slot_of n v (taking x y r (count_trees ts + 1)) b.0 e,
-        omega arith,
-        subst (Paces (takes ts ++ rest)) (sym (behind_taking x (set y v true) r (count_trees ts)))
-            (takes_paces ts x (set y v true) r rest (seen ++ v ∷ []) k.1 b.1 e (sees_more seen y v o) (λ z s. c z (subst (λ q. Sees (add_all_vars ts q) z) (sym (unseen_add seen v k.0)) s))),
-      )
-  takes_paces (more (int z) ts) x y r rest seen f i e o c = (omega arith, subst (Paces (takes ts ++ rest)) (sym (behind_taking x y r (count_trees ts))) (takes_paces ts x y r rest seen f i e o c))
-  takes_paces (more (atom a) ts) x y r rest seen f i e o c = (omega arith, subst (Paces (takes ts ++ rest)) (sym (behind_taking x y r (count_trees ts))) (takes_paces ts x y r rest seen f i e o c))
-  takes_paces (more (node a us) ts) x y r rest seen f i e o c = absurd (false≢true f)
+  take_paces : (t : Tree) (seen : List ℕ) (m : ℕ) (rest : List Step) (x y : ℕ → Bool) (r : Option ℕ) (p : ℕ) → 0 < m → numbered n t ≡ true → Sees seen y → r ≡ Some n → 0 < p
+      → ((u z : ℕ → Bool) → Grows x u → Sees (see t seen) z → Temps (more t none) m u → Paces rest (behind_argument (filling u z r None p))) → Paces (take t seen m ∷ rest) (filling x y r None p)
+  take_paces (var v) seen m rest x y r p l i o e q c = go (has seen v) refl c
+    where
+      go : (b : Bool) → has seen v ≡ b → ((u z : ℕ → Bool) → Grows x u → Sees (if b then seen else seen ++ v ∷ []) z → Unit {0} → Paces rest (behind_argument (filling u z r None p)))
+          → Paces ((if b then unify_value (Y v) else unify_variable (Y v)) ∷ rest) (filling x y r None p)
+      go true k c = (slot_of n v (filling x y r None p) i e, o v k, q, c x y (λ w h. h) o tt)
+      go false k c = (slot_of n v (filling x y r None p) i e, q, c x (set y v true) (λ w h. h) (sees_more seen y v o) tt)
+  take_paces (int z) seen m rest x y r p l i o e q c = (q, c x y (λ w h. h) o tt)
+  take_paces (atom a) seen m rest x y r p l i o e q c = (q, c x y (λ w h. h) o tt)
+  take_paces (node a us) seen m rest x y r p l i o e q c = (l, q, c (set x m true) y (λ w h. set_true x m w h) o (set_here x m true, tt))
 
-  get_paces : (t : Tree) (a : ℕ) (seen : List ℕ) (m : ℕ) (rest : List Step) (s : Shape) → 0 < a → a < m → numbered n t ≡ true → Fine n s → Sees seen s.y → s.x a ≡ true
-      → ((z : Shape) → Made n m (add_vars t seen) s z → Paces rest z) → Paces (get t a seen m ++ rest) s
-  get_paces (var v) a seen m rest s p l i f o h c = go (has seen v) refl
-    where
-      go : (b : Bool) → has seen v ≡ b → Paces ((if b then get_value (Y v) a ∷ [] else get_variable (Y v) a ∷ []) ++ rest) s
-      go true e = (slot_of n v s i f.room, p, o v e, h, f.settled, c s (record { fine = f; keeps = λ w j q. q; sees = subst (λ b. Sees (if b then seen else seen ++ v ∷ []) s.y) (sym e) o }))
-      go false e = (
-        slot_of n v s i f.room,
-        p,
-        h,
-        f.settled,
-        c (write (Y v) s) (record {
-          fine = record { settled = f.settled; room = f.room };
-          keeps = λ w j q. q;
-          sees = subst (λ b. Sees (if b then seen else seen ++ v ∷ []) (set s.y v true)) (sym e) (sees_more seen s.y v o);
-        }),
-      )
-  get_paces (int z) a seen m rest s p l i f o h c = (p, h, f.settled, c s (record { fine = f; keeps = λ w j q. q; sees = o }))
-  get_paces (atom b) a seen m rest s p l i f o h c = (p, h, f.settled, c s (record { fine = f; keeps = λ w j q. q; sees = o }))
-  get_paces (node g ts) a seen m rest s p l i f o h c = go (fresh ts seen) refl
-    where
-      go : (b : Bool) → fresh ts seen ≡ b
-          → Paces ((if b then get_structure g (count_trees ts) a ∷ takes ts else inits_all ts seen m ++ (build (node g ts) m (m + 1) ++ get_value (X m) a ∷ [])) ++ rest) s
-      go true e = (
-        p,
-        h,
-        f.settled,
-        takes_paces ts s.x s.y s.room rest seen e i f.room o (λ z sz. c (taking s.x z s.room 0) (record { fine = record { settled = refl; room = f.room }; keeps = λ w j q. q; sees = sz })),
-      )
-      go false e =
-          let last : List Step = build (node g ts) m (m + 1) ++ get_value (X m) a ∷ [] in
-          subst (λ q. Paces q s) (sym (append_assoc (inits_all ts seen m) last rest))
-          (inits_all_paces n ts seen m (last ++ rest) s (omega arith) i f o (λ z d.
-          subst (λ q. Paces q z) (sym (append_assoc (build (node g ts) m (m + 1)) (get_value (X m) a ∷ []) rest))
-          (build_paces n (node g ts) m (m + 1) (get_value (X m) a ∷ rest) z (omega arith) (omega arith) i (known_arguments (node g ts) seen z.y d.sees) d.fine (λ u b. (
-            omega arith,
-            p,
-            b.there,
-            b.keeps a (omega arith) (d.keeps a l h),
-            b.fine.settled,
-            c u (record { fine = b.fine; keeps = λ w j q. b.keeps w (omega arith) (d.keeps w j q); sees = λ w q. b.grows w (d.sees w q) }),
-          )))))
+  takes_paces : (ts : Trees) (seen : List ℕ) (m : ℕ) (rest : List Step) (x y : ℕ → Bool) (r : Option ℕ) → 0 < m → numbered_all n ts ≡ true → Sees seen y → r ≡ Some n
+      → ((u z : ℕ → Bool) → Grows x u → Sees (see_all ts seen) z → Temps ts m u → Paces rest (filling u z r None 0)) → Paces (takes ts seen m ++ rest) (filling x y r None (count_trees ts))
+  takes_paces none seen m rest x y r l i o e c = c x y (λ w h. h) o tt
+  takes_paces (more t none) seen m rest x y r l i o e c =
+      take_paces t seen m rest x y r 1 l (both_true (numbered n t) (numbered_all n none) i).0 o e (omega arith) c
+  takes_paces (more t (more d ds)) seen m rest x y r l i o e c =
+      let b = both_true (numbered n t) (numbered_all n (more d ds)) i in
+      take_paces t seen m (takes (more d ds) (see t seen) (m + 1) ++ rest) x y r (count_trees ds + 1 + 1) l b.0 o e (omega arith) (λ u z g1 o1 t1.
+      subst (Paces (takes (more d ds) (see t seen) (m + 1) ++ rest)) (sym (behind_filling u z r None (count_trees ds)))
+      (takes_paces (more d ds) (see t seen) (m + 1) rest u z r (omega arith) b.1 o1 e (λ u2 z2 g2 o2 t2.
+      c u2 z2 (λ w h. g2 w (g1 w h)) o2 (join_temps t (more d ds) m u2 (temps_keep (more t none) m u u2 (λ w k h. g2 w h) t1) t2))))
+
+  mutual
+    get_paces : (t : Tree) (a : ℕ) (seen : List ℕ) (m : ℕ) (rest : List Step) (s : Shape) → 0 < a → a < m → numbered n t ≡ true → Fine n s → Sees seen s.y → s.x a ≡ true
+        → ((z : Shape) → Made n m (see_taken t seen) s z → Paces rest z) → Paces (get t a seen m ++ rest) s
+    get_paces (var v) a seen m rest s p l i f o h c = go (has seen v) refl c
+      where
+        go : (b : Bool) → has seen v ≡ b → ((z : Shape) → Made n m (if b then seen else seen ++ v ∷ []) s z → Paces rest z) → Paces ((if b then get_value (Y v) a ∷ [] else get_variable (Y v) a ∷ []) ++ rest) s
+        go true e c = (slot_of n v s i f.room, p, o v e, h, f.settled, c s (record { fine = f; keeps = λ w j q. q; sees = o }))
+        go false e c = (
+          slot_of n v s i f.room,
+          p,
+          h,
+          f.settled,
+          c (write (Y v) s) (record { fine = record { settled = f.settled; room = f.room }; keeps = λ w j q. q; sees = sees_more seen s.y v o }),
+        )
+    get_paces (int z) a seen m rest s p l i f o h c = (p, h, f.settled, c s (record { fine = f; keeps = λ w j q. q; sees = o }))
+    get_paces (atom b) a seen m rest s p l i f o h c = (p, h, f.settled, c s (record { fine = f; keeps = λ w j q. q; sees = o }))
+    get_paces (node g ts) a seen m rest s p l i f o h c =
+        let seen1 : List ℕ = see_all ts seen in (
+          p,
+          h,
+          f.settled,
+          subst (λ q. Paces q (filling s.x s.y s.room None (count_trees ts))) (sym (append_assoc (takes ts seen m) (opens ts seen1 m) rest))
+              (takes_paces ts seen m (opens ts seen1 m ++ rest) s.x s.y s.room (omega arith) i o f.room (λ u z g1 o1 t1.
+              opens_paces ts seen1 m rest (filling u z s.room None 0) (omega arith) i o1 (record { settled = refl; room = f.room }) t1 (λ v d.
+              c v (record { fine = d.fine; keeps = λ w j q. d.keeps w j (g1 w q); sees = d.sees })))),
+        )
+
+    opens_paces : (ts : Trees) (seen : List ℕ) (m : ℕ) (rest : List Step) (s : Shape) → 0 < m → numbered_all n ts ≡ true → Sees seen s.y → Fine n s → Temps ts m s.x
+        → ((z : Shape) → Made n m (see_opened ts seen) s z → Paces rest z) → Paces (opens ts seen m ++ rest) s
+    opens_paces none seen m rest s l i o f t c = c s (record { fine = f; keeps = λ w j e. e; sees = o })
+    opens_paces (more (var v) ts) seen m rest s l i o f t c =
+        opens_paces ts seen (m + 1) rest s (omega arith) (both_true (in_range n v) (numbered_all n ts) i).1 o f t (λ z d. c z (record { fine = d.fine; keeps = λ w j. d.keeps w (omega arith); sees = d.sees }))
+    opens_paces (more (int v) ts) seen m rest s l i o f t c =
+        opens_paces ts seen (m + 1) rest s (omega arith) i o f t (λ z d. c z (record { fine = d.fine; keeps = λ w j. d.keeps w (omega arith); sees = d.sees }))
+    opens_paces (more (atom v) ts) seen m rest s l i o f t c =
+        opens_paces ts seen (m + 1) rest s (omega arith) i o f t (λ z d. c z (record { fine = d.fine; keeps = λ w j. d.keeps w (omega arith); sees = d.sees }))
+    opens_paces (more (node g us) ts) seen m rest s l i o f t c =
+        let b = both_true (numbered_all n us) (numbered_all n ts) i in
+        let seen1 : List ℕ = see_taken (node g us) seen in
+        let part : List Step = get (node g us) m seen (m + 1 + count_trees ts) in
+        subst (λ q. Paces q s) (sym (append_assoc part (opens ts seen1 (m + 1)) rest))
+        (get_paces (node g us) m seen (m + 1 + count_trees ts) (opens ts seen1 (m + 1) ++ rest) s l (omega arith) b.0 f o t.0 (λ z d.
+        opens_paces ts seen1 (m + 1) rest z (omega arith) b.1 d.sees d.fine (temps_near ts (m + 1) s.x z.x (λ w k j e. d.keeps w (omega arith) e) t.1) (λ v e.
+        c v (record { fine = e.fine; keeps = λ w j q. e.keeps w (omega arith) (d.keeps w (omega arith) q); sees = e.sees }))))
 
   gets_paces : (ts : Trees) (a : ℕ) (seen : List ℕ) (m : ℕ) (rest : List Step) (s : Shape) → 0 < a → a + count_trees ts ≤ m → numbered_all n ts ≡ true → Fine n s → Sees seen s.y
       → ((w : ℕ) → a ≤ w → w < m → s.x w ≡ true) → ((z : Shape) → Fine n z → Sees (add_all_vars ts seen) z.y → Paces rest z) → Paces (gets ts a seen m ++ rest) s
@@ -361,7 +355,7 @@ module _ (n : ℕ) where
       let b = both_true (numbered n t) (numbered_all n ts) i in
       subst (λ q. Paces q s) (sym (append_assoc (get t a seen m) (gets ts (a + 1) (add_vars t seen) m) rest))
       (get_paces t a seen m (gets ts (a + 1) (add_vars t seen) m ++ rest) s p (omega arith) b.0 f o (h a (omega arith) (omega arith)) (λ z d.
-      gets_paces ts (a + 1) (add_vars t seen) m rest z (omega arith) (omega arith) b.1 d.fine d.sees (λ w j q. d.keeps w q (h w (omega arith) q)) c))
+      gets_paces ts (a + 1) (add_vars t seen) m rest z (omega arith) (omega arith) b.1 d.fine (λ w q. d.sees w (taken_sees t seen w q)) (λ w j q. d.keeps w q (h w (omega arith) q)) c))
 
 entered : (w k : ℕ) → 1 ≤ w → w < k + 1 → (nat_le 1 w && nat_le w k) ≡ true
 entered w k h l = ap (λ b. b && nat_le w k) one ∙ other
@@ -372,9 +366,9 @@ entered w k h l = ap (λ b. b && nat_le w k) one ∙ other
     other : nat_le w k ≡ true
     other = grind (arith, nat_tests)
 
-pub clause_paces : (n : ℕ) (head : Tree) (goals : Trees) → numbered n head ≡ true → numbered_all n goals ≡ true → Paces (clause_code head goals) (inside n (count_trees (arguments head)))
-clause_paces n head goals i j =
+pub clause_paces : (n : ℕ) (head : Tree) (goals : Trees) → numbered n head ≡ true → numbered_all n goals ≡ true → all_callable goals ≡ true → Paces (clause_code head goals) (inside n (count_trees (arguments head)))
+clause_paces n head goals i j d =
     let k : ℕ = count_trees (arguments head) in
     let seen : List ℕ = add_all_vars (arguments head) [] in
     gets_paces n (arguments head) 1 [] (k + 1) (body_code goals seen) (inside n k) (omega arith) (omega arith) (numbered_arguments n head i) (record { settled = refl; room = refl }) (λ w o. absurd (false≢true o))
-    (λ w h l. entered w k h l) (λ z f o. body_paces n goals seen z j f o)
+    (λ w h l. entered w k h l) (λ z f o. body_paces n goals seen z j d f o)

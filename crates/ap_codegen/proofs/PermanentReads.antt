@@ -11,9 +11,9 @@ use Rattle.ap_term.proofs.Solutions.{instance_agree, instance_all_agree, or_left
 use Rattle.ap_term.proofs.Solvable.{has-add_vars, has-add_all_vars}
 use Rattle.ap_laws.specs.Plain.{plain_goals}
 use Rattle.ap_instr.specs.declared.instruction.Slot.TheVariants.{X, Y}
-use Rattle.ap_instr.specs.Step.{Step, get_variable, get_value, get_structure, put_variable, put_structure, call, execute, builtin}
+use Rattle.ap_instr.specs.Step.{Step, get_variable, get_value, get_structure, put_variable, put_value, put_structure, unify_variable, unify_value, call, execute, builtin}
 use Rattle.ap_instr.specs.Runs.{Runs, Reads, set, spread, lost, applied, arguments}
-use Rattle.ap_codegen.specs.Permanent.{name, is_builtin, inits, inits_all, fills, build, nested, puts, goal_code, is_last_call, asking, body_code, fresh, takes, get, gets, clause_code}
+use Rattle.ap_codegen.specs.Permanent.{name, is_builtin, see, see_all, fills, see_built, see_nested, build, nested, puts, see_puts, goal_code, is_last_call, asking, body_code, see_taken, see_opened, takes, get, opens, gets, clause_code}
 use Rattle.ap_codegen.proofs.Registers.{both_true, set_here, has_more, has_first}
 
 or_cases : (a b : Bool) → (a || b) ≡ true → (a ≡ true) ⊎ (b ≡ true)
@@ -64,28 +64,6 @@ set_but x a w t n = go (w == a) refl
     go true e = absurd (n ((Decides-eqb w a).0 e))
     go false e = refl
 
-module _ (y : ℕ → Tree) (bs : Trees) (rest : List Step) where
-  -- the arguments of a structure are what they are to be
-  fills-only : (ts us : Trees) (m : ℕ) (x : ℕ → Tree) → count_trees us ≡ count_trees ts → Temps ts m x y → Runs (fills ts m ++ rest) us x y bs → (us ≡ instance_all y ts) × Runs rest none x y bs
-  fills-only none none m x c t r = (refl, r)
-  fills-only none (more u us) m x c t r = absurd (omega arith)
-  fills-only (more (var v) ts) none m x c t r = absurd (omega arith)
-  fills-only (more (int v) ts) none m x c t r = absurd (omega arith)
-  fills-only (more (atom v) ts) none m x c t r = absurd (omega arith)
-  fills-only (more (node a vs) ts) none m x c t r = absurd (omega arith)
-  fills-only (more (var v) ts) (more u us) m x c t r = let k = fills-only ts us (m + 1) x (omega arith) t r.1 in (ap (λ q. more q us) (sym r.0) ∙ ap (more (y v)) k.0, k.1)
-  fills-only (more (int z) ts) (more u us) m x c t r = let k = fills-only ts us (m + 1) x (omega arith) t r.1 in (ap (λ q. more q us) r.0 ∙ ap (more (int z)) k.0, k.1)
-  fills-only (more (atom a) ts) (more u us) m x c t r = let k = fills-only ts us (m + 1) x (omega arith) t r.1 in (ap (λ q. more q us) r.0 ∙ ap (more (atom a)) k.0, k.1)
-  fills-only (more (node a vs) ts) (more u us) m x c t r =
-      let k = fills-only ts us (m + 1) x (omega arith) t.1 r.1 in (ap (λ q. more q us) (sym r.0 ∙ t.0) ∙ ap (more (instance y (node a vs))) k.0, k.1)
-
-  fills-each : (ts : Trees) (m : ℕ) (x : ℕ → Tree) → Temps ts m x y → Runs rest none x y bs → Runs (fills ts m ++ rest) (instance_all y ts) x y bs
-  fills-each none m x t r = r
-  fills-each (more (var v) ts) m x t r = (refl, fills-each ts (m + 1) x t r)
-  fills-each (more (int z) ts) m x t r = (refl, fills-each ts (m + 1) x t r)
-  fills-each (more (atom a) ts) m x t r = (refl, fills-each ts (m + 1) x t r)
-  fills-each (more (node a vs) ts) m x t r = (t.0, fills-each ts (m + 1) x t.1 r)
-
 count-instance : (f : ℕ → Tree) (ts : Trees) → count_trees (instance_all f ts) ≡ count_trees ts
 count-instance f none = refl
 count-instance f (more t ts) = ap (λ n. n + 1) (count-instance f ts)
@@ -96,60 +74,6 @@ reassoc a b c ts x y bs r = subst (λ q. Runs q ts x y bs) (append_assoc a b c) 
 
 reassoc_back : (a b c : List Step) (ts : Trees) (x y : ℕ → Tree) (bs : Trees) → Runs (a ++ (b ++ c)) ts x y bs → Runs ((a ++ b) ++ c) ts x y bs
 reassoc_back a b c ts x y bs r = subst (λ q. Runs q ts x y bs) (sym (append_assoc a b c)) r
-
-module _ (y : ℕ → Tree) (bs : Trees) where
-  mutual
-    build-only : (t : Tree) (a m : ℕ) (rest : List Step) (x : ℕ → Tree) → a < m → Runs (build t a m ++ rest) none x y bs
-        → (x' : ℕ → Tree) × (x' a ≡ instance y t) × But a m x x' × Runs rest none x' y bs
-    build-only (var v) a m rest x l r = (set x a (y v), set_here x a (y v), λ w i n. set_but x a w (y v) n, r)
-    build-only (int z) a m rest x l r = (set x a (int z), set_here x a (int z), λ w i n. set_but x a w (int z) n, r)
-    build-only (atom c) a m rest x l r = (set x a (atom c), set_here x a (atom c), λ w i n. set_but x a w (atom c) n, r)
-    build-only (node f ts) a m rest x l r =
-        let n = nested-only ts m (put_structure f (count_trees ts) a ∷ (fills ts m ++ rest)) x (reassoc (nested ts m) (put_structure f (count_trees ts) a ∷ fills ts m) rest none x y bs r) in
-        let s = n.3 in
-        let x' : ℕ → Tree = set n.0 a (node f s.0) in
-        let temps : Temps ts m x' y = Temps-same ts m n.0 x' y (λ w i j. set_above n.0 a w (node f s.0) (omega arith)) n.2 in
-        let e = fills-only y bs rest ts s.0 m x' s.1 temps s.2 in
-        (x', set_here n.0 a (node f s.0) ∙ ap (node f) e.0, λ w i k. set_but n.0 a w (node f s.0) k ∙ n.1 w i, e.1)
-
-    nested-only : (ts : Trees) (m : ℕ) (rest : List Step) (x : ℕ → Tree) → Runs (nested ts m ++ rest) none x y bs
-        → (x' : ℕ → Tree) × Same m x x' × Temps ts m x' y × Runs rest none x' y bs
-    nested-only none m rest x r = (x, λ w i. refl, tt, r)
-    nested-only (more (var v) ts) m rest x r = let n = nested-only ts (m + 1) rest x r in (n.0, λ w i. n.1 w (omega arith), n.2, n.3)
-    nested-only (more (int v) ts) m rest x r = let n = nested-only ts (m + 1) rest x r in (n.0, λ w i. n.1 w (omega arith), n.2, n.3)
-    nested-only (more (atom v) ts) m rest x r = let n = nested-only ts (m + 1) rest x r in (n.0, λ w i. n.1 w (omega arith), n.2, n.3)
-    nested-only (more (node f us) ts) m rest x r =
-        let b = build-only (node f us) m (m + 1 + count_trees ts) (nested ts (m + 1) ++ rest) x (omega arith) (reassoc (build (node f us) m (m + 1 + count_trees ts)) (nested ts (m + 1)) rest none x y bs r) in
-        let n = nested-only ts (m + 1) rest b.0 b.3 in
-        (n.0, λ w i. n.1 w (omega arith) ∙ b.2 w (omega arith) (omega arith), (n.1 m (omega arith) ∙ b.1, n.2), n.3)
-
-  mutual
-    build-each : (t : Tree) (a m : ℕ) (rest : List Step) (x : ℕ → Tree) → a < m
-        → ((x' : ℕ → Tree) → x' a ≡ instance y t → But a m x x' → Runs rest none x' y bs) → Runs (build t a m ++ rest) none x y bs
-    build-each (var v) a m rest x l r = r (set x a (y v)) (set_here x a (y v)) (λ w i n. set_but x a w (y v) n)
-    build-each (int z) a m rest x l r = r (set x a (int z)) (set_here x a (int z)) (λ w i n. set_but x a w (int z) n)
-    build-each (atom c) a m rest x l r = r (set x a (atom c)) (set_here x a (atom c)) (λ w i n. set_but x a w (atom c) n)
-    build-each (node f ts) a m rest x l r =
-        reassoc_back (nested ts m) (put_structure f (count_trees ts) a ∷ fills ts m) rest none x y bs
-        (nested-each ts m (put_structure f (count_trees ts) a ∷ (fills ts m ++ rest)) x (λ x1 same temps.
-        let t : Tree = node f (instance_all y ts) in
-        let x' : ℕ → Tree = set x1 a t in (
-          instance_all y ts,
-          count-instance y ts,
-          fills-each y bs rest ts m x' (Temps-same ts m x1 x' y (λ w i j. set_above x1 a w t (omega arith)) temps)
-              (r x' (set_here x1 a t) (λ w i n. set_but x1 a w t n ∙ same w i)),
-        )))
-
-    nested-each : (ts : Trees) (m : ℕ) (rest : List Step) (x : ℕ → Tree)
-        → ((x' : ℕ → Tree) → Same m x x' → Temps ts m x' y → Runs rest none x' y bs) → Runs (nested ts m ++ rest) none x y bs
-    nested-each none m rest x r = r x (λ w i. refl) tt
-    nested-each (more (var v) ts) m rest x r = nested-each ts (m + 1) rest x (λ x' s t. r x' (λ w i. s w (omega arith)) t)
-    nested-each (more (int v) ts) m rest x r = nested-each ts (m + 1) rest x (λ x' s t. r x' (λ w i. s w (omega arith)) t)
-    nested-each (more (atom v) ts) m rest x r = nested-each ts (m + 1) rest x (λ x' s t. r x' (λ w i. s w (omega arith)) t)
-    nested-each (more (node f us) ts) m rest x r =
-        reassoc_back (build (node f us) m (m + 1 + count_trees ts)) (nested ts (m + 1)) rest none x y bs
-        (build-each (node f us) m (m + 1 + count_trees ts) (nested ts (m + 1) ++ rest) x (omega arith) (λ x1 e b.
-        nested-each ts (m + 1) rest x1 (λ x' s t. r x' (λ w i. s w (omega arith) ∙ b w (omega arith) (omega arith)) (s m (omega arith) ∙ e, t))))
 
 -- ---- variables that were seen
 
@@ -191,74 +115,313 @@ seen_same t seen y h a = instance_agree y h t (λ v o. a v (has-add_vars v t see
 seen_same_all : (ts : Trees) (seen : List ℕ) (y h : ℕ → Tree) → AgreeOn (add_all_vars ts seen) y h → instance_all y ts ≡ instance_all h ts
 seen_same_all ts seen y h a = instance_all_agree y h ts (λ v o. a v (has-add_all_vars v ts seen (or_right (has seen v) (occurs_all v ts) o)))
 
+-- ---- what is seen in the order in which terms are built
+
+-- what was seen stays so
+see-grows : (t : Tree) (seen : List ℕ) (w : ℕ) → has seen w ≡ true → has (see t seen) w ≡ true
+see-grows (var v) seen w h = grows (var v) seen w h
+see-grows (int z) seen w h = h
+see-grows (atom a) seen w h = h
+see-grows (node a us) seen w h = h
+
+pub see_all-grows : (ts : Trees) (seen : List ℕ) (w : ℕ) → has seen w ≡ true → has (see_all ts seen) w ≡ true
+see_all-grows none seen w h = h
+see_all-grows (more t ts) seen w h = see_all-grows ts (see t seen) w (see-grows t seen w h)
+
+mutual
+  see_built-grows : (t : Tree) (seen : List ℕ) (w : ℕ) → has seen w ≡ true → has (see_built t seen) w ≡ true
+  see_built-grows (var v) seen w h = grows (var v) seen w h
+  see_built-grows (int z) seen w h = h
+  see_built-grows (atom a) seen w h = h
+  see_built-grows (node f ts) seen w h = see_all-grows ts (see_nested ts seen) w (see_nested-grows ts seen w h)
+
+  see_nested-grows : (ts : Trees) (seen : List ℕ) (w : ℕ) → has seen w ≡ true → has (see_nested ts seen) w ≡ true
+  see_nested-grows none seen w h = h
+  see_nested-grows (more (var v) ts) seen w h = see_nested-grows ts seen w h
+  see_nested-grows (more (int z) ts) seen w h = see_nested-grows ts seen w h
+  see_nested-grows (more (atom a) ts) seen w h = see_nested-grows ts seen w h
+  see_nested-grows (more (node a us) ts) seen w h = see_nested-grows ts (see_built (node a us) seen) w (see_built-grows (node a us) seen w h)
+
+see_puts-grows : (ts : Trees) (seen : List ℕ) (w : ℕ) → has seen w ≡ true → has (see_puts ts seen) w ≡ true
+see_puts-grows none seen w h = h
+see_puts-grows (more t ts) seen w h = see_puts-grows ts (see_built t seen) w (see_built-grows t seen w h)
+
+-- a variable that was found was there before or stands in the term
+mutual
+  add_vars-has : (w : ℕ) (t : Tree) (seen : List ℕ) → has (add_vars t seen) w ≡ true → (has seen w ≡ true) ⊎ (occurs w t ≡ true)
+  add_vars-has w (var v) seen h = go (has seen v) h
+    where
+      go : (b : Bool) → has (if b then seen else seen ++ v ∷ []) w ≡ true → (has seen w ≡ true) ⊎ (nat_eq w v ≡ true)
+      go true h = inl h
+      go false h = elim (has-push seen v w h) [ inl p ↦ inl p | inr q ↦ inr (same_test w v (sym q)) ]
+  add_vars-has w (int z) seen h = inl h
+  add_vars-has w (atom a) seen h = inl h
+  add_vars-has w (node a ts) seen h = add_all_vars-has w ts seen h
+
+  add_all_vars-has : (w : ℕ) (ts : Trees) (seen : List ℕ) → has (add_all_vars ts seen) w ≡ true → (has seen w ≡ true) ⊎ (occurs_all w ts ≡ true)
+  add_all_vars-has w none seen h = inl h
+  add_all_vars-has w (more t ts) seen h =
+      elim (add_all_vars-has w ts (add_vars t seen) h) [
+        | inl p ↦ elim (add_vars-has w t seen p) [ inl q ↦ inl q | inr q ↦ inr (or_left (occurs w t) (occurs_all w ts) q) ]
+        | inr p ↦ inr (or_right (occurs w t) (occurs_all w ts) p)
+      ]
+
+-- a variable of a structure is an argument of it or stands in a structure of it
+mutual
+  see_built-has : (w : ℕ) (t : Tree) (seen : List ℕ) → occurs w t ≡ true → has (see_built t seen) w ≡ true
+  see_built-has w (var v) seen o = has-add_vars w (var v) seen (or_right (has seen w) (nat_eq w v) o)
+  see_built-has w (int z) seen o = absurd (false≢true o)
+  see_built-has w (atom a) seen o = absurd (false≢true o)
+  see_built-has w (node f ts) seen o = elim (is_seen w ts o) [ inl k ↦ k (see_nested ts seen) | inr k ↦ see_all-grows ts (see_nested ts seen) w (k seen) ]
+
+  is_seen : (w : ℕ) (ts : Trees) → occurs_all w ts ≡ true → ((s : List ℕ) → has (see_all ts s) w ≡ true) ⊎ ((s : List ℕ) → has (see_nested ts s) w ≡ true)
+  is_seen w none o = absurd (false≢true o)
+  is_seen w (more (var v) ts) o =
+      elim (or_cases (nat_eq w v) (occurs_all w ts) o) [
+        | inl p ↦ inl (λ s. see_all-grows ts (see (var v) s) w (has-add_vars w (var v) s (or_right (has s w) (nat_eq w v) p)))
+        | inr p ↦ elim (is_seen w ts p) [ inl k ↦ inl (λ s. k (see (var v) s)) | inr k ↦ inr k ]
+      ]
+  is_seen w (more (int z) ts) o = is_seen w ts o
+  is_seen w (more (atom a) ts) o = is_seen w ts o
+  is_seen w (more (node a us) ts) o =
+      elim (or_cases (occurs_all w us) (occurs_all w ts) o) [
+        | inl p ↦ inr (λ s. see_nested-grows ts (see_built (node a us) s) w (see_built-has w (node a us) s p))
+        | inr p ↦ elim (is_seen w ts p) [ inl k ↦ inl k | inr k ↦ inr (λ s. k (see_built (node a us) s)) ]
+      ]
+
+see_puts-has : (w : ℕ) (ts : Trees) (seen : List ℕ) → occurs_all w ts ≡ true → has (see_puts ts seen) w ≡ true
+see_puts-has w none seen o = absurd (false≢true o)
+see_puts-has w (more t ts) seen o =
+    elim (or_cases (occurs w t) (occurs_all w ts) o) [
+      | inl p ↦ see_puts-grows ts (see_built t seen) w (see_built-has w t seen p)
+      | inr p ↦ see_puts-has w ts (see_built t seen) p
+    ]
+
+-- the same of a term that is taken apart
+mutual
+  see_taken-grows : (t : Tree) (seen : List ℕ) (w : ℕ) → has seen w ≡ true → has (see_taken t seen) w ≡ true
+  see_taken-grows (var v) seen w h = grows (var v) seen w h
+  see_taken-grows (int z) seen w h = h
+  see_taken-grows (atom a) seen w h = h
+  see_taken-grows (node f ts) seen w h = see_opened-grows ts (see_all ts seen) w (see_all-grows ts seen w h)
+
+  see_opened-grows : (ts : Trees) (seen : List ℕ) (w : ℕ) → has seen w ≡ true → has (see_opened ts seen) w ≡ true
+  see_opened-grows none seen w h = h
+  see_opened-grows (more (var v) ts) seen w h = see_opened-grows ts seen w h
+  see_opened-grows (more (int z) ts) seen w h = see_opened-grows ts seen w h
+  see_opened-grows (more (atom a) ts) seen w h = see_opened-grows ts seen w h
+  see_opened-grows (more (node a us) ts) seen w h = see_opened-grows ts (see_taken (node a us) seen) w (see_taken-grows (node a us) seen w h)
+
+mutual
+  see_taken-has : (w : ℕ) (t : Tree) (seen : List ℕ) → occurs w t ≡ true → has (see_taken t seen) w ≡ true
+  see_taken-has w (var v) seen o = has-add_vars w (var v) seen (or_right (has seen w) (nat_eq w v) o)
+  see_taken-has w (int z) seen o = absurd (false≢true o)
+  see_taken-has w (atom a) seen o = absurd (false≢true o)
+  see_taken-has w (node f ts) seen o = elim (is_taken w ts o) [ inl k ↦ see_opened-grows ts (see_all ts seen) w (k seen) | inr k ↦ k (see_all ts seen) ]
+
+  is_taken : (w : ℕ) (ts : Trees) → occurs_all w ts ≡ true → ((s : List ℕ) → has (see_all ts s) w ≡ true) ⊎ ((s : List ℕ) → has (see_opened ts s) w ≡ true)
+  is_taken w none o = absurd (false≢true o)
+  is_taken w (more (var v) ts) o =
+      elim (or_cases (nat_eq w v) (occurs_all w ts) o) [
+        | inl p ↦ inl (λ s. see_all-grows ts (see (var v) s) w (has-add_vars w (var v) s (or_right (has s w) (nat_eq w v) p)))
+        | inr p ↦ elim (is_taken w ts p) [ inl k ↦ inl (λ s. k (see (var v) s)) | inr k ↦ inr k ]
+      ]
+  is_taken w (more (int z) ts) o = is_taken w ts o
+  is_taken w (more (atom a) ts) o = is_taken w ts o
+  is_taken w (more (node a us) ts) o =
+      elim (or_cases (occurs_all w us) (occurs_all w ts) o) [
+        | inl p ↦ inr (λ s. see_opened-grows ts (see_taken (node a us) s) w (see_taken-has w (node a us) s p))
+        | inr p ↦ elim (is_taken w ts p) [ inl k ↦ inl k | inr k ↦ inr (λ s. k (see_taken (node a us) s)) ]
+      ]
+
+-- what stands in a term is seen behind it
+pub taken_sees : (t : Tree) (seen : List ℕ) (w : ℕ) → has (add_vars t seen) w ≡ true → has (see_taken t seen) w ≡ true
+taken_sees t seen w h = elim (add_vars-has w t seen h) [ inl p ↦ see_taken-grows t seen w p | inr p ↦ see_taken-has w t seen p ]
+
+pub goal_sees : (g : Tree) (seen : List ℕ) (w : ℕ) → callable g ≡ true → has (add_vars g seen) w ≡ true → has (see_puts (arguments g) seen) w ≡ true
+goal_sees (var v) seen w c h = absurd (false≢true c)
+goal_sees (int z) seen w c h = h
+goal_sees (atom a) seen w c h = h
+goal_sees (node a ts) seen w c h = elim (add_all_vars-has w ts seen h) [ inl p ↦ see_puts-grows ts seen w p | inr p ↦ see_puts-has w ts seen p ]
+
+-- ---- the arguments of structures
+
+module _ (bs : Trees) (rest : List Step) (x : ℕ → Tree) where
+  -- the arguments of a structure are what they are to be, whatever the variables seen are later on
+  abbrev FillsOnly : Trees → Trees → List ℕ → ℕ → (ℕ → Tree) → Type 0
+  FillsOnly ts us seen m y =
+      (y' : ℕ → Tree) × AgreeOn seen y y' × ((h : ℕ → Tree) → AgreeOn (see_all ts seen) y' h → Temps ts m x h → us ≡ instance_all h ts) × Runs rest none x y' bs
+
+  fills-only : (ts us : Trees) (seen : List ℕ) (m : ℕ) (y : ℕ → Tree) → count_trees us ≡ count_trees ts → Runs (fills ts seen m ++ rest) us x y bs → FillsOnly ts us seen m y
+  fills-only none none seen m y c r = (y, λ w o. refl, λ h a t. refl, r)
+  fills-only none (more u us) seen m y c r = absurd (omega arith)
+  fills-only (more (var v) ts) none seen m y c r = absurd (omega arith)
+  fills-only (more (int v) ts) none seen m y c r = absurd (omega arith)
+  fills-only (more (atom v) ts) none seen m y c r = absurd (omega arith)
+  fills-only (more (node a vs) ts) none seen m y c r = absurd (omega arith)
+  fills-only (more (var v) ts) (more u us) seen m y c r = go (λ seen y r. fills-only ts us seen (m + 1) y (omega arith) r) (has seen v) refl r
+    where
+      go : ((seen : List ℕ) (y : ℕ → Tree) → Runs (fills ts seen (m + 1) ++ rest) us x y bs → FillsOnly ts us seen (m + 1) y)
+          → (b : Bool) → has seen v ≡ b → Runs ((if b then unify_value (Y v) else unify_variable (Y v)) ∷ (fills ts (if b then seen else seen ++ v ∷ []) (m + 1) ++ rest)) (more u us) x y bs
+          → (y' : ℕ → Tree) × AgreeOn seen y y'
+          × ((h : ℕ → Tree) → AgreeOn (see_all ts (if b then seen else seen ++ v ∷ [])) y' h → Temps ts (m + 1) x h → more u us ≡ more (h v) (instance_all h ts)) × Runs rest none x y' bs
+      go ih true e r =
+          let k = ih seen y r.1 in
+          (k.0, k.1, λ h a t. ap (λ q. more q us) (sym r.0 ∙ k.1 v e ∙ a v (see_all-grows ts seen v e)) ∙ ap (more (h v)) (k.2 h a t), k.3)
+      go ih false e r =
+          let k = ih (seen ++ v ∷ []) (set y v u) r in (
+            k.0,
+            λ w o. set_agrees seen y v u e w o ∙ k.1 w (has_more seen v w o),
+            λ h a t.
+                ap (λ q. more q us) (sym (set_here y v u) ∙ k.1 v (has_first seen v) ∙ a v (see_all-grows ts (seen ++ v ∷ []) v (has_first seen v))) ∙ ap (more (h v)) (k.2 h a t),
+            k.3,
+          )
+  fills-only (more (int z) ts) (more u us) seen m y c r =
+      let k = fills-only ts us seen (m + 1) y (omega arith) r.1 in (k.0, k.1, λ h a t. ap (λ q. more q us) r.0 ∙ ap (more (int z)) (k.2 h a t), k.3)
+  fills-only (more (atom a) ts) (more u us) seen m y c r =
+      let k = fills-only ts us seen (m + 1) y (omega arith) r.1 in (k.0, k.1, λ h g t. ap (λ q. more q us) r.0 ∙ ap (more (atom a)) (k.2 h g t), k.3)
+  fills-only (more (node a vs) ts) (more u us) seen m y c r =
+      let k = fills-only ts us seen (m + 1) y (omega arith) r.1 in
+      (k.0, k.1, λ h g t. ap (λ q. more q us) (sym r.0 ∙ t.0) ∙ ap (more (instance h (node a vs))) (k.2 h g t.1), k.3)
+
+  fills-each : (h : ℕ → Tree) (ts : Trees) (seen : List ℕ) (m : ℕ) (y : ℕ → Tree) → AgreeOn seen y h → Temps ts m x h
+      → ((y' : ℕ → Tree) → AgreeOn (see_all ts seen) y' h → Runs rest none x y' bs) → Runs (fills ts seen m ++ rest) (instance_all h ts) x y bs
+  fills-each h none seen m y a t r = r y a
+  fills-each h (more (var v) ts) seen m y a t r = go (λ seen y a r. fills-each h ts seen (m + 1) y a t r) (has seen v) refl r
+    where
+      go : ((seen : List ℕ) (y : ℕ → Tree) → AgreeOn seen y h → ((y' : ℕ → Tree) → AgreeOn (see_all ts seen) y' h → Runs rest none x y' bs) → Runs (fills ts seen (m + 1) ++ rest) (instance_all h ts) x y bs)
+          → (b : Bool) → has seen v ≡ b → ((y' : ℕ → Tree) → AgreeOn (see_all ts (if b then seen else seen ++ v ∷ [])) y' h → Runs rest none x y' bs)
+          → Runs ((if b then unify_value (Y v) else unify_variable (Y v)) ∷ (fills ts (if b then seen else seen ++ v ∷ []) (m + 1) ++ rest)) (more (h v) (instance_all h ts)) x y bs
+      go ih true e r = (a v e, ih seen y a r)
+      go ih false e r = ih (seen ++ v ∷ []) (set y v (h v)) (push_agrees seen y h v a) r
+  fills-each h (more (int z) ts) seen m y a t r = (refl, fills-each h ts seen (m + 1) y a t r)
+  fills-each h (more (atom c) ts) seen m y a t r = (refl, fills-each h ts seen (m + 1) y a t r)
+  fills-each h (more (node c us) ts) seen m y a t r = (t.0, fills-each h ts seen (m + 1) y a t.1 r)
+
+-- ---- terms that are built
+
 module _ (bs : Trees) where
   mutual
-    inits-only : (t : Tree) (seen : List ℕ) (m : ℕ) (rest : List Step) (x y : ℕ → Tree) → Runs (inits t seen m ++ rest) none x y bs
-        → (x' : ℕ → Tree) × (y' : ℕ → Tree) × Same m x x' × AgreeOn seen y y' × Runs rest none x' y' bs
-    inits-only (var v) seen m rest x y r = go (has seen v) refl r
+    build-only : (t : Tree) (a : ℕ) (seen : List ℕ) (m : ℕ) (rest : List Step) (x y : ℕ → Tree) → a < m → Runs (build t a seen m ++ rest) none x y bs
+        → (x' : ℕ → Tree) × (y' : ℕ → Tree) × AgreeOn seen y y' × ((h : ℕ → Tree) → AgreeOn (see_built t seen) y' h → x' a ≡ instance h t) × But a m x x' × Runs rest none x' y' bs
+    build-only (var v) a seen m rest x y l r = go (has seen v) refl r
       where
-        go : (b : Bool) → has seen v ≡ b → Runs ((if b then [] else put_variable (Y v) m ∷ []) ++ rest) none x y bs → (x' : ℕ → Tree) × (y' : ℕ → Tree) × Same m x x' × AgreeOn seen y y' × Runs rest none x' y' bs
-        go true e r = (x, y, λ w i. refl, λ w o. refl, r)
-        go false e r = (set x m r.0, set y v r.0, λ w i. set_other x m w r.0 i, set_agrees seen y v r.0 e, r.1)
-    inits-only (int z) seen m rest x y r = (x, y, λ w i. refl, λ w o. refl, r)
-    inits-only (atom a) seen m rest x y r = (x, y, λ w i. refl, λ w o. refl, r)
-    inits-only (node a ts) seen m rest x y r = inits_all-only ts seen m rest x y r
+        go : (b : Bool) → has seen v ≡ b → Runs ((if b then put_value (Y v) a ∷ [] else put_variable (Y v) a ∷ []) ++ rest) none x y bs
+            → (x' : ℕ → Tree) × (y' : ℕ → Tree) × AgreeOn seen y y' × ((h : ℕ → Tree) → AgreeOn (if b then seen else seen ++ v ∷ []) y' h → x' a ≡ h v) × But a m x x' × Runs rest none x' y' bs
+        go true e r = (set x a (y v), y, λ w o. refl, λ h g. set_here x a (y v) ∙ g v e, λ w i n. set_but x a w (y v) n, r)
+        go false e r = (
+          set x a r.0,
+          set y v r.0,
+          set_agrees seen y v r.0 e,
+          λ h g. set_here x a r.0 ∙ sym (set_here y v r.0) ∙ g v (has_first seen v),
+          λ w i n. set_but x a w r.0 n,
+          r.1,
+        )
+    build-only (int z) a seen m rest x y l r = (set x a (int z), y, λ w o. refl, λ h g. set_here x a (int z), λ w i n. set_but x a w (int z) n, r)
+    build-only (atom c) a seen m rest x y l r = (set x a (atom c), y, λ w o. refl, λ h g. set_here x a (atom c), λ w i n. set_but x a w (atom c) n, r)
+    build-only (node f ts) a seen m rest x y l r =
+        let seen1 : List ℕ = see_nested ts seen in
+        let n = nested-only ts seen m (put_structure f (count_trees ts) a ∷ (fills ts seen1 m ++ rest)) x y (reassoc (nested ts seen m) (put_structure f (count_trees ts) a ∷ fills ts seen1 m) rest none x y bs r) in
+        let s = n.5 in
+        let x' : ℕ → Tree = set n.0 a (node f s.0) in
+        let e = fills-only bs rest x' ts s.0 seen1 m n.1 s.1 s.2 in (
+          x',
+          e.0,
+          λ w o. n.3 w o ∙ e.1 w (see_nested-grows ts seen w o),
+          λ h g.
+              set_here n.0 a (node f s.0)
+              ∙ ap (node f) (e.2 h g (Temps-same ts m n.0 x' h (λ w i j. set_above n.0 a w (node f s.0) (omega arith)) (n.4 h (λ w o. e.1 w o ∙ g w (see_all-grows ts seen1 w o))))),
+          λ w i k. set_but n.0 a w (node f s.0) k ∙ n.2 w i,
+          e.3,
+        )
 
-    inits_all-only : (ts : Trees) (seen : List ℕ) (m : ℕ) (rest : List Step) (x y : ℕ → Tree) → Runs (inits_all ts seen m ++ rest) none x y bs
-        → (x' : ℕ → Tree) × (y' : ℕ → Tree) × Same m x x' × AgreeOn seen y y' × Runs rest none x' y' bs
-    inits_all-only none seen m rest x y r = (x, y, λ w i. refl, λ w o. refl, r)
-    inits_all-only (more t ts) seen m rest x y r =
-        let a = inits-only t seen m (inits_all ts (add_vars t seen) m ++ rest) x y (reassoc (inits t seen m) (inits_all ts (add_vars t seen) m) rest none x y bs r) in
-        let b = inits_all-only ts (add_vars t seen) m rest a.0 a.1 a.4 in
-        (b.0, b.1, λ w i. b.2 w i ∙ a.2 w i, λ w o. a.3 w o ∙ b.3 w (grows t seen w o), b.4)
+    nested-only : (ts : Trees) (seen : List ℕ) (m : ℕ) (rest : List Step) (x y : ℕ → Tree) → Runs (nested ts seen m ++ rest) none x y bs
+        → (x' : ℕ → Tree) × (y' : ℕ → Tree) × Same m x x' × AgreeOn seen y y' × ((h : ℕ → Tree) → AgreeOn (see_nested ts seen) y' h → Temps ts m x' h) × Runs rest none x' y' bs
+    nested-only none seen m rest x y r = (x, y, λ w i. refl, λ w o. refl, λ h g. tt, r)
+    nested-only (more (var v) ts) seen m rest x y r = let n = nested-only ts seen (m + 1) rest x y r in (n.0, n.1, λ w i. n.2 w (omega arith), n.3, n.4, n.5)
+    nested-only (more (int v) ts) seen m rest x y r = let n = nested-only ts seen (m + 1) rest x y r in (n.0, n.1, λ w i. n.2 w (omega arith), n.3, n.4, n.5)
+    nested-only (more (atom v) ts) seen m rest x y r = let n = nested-only ts seen (m + 1) rest x y r in (n.0, n.1, λ w i. n.2 w (omega arith), n.3, n.4, n.5)
+    nested-only (more (node f us) ts) seen m rest x y r =
+        let seen1 : List ℕ = see_built (node f us) seen in
+        let b = build-only (node f us) m seen (m + 1 + count_trees ts) (nested ts seen1 (m + 1) ++ rest) x y (omega arith) (reassoc (build (node f us) m seen (m + 1 + count_trees ts)) (nested ts seen1 (m + 1)) rest none x y bs r) in
+        let n = nested-only ts seen1 (m + 1) rest b.0 b.1 b.5 in (
+          n.0,
+          n.1,
+          λ w i. n.2 w (omega arith) ∙ b.4 w (omega arith) (omega arith),
+          λ w o. b.2 w o ∙ n.3 w (see_built-grows (node f us) seen w o),
+          λ h g. (n.2 m (omega arith) ∙ b.3 h (λ w o. n.3 w o ∙ g w (see_nested-grows ts seen1 w o)), n.4 h g),
+          n.5,
+        )
 
   module _ (h : ℕ → Tree) where
     mutual
-      inits-each : (t : Tree) (seen : List ℕ) (m : ℕ) (rest : List Step) (x y : ℕ → Tree) → AgreeOn seen y h
-          → ((x' y' : ℕ → Tree) → Same m x x' → AgreeOn (add_vars t seen) y' h → Runs rest none x' y' bs) → Runs (inits t seen m ++ rest) none x y bs
-      inits-each (var v) seen m rest x y a r = go (has seen v) refl
+      build-each : (t : Tree) (a : ℕ) (seen : List ℕ) (m : ℕ) (rest : List Step) (x y : ℕ → Tree) → a < m → AgreeOn seen y h
+          → ((x' y' : ℕ → Tree) → x' a ≡ instance h t → But a m x x' → AgreeOn (see_built t seen) y' h → Runs rest none x' y' bs) → Runs (build t a seen m ++ rest) none x y bs
+      build-each (var v) a seen m rest x y l g r = go (has seen v) refl r
         where
-          go : (b : Bool) → has seen v ≡ b → Runs ((if b then [] else put_variable (Y v) m ∷ []) ++ rest) none x y bs
-          go true e = r x y (λ w i. refl) (subst (λ b. AgreeOn (if b then seen else seen ++ v ∷ []) y h) (sym e) a)
-          go false e = (h v, r (set x m (h v)) (set y v (h v)) (λ w i. set_other x m w (h v) i) (subst (λ b. AgreeOn (if b then seen else seen ++ v ∷ []) (set y v (h v)) h) (sym e) (push_agrees seen y h v a)))
-      inits-each (int z) seen m rest x y a r = r x y (λ w i. refl) a
-      inits-each (atom c) seen m rest x y a r = r x y (λ w i. refl) a
-      inits-each (node c ts) seen m rest x y a r = inits_all-each ts seen m rest x y a r
+          go : (b : Bool) → has seen v ≡ b → ((x' y' : ℕ → Tree) → x' a ≡ h v → But a m x x' → AgreeOn (if b then seen else seen ++ v ∷ []) y' h → Runs rest none x' y' bs)
+              → Runs ((if b then put_value (Y v) a ∷ [] else put_variable (Y v) a ∷ []) ++ rest) none x y bs
+          go true e r = r (set x a (y v)) y (set_here x a (y v) ∙ g v e) (λ w i n. set_but x a w (y v) n) g
+          go false e r = (h v, r (set x a (h v)) (set y v (h v)) (set_here x a (h v)) (λ w i n. set_but x a w (h v) n) (push_agrees seen y h v g))
+      build-each (int z) a seen m rest x y l g r = r (set x a (int z)) y (set_here x a (int z)) (λ w i n. set_but x a w (int z) n) g
+      build-each (atom c) a seen m rest x y l g r = r (set x a (atom c)) y (set_here x a (atom c)) (λ w i n. set_but x a w (atom c) n) g
+      build-each (node f ts) a seen m rest x y l g r =
+          let seen1 : List ℕ = see_nested ts seen in
+          reassoc_back (nested ts seen m) (put_structure f (count_trees ts) a ∷ fills ts seen1 m) rest none x y bs
+          (nested-each ts seen m (put_structure f (count_trees ts) a ∷ (fills ts seen1 m ++ rest)) x y g (λ x1 y1 same temps g1.
+          let t : Tree = node f (instance_all h ts) in
+          let x' : ℕ → Tree = set x1 a t in (
+            instance_all h ts,
+            count-instance h ts,
+            fills-each bs rest x' h ts seen1 m y1 g1 (Temps-same ts m x1 x' h (λ w i j. set_above x1 a w t (omega arith)) temps)
+                (λ y' g'. r x' y' (set_here x1 a t) (λ w i n. set_but x1 a w t n ∙ same w i) g'),
+          )))
 
-      inits_all-each : (ts : Trees) (seen : List ℕ) (m : ℕ) (rest : List Step) (x y : ℕ → Tree) → AgreeOn seen y h
-          → ((x' y' : ℕ → Tree) → Same m x x' → AgreeOn (add_all_vars ts seen) y' h → Runs rest none x' y' bs) → Runs (inits_all ts seen m ++ rest) none x y bs
-      inits_all-each none seen m rest x y a r = r x y (λ w i. refl) a
-      inits_all-each (more t ts) seen m rest x y a r =
-          reassoc_back (inits t seen m) (inits_all ts (add_vars t seen) m) rest none x y bs
-          (inits-each t seen m (inits_all ts (add_vars t seen) m ++ rest) x y a (λ x1 y1 s1 a1.
-          inits_all-each ts (add_vars t seen) m rest x1 y1 a1 (λ x' y' s' a'. r x' y' (λ w i. s' w i ∙ s1 w i) a')))
+      nested-each : (ts : Trees) (seen : List ℕ) (m : ℕ) (rest : List Step) (x y : ℕ → Tree) → AgreeOn seen y h
+          → ((x' y' : ℕ → Tree) → Same m x x' → Temps ts m x' h → AgreeOn (see_nested ts seen) y' h → Runs rest none x' y' bs) → Runs (nested ts seen m ++ rest) none x y bs
+      nested-each none seen m rest x y g r = r x y (λ w i. refl) tt g
+      nested-each (more (var v) ts) seen m rest x y g r = nested-each ts seen (m + 1) rest x y g (λ x' y' s t g'. r x' y' (λ w i. s w (omega arith)) t g')
+      nested-each (more (int v) ts) seen m rest x y g r = nested-each ts seen (m + 1) rest x y g (λ x' y' s t g'. r x' y' (λ w i. s w (omega arith)) t g')
+      nested-each (more (atom v) ts) seen m rest x y g r = nested-each ts seen (m + 1) rest x y g (λ x' y' s t g'. r x' y' (λ w i. s w (omega arith)) t g')
+      nested-each (more (node f us) ts) seen m rest x y g r =
+          let seen1 : List ℕ = see_built (node f us) seen in
+          reassoc_back (build (node f us) m seen (m + 1 + count_trees ts)) (nested ts seen1 (m + 1)) rest none x y bs
+          (build-each (node f us) m seen (m + 1 + count_trees ts) (nested ts seen1 (m + 1) ++ rest) x y (omega arith) g (λ x1 y1 e b g1.
+          nested-each ts seen1 (m + 1) rest x1 y1 g1 (λ x' y' s t g'. r x' y' (λ w i. s w (omega arith) ∙ b w (omega arith) (omega arith)) (s m (omega arith) ∙ e, t) g')))
 
 -- ---- the arguments of a goal
 
-module _ (y : ℕ → Tree) (bs : Trees) where
-  puts-only : (ts : Trees) (a m : ℕ) (rest : List Step) (x : ℕ → Tree) → a + count_trees ts ≤ m → Runs (puts ts a m ++ rest) none x y bs
-      → (x' : ℕ → Tree) × Same a x x' × (spread x' a (count_trees ts) ≡ instance_all y ts) × Runs rest none x' y bs
-  puts-only none a m rest x l r = (x, λ w i. refl, refl, r)
-  puts-only (more t ts) a m rest x l r =
-      let b = build-only y bs t a m (puts ts (a + 1) m ++ rest) x (omega arith) (reassoc (build t a m) (puts ts (a + 1) m) rest none x y bs r) in
-      let p = puts-only ts (a + 1) m rest b.0 (omega arith) b.3 in
+module _ (bs : Trees) where
+  puts-only : (ts : Trees) (a : ℕ) (seen : List ℕ) (m : ℕ) (rest : List Step) (x y : ℕ → Tree) → a + count_trees ts ≤ m → Runs (puts ts a seen m ++ rest) none x y bs
+      → (x' : ℕ → Tree) × (y' : ℕ → Tree) × Same a x x' × AgreeOn seen y y' × ((h : ℕ → Tree) → AgreeOn (see_puts ts seen) y' h → spread x' a (count_trees ts) ≡ instance_all h ts) × Runs rest none x' y' bs
+  puts-only none a seen m rest x y l r = (x, y, λ w i. refl, λ w o. refl, λ h g. refl, r)
+  puts-only (more t ts) a seen m rest x y l r =
+      let seen1 : List ℕ = see_built t seen in
+      let b = build-only bs t a seen m (puts ts (a + 1) seen1 m ++ rest) x y (omega arith) (reassoc (build t a seen m) (puts ts (a + 1) seen1 m) rest none x y bs r) in
+      let p = puts-only ts (a + 1) seen1 m rest b.0 b.1 (omega arith) b.5 in
       let e : count_trees ts + 1 ≡ suc (count_trees ts) = omega arith in (
         p.0,
-        λ w i. p.1 w (omega arith) ∙ b.2 w (omega arith) (omega arith),
-        ap (spread p.0 a) e ∙ ap (λ u. more u (spread p.0 (a + 1) (count_trees ts))) (p.1 a (omega arith) ∙ b.1) ∙ ap (more (instance y t)) p.2,
-        p.3,
+        p.1,
+        λ w i. p.2 w (omega arith) ∙ b.4 w (omega arith) (omega arith),
+        λ w o. b.2 w o ∙ p.3 w (see_built-grows t seen w o),
+        λ h g.
+            ap (spread p.0 a) e
+            ∙ ap (λ u. more u (spread p.0 (a + 1) (count_trees ts))) (p.2 a (omega arith) ∙ b.3 h (λ w o. p.3 w o ∙ g w (see_puts-grows ts seen1 w o)))
+            ∙ ap (more (instance h t)) (p.4 h g),
+        p.5,
       )
 
-  puts-each : (ts : Trees) (a m : ℕ) (rest : List Step) (x : ℕ → Tree) → a + count_trees ts ≤ m
-      → ((x' : ℕ → Tree) → Same a x x' → spread x' a (count_trees ts) ≡ instance_all y ts → Runs rest none x' y bs) → Runs (puts ts a m ++ rest) none x y bs
-  puts-each none a m rest x l r = r x (λ w i. refl) refl
-  puts-each (more t ts) a m rest x l r =
-      reassoc_back (build t a m) (puts ts (a + 1) m) rest none x y bs
-      (build-each y bs t a m (puts ts (a + 1) m ++ rest) x (omega arith) (λ x1 e b.
-      puts-each ts (a + 1) m rest x1 (omega arith) (λ x' s p.
+  puts-each : (h : ℕ → Tree) (ts : Trees) (a : ℕ) (seen : List ℕ) (m : ℕ) (rest : List Step) (x y : ℕ → Tree) → a + count_trees ts ≤ m → AgreeOn seen y h
+      → ((x' y' : ℕ → Tree) → Same a x x' → spread x' a (count_trees ts) ≡ instance_all h ts → AgreeOn (see_puts ts seen) y' h → Runs rest none x' y' bs) → Runs (puts ts a seen m ++ rest) none x y bs
+  puts-each h none a seen m rest x y l g r = r x y (λ w i. refl) refl g
+  puts-each h (more t ts) a seen m rest x y l g r =
+      let seen1 : List ℕ = see_built t seen in
+      reassoc_back (build t a seen m) (puts ts (a + 1) seen1 m) rest none x y bs
+      (build-each bs h t a seen m (puts ts (a + 1) seen1 m ++ rest) x y (omega arith) g (λ x1 y1 e b g1.
+      puts-each h ts (a + 1) seen1 m rest x1 y1 (omega arith) g1 (λ x' y' s p g'.
       let k : count_trees ts + 1 ≡ suc (count_trees ts) = omega arith in
-      r x' (λ w i. s w (omega arith) ∙ b w (omega arith) (omega arith))
-      (ap (spread x' a) k ∙ ap (λ u. more u (spread x' (a + 1) (count_trees ts))) (s a (omega arith) ∙ e) ∙ ap (more (instance y t)) p))))
+      r x' y' (λ w i. s w (omega arith) ∙ b w (omega arith) (omega arith))
+      (ap (spread x' a) k ∙ ap (λ u. more u (spread x' (a + 1) (count_trees ts))) (s a (omega arith) ∙ e) ∙ ap (more (instance h t)) p) g')))
 
 -- ---- goals and bodies
 
@@ -272,19 +435,14 @@ goal_of f (node a (more t ts)) i = refl
 goal-only : (g : Tree) (seen : List ℕ) (rest : List Step) (x y : ℕ → Tree) (bs : Trees) → callable g ≡ true → Runs (goal_code g seen ++ rest) none x y bs
     → (x' : ℕ → Tree) × (y' : ℕ → Tree) × AgreeOn seen y y' × (applied (name g) (spread x' 1 (count_trees (arguments g))) ≡ instance y' g) × Runs rest none x' y' bs
 goal-only g seen rest x y bs i r =
-    let m : ℕ = count_trees (arguments g) + 1 in
-    let a = inits-only bs g seen m (puts (arguments g) 1 m ++ rest) x y (reassoc (inits g seen m) (puts (arguments g) 1 m) rest none x y bs r) in
-    let p = puts-only a.1 bs (arguments g) 1 m rest a.0 (omega arith) a.4 in
-    (p.0, a.1, a.3, ap (applied (name g)) p.2 ∙ goal_of a.1 g i, p.3)
+    let p = puts-only bs (arguments g) 1 seen (count_trees (arguments g) + 1) rest x y (omega arith) r in
+    (p.0, p.1, p.3, ap (applied (name g)) (p.4 p.1 (λ w o. refl)) ∙ goal_of p.1 g i, p.5)
 
 goal-each : (h : ℕ → Tree) (g : Tree) (seen : List ℕ) (rest : List Step) (x y : ℕ → Tree) (bs : Trees) → callable g ≡ true → AgreeOn seen y h
     → ((x' y' : ℕ → Tree) → AgreeOn (add_vars g seen) y' h → applied (name g) (spread x' 1 (count_trees (arguments g))) ≡ instance h g → Runs rest none x' y' bs) → Runs (goal_code g seen ++ rest) none x y bs
 goal-each h g seen rest x y bs i a r =
-    let m : ℕ = count_trees (arguments g) + 1 in
-    reassoc_back (inits g seen m) (puts (arguments g) 1 m) rest none x y bs
-    (inits-each bs h g seen m (puts (arguments g) 1 m ++ rest) x y a (λ x1 y1 s1 a1.
-    puts-each y1 bs (arguments g) 1 m rest x1 (let l : 1 + count_trees (arguments g) ≤ count_trees (arguments g) + 1 = omega arith in l) (λ x' s e.
-    r x' y1 a1 (ap (applied (name g)) e ∙ goal_of y1 g i ∙ seen_same g seen y1 h a1))))
+    puts-each bs h (arguments g) 1 seen (count_trees (arguments g) + 1) rest x y (let l : 1 + count_trees (arguments g) ≤ count_trees (arguments g) + 1 = omega arith in l) a (λ x' y' s e g'.
+    r x' y' (λ w o. g' w (goal_sees g seen w i o)) (ap (applied (name g)) e ∙ goal_of h g i))
 
 asks-only : (c : Bool) (p n : ℕ) (rest : List Step) (x y : ℕ → Tree) (bs : Trees) → Runs ((if c then builtin p n else call p n) ∷ rest) none x y bs
     → (cs : Trees) × (x' : ℕ → Tree) × (bs ≡ more (applied p (spread x 1 n)) cs) × Runs rest none x' y cs
@@ -353,73 +511,117 @@ body-each h (more g gs) seen rest x y i a = go (λ x y i a. body-each h gs (add_
 
 -- ---- heads
 
-pub fresh_var : (seen : List ℕ) (v : ℕ) (ts : Trees) → fresh (more (var v) ts) seen ≡ true → (has seen v ≡ false) × (fresh ts (seen ++ v ∷ []) ≡ true)
-fresh_var seen v ts h = go (has seen v) refl h
-  where
-    go : (b : Bool) → has seen v ≡ b → (if b then false else fresh ts (seen ++ v ∷ [])) ≡ true → (has seen v ≡ false) × (fresh ts (seen ++ v ∷ []) ≡ true)
-    go true e k = absurd (false≢true k)
-    go false e k = (e, k)
+module _ (bs : Trees) (rest : List Step) where
+  -- what was taken of a structure is what it is to be, where the temporaries are
+  abbrev TakesOnly : Trees → Trees → List ℕ → ℕ → (ℕ → Tree) → (ℕ → Tree) → Type 0
+  TakesOnly ts us seen m x y =
+      (x' : ℕ → Tree) × (y' : ℕ → Tree) × Same m x x' × AgreeOn seen y y' × ((h : ℕ → Tree) → AgreeOn (see_all ts seen) y' h → Temps ts m x' h → us ≡ instance_all h ts) × Runs rest none x' y' bs
 
-pub unseen_add : (seen : List ℕ) (v : ℕ) → has seen v ≡ false → add_vars (var v) seen ≡ seen ++ v ∷ []
-unseen_add seen v e = ap (λ b. if b then seen else seen ++ v ∷ []) e
-
-module _ (bs : Trees) (rest : List Step) (x : ℕ → Tree) where
-  takes-only : (ts us : Trees) (seen : List ℕ) (y : ℕ → Tree) → fresh ts seen ≡ true → count_trees us ≡ count_trees ts → Runs (takes ts ++ rest) us x y bs
-      → (y' : ℕ → Tree) × AgreeOn seen y y' × (us ≡ instance_all y' ts) × Runs rest none x y' bs
-  takes-only none none seen y f c r = (y, λ w o. refl, refl, r)
-  takes-only none (more u us) seen y f c r = absurd (omega arith)
-  takes-only (more (var v) ts) none seen y f c r = absurd (omega arith)
-  takes-only (more (int v) ts) none seen y f c r = absurd (omega arith)
-  takes-only (more (atom v) ts) none seen y f c r = absurd (omega arith)
-  takes-only (more (node a vs) ts) us seen y f c r = absurd (false≢true f)
-  takes-only (more (var v) ts) (more u us) seen y f c r =
-      let k = fresh_var seen v ts f in
-      let e = takes-only ts us (seen ++ v ∷ []) (set y v u) k.1 (omega arith) r in (
-        e.0,
-        λ w o. set_agrees seen y v u k.0 w o ∙ e.1 w (has_more seen v w o),
-        ap (λ q. more q us) (sym (set_here y v u) ∙ e.1 v (has_first seen v)) ∙ ap (more (e.0 v)) e.2,
-        e.3,
+  takes-only : (ts us : Trees) (seen : List ℕ) (m : ℕ) (x y : ℕ → Tree) → count_trees us ≡ count_trees ts → Runs (takes ts seen m ++ rest) us x y bs → TakesOnly ts us seen m x y
+  takes-only none none seen m x y c r = (x, y, λ w i. refl, λ w o. refl, λ h a t. refl, r)
+  takes-only none (more u us) seen m x y c r = absurd (omega arith)
+  takes-only (more (var v) ts) none seen m x y c r = absurd (omega arith)
+  takes-only (more (int v) ts) none seen m x y c r = absurd (omega arith)
+  takes-only (more (atom v) ts) none seen m x y c r = absurd (omega arith)
+  takes-only (more (node a vs) ts) none seen m x y c r = absurd (omega arith)
+  takes-only (more (var v) ts) (more u us) seen m x y c r = go (λ seen y r. takes-only ts us seen (m + 1) x y (omega arith) r) (has seen v) refl r
+    where
+      go : ((seen : List ℕ) (y : ℕ → Tree) → Runs (takes ts seen (m + 1) ++ rest) us x y bs → TakesOnly ts us seen (m + 1) x y)
+          → (b : Bool) → has seen v ≡ b → Runs ((if b then unify_value (Y v) else unify_variable (Y v)) ∷ (takes ts (if b then seen else seen ++ v ∷ []) (m + 1) ++ rest)) (more u us) x y bs
+          → (x' : ℕ → Tree) × (y' : ℕ → Tree) × Same m x x' × AgreeOn seen y y'
+          × ((h : ℕ → Tree) → AgreeOn (see_all ts (if b then seen else seen ++ v ∷ [])) y' h → Temps ts (m + 1) x' h → more u us ≡ more (h v) (instance_all h ts)) × Runs rest none x' y' bs
+      go ih true e r =
+          let k = ih seen y r.1 in (
+            k.0,
+            k.1,
+            λ w i. k.2 w (omega arith),
+            k.3,
+            λ h a t. ap (λ q. more q us) (sym r.0 ∙ k.3 v e ∙ a v (see_all-grows ts seen v e)) ∙ ap (more (h v)) (k.4 h a t),
+            k.5,
+          )
+      go ih false e r =
+          let k = ih (seen ++ v ∷ []) (set y v u) r in (
+            k.0,
+            k.1,
+            λ w i. k.2 w (omega arith),
+            λ w o. set_agrees seen y v u e w o ∙ k.3 w (has_more seen v w o),
+            λ h a t.
+                ap (λ q. more q us) (sym (set_here y v u) ∙ k.3 v (has_first seen v) ∙ a v (see_all-grows ts (seen ++ v ∷ []) v (has_first seen v))) ∙ ap (more (h v)) (k.4 h a t),
+            k.5,
+          )
+  takes-only (more (int z) ts) (more u us) seen m x y c r =
+      let k = takes-only ts us seen (m + 1) x y (omega arith) r.1 in (k.0, k.1, λ w i. k.2 w (omega arith), k.3, λ h a t. ap (λ q. more q us) r.0 ∙ ap (more (int z)) (k.4 h a t), k.5)
+  takes-only (more (atom a) ts) (more u us) seen m x y c r =
+      let k = takes-only ts us seen (m + 1) x y (omega arith) r.1 in (k.0, k.1, λ w i. k.2 w (omega arith), k.3, λ h g t. ap (λ q. more q us) r.0 ∙ ap (more (atom a)) (k.4 h g t), k.5)
+  takes-only (more (node a vs) ts) (more u us) seen m x y c r =
+      let k = takes-only ts us seen (m + 1) (set x m u) y (omega arith) r in (
+        k.0,
+        k.1,
+        λ w i. k.2 w (omega arith) ∙ set_other x m w u i,
+        k.3,
+        λ h g t. ap (λ q. more q us) (sym (k.2 m (omega arith) ∙ set_here x m u) ∙ t.0) ∙ ap (more (instance h (node a vs))) (k.4 h g t.1),
+        k.5,
       )
-  takes-only (more (int z) ts) (more u us) seen y f c r = let e = takes-only ts us seen y f (omega arith) r.1 in (e.0, e.1, ap (λ q. more q us) r.0 ∙ ap (more (int z)) e.2, e.3)
-  takes-only (more (atom a) ts) (more u us) seen y f c r = let e = takes-only ts us seen y f (omega arith) r.1 in (e.0, e.1, ap (λ q. more q us) r.0 ∙ ap (more (atom a)) e.2, e.3)
 
-  takes-each : (h : ℕ → Tree) (ts : Trees) (seen : List ℕ) (y : ℕ → Tree) → fresh ts seen ≡ true → AgreeOn seen y h
-      → ((y' : ℕ → Tree) → AgreeOn (add_all_vars ts seen) y' h → Runs rest none x y' bs) → Runs (takes ts ++ rest) (instance_all h ts) x y bs
-  takes-each h none seen y f a r = r y a
-  takes-each h (more (var v) ts) seen y f a r =
-      let k = fresh_var seen v ts f in
-      takes-each h ts (seen ++ v ∷ []) (set y v (h v)) k.1 (push_agrees seen y h v a) (λ y' a'. r y' (subst (λ s. AgreeOn (add_all_vars ts s) y' h) (sym (unseen_add seen v k.0)) a'))
-  takes-each h (more (int z) ts) seen y f a r = (refl, takes-each h ts seen y f a r)
-  takes-each h (more (atom c) ts) seen y f a r = (refl, takes-each h ts seen y f a r)
-  takes-each h (more (node c us) ts) seen y f a r = absurd (false≢true f)
+  takes-each : (h : ℕ → Tree) (ts : Trees) (seen : List ℕ) (m : ℕ) (x y : ℕ → Tree) → AgreeOn seen y h
+      → ((x' y' : ℕ → Tree) → Same m x x' → Temps ts m x' h → AgreeOn (see_all ts seen) y' h → Runs rest none x' y' bs) → Runs (takes ts seen m ++ rest) (instance_all h ts) x y bs
+  takes-each h none seen m x y a r = r x y (λ w i. refl) tt a
+  takes-each h (more (var v) ts) seen m x y a r = go (λ seen y a r. takes-each h ts seen (m + 1) x y a r) (has seen v) refl (λ x' y' s t a. r x' y' (λ w i. s w (omega arith)) t a)
+    where
+      go : ((seen : List ℕ) (y : ℕ → Tree) → AgreeOn seen y h → ((x' y' : ℕ → Tree) → Same (m + 1) x x' → Temps ts (m + 1) x' h → AgreeOn (see_all ts seen) y' h → Runs rest none x' y' bs)
+          → Runs (takes ts seen (m + 1) ++ rest) (instance_all h ts) x y bs)
+          → (b : Bool) → has seen v ≡ b
+          → ((x' y' : ℕ → Tree) → Same (m + 1) x x' → Temps ts (m + 1) x' h → AgreeOn (see_all ts (if b then seen else seen ++ v ∷ [])) y' h → Runs rest none x' y' bs)
+          → Runs ((if b then unify_value (Y v) else unify_variable (Y v)) ∷ (takes ts (if b then seen else seen ++ v ∷ []) (m + 1) ++ rest)) (more (h v) (instance_all h ts)) x y bs
+      go ih true e r = (a v e, ih seen y a r)
+      go ih false e r = ih (seen ++ v ∷ []) (set y v (h v)) (push_agrees seen y h v a) r
+  takes-each h (more (int z) ts) seen m x y a r = (refl, takes-each h ts seen (m + 1) x y a (λ x' y' s t a. r x' y' (λ w i. s w (omega arith)) t a))
+  takes-each h (more (atom c) ts) seen m x y a r = (refl, takes-each h ts seen (m + 1) x y a (λ x' y' s t a. r x' y' (λ w i. s w (omega arith)) t a))
+  takes-each h (more (node c us) ts) seen m x y a r =
+      let u : Tree = instance h (node c us) in
+      takes-each h ts seen (m + 1) (set x m u) y a (λ x' y' s t a. r x' y' (λ w i. s w (omega arith) ∙ set_other x m w u i) (s m (omega arith) ∙ set_here x m u, t) a)
 
 module _ (bs : Trees) where
-  get-only : (t : Tree) (a : ℕ) (seen : List ℕ) (m : ℕ) (rest : List Step) (x y : ℕ → Tree) → a < m → Runs (get t a seen m ++ rest) none x y bs
-      → (x' : ℕ → Tree) × (y' : ℕ → Tree) × Same m x x' × AgreeOn seen y y' × (x a ≡ instance y' t) × Runs rest none x' y' bs
-  get-only (var v) a seen m rest x y l r = go (has seen v) refl r
-    where
-      go : (b : Bool) → has seen v ≡ b → Runs ((if b then get_value (Y v) a ∷ [] else get_variable (Y v) a ∷ []) ++ rest) none x y bs
-          → (x' : ℕ → Tree) × (y' : ℕ → Tree) × Same m x x' × AgreeOn seen y y' × (x a ≡ y' v) × Runs rest none x' y' bs
-      go true e r = (x, y, λ w i. refl, λ w o. refl, sym r.0, r.1)
-      go false e r = (x, set y v (x a), λ w i. refl, set_agrees seen y v (x a) e, sym (set_here y v (x a)), r)
-  get-only (int z) a seen m rest x y l r = (x, y, λ w i. refl, λ w o. refl, r.0, r.1)
-  get-only (atom c) a seen m rest x y l r = (x, y, λ w i. refl, λ w o. refl, r.0, r.1)
-  get-only (node f ts) a seen m rest x y l r = go (fresh ts seen) refl r
-    where
-      go : (b : Bool) → fresh ts seen ≡ b
-          → Runs ((if b then get_structure f (count_trees ts) a ∷ takes ts else inits_all ts seen m ++ (build (node f ts) m (m + 1) ++ get_value (X m) a ∷ [])) ++ rest) none x y bs
-          → (x' : ℕ → Tree) × (y' : ℕ → Tree) × Same m x x' × AgreeOn seen y y' × (x a ≡ instance y' (node f ts)) × Runs rest none x' y' bs
-      go true e r = let k = takes-only bs rest x ts r.0 seen y e r.1 r.3 in (x, k.0, λ w i. refl, k.1, r.2 ∙ ap (node f) k.2, k.3)
-      go false e r =
-          let p = inits_all-only bs ts seen m ((build (node f ts) m (m + 1) ++ get_value (X m) a ∷ []) ++ rest) x y (reassoc (inits_all ts seen m) (build (node f ts) m (m + 1) ++ get_value (X m) a ∷ []) rest none x y bs r) in
-          let b = build-only p.1 bs (node f ts) m (m + 1) (get_value (X m) a ∷ rest) p.0 (omega arith) (reassoc (build (node f ts) m (m + 1)) (get_value (X m) a ∷ []) rest none p.0 p.1 bs p.4) in (
-            b.0,
-            p.1,
-            λ w i. b.2 w (omega arith) (omega arith) ∙ p.2 w i,
-            p.3,
-            sym (p.2 a l) ∙ sym (b.2 a (omega arith) (omega arith)) ∙ sym b.3.0 ∙ b.1,
-            b.3.1,
-          )
+  mutual
+    get-only : (t : Tree) (a : ℕ) (seen : List ℕ) (m : ℕ) (rest : List Step) (x y : ℕ → Tree) → a < m → Runs (get t a seen m ++ rest) none x y bs
+        → (x' : ℕ → Tree) × (y' : ℕ → Tree) × Same m x x' × AgreeOn seen y y' × ((h : ℕ → Tree) → AgreeOn (see_taken t seen) y' h → x a ≡ instance h t) × Runs rest none x' y' bs
+    get-only (var v) a seen m rest x y l r = go (has seen v) refl r
+      where
+        go : (b : Bool) → has seen v ≡ b → Runs ((if b then get_value (Y v) a ∷ [] else get_variable (Y v) a ∷ []) ++ rest) none x y bs
+            → (x' : ℕ → Tree) × (y' : ℕ → Tree) × Same m x x' × AgreeOn seen y y' × ((h : ℕ → Tree) → AgreeOn (if b then seen else seen ++ v ∷ []) y' h → x a ≡ h v) × Runs rest none x' y' bs
+        go true e r = (x, y, λ w i. refl, λ w o. refl, λ h g. sym r.0 ∙ g v e, r.1)
+        go false e r = (x, set y v (x a), λ w i. refl, set_agrees seen y v (x a) e, λ h g. sym (set_here y v (x a)) ∙ g v (has_first seen v), r)
+    get-only (int z) a seen m rest x y l r = (x, y, λ w i. refl, λ w o. refl, λ h g. r.0, r.1)
+    get-only (atom c) a seen m rest x y l r = (x, y, λ w i. refl, λ w o. refl, λ h g. r.0, r.1)
+    get-only (node f ts) a seen m rest x y l r =
+        let seen1 : List ℕ = see_all ts seen in
+        let k = takes-only bs (opens ts seen1 m ++ rest) ts r.0 seen m x y r.1 (reassoc (takes ts seen m) (opens ts seen1 m) rest r.0 x y bs r.3) in
+        let n = opens-only ts seen1 m rest k.0 k.1 k.5 in (
+          n.0,
+          n.1,
+          λ w i. n.2 w i ∙ k.2 w i,
+          λ w o. k.3 w o ∙ n.3 w (see_all-grows ts seen w o),
+          λ h g. r.2 ∙ ap (node f) (k.4 h (λ w o. n.3 w o ∙ g w (see_opened-grows ts seen1 w o)) (n.4 h g)),
+          n.5,
+        )
+
+    opens-only : (ts : Trees) (seen : List ℕ) (m : ℕ) (rest : List Step) (x y : ℕ → Tree) → Runs (opens ts seen m ++ rest) none x y bs
+        → (x' : ℕ → Tree) × (y' : ℕ → Tree) × Same m x x' × AgreeOn seen y y' × ((h : ℕ → Tree) → AgreeOn (see_opened ts seen) y' h → Temps ts m x h) × Runs rest none x' y' bs
+    opens-only none seen m rest x y r = (x, y, λ w i. refl, λ w o. refl, λ h g. tt, r)
+    opens-only (more (var v) ts) seen m rest x y r = let n = opens-only ts seen (m + 1) rest x y r in (n.0, n.1, λ w i. n.2 w (omega arith), n.3, n.4, n.5)
+    opens-only (more (int v) ts) seen m rest x y r = let n = opens-only ts seen (m + 1) rest x y r in (n.0, n.1, λ w i. n.2 w (omega arith), n.3, n.4, n.5)
+    opens-only (more (atom v) ts) seen m rest x y r = let n = opens-only ts seen (m + 1) rest x y r in (n.0, n.1, λ w i. n.2 w (omega arith), n.3, n.4, n.5)
+    opens-only (more (node f us) ts) seen m rest x y r =
+        let seen1 : List ℕ = see_taken (node f us) seen in
+        let g = get-only (node f us) m seen (m + 1 + count_trees ts) (opens ts seen1 (m + 1) ++ rest) x y (omega arith) (reassoc (get (node f us) m seen (m + 1 + count_trees ts)) (opens ts seen1 (m + 1)) rest none x y bs r) in
+        let n = opens-only ts seen1 (m + 1) rest g.0 g.1 g.5 in (
+          n.0,
+          n.1,
+          λ w i. n.2 w (omega arith) ∙ g.2 w (omega arith),
+          λ w o. g.3 w o ∙ n.3 w (see_taken-grows (node f us) seen w o),
+          λ h k. (g.4 h (λ w o. n.3 w o ∙ k w (see_opened-grows ts seen1 w o)), Temps-same ts (m + 1) g.0 x h (λ w i j. sym (g.2 w (omega arith))) (n.4 h k)),
+          n.5,
+        )
 
   gets-only : (ts : Trees) (a : ℕ) (seen : List ℕ) (m : ℕ) (rest : List Step) (x y : ℕ → Tree) → a + count_trees ts ≤ m → Runs (gets ts a seen m ++ rest) none x y bs
       → (x' : ℕ → Tree) × (y' : ℕ → Tree) × Same m x x' × AgreeOn seen y y' × (spread x a (count_trees ts) ≡ instance_all y' ts) × Runs rest none x' y' bs
@@ -433,7 +635,7 @@ module _ (bs : Trees) where
         λ w i. k.2 w i ∙ g.2 w i,
         λ w o. g.3 w o ∙ k.3 w (grows t seen w o),
         ap (spread x a) e
-            ∙ ap (λ u. more u (spread x (a + 1) (count_trees ts))) (g.4 ∙ seen_same t seen g.1 k.1 k.3)
+            ∙ ap (λ u. more u (spread x (a + 1) (count_trees ts))) (g.4 g.1 (λ w o. refl) ∙ seen_same t seen g.1 k.1 k.3)
             ∙ ap (more (instance k.1 t)) (spread_under x g.0 (a + 1) (count_trees ts) (λ w i. sym (g.2 w (omega arith))) ∙ k.4),
         k.5,
       )
@@ -443,30 +645,38 @@ module _ (bs : Trees) where
       spread_under x x' p (suc n) h = ap (λ t. more t (spread x (p + 1) n)) (h p (omega arith)) ∙ ap (more (x' p)) (spread_under x x' (p + 1) n (λ w i. h w (omega arith)))
 
   module _ (h : ℕ → Tree) where
-    get-each : (t : Tree) (a : ℕ) (seen : List ℕ) (m : ℕ) (rest : List Step) (x y : ℕ → Tree) → a < m → AgreeOn seen y h → x a ≡ instance h t
-        → ((x' y' : ℕ → Tree) → Same m x x' → AgreeOn (add_vars t seen) y' h → Runs rest none x' y' bs) → Runs (get t a seen m ++ rest) none x y bs
-    get-each (var v) a seen m rest x y l ag e r = go (has seen v) refl
-      where
-        go : (b : Bool) → has seen v ≡ b → Runs ((if b then get_value (Y v) a ∷ [] else get_variable (Y v) a ∷ []) ++ rest) none x y bs
-        go true k = (ag v k ∙ sym e, r x y (λ w i. refl) (subst (λ b. AgreeOn (if b then seen else seen ++ v ∷ []) y h) (sym k) ag))
-        go false k =
-            r x (set y v (x a)) (λ w i. refl)
-            (subst (λ b. AgreeOn (if b then seen else seen ++ v ∷ []) (set y v (x a)) h) (sym k) (subst (λ t. AgreeOn (seen ++ v ∷ []) (set y v t) h) (sym e) (push_agrees seen y h v ag)))
-    get-each (int z) a seen m rest x y l ag e r = (e, r x y (λ w i. refl) ag)
-    get-each (atom c) a seen m rest x y l ag e r = (e, r x y (λ w i. refl) ag)
-    get-each (node f ts) a seen m rest x y l ag e r = go (fresh ts seen) refl
-      where
-        go : (b : Bool) → fresh ts seen ≡ b
-            → Runs ((if b then get_structure f (count_trees ts) a ∷ takes ts else inits_all ts seen m ++ (build (node f ts) m (m + 1) ++ get_value (X m) a ∷ [])) ++ rest) none x y bs
-        go true k = (instance_all h ts, count-instance h ts, e, takes-each bs rest x h ts seen y k ag (λ y' a'. r x y' (λ w i. refl) a'))
-        go false k =
-            reassoc_back (inits_all ts seen m) (build (node f ts) m (m + 1) ++ get_value (X m) a ∷ []) rest none x y bs
-            (inits_all-each bs h ts seen m ((build (node f ts) m (m + 1) ++ get_value (X m) a ∷ []) ++ rest) x y ag (λ x1 y1 s1 a1.
-            reassoc_back (build (node f ts) m (m + 1)) (get_value (X m) a ∷ []) rest none x1 y1 bs
-            (build-each y1 bs (node f ts) m (m + 1) (get_value (X m) a ∷ rest) x1 (omega arith) (λ x2 e2 b2. (
-              e2 ∙ seen_same (node f ts) seen y1 h a1 ∙ sym e ∙ sym (s1 a l) ∙ sym (b2 a (omega arith) (omega arith)),
-              r x2 y1 (λ w i. b2 w (omega arith) (omega arith) ∙ s1 w i) a1,
-            )))))
+    mutual
+      get-each : (t : Tree) (a : ℕ) (seen : List ℕ) (m : ℕ) (rest : List Step) (x y : ℕ → Tree) → a < m → AgreeOn seen y h → x a ≡ instance h t
+          → ((x' y' : ℕ → Tree) → Same m x x' → AgreeOn (see_taken t seen) y' h → Runs rest none x' y' bs) → Runs (get t a seen m ++ rest) none x y bs
+      get-each (var v) a seen m rest x y l ag e r = go (has seen v) refl r
+        where
+          go : (b : Bool) → has seen v ≡ b → ((x' y' : ℕ → Tree) → Same m x x' → AgreeOn (if b then seen else seen ++ v ∷ []) y' h → Runs rest none x' y' bs)
+              → Runs ((if b then get_value (Y v) a ∷ [] else get_variable (Y v) a ∷ []) ++ rest) none x y bs
+          go true k r = (ag v k ∙ sym e, r x y (λ w i. refl) ag)
+          go false k r = r x (set y v (x a)) (λ w i. refl) (subst (λ t. AgreeOn (seen ++ v ∷ []) (set y v t) h) (sym e) (push_agrees seen y h v ag))
+      get-each (int z) a seen m rest x y l ag e r = (e, r x y (λ w i. refl) ag)
+      get-each (atom c) a seen m rest x y l ag e r = (e, r x y (λ w i. refl) ag)
+      get-each (node f ts) a seen m rest x y l ag e r =
+          let seen1 : List ℕ = see_all ts seen in (
+            instance_all h ts,
+            count-instance h ts,
+            e,
+            reassoc_back (takes ts seen m) (opens ts seen1 m) rest (instance_all h ts) x y bs
+                (takes-each bs (opens ts seen1 m ++ rest) h ts seen m x y ag (λ x1 y1 s1 t1 a1. opens-each ts seen1 m rest x1 y1 a1 t1 (λ x' y' s a. r x' y' (λ w i. s w i ∙ s1 w i) a))),
+          )
+
+      opens-each : (ts : Trees) (seen : List ℕ) (m : ℕ) (rest : List Step) (x y : ℕ → Tree) → AgreeOn seen y h → Temps ts m x h
+          → ((x' y' : ℕ → Tree) → Same m x x' → AgreeOn (see_opened ts seen) y' h → Runs rest none x' y' bs) → Runs (opens ts seen m ++ rest) none x y bs
+      opens-each none seen m rest x y a t r = r x y (λ w i. refl) a
+      opens-each (more (var v) ts) seen m rest x y a t r = opens-each ts seen (m + 1) rest x y a t (λ x' y' s a. r x' y' (λ w i. s w (omega arith)) a)
+      opens-each (more (int v) ts) seen m rest x y a t r = opens-each ts seen (m + 1) rest x y a t (λ x' y' s a. r x' y' (λ w i. s w (omega arith)) a)
+      opens-each (more (atom v) ts) seen m rest x y a t r = opens-each ts seen (m + 1) rest x y a t (λ x' y' s a. r x' y' (λ w i. s w (omega arith)) a)
+      opens-each (more (node f us) ts) seen m rest x y a t r =
+          let seen1 : List ℕ = see_taken (node f us) seen in
+          reassoc_back (get (node f us) m seen (m + 1 + count_trees ts)) (opens ts seen1 (m + 1)) rest none x y bs
+          (get-each (node f us) m seen (m + 1 + count_trees ts) (opens ts seen1 (m + 1) ++ rest) x y (omega arith) a t.0 (λ x1 y1 s1 a1.
+          opens-each ts seen1 (m + 1) rest x1 y1 a1 (Temps-same ts (m + 1) x x1 h (λ w i j. s1 w (omega arith)) t.1)
+          (λ x' y' s a. r x' y' (λ w i. s w (omega arith) ∙ s1 w (omega arith)) a)))
 
     gets-each : (ts : Trees) (a : ℕ) (seen : List ℕ) (m : ℕ) (rest : List Step) (x y : ℕ → Tree) → a + count_trees ts ≤ m → AgreeOn seen y h → spread x a (count_trees ts) ≡ instance_all h ts
         → ((x' y' : ℕ → Tree) → AgreeOn (add_all_vars ts seen) y' h → Runs rest none x' y' bs) → Runs (gets ts a seen m ++ rest) none x y bs
@@ -476,7 +686,7 @@ module _ (bs : Trees) where
         let d : more (x a) (spread x (a + 1) (count_trees ts)) ≡ more (instance h t) (instance_all h ts) = ap (spread x a) k ∙ e in
         reassoc_back (get t a seen m) (gets ts (a + 1) (add_vars t seen) m) rest none x y bs
         (get-each t a seen m (gets ts (a + 1) (add_vars t seen) m ++ rest) x y (omega arith) ag (cc) (λ x1 y1 s1 a1.
-        gets-each ts (a + 1) (add_vars t seen) m rest x1 y1 (omega arith) a1 (spread_under x1 x (a + 1) (count_trees ts) (λ w i. s1 w (omega arith)) ∙ cc) r))
+        gets-each ts (a + 1) (add_vars t seen) m rest x1 y1 (omega arith) (λ w o. a1 w (taken_sees t seen w o)) (spread_under x1 x (a + 1) (count_trees ts) (λ w i. s1 w (omega arith)) ∙ cc) r))
       where
         spread_under : (x x' : ℕ → Tree) (p n : ℕ) → ((w : ℕ) → w < p + n → x w ≡ x' w) → spread x p n ≡ spread x' p n
         spread_under x x' p zero h = refl

@@ -25,52 +25,69 @@ is_builtin _ = false
 abbrev pub is_builtin_key : ℕ × ℕ → Bool
 is_builtin_key k = (((k.0 == TRUE) || (k.0 == FAIL)) && (k.1 == 0)) || (is_some (relation_named k.0) && (k.1 == 2))
 
-abbrev mutual
-  -- makes the variables of a term that were not seen yet, with a temporary
-  pub inits : Tree → List ℕ → ℕ → List Step
-  inits (var v) seen m = if has seen v then [] else put_variable (Y v) m ∷ []
-  inits (int z) seen m = []
-  inits (atom a) seen m = []
-  inits (node a ts) seen m = inits_all ts seen m
+abbrev pub see : Tree → List ℕ → List ℕ
+see (var v) seen = add_vars (var v) seen
+see _ seen = seen
 
-  pub inits_all : Trees → List ℕ → ℕ → List Step
-  inits_all none seen m = []
-  inits_all (more t ts) seen m = inits t seen m ++ inits_all ts (add_vars t seen) m
+-- the variables seen behind the arguments of a structure, those in structures among them left out
+abbrev pub see_all : Trees → List ℕ → List ℕ
+see_all none seen = seen
+see_all (more t ts) seen = see_all ts (see t seen)
 
--- an argument of a structure; one that is a structure stands in a temporary
-abbrev pub fill : Tree → ℕ → Step
-fill (var v) m = unify_value (Y v)
-fill (int z) m = unify_constant (int z)
-fill (atom a) m = unify_constant (atom a)
-fill (node a us) m = unify_value (X m)
+-- An argument of a structure; a variable that was not seen gets the argument's place, and a structure stands in a temporary.
+abbrev pub fill : Tree → List ℕ → ℕ → Step
+fill (var v) seen m = if has seen v then unify_value (Y v) else unify_variable (Y v)
+fill (int z) seen m = unify_constant (int z)
+fill (atom a) seen m = unify_constant (atom a)
+fill (node a us) seen m = unify_value (X m)
 
-abbrev pub fills : Trees → ℕ → List Step
-fills none m = []
-fills (more t ts) m = fill t m ∷ fills ts (m + 1)
+abbrev pub fills : Trees → List ℕ → ℕ → List Step
+fills none seen m = []
+fills (more t ts) seen m = fill t seen m ∷ fills ts (see t seen) (m + 1)
 
 abbrev mutual
-  -- puts a term whose variables were seen into X a, with the temporaries from m on
-  pub build : Tree → ℕ → ℕ → List Step
-  build (var v) a m = put_value (Y v) a ∷ []
-  build (int z) a m = put_constant (int z) a ∷ []
-  build (atom c) a m = put_constant (atom c) a ∷ []
-  build (node f ts) a m = nested ts m ++ (put_structure f (count_trees ts) a ∷ fills ts m)
+  -- the variables seen behind a term that is built
+  pub see_built : Tree → List ℕ → List ℕ
+  see_built (var v) seen = add_vars (var v) seen
+  see_built (int z) seen = seen
+  see_built (atom c) seen = seen
+  see_built (node f ts) seen = see_all ts (see_nested ts seen)
+
+  -- behind the structures among terms
+  pub see_nested : Trees → List ℕ → List ℕ
+  see_nested none seen = seen
+  see_nested (more (var v) ts) seen = see_nested ts seen
+  see_nested (more (int z) ts) seen = see_nested ts seen
+  see_nested (more (atom a) ts) seen = see_nested ts seen
+  see_nested (more (node a us) ts) seen = see_nested ts (see_built (node a us) seen)
+
+abbrev mutual
+  -- puts a term into X a, with the temporaries from m on
+  pub build : Tree → ℕ → List ℕ → ℕ → List Step
+  build (var v) a seen m = if has seen v then put_value (Y v) a ∷ [] else put_variable (Y v) a ∷ []
+  build (int z) a seen m = put_constant (int z) a ∷ []
+  build (atom c) a seen m = put_constant (atom c) a ∷ []
+  build (node f ts) a seen m = nested ts seen m ++ (put_structure f (count_trees ts) a ∷ fills ts (see_nested ts seen) m)
 
   -- puts those that are structures into temporaries
-  pub nested : Trees → ℕ → List Step
-  nested none m = []
-  nested (more (var v) ts) m = nested ts (m + 1)
-  nested (more (int z) ts) m = nested ts (m + 1)
-  nested (more (atom a) ts) m = nested ts (m + 1)
-  nested (more (node a us) ts) m = build (node a us) m (m + 1 + count_trees ts) ++ nested ts (m + 1)
+  pub nested : Trees → List ℕ → ℕ → List Step
+  nested none seen m = []
+  nested (more (var v) ts) seen m = nested ts seen (m + 1)
+  nested (more (int z) ts) seen m = nested ts seen (m + 1)
+  nested (more (atom a) ts) seen m = nested ts seen (m + 1)
+  nested (more (node a us) ts) seen m = build (node a us) m seen (m + 1 + count_trees ts) ++ nested ts (see_built (node a us) seen) (m + 1)
 
 -- puts terms into X a and on
-abbrev pub puts : Trees → ℕ → ℕ → List Step
-puts none a m = []
-puts (more t ts) a m = build t a m ++ puts ts (a + 1) m
+abbrev pub puts : Trees → ℕ → List ℕ → ℕ → List Step
+puts none a seen m = []
+puts (more t ts) a seen m = build t a seen m ++ puts ts (a + 1) (see_built t seen) m
+
+abbrev pub see_puts : Trees → List ℕ → List ℕ
+see_puts none seen = seen
+see_puts (more t ts) seen = see_puts ts (see_built t seen)
 
 abbrev pub goal_code : Tree → List ℕ → List Step
-goal_code g seen = inits g seen (count_trees (arguments g) + 1) ++ puts (arguments g) 1 (count_trees (arguments g) + 1)
+goal_code g seen = puts (arguments g) 1 seen (count_trees (arguments g) + 1)
 
 -- whether a goal is a call with no goal behind it
 abbrev pub is_last_call : Tree → Trees → Bool
@@ -87,30 +104,48 @@ body_code (more g gs) seen =
     then goal_code g seen ++ execute (name g) (count_trees (arguments g)) ∷ []
     else goal_code g seen ++ (asking g ∷ body_code gs (add_vars g seen))
 
--- constants and new variables alone, each once
-abbrev pub fresh : Trees → List ℕ → Bool
-fresh none seen = true
-fresh (more (var v) ts) seen = if has seen v then false else fresh ts (seen ++ v ∷ [])
-fresh (more (int z) ts) seen = fresh ts seen
-fresh (more (atom a) ts) seen = fresh ts seen
-fresh (more (node a us) ts) seen = false
+-- an argument of a structure of the head; one that is a structure is taken into a temporary
+abbrev pub take : Tree → List ℕ → ℕ → Step
+take (var v) seen m = if has seen v then unify_value (Y v) else unify_variable (Y v)
+take (int z) seen m = unify_constant (int z)
+take (atom a) seen m = unify_constant (atom a)
+take (node a us) seen m = unify_variable (X m)
 
-abbrev pub takes : Trees → List Step
-takes none = []
-takes (more (var v) ts) = unify_variable (Y v) ∷ takes ts
-takes (more (int z) ts) = unify_constant (int z) ∷ takes ts
-takes (more (atom a) ts) = unify_constant (atom a) ∷ takes ts
-takes (more (node a us) ts) = takes ts
+abbrev pub takes : Trees → List ℕ → ℕ → List Step
+takes none seen m = []
+takes (more t ts) seen m = take t seen m ∷ takes ts (see t seen) (m + 1)
 
--- an argument of the head in X a
-abbrev pub get : Tree → ℕ → List ℕ → ℕ → List Step
-get (var v) a seen m = if has seen v then get_value (Y v) a ∷ [] else get_variable (Y v) a ∷ []
-get (int z) a seen m = get_constant (int z) a ∷ []
-get (atom c) a seen m = get_constant (atom c) a ∷ []
-get (node f ts) a seen m =
-    if fresh ts seen
-    then get_structure f (count_trees ts) a ∷ takes ts
-    else inits_all ts seen m ++ (build (node f ts) m (m + 1) ++ get_value (X m) a ∷ [])
+abbrev mutual
+  -- the variables seen behind a term that is taken apart
+  pub see_taken : Tree → List ℕ → List ℕ
+  see_taken (var v) seen = add_vars (var v) seen
+  see_taken (int z) seen = seen
+  see_taken (atom c) seen = seen
+  see_taken (node f ts) seen = see_opened ts (see_all ts seen)
+
+  -- behind the structures among terms
+  pub see_opened : Trees → List ℕ → List ℕ
+  see_opened none seen = seen
+  see_opened (more (var v) ts) seen = see_opened ts seen
+  see_opened (more (int z) ts) seen = see_opened ts seen
+  see_opened (more (atom a) ts) seen = see_opened ts seen
+  see_opened (more (node a us) ts) seen = see_opened ts (see_taken (node a us) seen)
+
+abbrev mutual
+  -- an argument of the head in X a, with the temporaries from m on
+  pub get : Tree → ℕ → List ℕ → ℕ → List Step
+  get (var v) a seen m = if has seen v then get_value (Y v) a ∷ [] else get_variable (Y v) a ∷ []
+  get (int z) a seen m = get_constant (int z) a ∷ []
+  get (atom c) a seen m = get_constant (atom c) a ∷ []
+  get (node f ts) a seen m = get_structure f (count_trees ts) a ∷ (takes ts seen m ++ opens ts (see_all ts seen) m)
+
+  -- takes those that are structures apart
+  pub opens : Trees → List ℕ → ℕ → List Step
+  opens none seen m = []
+  opens (more (var v) ts) seen m = opens ts seen (m + 1)
+  opens (more (int z) ts) seen m = opens ts seen (m + 1)
+  opens (more (atom a) ts) seen m = opens ts seen (m + 1)
+  opens (more (node a us) ts) seen m = get (node a us) m seen (m + 1 + count_trees ts) ++ opens ts (see_taken (node a us) seen) (m + 1)
 
 abbrev pub gets : Trees → ℕ → List ℕ → ℕ → List Step
 gets none a seen m = []

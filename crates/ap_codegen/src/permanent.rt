@@ -1,15 +1,14 @@
 //! The code of a clause each of whose variables has a place of its own in the environment.
 #![tactic(auto, using(ap_term::proofs::TermLists::arguments, ap_term::proofs::TermLists::item_less_deep))]
 
-ghost use Rattle.std.specs.Prelude.{◌≡◌, ◌+◌, ◌≤◌, [], ◌∷◌, ◌++◌, map, IfOk, OnOk};
-ghost use Rattle.ap_term.specs.Tree.{count_trees, none, more, node};
-ghost use Rattle.ap_term.specs.TermView.{tree_of, trees_of};
+ghost use Rattle.std.specs.Prelude.{◌≡◌, ◌+◌, [], ◌++◌, IfOk, OnOk};
+ghost use Rattle.ap_term.specs.Tree.{count_trees, var};
+ghost use Rattle.ap_term.specs.TermView.{tree_of};
 ghost use Rattle.ap_term.specs.Vars.{add_vars, add_all_vars};
-ghost use Rattle.ap_instr.specs.declared.instruction.Slot.TheVariants.{X, Y};
+ghost use Rattle.ap_instr.specs.declared.instruction.Slot.TheVariants.{Y};
 ghost use Rattle.ap_instr.specs.Runs.{arguments};
-ghost use Rattle.ap_instr.specs.Step.{get_structure, get_value};
 ghost use Rattle.ap_codegen.specs.Emitted.{step_of, steps_of};
-ghost use Rattle.ap_codegen.specs.Permanent.{name, inits, inits_all, fill, fills, build, nested, puts, goal_code, fresh, takes, get, gets};
+ghost use Rattle.ap_codegen.specs.Permanent.{name, see, see_all, fill, fills, see_built, see_nested, build, nested, puts, goal_code, take, takes, see_taken, see_opened, get, opens, gets};
 
 use crate::builtin_goals::builtin_of;
 use crate::steps::{Step, add};
@@ -51,42 +50,26 @@ fn home(v: u64) -> Result<Slot, NoMemory>
     Ok(Slot::Y(v as u8))
 }
 
-/// Makes the variables of a term that weren't seen yet.
-#[cycle(inits)]
-fn inits(code: &mut Vec<Step>, t: &Term, seen: &mut Vec<u64>, m: u32) -> Result<(), NoMemory>
-    ensures code { OnOk result (steps_of code.new.items ≡ steps_of code.old.items ++ inits (tree_of t.now) seen.old.items m) }
-    ensures seen { OnOk result (seen.new.items ≡ add_vars (tree_of t.now) seen.old.items) }
+/// The variable of a structure's argument. One that wasn't seen gets the argument's place.
+fn fill_variable(v: u64, seen: &mut Vec<u64>) -> Result<Step, NoMemory>
+    ensures step { IfOk result (λ step. step_of step ≡ fill (var v) seen.old.items 0) }
+    ensures seen { IfOk result (λ _. seen.new.items ≡ add_vars (var v) seen.old.items) }
 {
-    match t {
-        Term::Var(v) => {
-            if !seen.contains(v) {
-                add(code, Step::PutVariable(home(*v)?, m, *v))?;
-                seen.push(*v)?;
-            }
-            Ok(())
-        }
-        Term::Int(_) | Term::Atom(_) => Ok(()),
-        Term::Node(_, args) => inits_all(code, args, seen, m),
+    let slot = home(v)?;
+    if seen.contains(&v) {
+        return Ok(Step::UnifyValue(slot));
     }
-}
-
-#[cycle(inits)]
-fn inits_all(code: &mut Vec<Step>, args: &Args, seen: &mut Vec<u64>, m: u32) -> Result<(), NoMemory>
-    ensures code { OnOk result (steps_of code.new.items ≡ steps_of code.old.items ++ inits_all args.now seen.old.items m) }
-    ensures seen { OnOk result (seen.new.items ≡ add_all_vars args.now seen.old.items) }
-{
-    for t in args.as_slice() {
-        inits(code, t, seen, m)?;
-    }
-    Ok(())
+    seen.push(v)?;
+    Ok(Step::UnifyVariable(slot))
 }
 
 /// The instruction for one argument of a structure.
-fn fill(t: &Term, m: u32) -> Result<Step, NoMemory>
-    ensures { IfOk result (λ step. step_of step ≡ fill (tree_of t.now) m) }
+fn fill(t: &Term, seen: &mut Vec<u64>, m: u32) -> Result<Step, NoMemory>
+    ensures step { IfOk result (λ step. step_of step ≡ fill (tree_of t.now) seen.old.items m) }
+    ensures seen { IfOk result (λ _. seen.new.items ≡ see (tree_of t.now) seen.old.items) }
 {
     match t {
-        Term::Var(v) => Ok(Step::UnifyValue(home(*v)?)),
+        Term::Var(v) => fill_variable(*v, seen),
         Term::Int(z) => Ok(Step::UnifyInteger(*z)),
         Term::Atom(a) => Ok(Step::UnifyConstant(*a)),
         Term::Node(_, _) => Ok(Step::UnifyValue(Slot::X(m))),
@@ -94,43 +77,65 @@ fn fill(t: &Term, m: u32) -> Result<Step, NoMemory>
 }
 
 /// The arguments of a structure.
-fn fills(code: &mut Vec<Step>, args: &Args, m: u32) -> Result<(), NoMemory>
-    ensures { OnOk result (steps_of code.new.items ≡ steps_of code.old.items ++ fills args.now m) }
+fn fills(code: &mut Vec<Step>, args: &Args, seen: &mut Vec<u64>, m: u32) -> Result<(), NoMemory>
+    ensures code { OnOk result (steps_of code.new.items ≡ steps_of code.old.items ++ fills args.now seen.old.items m) }
+    ensures seen { OnOk result (seen.new.items ≡ see_all args.now seen.old.items) }
 {
     let mut at = m;
     for t in args.as_slice() {
-        add(code, fill(t, at)?)?;
+        add(code, fill(t, seen, at)?)?;
         at = above(at, 1)?;
     }
     Ok(())
 }
 
-/// Puts a term whose variables were seen into X a.
+/// Puts a variable into X a.
+fn build_variable(code: &mut Vec<Step>, v: u64, a: u32, seen: &mut Vec<u64>) -> Result<(), NoMemory>
+    ensures code { OnOk result (steps_of code.new.items ≡ steps_of code.old.items ++ build (var v) a seen.old.items 0) }
+    ensures seen { OnOk result (seen.new.items ≡ add_vars (var v) seen.old.items) }
+{
+    let slot = home(v)?;
+    if seen.contains(&v) {
+        return add(code, Step::PutValue(slot, a));
+    }
+    seen.push(v)?;
+    add(code, Step::PutVariable(slot, a, v))
+}
+
+/// Puts a term into X a.
 #[cycle(build)]
-fn build(code: &mut Vec<Step>, t: &Term, a: u32, m: u32) -> Result<(), NoMemory>
-    ensures { OnOk result (steps_of code.new.items ≡ steps_of code.old.items ++ build (tree_of t.now) a m) }
+fn build(
+    code: &mut Vec<Step>,
+    t: &Term,
+    a: u32,
+    seen: &mut Vec<u64>,
+    m: u32,
+) -> Result<(), NoMemory>
+    ensures code { OnOk result (steps_of code.new.items ≡ steps_of code.old.items ++ build (tree_of t.now) a seen.old.items m) }
+    ensures seen { OnOk result (seen.new.items ≡ see_built (tree_of t.now) seen.old.items) }
 {
     match t {
-        Term::Var(v) => add(code, Step::PutValue(home(*v)?, a)),
+        Term::Var(v) => build_variable(code, *v, a, seen),
         Term::Int(z) => add(code, Step::PutInteger(*z, a)),
         Term::Atom(c) => add(code, Step::PutConstant(*c, a)),
         Term::Node(f, args) => {
-            nested(code, args, m)?;
+            nested(code, args, seen, m)?;
             add(code, Step::PutStructure(*f, count(args)?, a))?;
-            fills(code, args, m)
+            fills(code, args, seen, m)
         }
     }
 }
 
 #[cycle(build)]
-fn nested(code: &mut Vec<Step>, args: &Args, m: u32) -> Result<(), NoMemory>
-    ensures { OnOk result (steps_of code.new.items ≡ steps_of code.old.items ++ nested args.now m) }
+fn nested(code: &mut Vec<Step>, args: &Args, seen: &mut Vec<u64>, m: u32) -> Result<(), NoMemory>
+    ensures code { OnOk result (steps_of code.new.items ≡ steps_of code.old.items ++ nested args.now seen.old.items m) }
+    ensures seen { OnOk result (seen.new.items ≡ see_nested args.now seen.old.items) }
 {
     let mut at = m;
     let end = above(m, args.len())?;
     for t in args.as_slice() {
         if let Term::Node(_, _) = t {
-            build(code, t, at, end)?;
+            build(code, t, at, seen, end)?;
         }
         at = above(at, 1)?;
     }
@@ -138,55 +143,15 @@ fn nested(code: &mut Vec<Step>, args: &Args, m: u32) -> Result<(), NoMemory>
 }
 
 /// Puts terms into X 1 and on.
-fn puts(code: &mut Vec<Step>, args: &Args, m: u32) -> Result<(), NoMemory>
-    ensures { OnOk result (steps_of code.new.items ≡ steps_of code.old.items ++ puts args.now 1 m) }
+fn puts(code: &mut Vec<Step>, args: &Args, seen: &mut Vec<u64>, m: u32) -> Result<(), NoMemory>
+    ensures { OnOk result (steps_of code.new.items ≡ steps_of code.old.items ++ puts args.now 1 seen.old.items m) }
 {
     let mut at = 1;
     for t in args.as_slice() {
-        build(code, t, at, m)?;
+        build(code, t, at, seen, m)?;
         at = above(at, 1)?;
     }
     Ok(())
-}
-
-/// The arguments of a structure of the head, constants and new variables alone.
-fn takes(code: &mut Vec<Step>, args: &Args) -> Result<(), NoMemory>
-    ensures { OnOk result (steps_of code.new.items ≡ steps_of code.old.items ++ takes args.now) }
-{
-    for t in args.as_slice() {
-        take(code, t)?;
-    }
-    Ok(())
-}
-
-fn take(code: &mut Vec<Step>, t: &Term) -> Result<(), NoMemory>
-    ensures { OnOk result (steps_of code.new.items ≡ steps_of code.old.items ++ takes (more (tree_of t.now) none)) }
-{
-    match t {
-        Term::Var(v) => add(code, Step::UnifyVariable(home(*v)?)),
-        Term::Int(z) => add(code, Step::UnifyInteger(*z)),
-        Term::Atom(a) => add(code, Step::UnifyConstant(*a)),
-        Term::Node(_, _) => Ok(()),
-    }
-}
-
-/// Whether there are constants and new variables alone, each once. Those that it finds stay in `known`.
-fn fresh(args: &Args, known: &mut Vec<u64>) -> Result<bool, NoMemory>
-    ensures { IfOk result (λ b. b ≡ fresh args.now known.old.items) }
-{
-    for t in args.as_slice() {
-        match t {
-            Term::Var(v) => {
-                if known.contains(v) {
-                    return Ok(false);
-                }
-                known.push(*v)?;
-            }
-            Term::Int(_) | Term::Atom(_) => {}
-            Term::Node(_, _) => return Ok(false),
-        }
-    }
-    Ok(true)
 }
 
 fn see(args: &Args, seen: &mut Vec<u64>) -> Result<(), NoMemory>
@@ -198,59 +163,99 @@ fn see(args: &Args, seen: &mut Vec<u64>) -> Result<(), NoMemory>
     Ok(())
 }
 
+/// The instruction for one argument of a structure of the head; a structure is taken into a temporary.
+fn take(t: &Term, seen: &mut Vec<u64>, m: u32) -> Result<Step, NoMemory>
+    ensures step { IfOk result (λ step. step_of step ≡ take (tree_of t.now) seen.old.items m) }
+    ensures seen { IfOk result (λ _. seen.new.items ≡ see (tree_of t.now) seen.old.items) }
+{
+    match t {
+        Term::Var(v) => fill_variable(*v, seen),
+        Term::Int(z) => Ok(Step::UnifyInteger(*z)),
+        Term::Atom(a) => Ok(Step::UnifyConstant(*a)),
+        Term::Node(_, _) => Ok(Step::UnifyVariable(Slot::X(m))),
+    }
+}
+
+/// The arguments of a structure of the head.
+fn takes(code: &mut Vec<Step>, args: &Args, seen: &mut Vec<u64>, m: u32) -> Result<(), NoMemory>
+    ensures code { OnOk result (steps_of code.new.items ≡ steps_of code.old.items ++ takes args.now seen.old.items m) }
+    ensures seen { OnOk result (seen.new.items ≡ see_all args.now seen.old.items) }
+{
+    let mut at = m;
+    for t in args.as_slice() {
+        add(code, take(t, seen, at)?)?;
+        at = above(at, 1)?;
+    }
+    Ok(())
+}
+
+/// A variable of the head in X a.
+fn get_variable(code: &mut Vec<Step>, v: u64, a: u32, seen: &mut Vec<u64>) -> Result<(), NoMemory>
+    ensures code { OnOk result (steps_of code.new.items ≡ steps_of code.old.items ++ get (var v) a seen.old.items 0) }
+    ensures seen { OnOk result (seen.new.items ≡ add_vars (var v) seen.old.items) }
+{
+    let slot = home(v)?;
+    if seen.contains(&v) {
+        return add(code, Step::GetValue(slot, a));
+    }
+    seen.push(v)?;
+    add(code, Step::GetVariable(slot, a))
+}
+
+/// Takes a term of the head apart, which is in X a.
+#[cycle(take_apart)]
+fn take_apart(
+    code: &mut Vec<Step>,
+    t: &Term,
+    a: u32,
+    seen: &mut Vec<u64>,
+    m: u32,
+) -> Result<(), NoMemory>
+    ensures code { OnOk result (steps_of code.new.items ≡ steps_of code.old.items ++ get (tree_of t.now) a seen.old.items m) }
+    ensures seen { OnOk result (seen.new.items ≡ see_taken (tree_of t.now) seen.old.items) }
+{
+    match t {
+        Term::Var(v) => get_variable(code, *v, a, seen),
+        Term::Int(z) => add(code, Step::GetInteger(*z, a)),
+        Term::Atom(c) => add(code, Step::GetConstant(*c, a)),
+        Term::Node(f, args) => {
+            add(code, Step::GetStructure(*f, count(args)?, a))?;
+            takes(code, args, seen, m)?;
+            take_nested(code, args, seen, m)
+        }
+    }
+}
+
+#[cycle(take_apart)]
+fn take_nested(
+    code: &mut Vec<Step>,
+    args: &Args,
+    seen: &mut Vec<u64>,
+    m: u32,
+) -> Result<(), NoMemory>
+    ensures code { OnOk result (steps_of code.new.items ≡ steps_of code.old.items ++ opens args.now seen.old.items m) }
+    ensures seen { OnOk result (seen.new.items ≡ see_opened args.now seen.old.items) }
+{
+    let mut at = m;
+    let end = above(m, args.len())?;
+    for t in args.as_slice() {
+        if let Term::Node(_, _) = t {
+            take_apart(code, t, at, seen, end)?;
+        }
+        at = above(at, 1)?;
+    }
+    Ok(())
+}
+
 /// An argument of the head in X a.
 fn get(code: &mut Vec<Step>, t: &Term, a: u32, seen: &mut Vec<u64>, m: u32) -> Result<(), NoMemory>
     ensures code { OnOk result (steps_of code.new.items ≡ steps_of code.old.items ++ get (tree_of t.now) a seen.old.items m) }
     ensures seen { OnOk result (seen.new.items ≡ add_vars (tree_of t.now) seen.old.items) }
 {
-    match t {
-        Term::Var(v) => {
-            if seen.contains(v) {
-                add(code, Step::GetValue(home(*v)?, a))
-            } else {
-                add(code, Step::GetVariable(home(*v)?, a))?;
-                seen.push(*v)?;
-                Ok(())
-            }
-        }
-        Term::Int(z) => add(code, Step::GetInteger(*z, a)),
-        Term::Atom(c) => add(code, Step::GetConstant(*c, a)),
-        Term::Node(f, args) => {
-            let mut known = seen.clone()?;
-            if fresh(args, &mut known)? {
-                get_structure(code, *f, args, a)?;
-                see(args, seen)
-            } else {
-                get_built(code, t, args, a, seen, m)
-            }
-        }
-    }
-}
-
-/// A structure of constants and new variables.
-fn get_structure(code: &mut Vec<Step>, f: Atom, args: &Args, a: u32) -> Result<(), NoMemory>
-    ensures { OnOk result (steps_of code.new.items ≡ steps_of code.old.items ++ get_structure f (count_trees args.now) a ∷ takes args.now) }
-{
-    add(code, Step::GetStructure(f, count(args)?, a))?;
-    takes(code, args)
-}
-
-/// A structure of which a variable was seen, or which has structures in it.
-fn get_built(
-    code: &mut Vec<Step>,
-    t: &Term,
-    args: &Args,
-    a: u32,
-    seen: &mut Vec<u64>,
-    m: u32,
-) -> Result<(), NoMemory>
-    ensures code { OnOk result (steps_of code.new.items ≡ steps_of code.old.items ++ (inits_all args.now seen.old.items m ++ (build (tree_of t.now) m (m + 1) ++ get_value (X m) a ∷ []))) }
-    ensures seen { OnOk result (seen.new.items ≡ add_all_vars args.now seen.old.items) }
-{
-    let next = above(m, 1)?;
-    inits_all(code, args, seen, m)?;
-    build(code, t, m, next)?;
-    add(code, Step::GetValue(Slot::X(m), a))
+    let mut known = seen.clone()?;
+    take_apart(code, t, a, &mut known, m)?;
+    add_vars(t, seen)?;
+    Ok(())
 }
 
 /// The arguments of the head.
@@ -274,15 +279,16 @@ pub fn goal(code: &mut Vec<Step>, t: &Term, seen: &mut Vec<u64>) -> Result<(Atom
 {
     match t {
         Term::Var(_) | Term::Int(_) => {
-            inits(code, t, seen, 1)?;
+            add_vars(t, seen)?;
             Ok((Atom::at(0), 0))
         }
         Term::Atom(p) => Ok((*p, 0)),
         Term::Node(p, args) => {
             let n = count(args)?;
             let m = u32::from(n) + 1;
-            inits_all(code, args, seen, m)?;
-            puts(code, args, m)?;
+            let mut known = seen.clone()?;
+            puts(code, args, &mut known, m)?;
+            see(args, seen)?;
             Ok((*p, n))
         }
     }

@@ -175,8 +175,7 @@ fn compile_clauses(
 
 /// Code for a program beside a query. Its predicates are those of the program in order of first clause, then the query's,
 /// `?-` on the query's variables, and then those that are called and have no clause, whose code is `fail`. A clause's code is
-/// Warren's (An Abstract Prolog Instruction Set, 1983); a head structure in which a variable stands again is built and
-/// unified, so that the occurs check is never missed. A group is compiled as its goals one after another. A structure of more
+/// Warren's (An Abstract Prolog Instruction Set, 1983). A group is compiled as its goals one after another. A structure of more
 /// than 255 arguments, and more than 4,294,967,295 places or registers, are want of memory.
 pub fn compile(alloc: Global, program: &Certified, query: &Query) -> Result<Code, NoMemory>
     ensures stands { IfOk result (λ code. StandsForQuery code program.now.program query.now) }

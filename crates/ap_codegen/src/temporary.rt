@@ -12,6 +12,7 @@ ghost use Rattle.ap_codegen.specs.Framed.{leaving};
 ghost use Rattle.ap_codegen.specs.Paces.{ArePaced};
 
 use crate::bodies::permanent_code;
+use crate::joining::join;
 use crate::permanent::above;
 use crate::steps::Step;
 use ap_instr::{Builtin, Slot};
@@ -19,14 +20,14 @@ use ap_term::{Clause, NoMemory};
 use std::alloc::Global;
 
 /// The number of an X register, or 0.
-fn number(v: Slot) -> u32 {
+pub fn number(v: Slot) -> u32 {
     match v {
         Slot::X(n) => n,
         Slot::Y(_) => 0,
     }
 }
 
-fn arity(builtin: Builtin) -> u32
+pub fn arity(builtin: Builtin) -> u8
     ensures { result ≡ builtin_arity builtin }
 {
     match builtin {
@@ -51,7 +52,7 @@ fn greatest(step: Step) -> u32 {
         Step::PutInteger(_, a) => a,
         Step::PutStructure(_, _, a) => a,
         Step::Execute(_, n) => u32::from(n),
-        Step::Builtin(builtin) => arity(builtin),
+        Step::Builtin(builtin) => u32::from(arity(builtin)),
         _ => 0,
     }
 }
@@ -86,7 +87,7 @@ fn fits(step: Step, k: u32) -> bool
         Step::UnifyInteger(_) => true,
         Step::Call(_, _) => false,
         Step::Execute(_, n) => u32::from(n) <= k,
-        Step::Builtin(builtin) => arity(builtin) <= k,
+        Step::Builtin(builtin) => u32::from(arity(builtin)) <= k,
         Step::Proceed => true,
         Step::Allocate(_) => true,
         Step::Deallocate => true,
@@ -94,7 +95,7 @@ fn fits(step: Step, k: u32) -> bool
 }
 
 /// Whether nothing behind a step runs.
-fn ends(step: Step) -> bool
+pub fn ends(step: Step) -> bool
     ensures { result ≡ ends (step_of step) }
 {
     match step {
@@ -175,7 +176,7 @@ fn all_moved(alloc: Global, steps: &[Step], k: u32) -> Result<Vec<Step>, NoMemor
     Ok(out)
 }
 
-fn greatest_of(steps: &[Step]) -> u32 {
+pub fn greatest_of(steps: &[Step]) -> u32 {
     let mut k = 0;
     for step in steps {
         k = greatest(*step).max(k);
@@ -193,7 +194,8 @@ pub fn clause_steps(alloc: Global, clause: &Clause) -> Result<Vec<Step>, NoMemor
     let k = greatest_of(own);
     if all_fit(own, k) {
         let moved = all_moved(alloc, own, k)?;
-        return Ok(moved);
+        let joined = join(alloc, moved)?;
+        return Ok(joined);
     }
     let framed = framed(alloc, own, clause.vars() as u8)?;
     Ok(framed)

@@ -1,5 +1,6 @@
-// The listing of a small program, written by hand from the shape of the code: a head's variables are moved to places of
-// their own, a structure in which one stands again is built and unified, a goal's arguments are put, the last goal is executed.
+// The listing of a small program, written by hand from the rules of the code: a structure's arguments are unified one by
+// one, a goal's arguments are put, the last goal is executed. Where nothing is called but the last goal, a variable stands in the
+// argument register that it comes from or goes to, if nothing else needs that meanwhile, and else behind the arguments.
 use crate::compile;
 use ap_certify::plain;
 use ap_instr::listing;
@@ -22,23 +23,16 @@ q/1:
   execute r/1
 app/3:
   try @2
-  trust @6
+  trust @5
   get_constant [] A1
-  get_variable X4 A2
-  get_value X4 A3
+  get_value X2 A3
   proceed
   get_list A1
-  unify_variable X5
-  unify_variable X6
-  get_variable X7 A2
-  put_variable X8 A4
-  put_list A4
-  unify_value X5
-  unify_value X8
-  get_value X4 A3
-  put_value X6 A1
-  put_value X7 A2
-  put_value X8 A3
+  unify_variable X4
+  unify_variable X1
+  get_list A3
+  unify_value X4
+  unify_variable X3
   execute app/3
 ";
 

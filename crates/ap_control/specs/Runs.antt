@@ -1,6 +1,7 @@
 -- A run of instructions up to one that leads elsewhere than to the one behind it.
-use Rattle.std.specs.Prelude.{◌≡◌, ℕ, false, List, length, slice_get, Option, Some, None}
+use Rattle.std.specs.Prelude.{◌≡◌, ℕ, Bool, true, false, List, length, slice_get, Option, Some, None}
 use Rattle.ap_instr.specs.declared.instruction.Instr.{Instr}
+use Rattle.ap_instr.specs.declared.instruction.Instr.TheVariants.{Allocate, Deallocate}
 use Rattle.ap_instr.specs.Step.{frame, step_of}
 use Rattle.ap_cells.specs.declared.cells.Raw.{Raw}
 use Rattle.ap_instr.specs.Code.{Compiled}
@@ -26,3 +27,13 @@ pub record IsFrameAt (code : Compiled) (at : ℕ) : Type 0 where
   pub is_frame : step_of code instr ≡ frame
   pub makes_none : cells_of instr ≡ 0
   pub goes_on : is_transfer instr ≡ false
+
+-- whether an instruction makes an environment, or gives it back
+abbrev pub is_frame : Instr → Bool
+is_frame (Allocate n) = true
+is_frame Deallocate = true
+is_frame _ = false
+
+-- an instruction stands at the place that leads elsewhere than to the one behind it
+abbrev pub IsTransferAt : Compiled → ℕ → Type 0
+IsTransferAt code at = (i : Instr) × (slice_get code.instructions at ≡ Some i) × (is_transfer i ≡ true)

@@ -6,11 +6,13 @@
 #![tactic(auto)]
 
 mod alternatives;
+mod heads;
 mod relations;
 mod runs;
 mod widths;
 
 pub use alternatives::{Alternative, first, following, instruction_at};
+pub use heads::fails_at_once;
 pub use relations::solve;
 pub use runs::{builtin_at, run_to_transfer, used};
 pub use widths::{Widths, widths_of};

@@ -1,10 +1,12 @@
 //! Runs of instructions up to one of control.
 
-ghost use Rattle.std.specs.Prelude.{◌≡◌, ℕ, ◌+◌, ◌<◌, ◌≤◌, length, drop, take, slice_get, Some, true, IfOk, IfSome};
+ghost use Rattle.std.specs.Prelude.{◌≡◌, ℕ, ◌+◌, ◌<◌, ◌≤◌, length, drop, take, slice_get, None, Some, true, false, IfOk, IfSome};
 ghost use Rattle.ap_cells.specs.Store.{Keeps};
 ghost use Rattle.ap_steps.specs.Moves.{held, HoldPlaces};
-ghost use Rattle.ap_steps.specs.Ways.{AllHaveTargets, room};
-ghost use Rattle.ap_control.specs.Runs.{RanOrStuck, IsFrameAt};
+ghost use Rattle.ap_steps.specs.Ways.{is_control, is_transfer, AllHaveTargets, room};
+ghost use Rattle.ap_control.specs.Runs.{RanOrStuck, is_frame, IsFrameAt, IsTransferAt};
+ghost use Rattle.ap_instr.specs.declared.builtins.Builtin.{Builtin as BuiltinOf};
+ghost use Rattle.ap_instr.specs.declared.instruction.Instr.{Instr as InstrOf};
 ghost use Rattle.ap_instr.specs.declared.instruction.Instr.TheVariants.{Builtin as builtin_instr};
 
 use crate::alternatives::instruction_at;
@@ -28,7 +30,8 @@ pub fn used(registers: &[u32]) -> &[u32]
 
 /// The built-in goal that stands at a place.
 pub fn builtin_at(code: &Code, at: usize) -> Option<Builtin>
-    ensures { IfSome result (λ b. slice_get code.now.instructions at ≡ Some (builtin_instr b)) }
+    ensures some { IfSome result (λ b. slice_get code.now.instructions at ≡ Some (builtin_instr b)) }
+    ensures none { result ≡ None → (b : BuiltinOf) → slice_get code.now.instructions at ≡ Some (builtin_instr b) → ⊥ }
 {
     match instruction_at(code, at) {
         Some(Instr::Builtin(builtin)) => Some(builtin),
@@ -36,17 +39,25 @@ pub fn builtin_at(code: &Code, at: usize) -> Option<Builtin>
     }
 }
 
+/// Whether an instruction makes an environment, or gives it back.
+fn is_frame(instr: &Instr) -> bool
+    ensures { result ≡ is_frame instr.now }
+{
+    match *instr {
+        Instr::Allocate(_) => true,
+        Instr::Deallocate => true,
+        _ => false,
+    }
+}
+
 /// Whether an environment is made or given back at a place.
-fn is_frame_at(code: &Code, at: usize) -> bool
-    ensures { result ≡ true → IsFrameAt code.now at }
+pub(crate) fn is_frame_at(code: &Code, at: usize) -> bool
+    ensures frame { result ≡ true → IsFrameAt code.now at }
+    ensures transfer { result ≡ false → (i : InstrOf) → slice_get code.now.instructions at ≡ Some i → is_control i ≡ true → is_transfer i ≡ true }
 {
     match instruction_at(code, at) {
         None => false,
-        Some(instr) => match instr {
-            Instr::Allocate(_) => true,
-            Instr::Deallocate => true,
-            _ => false,
-        },
+        Some(instr) => is_frame(&instr),
     }
 }
 
@@ -64,6 +75,7 @@ pub fn run_to_transfer(
     requires holds_x { HoldPlaces (length cells.old.cells) x.old }
     requires holds_y { HoldPlaces (length cells.old.cells) y.old }
     ensures ran { IfOk result (λ to. RanOrStuck code.now at cells.old.cells x.old y.old to cells.new.cells x.new y.new) }
+    ensures transfer { IfOk result (λ to. IfSome to (λ place. IsTransferAt code.now place)) }
     ensures x_len { length x.new ≡ length x.old }
     ensures y_len { length y.new ≡ length y.old }
     ensures keeps { Keeps cells.old cells.new }
@@ -71,7 +83,8 @@ pub fn run_to_transfer(
     let places = code.instructions().len();
     let mut place = at;
     while let Some(to) = run_to_control(cells, x, y, code, place, work)? {
-        if to >= places || !is_frame_at(code, to) {
+        prove!(to < places);
+        if !is_frame_at(code, to) {
             return Ok(Some(to));
         }
         place = to + 1;

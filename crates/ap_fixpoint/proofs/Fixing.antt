@@ -1,5 +1,5 @@
 -- Rounds that go through the clauses again that read a changed pattern are the rounds of the definition.
-use Rattle.std.proofs.Common.{◌≡◌, ℕ, zero, suc, ◌+◌, ◌⊎◌, inl, inr, Bool, true, false, cond, List, [], ◌∷◌, length, refl, ap, ap₂, sym, ◌∙◌, subst, arith}
+use Rattle.std.proofs.Common.{◌≡◌, ℕ, zero, suc, ◌+◌, ◌⊎◌, inl, inr, Bool, true, false, List, [], ◌∷◌, length, refl, ap, sym, ◌∙◌, subst, arith}
 use Rattle.std.specs.List.{flat_map, All}
 use Rattle.std.proofs.Math.Path.{fun_ext}
 use Rattle.ap_term.specs.Goals.{Program, Clause}
@@ -12,7 +12,7 @@ use Rattle.ap_patterns.specs.Given.{Patterns, patterns, given, given_by_entries,
 use Rattle.ap_patterns.specs.Covered.{IsHeld, IsClosed}
 use Rattle.ap_patterns.proofs.Coverings.{Below, covered-Below}
 use Rattle.ap_fixpoint.specs.Fix.{first, next, table, IsFix}
-use Rattle.ap_fixpoint.specs.Reads.{is_among, reads, given_if_read}
+use Rattle.ap_fixpoint.specs.Reads.{is_among, reads, IsReread}
 use Rattle.ap_fixpoint.specs.Rounds.{steps, changed}
 use Rattle.ap_fixpoint.proofs.Members.{Has, Has-left, Has-right, Has-cases, Has-flat_map, Has-from}
 use Rattle.ap_fixpoint.proofs.Joins.{AllKept, united_holds, united-kept, united-fewer}
@@ -49,37 +49,25 @@ going-steps E A t gs h =
     let k = going-kept E A t gs h in
     steps-united gs t k ∙ fun_ext (λ x. united-fewer gs (given E A t) t x (k x) h.only h.enough)
 
-pub going-next : (E : Entries) (A : Program) (t : Patterns) (gs : List Given) → IsGoing E A t gs
-    → IsGoing E A (steps gs gs t) (flat_map (given_if_read (changed gs gs t) (steps gs gs t)) A)
-going-next E A t gs h = record {
+pub going-next : (E : Entries) (A : Program) (t : Patterns) (gs now : List Given) → IsGoing E A t gs → IsReread A (changed gs gs t) (steps gs gs t) now → IsGoing E A (steps gs gs t) now
+going-next E A t gs now h read = record {
   round = suc h.round;
-  reached = ap (next E A) h.reached ∙ sym now;
-  only = λ g i. Has-right g (given_by_entries E A) (flat_map (given_by_clause (steps gs gs t)) A) (from_readers g i);
+  reached = ap (next E A) h.reached ∙ sym round;
+  only = λ g i. Has-right g (given_by_entries E A) (flat_map (given_by_clause (steps gs gs t)) A) (read.only g i);
   enough = λ g i. elim (Has-cases g (given_by_entries E A) (flat_map (given_by_clause (steps gs gs t)) A) i) [
     | inl j ↦ inr (covered g (Has-left g (given_by_entries E A) (flat_map (given_by_clause t) A) j))
     | inr j ↦ (let r = Has-from (given_by_clause (steps gs gs t)) g A j in by_clause g r.0 r.1 r.2 (reads (changed gs gs t) r.0) refl)
   ];
 }
   where
-    now : steps gs gs t ≡ next E A t
-    now = going-steps E A t gs h
+    round : steps gs gs t ≡ next E A t
+    round = going-steps E A t gs h
 
     covered : (g : Given) → Has g (given E A t) → Below g.pattern (steps gs gs t g.slot)
-    covered g i = subst (λ z. Below g.pattern (z g.slot)) (sym now) (united_holds (given E A t) t g i)
+    covered g i = subst (λ z. Below g.pattern (z g.slot)) (sym round) (united_holds (given E A t) t g i)
 
-    from_readers : (g : Given) → Has g (flat_map (given_if_read (changed gs gs t) (steps gs gs t)) A) → Has g (flat_map (given_by_clause (steps gs gs t)) A)
-    from_readers g i =
-        let r = Has-from (given_if_read (changed gs gs t) (steps gs gs t)) g A i in
-        Has-flat_map (given_by_clause (steps gs gs t)) g r.0 A r.1 (read (reads (changed gs gs t) r.0) r.0 r.2)
-      where
-        read : (b : Bool) (c : Clause) → Has g (cond b (given_by_clause (steps gs gs t) c) []) → Has g (given_by_clause (steps gs gs t) c)
-        read true c k = k
-        read false c k = absurd k
-
-    by_clause : (g : Given) (c : Clause) → Has c A → Has g (given_by_clause (steps gs gs t) c) → (b : Bool) → reads (changed gs gs t) c ≡ b
-        → Has g (flat_map (given_if_read (changed gs gs t) (steps gs gs t)) A) ⊎ Below g.pattern (steps gs gs t g.slot)
-    by_clause g c i j true e =
-        inl (Has-flat_map (given_if_read (changed gs gs t) (steps gs gs t)) g c A i (subst (λ b. Has g (cond b (given_by_clause (steps gs gs t) c) [])) (sym e) j))
+    by_clause : (g : Given) (c : Clause) → Has c A → Has g (given_by_clause (steps gs gs t) c) → (b : Bool) → reads (changed gs gs t) c ≡ b → Has g now ⊎ Below g.pattern (steps gs gs t g.slot)
+    by_clause g c i j true e = inl (read.enough c i e g j)
     by_clause g c i j false e =
         inr (covered g (Has-right g (given_by_entries E A) (flat_map (given_by_clause t) A)
         (Has-flat_map (given_by_clause t) g c A i (subst (Has g) (unread (changed gs gs t) t (steps gs gs t) (λ x k. unchanged gs gs t x k) c e) j))))
@@ -114,10 +102,10 @@ going-init E A P rs gs p r g =
     subst (λ z. IsGoing E A (patterns rs) z) (sym (g ∙ ap (λ z. given E z (patterns rs)) p)) (subst (λ z. IsGoing E A (patterns z) (given E A (patterns z))) (sym r) (going-first E A))
 
 pub going-turn : (E : Entries) (A P : Program) (t new : Patterns) (gs now : List Given) (ch : List Slot) → P ≡ A → IsGoing E A t gs → ch ≡ changed gs gs t → new ≡ steps gs gs t
-    → now ≡ flat_map (given_if_read ch new) P → IsGoing E A new now
-going-turn E A P t new gs now ch p h c s n =
+    → IsReread P ch new now → IsGoing E A new now
+going-turn E A P t new gs now ch p h c s r =
     subst (λ z. IsGoing E A z now) (sym s)
-    (subst (λ z. IsGoing E A (steps gs gs t) z) (sym (n ∙ ap (flat_map (given_if_read ch new)) p ∙ ap₂ (λ a b. flat_map (given_if_read a b) A) c s)) (going-next E A t gs h))
+    (going-next E A t gs now h (subst (λ z. IsReread A (changed gs gs t) z now) s (subst (λ z. IsReread A z new now) c (subst (λ z. IsReread z ch new now) p r))))
 
 pub going-done : (E : Entries) (A : Program) (t new : Patterns) (gs : List Given) (ch : List Slot) → IsGoing E A t gs → ch ≡ changed gs gs t → length ch ≡ 0 → new ≡ steps gs gs t → IsFix E A new
 going-done E A t new gs ch h c l s = subst (IsFix E A) (sym s) (going-end E A t gs h (sym c ∙ nothing ch l))

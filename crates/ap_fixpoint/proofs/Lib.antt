@@ -7,3 +7,5 @@ pub mod Reading
 pub mod Fixing
 pub mod Turns
 pub mod Puts
+pub mod Indexing
+pub mod Grouping

@@ -1,10 +1,7 @@
 -- What is in a list.
-use Rattle.std.proofs.Common.{◌≡◌, ◌⊎◌, inl, inr, List, [], ◌∷◌, ◌++◌, refl, subst}
+use Rattle.std.proofs.Common.{◌⊎◌, inl, inr, List, [], ◌∷◌, ◌++◌, refl, subst}
 use Rattle.std.specs.List.{flat_map}
-
-abbrev pub Has : {A : Type 0} → A → List A → Type 0
-Has x [] = ⊥
-Has x (y ∷ ys) = (x ≡ y) ⊎ Has x ys
+pub use Rattle.ap_fixpoint.specs.Members.{Has}
 
 pub Has-left : {A : Type 0} (x : A) (xs ys : List A) → Has x xs → Has x (xs ++ ys)
 Has-left x [] ys h = absurd h

@@ -5,7 +5,8 @@ ghost use Rattle.ap_patterns.specs.Given.{patterns};
 ghost use Rattle.ap_patterns.specs.Entry.{IsMarked};
 ghost use Rattle.ap_fixpoint.specs.Fix.{IsFix};
 
-use crate::programs::{given_at_start, given_by_readers};
+use crate::programs::given_at_start;
+use crate::readers::{given_by_readers, readers_of};
 use crate::tables::unite_all;
 use ap_cge::Annotated;
 use ap_patterns::{Entries, Table};
@@ -20,6 +21,7 @@ pub fn analyse(alloc: Global, annotated: &Annotated, entries: &Entries) -> Resul
     ensures { IfOk result (λ t. IsFix entries.now annotated.now (patterns t)) }
 {
     let program = annotated.program();
+    let readers = readers_of(alloc, program)?;
     let mut table = Table::new(alloc);
     let mut given = given_at_start(alloc, entries, program, &table)?;
     for _round in 0..u64::MAX {
@@ -28,7 +30,7 @@ pub fn analyse(alloc: Global, annotated: &Annotated, entries: &Entries) -> Resul
         if slots.is_empty() {
             return Ok(table);
         }
-        given = given_by_readers(alloc, program, &table, slots)?;
+        given = given_by_readers(alloc, program, &readers, &table, slots)?;
     }
     Err(NoMemory)
 }

@@ -8,7 +8,9 @@ mod analysis;
 mod bodies;
 mod clauses;
 pub mod laws;
+mod numbered;
 mod programs;
+mod readers;
 mod sums;
 mod tables;
 

@@ -1,12 +1,13 @@
 //! Patterns united, as one operation.
 
-ghost use Rattle.std.specs.Prelude.{◌≡◌, IfOk, OnOk};
+ghost use Rattle.std.specs.Prelude.{◌≡◌, IfOk, OnOk, slice_get};
 ghost use Rattle.ap_absunify.specs.declared.states.State.TheVariants.{Unreachable};
-ghost use Rattle.ap_fixpoint.specs.Fix.{same_slot, joined, joined_all, kept};
+ghost use Rattle.ap_fixpoint.specs.Fix.{joined, kept};
+ghost use Rattle.ap_fixpoint.specs.Rounds.{joined_if, joined_at};
 
 use ap_absunify::{State, made};
 use ap_freeness::Free;
-use ap_patterns::{Given, Pattern, Slot};
+use ap_patterns::{Given, Pattern};
 use ap_sharing::{Sets, Share, VarSet};
 use ap_term::NoMemory;
 use std::alloc::Global;
@@ -80,6 +81,16 @@ impl Sum {
         Ok(())
     }
 
+    /// Joined with what is given at a number.
+    fn join_at(&mut self, alloc: Global, given: &[Given], number: usize) -> Result<(), NoMemory>
+        ensures { OnOk result (self.new ≡ joined_if self.old (slice_get given.now number)) }
+    {
+        match given.get(number) {
+            Some(g) => self.join(alloc, &g.pattern),
+            None => Ok(()),
+        }
+    }
+
     fn into_pattern(self) -> Pattern
         ensures { result ≡ kept self }
     {
@@ -97,31 +108,18 @@ impl Sum {
     }
 }
 
-/// The pattern united with all that is given to its slot, as one operation.
+/// The pattern united with what is given at these numbers, as one operation.
 pub fn united(
     alloc: Global,
     pattern: &Pattern,
-    slot: &Slot,
     given: &[Given],
+    numbers: &[usize],
 ) -> Result<Pattern, NoMemory>
-    ensures { IfOk result (λ r. r ≡ kept (joined_all slot.now pattern.now given.now)) }
+    ensures { IfOk result (λ r. r ≡ kept (joined_at given.now numbers.now pattern.now)) }
 {
     let mut sum = Sum::of(alloc, pattern)?;
-    for g in given {
-        if is_same(&g.slot, slot) {
-            sum.join(alloc, &g.pattern)?;
-        }
+    for number in numbers {
+        sum.join_at(alloc, given, *number)?;
     }
     Ok(sum.into_pattern())
-}
-
-/// Whether two slots are one.
-pub fn is_same(slot: &Slot, other: &Slot) -> bool
-    ensures { result ≡ same_slot slot.now other.now }
-{
-    match (slot, other) {
-        (Slot::Call(p), Slot::Call(q)) => p == q,
-        (Slot::Success(p), Slot::Success(q)) => p == q,
-        _ => false,
-    }
 }

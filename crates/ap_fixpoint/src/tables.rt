@@ -3,8 +3,11 @@
 ghost use Rattle.std.specs.Prelude.{◌≡◌, ◌++◌, IfOk, OnOk, MatchOption};
 ghost use Rattle.ap_absunify.specs.declared.states.State.TheVariants.{Unreachable};
 ghost use Rattle.ap_patterns.specs.Given.{patterns};
-ghost use Rattle.ap_fixpoint.specs.Rounds.{put, step, steps, changed, changed_slot};
+ghost use Rattle.ap_fixpoint.specs.Rounds.{put, step, steps, changed, changed_slot, places_from, IsGrouped};
+ghost use Rattle.ap_fixpoint.specs.Numbered.{numbers_of};
+ghost use Rattle.ap_patterns.specs.declared.slots.Slot.{Slot};
 
+use crate::numbered::Numbered;
 use crate::sums::united;
 use ap_absunify::State;
 use ap_patterns::{Given, Pattern, Slot, Table, is_covered, pattern_at};
@@ -21,14 +24,27 @@ fn put(table: &mut Table, slot: Slot, pattern: Pattern) -> Result<(), NoMemory>
     }
 }
 
+/// What is given, by slots.
+fn grouped(alloc: Global, given: &[Given]) -> Result<Numbered, NoMemory>
+    ensures { IfOk result (λ r. IsGrouped given.now (numbers_of r)) }
+{
+    let mut groups = Numbered::new(alloc);
+    for i in 0..given.len() {
+        groups.add(alloc, given[i].slot, i)?;
+    }
+    Ok(groups)
+}
+
 /// Unites the slot's pattern with all that is given to it, unless it covers this pattern. Notes what has changed.
 fn unite(
     alloc: Global,
     table: &mut Table,
     given: &[Given],
+    groups: &Numbered,
     g: &Given,
     changed: &mut Vec<Slot>,
 ) -> Result<(), NoMemory>
+    requires { IsGrouped given.now (numbers_of groups.now) }
     ensures changed { OnOk result (changed.new.items ≡ changed.old.items ++ changed_slot g.now (patterns table.old)) }
     ensures table { OnOk result (patterns table.new ≡ step given.now g.now (patterns table.old)) }
 {
@@ -37,7 +53,7 @@ fn unite(
     if is_covered(&g.pattern, was) {
         return Ok(());
     }
-    let now = united(alloc, was, &g.slot, given)?;
+    let now = united(alloc, was, given, groups.at(g.slot))?;
     put(table, g.slot, now)?;
     changed.push(g.slot)?;
     Ok(())
@@ -48,9 +64,10 @@ pub fn unite_all(alloc: Global, table: &mut Table, given: &[Given]) -> Result<Ve
     ensures changed { IfOk result (λ r. r.items ≡ changed given.now given.now (patterns table.old)) }
     ensures table { OnOk result (patterns table.new ≡ steps given.now given.now (patterns table.old)) }
 {
+    let groups = grouped(alloc, given)?;
     let mut changed = Vec::new(alloc);
     for g in given {
-        unite(alloc, table, given, g, &mut changed)?;
+        unite(alloc, table, given, &groups, g, &mut changed)?;
     }
     Ok(changed)
 }

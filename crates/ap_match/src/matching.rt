@@ -15,6 +15,7 @@ use ap_term::{Atom, NoMemory};
 use ap_unify::{Work, unify};
 
 /// A new place with this cell. It takes no memory.
+#[inline]
 pub fn push_new(cells: &mut Cells, cell: Cell) -> usize
     requires room { 0 < cells.old.spare }
     requires within { Within (length cells.old.cells) (length cells.old.cells) (raw_of cell) }
@@ -182,6 +183,30 @@ pub fn equate(cells: &mut Cells, a: usize, b: usize, work: &mut Work) -> Result<
     Ok(answer)
 }
 
+/// Binds a place to a new compound term, of a name and the cells from `first` on, where it is unbound and these are constants
+/// and other variables. Else it does nothing.
+fn bind_built(cells: &mut Cells, place: usize, name: Atom, first: usize, count: u32) -> bool
+    requires room { 0 < cells.old.spare }
+    requires inside { place < length cells.old.cells }
+    requires args { first + count ≤ length cells.old.cells }
+    ensures bound { result ≡ true → Becomes cells.old.cells cells.new.cells (λ k. k place ≡ node name (spread k first count)) (λ k. Unit {0}) }
+    ensures same { result ≡ false → cells.new ≡ cells.old }
+    ensures len { result ≡ true → length cells.new.cells ≡ length cells.old.cells + 1 }
+    ensures spare { result ≡ true → cells.new.spare + 1 ≡ cells.old.spare }
+    ensures keeps { Keeps cells.old cells.new }
+{
+    match cells.top(place) {
+        Top::Free(x) => {
+            if !are_apart(cells, x, first, count) {
+                return false;
+            }
+            bind_new(cells, x, Cell::Node(name, first, count));
+            true
+        }
+        _ => false,
+    }
+}
+
 /// Makes a place's term a new compound term, of a name and the cells from `first` on, if it can be. After false, or want of
 /// memory, some bindings may be made; `undo_to` takes them back.
 pub fn match_built(
@@ -200,6 +225,9 @@ pub fn match_built(
     ensures spare { cells.new.spare + 1 ≡ cells.old.spare }
     ensures keeps { Keeps cells.old cells.new }
 {
+    if bind_built(cells, place, name, first, count) {
+        return Ok(true);
+    }
     let whole = push_new(cells, Cell::Node(name, first, count));
     let answer = equate(cells, place, whole, work)?;
     Ok(answer)

@@ -1,5 +1,7 @@
 -- Tables: one call and one success pattern for each predicate.
-use Rattle.std.specs.Prelude.{ℕ, suc, Bool, ◌==◌, ◌&&◌, if◌then◌else◌, List, [], ◌∷◌, Option, Some, None}
+use Rattle.std.specs.Prelude.{ℕ, suc, Bool, ◌==◌, ◌&&◌, if◌then◌else◌, List, [], ◌∷◌, Option, Some, None, ◌≡◌}
+use Rattle.std.specs.Option.{option_map}
+use Rattle.std.specs.HashMap.{HashMap, get}
 use Rattle.ap_term.specs.Tree.{Tree, var, int, atom, node, count_trees}
 use Rattle.ap_absunify.specs.declared.states.State.{State}
 use Rattle.ap_absunify.specs.declared.states.State.TheVariants.{Unreachable}
@@ -53,3 +55,21 @@ set_call rs p s = set_row (λ r. record r { call = s }) (record { predicate = p;
 
 abbrev pub set_success : List Row → Predicate → State → List Row
 set_success rs p s = set_row (λ r. record r { success = s }) (record { predicate = p; call = Unreachable; success = s }) rs p
+
+-- ---- where the rows are
+
+-- the place of a predicate's first row, where it has one
+abbrev pub found_at : List Row → Predicate → Option ℕ
+found_at [] p = None
+found_at (r ∷ rs) p = if same_predicate r.predicate p then Some 0 else option_map suc (found_at rs p)
+
+-- a predicate's name and arity, by which it is looked up
+abbrev pub key_of : Predicate → ℕ × ℕ
+key_of p = (p.name, p.arity)
+
+abbrev pub is_key : ℕ × ℕ → ℕ × ℕ → Bool
+is_key k l = (k.0 == l.0) && (k.1 == l.1)
+
+-- each predicate is looked up at the place of its first row
+abbrev pub ArePlaces : {S : Type 0} → HashMap (ℕ × ℕ) ℕ S → List Row → Type 0
+ArePlaces m rs = (p : Predicate) → get is_key m (key_of p) ≡ found_at rs p

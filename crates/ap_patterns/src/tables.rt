@@ -1,13 +1,15 @@
 //! Tables: one call and one success pattern for each predicate.
 
-ghost use Rattle.std.specs.Prelude.{◌≡◌, ◌++◌, ◌∷◌, [], Some, None, MatchOption, OnOk, is_ok, if◌then◌else◌, ◌<◌, length, slice_set, slice_index_or};
+ghost use Rattle.std.specs.Prelude.{◌≡◌, ℕ, ◌++◌, ◌∷◌, [], Some, None, MatchOption, OnOk, OnErr, is_ok, is_none, if◌then◌else◌, ◌&&◌, ◌<◌, length, slice_set, slice_index_or};
+ghost use Rattle.std.specs.HashMap.{get};
 ghost use Rattle.ap_term.specs.TermView.{tree_of};
-ghost use Rattle.ap_patterns.specs.Table.{predicate_of, row_of, place_of, set_call, set_success};
+ghost use Rattle.ap_patterns.specs.Table.{predicate_of, row_of, place_of, set_call, set_success, key_of, is_key};
 
 use crate::calls::Pattern;
 use ap_absunify::State;
 use ap_term::{Atom, NoMemory, Term};
 use std::alloc::Global;
+use std::collections::HashMap;
 use std::marker::Model;
 
 /// A predicate, by its name and the number of its arguments.
@@ -56,18 +58,44 @@ impl Row {
     }
 }
 
+/// Places by a predicate's name and arity.
+type Places = HashMap<(u32, u64), usize>;
+
+fn key_of(predicate: &Predicate) -> (u32, u64)
+    ensures { result ≡ key_of predicate.now }
+{
+    (predicate.name.number(), predicate.arity)
+}
+
+/// Puts in the place of a key, unless it has one.
+fn add_place(places: &mut Places, key: (u32, u64), place: usize) -> Result<(), NoMemory>
+    ensures added { OnOk result ((k : ℕ × ℕ) → get is_key places.new k ≡ (if is_key key k && is_none (get is_key places.old key) then Some place else get is_key places.old k)) }
+    ensures kept { OnErr result ((k : ℕ × ℕ) → get is_key places.new k ≡ get is_key places.old k) }
+{
+    if places.get(&key).is_some() {
+        return Ok(());
+    }
+    places.insert(key, place)?;
+    Ok(())
+}
+
+/// Rows in order, with the places of the predicates.
 #[derive(Drop)]
 pub struct Table {
     rows: Vec<Row>,
+    places: Places,
 }
 
 impl Model for Table {
     ghost use Rattle.std.specs.Prelude.{List};
     ghost use Rattle.ap_patterns.specs.declared.tables.Row.{Row};
+    ghost use Rattle.ap_patterns.specs.Table.{ArePlaces};
 
     ghost Value = { List Row };
 
     ghost view = { λ t. t.rows.items };
+
+    ghost invariant = { λ t. ArePlaces t.places t.rows.items };
 }
 
 impl Table {
@@ -78,14 +106,23 @@ impl Table {
     {
         Table {
             rows: Vec::new(alloc),
+            places: HashMap::new(alloc),
         }
     }
 
     pub fn push(&mut self, row: Row) -> Result<(), NoMemory>
         ensures { self.new ≡ (if is_ok result then self.old ++ row ∷ [] else self.old) }
     {
+        let place = self.rows.as_slice().len();
+        let key = key_of(&row.predicate);
         self.rows.push(row)?;
-        Ok(())
+        match add_place(&mut self.places, key, place) {
+            Ok(()) => Ok(()),
+            Err(error) => {
+                self.rows.truncate(place);
+                Err(error)
+            }
+        }
     }
 
     pub fn rows(&self) -> &[Row]
@@ -95,16 +132,13 @@ impl Table {
     }
 
     /// The place of a predicate's first row, and the number of rows where it has none.
-    #[tactic(auto, using(crate::proofs::Rows::rules_of_rows))]
     fn position(&self, predicate: &Predicate) -> usize
         ensures { result ≡ place_of self.now predicate.now }
     {
-        for i in 0..self.rows.len() {
-            if self.rows[i].predicate == *predicate {
-                return i;
-            }
+        match self.places.get(&key_of(predicate)) {
+            Some(place) => *place,
+            None => self.rows.as_slice().len(),
         }
-        self.rows.len()
     }
 
     fn change_call(&mut self, i: usize, pattern: Pattern)
@@ -154,11 +188,11 @@ impl Table {
     pub fn row(&self, predicate: Predicate) -> Option<&Row>
         ensures { MatchOption result (row_of self.now predicate ≡ None) (λ r. row_of self.now predicate ≡ Some r.now) }
     {
-        for row in &self.rows {
-            if row.predicate == predicate {
-                return Some(row);
-            }
+        let place = self.position(&predicate);
+        if place < self.rows.as_slice().len() {
+            Some(&self.rows[place])
+        } else {
+            None
         }
-        None
     }
 }

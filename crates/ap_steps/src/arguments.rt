@@ -109,6 +109,7 @@ fn build_listed(cells: &mut Cells, code: &Code, i: u32) -> bool
 
 /// An argument, by its instruction. False where the instruction is none of an argument's, or the argument would be the
 /// structure itself, whose place is to be `whole`.
+#[inline(always)]
 pub fn build_argument(
     cells: &mut Cells,
     x: &mut [u32],
@@ -144,6 +145,7 @@ pub fn build_argument(
 
 /// The arguments of a structure, by the instructions from a place on: each becomes the next cell, and the structure is to
 /// have its own place behind them. False where they can't be built, whatever comes behind them.
+#[inline(always)]
 pub fn build_arguments(
     cells: &mut Cells,
     x: &mut [u32],

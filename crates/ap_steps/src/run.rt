@@ -144,8 +144,7 @@ fn take(
         }
         Instr::PutInteger(i, a) => Ok(put_listed(cells, x, code, i, a)),
         Instr::PutStructure(name, count, a) => {
-            let built = put_structure(cells, x, y, code, at, name, count, a)?;
-            Ok(built)
+            Ok(put_structure(cells, x, y, code, at, name, count, a))
         }
         _ => Ok(false),
     }

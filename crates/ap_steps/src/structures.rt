@@ -15,16 +15,6 @@ use ap_match::{match_built, push_new};
 use ap_term::{Atom, NoMemory};
 use ap_unify::Work;
 
-/// A place as registers hold it.
-fn packed(place: usize) -> Result<u32, NoMemory>
-    ensures { IfOk result (λ p. p ≡ place) }
-{
-    match u32::try_from(place) {
-        Ok(place) => Ok(place),
-        Err(_) => Err(NoMemory),
-    }
-}
-
 /// `put_structure F, A`: the argument gets a new structure. False where one of the structure's arguments can't be built.
 pub fn put_structure(
     cells: &mut Cells,
@@ -35,30 +25,30 @@ pub fn put_structure(
     name: Atom,
     count: u8,
     a: u32,
-) -> Result<bool, NoMemory>
+) -> bool
     requires room { count < cells.old.spare }
     requires inside { at ≤ length code.now.instructions }
     requires has { a < length x.old }
     requires targets { AllHaveTargets (drop at code.now.instructions) (length x.old) (length y.old) }
     requires holds_x { HoldPlaces (length cells.old.cells) x.old }
     requires holds_y { HoldPlaces (length cells.old.cells) y.old }
-    ensures taken { IfOk result (λ b. StepTaken code.now (put_structure name count a) at count cells.old.cells (held x.old) (held y.old) cells.new.cells (held x.new) (held y.new) b) }
-    ensures passed { IfOk result (λ b. b ≡ true → NoneOfControl code.now.instructions at count) }
-    ensures holds_x { IfOk result (λ b. b ≡ true → HoldPlaces (length cells.new.cells) x.new) }
-    ensures holds_y { IfOk result (λ b. b ≡ true → HoldPlaces (length cells.new.cells) y.new) }
-    ensures spare { IfOk result (λ b. b ≡ true → cells.old.spare ≤ cells.new.spare + (count + 1)) }
+    ensures taken { StepTaken code.now (put_structure name count a) at count cells.old.cells (held x.old) (held y.old) cells.new.cells (held x.new) (held y.new) result }
+    ensures passed { result ≡ true → NoneOfControl code.now.instructions at count }
+    ensures holds_x { result ≡ true → HoldPlaces (length cells.new.cells) x.new }
+    ensures holds_y { result ≡ true → HoldPlaces (length cells.new.cells) y.new }
+    ensures spare { result ≡ true → cells.old.spare ≤ cells.new.spare + (count + 1) }
     ensures x_len { length x.new ≡ length x.old }
     ensures y_len { length y.new ≡ length y.old }
     ensures keeps { Keeps cells.old cells.new }
 {
     let first = cells.len();
-    let whole = packed(first + count as usize)?;
-    put(x, a as usize, whole);
+    let whole = first + count as usize;
+    put(x, a as usize, whole as u32);
     if !build_arguments(cells, x, y, code, at, count as usize) {
-        return Ok(false);
+        return false;
     }
     push_new(cells, Cell::Node(name, first, count as u32));
-    Ok(true)
+    true
 }
 
 /// A structure that is built and made equal to a place's term, if it can be.

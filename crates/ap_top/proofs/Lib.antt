@@ -1,5 +1,4 @@
 pub mod Uncalled
-pub mod Turned
 pub mod Sources
 pub mod Booleans
 pub mod Widths

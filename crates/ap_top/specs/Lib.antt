@@ -5,7 +5,6 @@ pub mod Parted
 pub mod Refusals
 pub mod Output
 pub mod Lines
-pub mod Model
 pub mod ShowWords
 pub mod ShowParted
 pub mod Patterns
@@ -14,3 +13,4 @@ pub mod TextLines
 pub mod CodeWords
 pub mod Codes
 pub mod Ends
+pub mod Unasked

@@ -4,13 +4,13 @@ ghost use Rattle.std.specs.Prelude.{◌≡◌, ℕ, List, ◌≤◌, ◌^◌, le
 ghost use Rattle.ap_outside.specs.Halting.{Finishes, SinkCount};
 ghost use Rattle.ap_term.specs.Tree.{Trees, count_trees};
 ghost use Rattle.ap_worker.specs.Ends.{end_of};
+ghost use Rattle.ap_worker.specs.Sought.{MayBeAsked};
 ghost use Rattle.ap_top.specs.Output.{line_of, end_line, is_spent, IsQueryBlock};
 ghost use Rattle.ap_top.specs.Lines.{line_same};
 
-use crate::model::solve;
 use ap_outside::{Halt, Sink, put_line};
 use ap_term::{Args, Atoms, NoMemory, Program, Query};
-use ap_worker::{Answers, End};
+use ap_worker::{Answers, End, solve};
 use ap_writer::answer_line;
 use std::alloc::Global;
 
@@ -83,6 +83,7 @@ pub fn print_query<K: Sink>(
     atoms: &Atoms,
     out: &mut K,
 ) -> Result<bool, Halt>
+    requires asked { MayBeAsked program.now query.now }
     ensures lines { Finishes (K.pieces out.old) (K.pieces out.new) (IsQueryBlock bounds.budget bounds.answers program.now atoms.now query.now) result }
     ensures count { SinkCount (K.faults out.old) (K.faults out.new) result }
 {

@@ -8,6 +8,7 @@ ghost use Rattle.ap_term.specs.AtomTable.{fixed_names};
 ghost use Rattle.ap_top.specs.Output.{IsOutput, judged};
 ghost use Rattle.ap_top.specs.Words.{Asked, IsCommand, asked_of};
 ghost use Rattle.ap_top.specs.Ends.{IsAnswering, NamesProgram, ShowsProgram, CodesProgram, IsShowing, SaysNoMemory, SourceEnds, TextEnds, FileEnds, OtherEnds, RunEnds, Whole};
+ghost use Rattle.ap_top.specs.Unasked.{LeavesQuery};
 ghost use Rattle.ap_top.specs.Counts.{EndsSource, RunEndsSource, SourceCount, FilesCount, RunSinkCount, RunSourceCount, RunFilesCount};
 
 use crate::answers::Bounds;
@@ -50,7 +51,8 @@ fn print_text<K: Sink>(
     atoms: &mut Atoms,
     out: &mut K,
 ) -> Result<Tally, Halt>
-    requires { bounds.budget ≤ 2 ^ 54 }
+    requires budget { bounds.budget ≤ 2 ^ 54 }
+    requires query { LeavesQuery program.now atoms.old }
     ensures lines { Finishes (K.pieces out.old) (K.pieces out.new) (IsOutput bounds.budget bounds.answers program.now atoms.old text.now (judged whole text.now)) result }
     ensures count { SinkCount (K.faults out.old) (K.faults out.new) result }
 {
@@ -69,7 +71,8 @@ fn run_source<S: Source, K: Sink>(
     queries: &mut S,
     out: &mut K,
 ) -> Result<Status, Halt>
-    requires { command.now.bounds.budget ≤ 2 ^ 54 }
+    requires budget { command.now.bounds.budget ≤ 2 ^ 54 }
+    requires query { LeavesQuery program.now atoms.old }
     ensures lines { Finishes (K.pieces out.old) (K.pieces out.new) (SourceEnds (asked_of command.now) program.now atoms.old (S.left queries.old) (Rises (S.faults queries.old) (S.faults queries.new))) result }
     ensures sink { SinkCount (K.faults out.old) (K.faults out.new) result }
     ensures source { SourceCount (S.faults queries.old) (S.faults queries.new) result }

@@ -10,7 +10,6 @@ mod closing;
 mod code;
 mod code_words;
 mod command;
-mod model;
 mod patterns;
 mod queries;
 mod refusals;

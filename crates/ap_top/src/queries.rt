@@ -5,6 +5,7 @@ ghost use Rattle.ap_lexer.specs.Piece as lexer;
 ghost use Rattle.ap_outside.specs.Halting.{Finishes, Prints, SinkCount};
 ghost use Rattle.ap_top.specs.Output.{PieceEnds, IsOutput};
 ghost use Rattle.ap_top.specs.Refusals.{refusal_line};
+ghost use Rattle.ap_top.specs.Unasked.{LeavesQuery};
 
 use crate::answers::{Bounds, print_query};
 use crate::refusals::refusal_line;
@@ -42,6 +43,7 @@ fn print_piece<K: Sink>(
     out: &mut K,
 ) -> Result<Tally, Halt>
     requires budget { bounds.budget ≤ 2 ^ 54 }
+    requires query { LeavesQuery program.now atoms.old }
     requires piece { Contains (lexer.pieces text.now) piece.now }
     ensures lines { Finishes (K.pieces out.old) (K.pieces out.new) (PieceEnds bounds.budget bounds.answers program.now atoms.old text.now piece.now) result }
     ensures count { SinkCount (K.faults out.old) (K.faults out.new) result }
@@ -79,6 +81,7 @@ pub fn print_pieces<K: Sink>(
     out: &mut K,
 ) -> Result<Tally, Halt>
     requires budget { bounds.budget ≤ 2 ^ 54 }
+    requires query { LeavesQuery program.now atoms.old }
     requires pieces { All (Contains (lexer.pieces text.now)) pieces.now }
     ensures lines { Finishes (K.pieces out.old) (K.pieces out.new) (IsOutput bounds.budget bounds.answers program.now atoms.old text.now pieces.now) result }
     ensures count { SinkCount (K.faults out.old) (K.faults out.new) result }

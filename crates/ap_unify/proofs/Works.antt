@@ -15,7 +15,8 @@ use Rattle.ap_cells.proofs.Stands.{span-map, one-self}
 use Rattle.ap_unify.specs.declared.unification.Run.{Run}
 use Rattle.ap_cells.specs.Walks.{Each}
 use Rattle.ap_cells.proofs.Walks.{Each-push, Each-pop}
-use Rattle.ap_unify.specs.Works.{IsRun, SolvesRun, SolvesRuns, weight_run, weight_runs, Turn, Turned, IsBound}
+use Rattle.ap_unify.specs.declared.unification.Outcome.{Outcome}
+use Rattle.ap_unify.specs.Works.{IsRun, SolvesRun, SolvesRuns, weight_run, weight_runs, Turn, Turned, IsBound, goes_on, outcome_of, with_args}
 
 pub weight_runs-push : (ts : List Tree) (rs : List Run) (r : Run) → weight_runs ts (rs ++ r ∷ []) ≡ weight_runs ts rs + weight_run ts r
 weight_runs-push ts [] r = omega arith
@@ -156,3 +157,16 @@ pub solve_both : (ts us : List Tree) (rs : List Run) (p q l r n : ℕ) (c d : Ra
 solve_both ts us rs p q l r n c d z i e f g h k m o u =
     turn_ends ts us rs rs p q l r true e f
     (turn_bind ts us rs l r l (tree_at ts r) (subst (λ j. Each (IsRun j) rs) (sym z) i) (g ∙ ap (step ts l) k) refl (ap (occurs l) (h ∙ ap (step ts r) m) ∙ ne_eqb l r o) u)
+
+pub goes_on-outcome_of : (b : Bool) → goes_on (outcome_of b) ≡ b
+goes_on-outcome_of true = refl
+goes_on-outcome_of false = refl
+
+pub with_args-outcome_of : (b : Bool) (rs : List Run) → with_args (outcome_of b) rs ≡ rs
+with_args-outcome_of true rs = refl
+with_args-outcome_of false rs = refl
+
+-- a pair whose place is bound, or can't be
+pub turned_outcome : (ts us : List Tree) (rs : List Run) (p q : ℕ) (b : Bool) (o : Outcome) → o ≡ outcome_of b → Turned ts us rs rs p q b → Turned ts us rs (with_args o rs) p q (goes_on o)
+turned_outcome ts us rs p q true o e t = subst (λ w. Turned ts us rs (with_args w rs) p q (goes_on w)) (sym e) t
+turned_outcome ts us rs p q false o e t = subst (λ w. Turned ts us rs (with_args w rs) p q (goes_on w)) (sym e) t

@@ -1,5 +1,5 @@
 -- Runs of places that are to become equal, and what a unification answers.
-use Rattle.std.specs.Prelude.{◌≡◌, ℕ, zero, suc, ◌+◌, ◌*◌, ◌≤◌, Bool, true, false, List, [], ◌∷◌, map}
+use Rattle.std.specs.Prelude.{◌≡◌, ℕ, zero, suc, ◌+◌, ◌*◌, ◌≤◌, Bool, true, false, List, [], ◌∷◌, ◌++◌, map}
 use Rattle.ap_term.specs.Tree.{Tree}
 use Rattle.ap_term.specs.Substitution.{instance, instance_all, value, one}
 use Rattle.ap_term.specs.Unifier.{Unifies}
@@ -7,6 +7,8 @@ use Rattle.ap_term.specs.Vars.{occurs}
 use Rattle.ap_cells.specs.Trees.{tree_at, span}
 use Rattle.ap_cells.specs.Walks.{Each, weight_all}
 use Rattle.ap_unify.specs.declared.unification.Run.{Run}
+use Rattle.ap_unify.specs.declared.unification.Outcome.{Outcome}
+use Rattle.ap_unify.specs.declared.unification.Outcome.TheVariants.{Apart, Solved, Args}
 
 -- the places lie among the first n
 abbrev pub IsRun : ℕ → Run → Type 0
@@ -54,6 +56,28 @@ pub record Turn (ts us : List Tree) (rs qs : List Run) (p q : ℕ) : Type 0 wher
 abbrev pub Turned : List Tree → List Tree → List Run → List Run → ℕ → ℕ → Bool → Type 0
 Turned ts us rs qs p q true = Turn ts us rs qs p q
 Turned ts us rs qs p q false = (g : ℕ → Tree) → instance g (tree_at ts p) ≡ instance g (tree_at ts q) → ⊥
+
+-- whether the terms of a pair can be equal as far as was looked
+abbrev pub goes_on : Outcome → Bool
+goes_on Apart = false
+goes_on Solved = true
+goes_on (Args r) = true
+
+abbrev pub outcome_of : Bool → Outcome
+outcome_of true = Solved
+outcome_of false = Apart
+
+-- some runs, and the arguments that are left of a pair
+abbrev pub with_args : Outcome → List Run → List Run
+with_args Apart rs = rs
+with_args Solved rs = rs
+with_args (Args r) rs = rs ++ r ∷ []
+
+-- the places of the arguments lie among the first n
+abbrev pub IsLeft : ℕ → Outcome → Type 0
+IsLeft n Apart = Unit {0}
+IsLeft n Solved = Unit {0}
+IsLeft n (Args r) = IsRun n r
 
 -- an unbound place bound to a tree, or not since it stands in it
 abbrev pub IsBound : List Tree → List Tree → ℕ → Tree → Bool → Type 0

@@ -8,6 +8,7 @@ use ap_cells::{Cells, Top, Walk};
 use ap_term::NoMemory;
 
 /// Whether the variable of a place stands in the term of another.
+#[inline(never)]
 pub fn occurs(cells: &Cells, x: usize, place: usize, walk: &mut Walk) -> Result<bool, NoMemory>
     requires { place < length cells.now.cells }
     ensures { IfOk result (λ b. b ≡ occurs x (tree_at (trees cells.now.cells) place)) }

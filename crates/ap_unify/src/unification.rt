@@ -6,13 +6,12 @@ ghost use Rattle.ap_term.specs.Vars.{occurs};
 ghost use Rattle.ap_term.specs.Substitution.{instance_all};
 ghost use Rattle.ap_cells.specs.Trees.{span, tree_at, trees, frees, IsEnd};
 ghost use Rattle.ap_cells.specs.Store.{Keeps};
-ghost use Rattle.ap_cells.specs.Raws.{raw_of};
 ghost use Rattle.ap_cells.specs.Walks.{Each, weight, weight_all};
-ghost use Rattle.ap_unify.specs.Works.{IsRun, weight_runs, turns, Answer, Turned, IsBound, SolvesRuns};
+ghost use Rattle.ap_unify.specs.Works.{IsRun, IsLeft, weight_runs, turns, Answer, Turned, IsBound, SolvesRuns, goes_on, outcome_of, with_args};
 ghost use Rattle.ap_unify.specs.Sides.{Fits};
 
 use crate::occurrences::stands_in;
-use ap_cells::{Cell, Cells, Walk};
+use ap_cells::{Cells, Raw, Walk};
 use ap_term::NoMemory;
 use std::alloc::Global;
 
@@ -48,42 +47,42 @@ enum Sides {
     Right,
     Equal,
     Apart,
-    Args(usize, usize, u32),
+    Args(u32, u32, u32),
 }
 
-fn compared(left: Cell, right: Cell) -> Sides
-    requires { IsEnd (raw_of left) × IsEnd (raw_of right) }
-    ensures { Fits (raw_of left) (raw_of right) result }
+fn compared(left: Raw, right: Raw) -> Sides
+    requires { IsEnd left × IsEnd right }
+    ensures { Fits left right result }
 {
     match left {
-        Cell::Free => match right {
-            Cell::Free => Sides::Both,
-            Cell::Same(_) => Sides::Left,
-            Cell::Int(_) => Sides::Left,
-            Cell::Atom(_) => Sides::Left,
-            Cell::Node(_, _, _) => Sides::Left,
+        Raw::Free => match right {
+            Raw::Free => Sides::Both,
+            Raw::Same(_) => Sides::Left,
+            Raw::Int(_) => Sides::Left,
+            Raw::Atom(_) => Sides::Left,
+            Raw::Node(_, _, _) => Sides::Left,
         },
-        Cell::Same(_) => Sides::Apart,
-        Cell::Int(m) => match right {
-            Cell::Free => Sides::Right,
-            Cell::Same(_) => Sides::Apart,
-            Cell::Int(n) => { if m == n { Sides::Equal } else { Sides::Apart } }
-            Cell::Atom(_) => Sides::Apart,
-            Cell::Node(_, _, _) => Sides::Apart,
+        Raw::Same(_) => Sides::Apart,
+        Raw::Int(m) => match right {
+            Raw::Free => Sides::Right,
+            Raw::Same(_) => Sides::Apart,
+            Raw::Int(n) => { if m == n { Sides::Equal } else { Sides::Apart } }
+            Raw::Atom(_) => Sides::Apart,
+            Raw::Node(_, _, _) => Sides::Apart,
         },
-        Cell::Atom(a) => match right {
-            Cell::Free => Sides::Right,
-            Cell::Same(_) => Sides::Apart,
-            Cell::Int(_) => Sides::Apart,
-            Cell::Atom(b) => { if a == b { Sides::Equal } else { Sides::Apart } }
-            Cell::Node(_, _, _) => Sides::Apart,
+        Raw::Atom(a) => match right {
+            Raw::Free => Sides::Right,
+            Raw::Same(_) => Sides::Apart,
+            Raw::Int(_) => Sides::Apart,
+            Raw::Atom(b) => { if a == b { Sides::Equal } else { Sides::Apart } }
+            Raw::Node(_, _, _) => Sides::Apart,
         },
-        Cell::Node(a, p, m) => match right {
-            Cell::Free => Sides::Right,
-            Cell::Same(_) => Sides::Apart,
-            Cell::Int(_) => Sides::Apart,
-            Cell::Atom(_) => Sides::Apart,
-            Cell::Node(b, q, n) => {
+        Raw::Node(a, p, m) => match right {
+            Raw::Free => Sides::Right,
+            Raw::Same(_) => Sides::Apart,
+            Raw::Int(_) => Sides::Apart,
+            Raw::Atom(_) => Sides::Apart,
+            Raw::Node(b, q, n) => {
                 if a != b {
                     return Sides::Apart;
                 }
@@ -117,19 +116,29 @@ fn bind(cells: &mut Cells, x: usize, to: usize, walk: &mut Walk) -> Result<bool,
     Ok(true)
 }
 
-/// Makes two places that end their chains and aren't one equal, or leaves their arguments to be made equal; false where neither can be.
-fn solve(
-    cells: &mut Cells,
-    left: usize,
-    right: usize,
-    runs: &mut Vec<Run>,
-    walk: &mut Walk,
-) -> Result<bool, NoMemory>
+/// What comes of a pair of places: its terms can't be made equal, they are equal, or their arguments are to become equal.
+enum Outcome {
+    Apart,
+    Solved,
+    Args(Run),
+}
+
+fn outcome_of(bound: bool) -> Outcome
+    ensures { result ≡ outcome_of bound }
+{
+    if bound {
+        Outcome::Solved
+    } else {
+        Outcome::Apart
+    }
+}
+
+/// Makes the terms of two places equal, up to their arguments.
+fn solve(cells: &mut Cells, left: usize, right: usize, walk: &mut Walk) -> Result<Outcome, NoMemory>
     requires inside { (left < length cells.old.cells) × (right < length cells.old.cells) }
-    requires runs { Each (IsRun (length cells.old.cells)) runs.old.items }
-    ensures turned { IfOk result (λ b. Turned (trees cells.old.cells) (trees cells.new.cells) runs.old.items runs.new.items left right b) }
-    ensures less { IfOk result (λ b. b ≡ true → turns (frees cells.new.cells) (weight_runs (trees cells.new.cells) runs.new.items) < turns (frees cells.old.cells) (weight_runs (trees cells.old.cells) runs.old.items + 2 * (weight (tree_at (trees cells.old.cells) left) + weight (tree_at (trees cells.old.cells) right)))) }
-    ensures runs { OnOk result (Each (IsRun (length cells.old.cells)) runs.new.items) }
+    ensures turned { IfOk result (λ o. (rs : List Run) → Each (IsRun (length cells.old.cells)) rs → Turned (trees cells.old.cells) (trees cells.new.cells) rs (with_args o rs) left right (goes_on o)) }
+    ensures less { IfOk result (λ o. (rs : List Run) → Each (IsRun (length cells.old.cells)) rs → goes_on o ≡ true → turns (frees cells.new.cells) (weight_runs (trees cells.new.cells) (with_args o rs)) < turns (frees cells.old.cells) (weight_runs (trees cells.old.cells) rs + 2 * (weight (tree_at (trees cells.old.cells) left) + weight (tree_at (trees cells.old.cells) right)))) }
+    ensures args { IfOk result (λ o. IsLeft (length cells.old.cells) o) }
     ensures len { length cells.new.cells ≡ length cells.old.cells }
     ensures spare { cells.new.spare ≡ cells.old.spare }
     ensures keeps { Keeps cells.old cells.new }
@@ -139,35 +148,45 @@ fn solve(
     let left = cells.deref(left);
     let right = cells.deref(right);
     if left == right {
-        return Ok(true);
+        return Ok(Outcome::Solved);
     }
-    match compared(cells.at(left), cells.at(right)) {
+    match compared(cells.raw_at(left), cells.raw_at(right)) {
         Sides::Both => {
             if left < right {
                 cells.bind(right, left);
-                return Ok(true);
+                return Ok(Outcome::Solved);
             }
             cells.bind(left, right);
-            Ok(true)
+            Ok(Outcome::Solved)
         }
         Sides::Left => {
             let bound = bind(cells, left, right, walk)?;
-            Ok(bound)
+            Ok(outcome_of(bound))
         }
         Sides::Right => {
             let bound = bind(cells, right, left, walk)?;
-            Ok(bound)
+            Ok(outcome_of(bound))
         }
-        Sides::Equal => Ok(true),
-        Sides::Apart => Ok(false),
-        Sides::Args(p, q, n) => {
-            runs.push(Run {
-                left: p as u32,
-                right: q as u32,
-                count: n,
-            })?;
-            Ok(true)
-        }
+        Sides::Equal => Ok(Outcome::Solved),
+        Sides::Apart => Ok(Outcome::Apart),
+        Sides::Args(p, q, n) => Ok(Outcome::Args(Run {
+            left: p,
+            right: q,
+            count: n,
+        })),
+    }
+}
+
+/// The pairs after the first.
+fn behind(run: Run) -> Run
+    requires some { 0 < run.count }
+    requires fits { (run.left + run.count ≤ 4294967295) × (run.right + run.count ≤ 4294967295) }
+    ensures { result ≡ record { left = run.left + 1; right = run.right + 1; count = run.count - 1 } }
+{
+    Run {
+        left: run.left + 1,
+        right: run.right + 1,
+        count: run.count - 1,
     }
 }
 
@@ -181,11 +200,7 @@ fn leave(run: Run, runs: &mut Vec<Run>) -> Result<(), NoMemory>
     ensures runs { OnOk result ((n : ℕ) → IsRun n run → Each (IsRun n) runs.old.items → Each (IsRun n) runs.new.items) }
 {
     if run.count > 1 {
-        runs.push(Run {
-            left: run.left + 1,
-            right: run.right + 1,
-            count: run.count - 1,
-        })?;
+        runs.push(behind(run))?;
     }
     Ok(())
 }
@@ -203,6 +218,8 @@ pub fn unify(cells: &mut Cells, a: usize, b: usize, work: &mut Work) -> Result<b
     solve_all(cells, a, b, &mut work.runs, &mut work.walk)
 }
 
+/// The pairs of one run after another; the run that is gone through isn't on the list, so a single pair, and a list of which
+/// only the last argument goes on, put nothing there.
 fn solve_all(
     cells: &mut Cells,
     a: usize,
@@ -219,18 +236,26 @@ fn solve_all(
 {
     let places = cells.len();
     prove!(a < places);
-    runs.push(Run {
+    let mut pairs = Run {
         left: a as u32,
         right: b as u32,
         count: 1,
-    })?;
-    while let Some(run) = runs.pop() {
-        if run.count > 0 {
-            leave(run, runs)?;
-            if !solve(cells, run.left as usize, run.right as usize, runs, walk)? {
-                return Ok(false);
+    };
+    loop {
+        if pairs.count == 0 {
+            match runs.pop() {
+                Some(next) => pairs = next,
+                None => return Ok(true),
+            }
+        } else {
+            match solve(cells, pairs.left as usize, pairs.right as usize, walk)? {
+                Outcome::Apart => return Ok(false),
+                Outcome::Solved => pairs = behind(pairs),
+                Outcome::Args(args) => {
+                    leave(pairs, runs)?;
+                    pairs = args;
+                }
             }
         }
     }
-    Ok(true)
 }

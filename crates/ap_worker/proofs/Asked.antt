@@ -16,6 +16,7 @@ use Rattle.ap_laws.specs.Plain.{plain_goals, append_trees}
 use Rattle.ap_laws.proofs.Views.{plain_goals-append, plain_goals-instance, plain_goals-opened}
 use Rattle.ap_instr.specs.Runs.{applied}
 use Rattle.ap_instr.specs.StandsFor.{asked, asked_query}
+use Rattle.ap_section.specs.Started.{HasName}
 use Rattle.ap_worker.specs.Asking.{IsOther, AreOthers, BodyIsOther, NeverCalls}
 
 -- ---- goals of other names
@@ -35,12 +36,6 @@ append-other a none us h k = k
 append-other a (more t ts) us h k = (h.0, append-other a ts us h.1 k)
 
 -- ---- no clause of the name can be taken
-
-abbrev HasName : ℕ → Tree → Type 0
-HasName a (var x) = ⊥
-HasName a (int z) = ⊥
-HasName a (atom b) = b ≡ a
-HasName a (node b ts) = b ≡ a
 
 apart : (a : ℕ) (f u : ℕ → Tree) (g h : Tree) → IsOther a g → HasName a h → instance u g ≡ instance u (instance f h) → ⊥
 apart a f u (var x) h o n e = o

@@ -1,4 +1,6 @@
+pub mod Advancing
 pub mod Asked
+pub mod Asks
 pub mod Emitted
 pub mod Reaching
 pub mod SolvedBlocks

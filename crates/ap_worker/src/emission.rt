@@ -65,7 +65,7 @@ pub fn emit_answers<M: Machine, A: Answers, K: Sink>(
     ensures charge { IfOk result (λ end. (p : Program) (q : State) → M.stands machine.old p (q ∷ []) → IsCharge p q (M.budget machine.old) limit (M.spent machine.new) (end_of end)) }
 {
     for _count in 0..limit {
-        let Ok(turn) = machine.advance(alloc) else {
+        let Ok(turn) = machine.advance() else {
             return Err(Halt::NoMemory);
         };
         match turn {

@@ -39,7 +39,7 @@ pub trait Machine {
     ghost answers: { Self → Type 0 };
 
     /// Goes on to the next answer, to the end, or until the budget is spent.
-    fn advance(&mut self, alloc: Global) -> Result<Turn, NoMemory>
+    fn advance(&mut self) -> Result<Turn, NoMemory>
         requires { spent self.old ≤ budget self.old }
         ensures turns { IfOk result (λ t. (p : Program) (ss : List State) → stands self.old p ss
             → (ts : List State) × Turned p (spent self.new - spent self.old) ss ts × stands self.new p ts × StandsAt (budget self.old - spent self.new) ts t) }

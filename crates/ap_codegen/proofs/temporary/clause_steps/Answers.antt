@@ -15,18 +15,21 @@ use Rattle.ap_codegen.proofs.temporary.clause_steps.Goals as goal
 
 pub returns-then-all_fit-clause-code : goal.returns-then-all_fit-clause-code
 returns-then-all_fit-clause-code c =
+    let arity = count_trees (arguments c.args.clause.now.head) in
     let own : steps_of c.as_slice-own.result.now ≡ steps_of c.in_ok-steps.steps.items = ap steps_of c.as_slice-own.ensures.value in
     let f : all_fit c.greatest_of-k.result (steps_of c.in_ok-steps.steps.items) ≡ true = ap (all_fit c.greatest_of-k.result) (sym own) ∙ sym c.all_fit.ensures ∙ c.if-all_fit.true in
     let e : steps_of c.in_ok-moved.moved.items ≡ map (moved c.greatest_of-k.result) (steps_of c.in_ok-steps.steps.items) = c.in_ok-moved.ensures ∙ ap (map (moved c.greatest_of-k.result)) own in
-    subst (IsCodeOf c.args.clause.now) (sym e) (moved_code c.greatest_of-k.result (steps_of c.in_ok-steps.steps.items) c.args.clause.now f c.in_ok-steps.ensures.code)
+    let code = subst (IsCodeOf c.args.clause.now) (sym e) (moved_code c.greatest_of-k.result (steps_of c.in_ok-steps.steps.items) c.args.clause.now f c.in_ok-steps.ensures.code) in
+    let paced = subst (λ q. Paces q (entry arity)) (sym e) (begin_moved c.greatest_of-k.result c.args.clause.now.vars arity (steps_of c.in_ok-steps.steps.items) f c.in_ok-steps.ensures.paced) in
+    c.in_ok-joined.ensures.code c.args.clause.now arity paced code
 
 pub returns-then-all_fit-clause-paced : goal.returns-then-all_fit-clause-paced
 returns-then-all_fit-clause-paced c =
+    let arity = count_trees (arguments c.args.clause.now.head) in
     let own : steps_of c.as_slice-own.result.now ≡ steps_of c.in_ok-steps.steps.items = ap steps_of c.as_slice-own.ensures.value in
     let f : all_fit c.greatest_of-k.result (steps_of c.in_ok-steps.steps.items) ≡ true = ap (all_fit c.greatest_of-k.result) (sym own) ∙ sym c.all_fit.ensures ∙ c.if-all_fit.true in
     let e : steps_of c.in_ok-moved.moved.items ≡ map (moved c.greatest_of-k.result) (steps_of c.in_ok-steps.steps.items) = c.in_ok-moved.ensures ∙ ap (map (moved c.greatest_of-k.result)) own in
-    let arity = count_trees (arguments c.args.clause.now.head) in
-    inl (subst (λ q. Paces q (entry arity)) (sym e) (begin_moved c.greatest_of-k.result c.args.clause.now.vars arity (steps_of c.in_ok-steps.steps.items) f c.in_ok-steps.ensures.paced))
+    inl (c.in_ok-joined.ensures.paced arity (subst (λ q. Paces q (entry arity)) (sym e) (begin_moved c.greatest_of-k.result c.args.clause.now.vars arity (steps_of c.in_ok-steps.steps.items) f c.in_ok-steps.ensures.paced)))
 
 pub returns-clause-code : goal.returns-clause-code
 returns-clause-code c =

@@ -1,6 +1,6 @@
 use Rattle.std.proofs.Common.{◌≡◌, drop}
-use Rattle.ap_fixpoint.specs.Fix.{joined_all}
+use Rattle.ap_fixpoint.specs.Rounds.{joined_at}
 use Rattle.ap_fixpoint.proofs.sums.united.Given as goal
 
-abbrev pub invariant-loop-g : goal.invariant-loop-g
-invariant-loop-g l = joined_all l.slot l.sum (drop l.g-index l.given) ≡ joined_all l.slot l.initial.sum l.given
+abbrev pub invariant-loop-number : goal.invariant-loop-number
+invariant-loop-number l = joined_at l.given (drop l.number-index l.numbers) l.sum ≡ joined_at l.given l.numbers l.initial.sum

@@ -1,6 +1,8 @@
 use Rattle.std.proofs.Common.{ap, sym, ◌∙◌}
 use Rattle.ap_patterns.specs.Given.{patterns}
 use Rattle.ap_patterns.specs.Covered.{is_covered}
+use Rattle.ap_fixpoint.specs.Fix.{kept}
+use Rattle.ap_fixpoint.specs.Rounds.{joined_at}
 use Rattle.ap_fixpoint.proofs.Stepping.{step-covered, step-put}
 use Rattle.ap_fixpoint.proofs.tables.unite.Goals as goal
 
@@ -11,4 +13,5 @@ returns-then-is_covered-clause-table c =
 pub returns-clause-table : goal.returns-clause-table
 returns-clause-table c =
     step-put c.args.given.now c.args.g.now (patterns c.args.table.now) (patterns c.put.new.table) c.in_ok-now.now c.pattern_at-was.result.now
-    (ap (is_covered c.args.g.now.pattern) (sym c.pattern_at-was.ensures) ∙ sym c.is_covered.ensures ∙ c.if-is_covered.false) c.pattern_at-was.ensures c.in_ok-now.ensures c.in_ok-put.ensures
+    (ap (is_covered c.args.g.now.pattern) (sym c.pattern_at-was.ensures) ∙ sym c.is_covered.ensures ∙ c.if-is_covered.false) c.pattern_at-was.ensures
+    (c.in_ok-now.ensures ∙ ap kept (ap (λ ns. joined_at c.args.given.now ns c.pattern_at-was.result.now) c.at.ensures ∙ c.requires c.args.g.now.slot c.pattern_at-was.result.now)) c.in_ok-put.ensures

@@ -51,7 +51,7 @@ returns-in_ok-got-in-GetStructure-clause-taken c =
     subst (λ i. StepTaken c.args.code.now (step_of c.args.code.now i) c.args.at (arguments_of i) c.args.cells.now.cells (held c.args.x.now) (held c.args.y.now) c.get_structure.new.cells.cells (held c.get_structure.new.x) (held c.get_structure.new.y) c.in_ok-got-in-GetStructure.got) (sym c.in-GetStructure.is)
     c.in_ok-got-in-GetStructure.ensures.taken
 
-pub returns-in_ok-built-in-PutStructure-clause-taken : goal.returns-in_ok-built-in-PutStructure-clause-taken
-returns-in_ok-built-in-PutStructure-clause-taken c =
-    subst (λ i. StepTaken c.args.code.now (step_of c.args.code.now i) c.args.at (arguments_of i) c.args.cells.now.cells (held c.args.x.now) (held c.args.y.now) c.put_structure.new.cells.cells (held c.put_structure.new.x) (held c.put_structure.new.y) c.in_ok-built-in-PutStructure.built) (sym c.in-PutStructure.is)
-    c.in_ok-built-in-PutStructure.ensures.taken
+pub returns-in-PutStructure-clause-taken : goal.returns-in-PutStructure-clause-taken
+returns-in-PutStructure-clause-taken c =
+    subst (λ i. StepTaken c.args.code.now (step_of c.args.code.now i) c.args.at (arguments_of i) c.args.cells.now.cells (held c.args.x.now) (held c.args.y.now) c.put_structure.new.cells.cells (held c.put_structure.new.x) (held c.put_structure.new.y) c.put_structure.result) (sym c.in-PutStructure.is)
+    c.put_structure.ensures.taken

@@ -1,4 +1,4 @@
-use Rattle.std.proofs.Common.{◌≡◌, [], ◌∷◌, Err, subst, ◌∙◌, rules}
+use Rattle.std.proofs.Common.{◌≡◌, [], ◌∷◌, length, Err, refl, subst, ◌∙◌, arith, rules}
 use Rattle.ap_outside.specs.Faults.{Rises}
 use Rattle.ap_outside.proofs.Puts.{puts_map}
 use Rattle.ap_outside.proofs.Halts.{finishes_map, passes_halt}
@@ -11,7 +11,16 @@ use Rattle.ap_top.specs.Ends.{SourceEnds, TextEnds}
 use Rattle.ap_top.specs.declared.status.Status.TheVariants as status
 use Rattle.ap_top.proofs.Layers.{text_refused}
 use Rattle.ap_top.proofs.Pieces.{refused}
+use Rattle.ap_top.proofs.Uncalled.{program-leaves}
 use Rattle.ap_top.proofs.command.run_text.Goals as goal
+
+pub run_source-requires-clause-query : goal.run_source-requires-clause-query
+run_source-requires-clause-query g c κs within =
+    let text = c.args.text.now in
+    let program = c.in-Ok-program.program in
+    let table = c.program.new.atoms in
+    let count : length fixed_names ≡ 84 = refl in
+    program-leaves text fixed_names program table (omega arith) (subst (λ t. AcceptsProgram text t program table) c.in-Ok.ensures c.in-Ok-program.ensures.accepts)
 
 pub returns-in-Ok-program-clause-lines : goal.returns-in-Ok-program-clause-lines
 returns-in-Ok-program-clause-lines g c =

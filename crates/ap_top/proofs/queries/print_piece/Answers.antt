@@ -7,8 +7,12 @@ use Rattle.ap_top.specs.Output.{IsQueryBlock, PieceEnds}
 use Rattle.ap_top.specs.Refusals.{refusal_line}
 use Rattle.ap_top.specs.Status.{tally}
 use Rattle.ap_top.proofs.Grown.{grown}
+use Rattle.ap_top.proofs.Uncalled.{query-may-be-asked}
 use Rattle.ap_top.proofs.Pieces.{refused, block_ends, some_block_ends, refusal_ends, some_refusal_ends, cut_back, cut_within}
 use Rattle.ap_top.proofs.queries.print_piece.Goals as goal
+
+pub print_query-requires-clause-asked : goal.print_query-requires-clause-asked
+print_query-requires-clause-asked g c κs within = query-may-be-asked c.args.text.now c.args.piece.now c.args.program.now c.args.atoms.now c.in-Ok.query c.query.new.atoms c.requires.query c.in-Ok.ensures.accepts
 
 pub cut_to-requires : goal.cut_to-requires
 cut_to-requires g c = cut_within c.args.atoms.now c.query.new.atoms c.mark-mark.result (grown c.args.text.now c.args.piece.now c.args.program.now c.args.atoms.now c.in-Ok.query c.query.new.atoms c.in-Ok.ensures.accepts) c.mark-mark.ensures.mark

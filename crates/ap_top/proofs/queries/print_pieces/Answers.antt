@@ -1,13 +1,17 @@
-use Rattle.std.proofs.Common.{◌≡◌, false, take, get_or, None, Err, subst, rules}
+use Rattle.std.proofs.Common.{◌≡◌, false, take, get_or, None, Err, sym, subst, rules}
 use Rattle.ap_lexer.specs.declared.cut.Piece.{Piece}
 use Rattle.ap_outside.specs.Pieces.{Puts}
 use Rattle.ap_outside.specs.Halting.{Finishes}
 use Rattle.ap_outside.proofs.Puts.{puts_then}
 use Rattle.ap_outside.proofs.Halts.{passes_on}
 use Rattle.ap_top.specs.Output.{PieceEnds, IsOutput}
+use Rattle.ap_top.specs.Unasked.{LeavesQuery}
 use Rattle.ap_top.specs.declared.status.Tally.{Tally}
 use Rattle.ap_top.proofs.Outputs.{goes_on, stops, one_more}
 use Rattle.ap_top.proofs.queries.print_pieces.Goals as goal
+
+pub print_piece-requires-clause-query : goal.print_piece-requires-clause-query
+print_piece-requires-clause-query g c κs within = subst (LeavesQuery c.args.program.now) (sym c.loop-piece.invariant.table) c.requires.query
 
 pub returns-in_err-here-clause-lines : goal.returns-in_err-here-clause-lines
 returns-in_err-here-clause-lines g c =

@@ -1,24 +1,22 @@
-use Rattle.std.proofs.Common.{◌≡◌, ◌+◌, ◌*◌, ◌<◌, true, length, refl, sym, ap, ◌∙◌, subst, arith}
+use Rattle.std.proofs.Common.{◌≡◌, ◌+◌, ◌*◌, true, length, refl, sym, ap, ◌∙◌, arith}
 use Rattle.ap_term.specs.Vars.{occurs}
 use Rattle.std.proofs.lemmas.Bool.{ne_eqb}
 use Rattle.ap_cells.specs.Trees.{tree_at, trees, step, frees}
-use Rattle.ap_cells.specs.Raws.{raw_of}
 use Rattle.ap_cells.proofs.Rounds.{trees-length}
 use Rattle.ap_unify.specs.declared.unification.Run.{Run}
 use Rattle.ap_cells.specs.Walks.{weight}
 use Rattle.ap_cells.proofs.Walks.{weight-some}
-use Rattle.ap_unify.specs.Works.{weight_runs, turns, Turn}
-use Rattle.ap_unify.proofs.Works.{turn_same, turn_back, turn_node, solve_left, solve_right, solve_both}
+use Rattle.ap_unify.specs.Works.{weight_runs, goes_on, with_args}
+use Rattle.ap_unify.proofs.Works.{turn_same, turn_back, turn_node, solve_left, solve_right, solve_both, turned_outcome, goes_on-outcome_of, with_args-outcome_of}
 use Rattle.ap_unify.proofs.Weights.{less_bound, less_args, turns-lt}
 use Rattle.ap_unify.proofs.unification.solve.Goals as goal
 
 pub compared-requires : goal.compared-requires
-compared-requires c = (rw (c.at.ensures.cell (raw_of c.at.result)) (c.deref-left.ensures.end (raw_of c.at.result)), rw (c.at-2.ensures.cell (raw_of c.at-2.result)) (c.deref-right.ensures.end (raw_of c.at-2.result)))
+compared-requires c = (rw (c.raw_at.ensures.cell c.raw_at.result) (c.deref-left.ensures.end c.raw_at.result), rw (c.raw_at-2.ensures.cell c.raw_at-2.result) (c.deref-right.ensures.end c.raw_at-2.result))
 
 pub returns-then-left-right-clause-turned : goal.returns-then-left-right-clause-turned
-returns-then-left-right-clause-turned c =
+returns-then-left-right-clause-turned c = λ rs i.
     let ts = trees c.args.cells.now.cells in
-    let rs = c.args.runs.now.items in
     let n = length c.args.cells.now.cells in
     let p = c.args.left in
     let q = c.args.right in
@@ -29,9 +27,8 @@ returns-then-left-right-clause-turned c =
     turn_same ts rs p q (sym e ∙ ap (tree_at ts) c.if-left-right.true ∙ f)
 
 pub returns-then-left-right-clause-less : goal.returns-then-left-right-clause-less
-returns-then-left-right-clause-less c = λ b.
+returns-then-left-right-clause-less c = λ rs i b.
     let ts = trees c.args.cells.now.cells in
-    let rs = c.args.runs.now.items in
     let n = length c.args.cells.now.cells in
     let p = c.args.left in
     let q = c.args.right in
@@ -43,9 +40,8 @@ returns-then-left-right-clause-less c = λ b.
     turns-lt (frees c.args.cells.now.cells) (weight_runs ts rs) (weight_runs ts rs + 2 * (weight (tree_at ts p) + weight (tree_at ts q))) (omega arith)
 
 pub returns-in-Equal-clause-turned : goal.returns-in-Equal-clause-turned
-returns-in-Equal-clause-turned c =
+returns-in-Equal-clause-turned c = λ rs i.
     let ts = trees c.args.cells.now.cells in
-    let rs = c.args.runs.now.items in
     let n = length c.args.cells.now.cells in
     let p = c.args.left in
     let q = c.args.right in
@@ -53,15 +49,14 @@ returns-in-Equal-clause-turned c =
     let r = c.deref-right.result in
     let e : tree_at ts l ≡ tree_at ts p = c.deref-left.ensures.tree in
     let f : tree_at ts r ≡ tree_at ts q = c.deref-right.ensures.tree in
-    let g : tree_at ts l ≡ step ts l (raw_of c.at.result) = c.at.ensures.tree in
-    let h : tree_at ts r ≡ step ts r (raw_of c.at-2.result) = c.at-2.ensures.tree in
+    let g : tree_at ts l ≡ step ts l c.raw_at.result = c.raw_at.ensures.tree in
+    let h : tree_at ts r ≡ step ts r c.raw_at-2.result = c.raw_at-2.ensures.tree in
     let z : length ts ≡ n = trees-length c.args.cells.now.cells in
     turn_same ts rs p q (sym e ∙ g ∙ c.in-Equal.ensures ts l r ∙ sym h ∙ f)
 
 pub returns-in-Equal-clause-less : goal.returns-in-Equal-clause-less
-returns-in-Equal-clause-less c = λ b.
+returns-in-Equal-clause-less c = λ rs i b.
     let ts = trees c.args.cells.now.cells in
-    let rs = c.args.runs.now.items in
     let n = length c.args.cells.now.cells in
     let p = c.args.left in
     let q = c.args.right in
@@ -73,9 +68,8 @@ returns-in-Equal-clause-less c = λ b.
     turns-lt (frees c.args.cells.now.cells) (weight_runs ts rs) (weight_runs ts rs + 2 * (weight (tree_at ts p) + weight (tree_at ts q))) (omega arith)
 
 pub returns-then-left-right-2-clause-turned : goal.returns-then-left-right-2-clause-turned
-returns-then-left-right-2-clause-turned c =
+returns-then-left-right-2-clause-turned c = λ rs i.
     let ts = trees c.args.cells.now.cells in
-    let rs = c.args.runs.now.items in
     let n = length c.args.cells.now.cells in
     let p = c.args.left in
     let q = c.args.right in
@@ -83,17 +77,16 @@ returns-then-left-right-2-clause-turned c =
     let r = c.deref-right.result in
     let e : tree_at ts l ≡ tree_at ts p = c.deref-left.ensures.tree in
     let f : tree_at ts r ≡ tree_at ts q = c.deref-right.ensures.tree in
-    let g : tree_at ts l ≡ step ts l (raw_of c.at.result) = c.at.ensures.tree in
-    let h : tree_at ts r ≡ step ts r (raw_of c.at-2.result) = c.at-2.ensures.tree in
+    let g : tree_at ts l ≡ step ts l c.raw_at.result = c.raw_at.ensures.tree in
+    let h : tree_at ts r ≡ step ts r c.raw_at-2.result = c.raw_at-2.ensures.tree in
     let z : length ts ≡ n = trees-length c.args.cells.now.cells in
     let us = trees c.bind.new.self.cells in
     turn_back ts us rs rs q p
-    (solve_both ts us rs q p r l n (raw_of c.at-2.result) (raw_of c.at.result) z c.requires.runs f e h g c.in-Both.ensures.1 c.in-Both.ensures.0 (λ k. c.if-left-right.false (sym k)) c.bind.ensures.trees)
+    (solve_both ts us rs q p r l n c.raw_at-2.result c.raw_at.result z i f e h g c.in-Both.ensures.1 c.in-Both.ensures.0 (λ k. c.if-left-right.false (sym k)) c.bind.ensures.trees)
 
 pub returns-then-left-right-2-clause-less : goal.returns-then-left-right-2-clause-less
-returns-then-left-right-2-clause-less c = λ b.
+returns-then-left-right-2-clause-less c = λ rs i b.
     let ts = trees c.args.cells.now.cells in
-    let rs = c.args.runs.now.items in
     let n = length c.args.cells.now.cells in
     let p = c.args.left in
     let q = c.args.right in
@@ -101,18 +94,17 @@ returns-then-left-right-2-clause-less c = λ b.
     let r = c.deref-right.result in
     let e : tree_at ts l ≡ tree_at ts p = c.deref-left.ensures.tree in
     let f : tree_at ts r ≡ tree_at ts q = c.deref-right.ensures.tree in
-    let g : tree_at ts l ≡ step ts l (raw_of c.at.result) = c.at.ensures.tree in
-    let h : tree_at ts r ≡ step ts r (raw_of c.at-2.result) = c.at-2.ensures.tree in
+    let g : tree_at ts l ≡ step ts l c.raw_at.result = c.raw_at.ensures.tree in
+    let h : tree_at ts r ≡ step ts r c.raw_at-2.result = c.raw_at-2.ensures.tree in
     let z : length ts ≡ n = trees-length c.args.cells.now.cells in
     let us = trees c.bind.new.self.cells in
     let w = ap weight e in
-    less_bound (frees c.bind.new.self.cells) (frees c.args.cells.now.cells) r n (weight (tree_at ts p)) (weight (tree_at ts q)) ts us rs (tree_at ts l) true z c.requires.runs refl
+    less_bound (frees c.bind.new.self.cells) (frees c.args.cells.now.cells) r n (weight (tree_at ts p)) (weight (tree_at ts q)) ts us rs (tree_at ts l) true z i refl
     (ap (occurs r) (g ∙ ap (step ts l) c.in-Both.ensures.0) ∙ ne_eqb r l (λ k. c.if-left-right.false (sym k)), c.bind.ensures.trees) (λ k. c.bind.ensures.fewer) (omega arith)
 
 pub returns-else-left-right-2-clause-turned : goal.returns-else-left-right-2-clause-turned
-returns-else-left-right-2-clause-turned c =
+returns-else-left-right-2-clause-turned c = λ rs i.
     let ts = trees c.args.cells.now.cells in
-    let rs = c.args.runs.now.items in
     let n = length c.args.cells.now.cells in
     let p = c.args.left in
     let q = c.args.right in
@@ -120,16 +112,15 @@ returns-else-left-right-2-clause-turned c =
     let r = c.deref-right.result in
     let e : tree_at ts l ≡ tree_at ts p = c.deref-left.ensures.tree in
     let f : tree_at ts r ≡ tree_at ts q = c.deref-right.ensures.tree in
-    let g : tree_at ts l ≡ step ts l (raw_of c.at.result) = c.at.ensures.tree in
-    let h : tree_at ts r ≡ step ts r (raw_of c.at-2.result) = c.at-2.ensures.tree in
+    let g : tree_at ts l ≡ step ts l c.raw_at.result = c.raw_at.ensures.tree in
+    let h : tree_at ts r ≡ step ts r c.raw_at-2.result = c.raw_at-2.ensures.tree in
     let z : length ts ≡ n = trees-length c.args.cells.now.cells in
     let us = trees c.bind-in-Both.new.self.cells in
-    solve_both ts us rs p q l r n (raw_of c.at.result) (raw_of c.at-2.result) z c.requires.runs e f g h c.in-Both.ensures.0 c.in-Both.ensures.1 c.if-left-right.false c.bind-in-Both.ensures.trees
+    solve_both ts us rs p q l r n c.raw_at.result c.raw_at-2.result z i e f g h c.in-Both.ensures.0 c.in-Both.ensures.1 c.if-left-right.false c.bind-in-Both.ensures.trees
 
 pub returns-else-left-right-2-clause-less : goal.returns-else-left-right-2-clause-less
-returns-else-left-right-2-clause-less c = λ b.
+returns-else-left-right-2-clause-less c = λ rs i b.
     let ts = trees c.args.cells.now.cells in
-    let rs = c.args.runs.now.items in
     let n = length c.args.cells.now.cells in
     let p = c.args.left in
     let q = c.args.right in
@@ -137,18 +128,17 @@ returns-else-left-right-2-clause-less c = λ b.
     let r = c.deref-right.result in
     let e : tree_at ts l ≡ tree_at ts p = c.deref-left.ensures.tree in
     let f : tree_at ts r ≡ tree_at ts q = c.deref-right.ensures.tree in
-    let g : tree_at ts l ≡ step ts l (raw_of c.at.result) = c.at.ensures.tree in
-    let h : tree_at ts r ≡ step ts r (raw_of c.at-2.result) = c.at-2.ensures.tree in
+    let g : tree_at ts l ≡ step ts l c.raw_at.result = c.raw_at.ensures.tree in
+    let h : tree_at ts r ≡ step ts r c.raw_at-2.result = c.raw_at-2.ensures.tree in
     let z : length ts ≡ n = trees-length c.args.cells.now.cells in
     let us = trees c.bind-in-Both.new.self.cells in
     let w = ap weight f in
-    less_bound (frees c.bind-in-Both.new.self.cells) (frees c.args.cells.now.cells) l n (weight (tree_at ts p)) (weight (tree_at ts q)) ts us rs (tree_at ts r) true z c.requires.runs refl
+    less_bound (frees c.bind-in-Both.new.self.cells) (frees c.args.cells.now.cells) l n (weight (tree_at ts p)) (weight (tree_at ts q)) ts us rs (tree_at ts r) true z i refl
     (ap (occurs l) (h ∙ ap (step ts r) c.in-Both.ensures.1) ∙ ne_eqb l r c.if-left-right.false, c.bind-in-Both.ensures.trees) (λ k. c.bind-in-Both.ensures.fewer) (omega arith)
 
 pub returns-in_ok-bound-in-Left-clause-turned : goal.returns-in_ok-bound-in-Left-clause-turned
-returns-in_ok-bound-in-Left-clause-turned c =
+returns-in_ok-bound-in-Left-clause-turned c = λ rs i.
     let ts = trees c.args.cells.now.cells in
-    let rs = c.args.runs.now.items in
     let n = length c.args.cells.now.cells in
     let p = c.args.left in
     let q = c.args.right in
@@ -156,16 +146,16 @@ returns-in_ok-bound-in-Left-clause-turned c =
     let r = c.deref-right.result in
     let e : tree_at ts l ≡ tree_at ts p = c.deref-left.ensures.tree in
     let f : tree_at ts r ≡ tree_at ts q = c.deref-right.ensures.tree in
-    let g : tree_at ts l ≡ step ts l (raw_of c.at.result) = c.at.ensures.tree in
-    let h : tree_at ts r ≡ step ts r (raw_of c.at-2.result) = c.at-2.ensures.tree in
+    let g : tree_at ts l ≡ step ts l c.raw_at.result = c.raw_at.ensures.tree in
+    let h : tree_at ts r ≡ step ts r c.raw_at-2.result = c.raw_at-2.ensures.tree in
     let z : length ts ≡ n = trees-length c.args.cells.now.cells in
     let us = trees c.bind-in-Left.new.cells.cells in
-    solve_left ts us rs p q l r n (raw_of c.at.result) (raw_of c.at-2.result) c.in_ok-bound-in-Left.bound z c.requires.runs e f g h c.in-Left.ensures.0 c.in-Left.ensures.1 c.in_ok-bound-in-Left.ensures.bound
+    turned_outcome ts us rs p q c.in_ok-bound-in-Left.bound c.outcome_of.result c.outcome_of.ensures
+    (solve_left ts us rs p q l r n c.raw_at.result c.raw_at-2.result c.in_ok-bound-in-Left.bound z i e f g h c.in-Left.ensures.0 c.in-Left.ensures.1 c.in_ok-bound-in-Left.ensures.bound)
 
 pub returns-in_ok-bound-in-Left-clause-less : goal.returns-in_ok-bound-in-Left-clause-less
-returns-in_ok-bound-in-Left-clause-less c = λ b.
+returns-in_ok-bound-in-Left-clause-less c = λ rs i b.
     let ts = trees c.args.cells.now.cells in
-    let rs = c.args.runs.now.items in
     let n = length c.args.cells.now.cells in
     let p = c.args.left in
     let q = c.args.right in
@@ -173,18 +163,20 @@ returns-in_ok-bound-in-Left-clause-less c = λ b.
     let r = c.deref-right.result in
     let e : tree_at ts l ≡ tree_at ts p = c.deref-left.ensures.tree in
     let f : tree_at ts r ≡ tree_at ts q = c.deref-right.ensures.tree in
-    let g : tree_at ts l ≡ step ts l (raw_of c.at.result) = c.at.ensures.tree in
-    let h : tree_at ts r ≡ step ts r (raw_of c.at-2.result) = c.at-2.ensures.tree in
+    let g : tree_at ts l ≡ step ts l c.raw_at.result = c.raw_at.ensures.tree in
+    let h : tree_at ts r ≡ step ts r c.raw_at-2.result = c.raw_at-2.ensures.tree in
     let z : length ts ≡ n = trees-length c.args.cells.now.cells in
     let us = trees c.bind-in-Left.new.cells.cells in
     let w = ap weight f in
-    less_bound (frees c.bind-in-Left.new.cells.cells) (frees c.args.cells.now.cells) l n (weight (tree_at ts p)) (weight (tree_at ts q)) ts us rs (tree_at ts r) c.in_ok-bound-in-Left.bound z c.requires.runs b
-    c.in_ok-bound-in-Left.ensures.bound c.in_ok-bound-in-Left.ensures.fewer (omega arith)
+    let k : goes_on c.outcome_of.result ≡ c.in_ok-bound-in-Left.bound = ap goes_on c.outcome_of.ensures ∙ goes_on-outcome_of c.in_ok-bound-in-Left.bound in
+    let j : with_args c.outcome_of.result rs ≡ rs = ap (λ o. with_args o rs) c.outcome_of.ensures ∙ with_args-outcome_of c.in_ok-bound-in-Left.bound rs in
+    rw j
+    (less_bound (frees c.bind-in-Left.new.cells.cells) (frees c.args.cells.now.cells) l n (weight (tree_at ts p)) (weight (tree_at ts q)) ts us rs (tree_at ts r) c.in_ok-bound-in-Left.bound z i (sym k ∙ b)
+    c.in_ok-bound-in-Left.ensures.bound c.in_ok-bound-in-Left.ensures.fewer (omega arith))
 
 pub returns-in_ok-bound-in-Right-clause-turned : goal.returns-in_ok-bound-in-Right-clause-turned
-returns-in_ok-bound-in-Right-clause-turned c =
+returns-in_ok-bound-in-Right-clause-turned c = λ rs i.
     let ts = trees c.args.cells.now.cells in
-    let rs = c.args.runs.now.items in
     let n = length c.args.cells.now.cells in
     let p = c.args.left in
     let q = c.args.right in
@@ -192,16 +184,16 @@ returns-in_ok-bound-in-Right-clause-turned c =
     let r = c.deref-right.result in
     let e : tree_at ts l ≡ tree_at ts p = c.deref-left.ensures.tree in
     let f : tree_at ts r ≡ tree_at ts q = c.deref-right.ensures.tree in
-    let g : tree_at ts l ≡ step ts l (raw_of c.at.result) = c.at.ensures.tree in
-    let h : tree_at ts r ≡ step ts r (raw_of c.at-2.result) = c.at-2.ensures.tree in
+    let g : tree_at ts l ≡ step ts l c.raw_at.result = c.raw_at.ensures.tree in
+    let h : tree_at ts r ≡ step ts r c.raw_at-2.result = c.raw_at-2.ensures.tree in
     let z : length ts ≡ n = trees-length c.args.cells.now.cells in
     let us = trees c.bind-in-Right.new.cells.cells in
-    solve_right ts us rs p q l r n (raw_of c.at.result) (raw_of c.at-2.result) c.in_ok-bound-in-Right.bound z c.requires.runs e f g h c.in-Right.ensures.0 c.in-Right.ensures.1 c.in_ok-bound-in-Right.ensures.bound
+    turned_outcome ts us rs p q c.in_ok-bound-in-Right.bound c.outcome_of-in-Right.result c.outcome_of-in-Right.ensures
+    (solve_right ts us rs p q l r n c.raw_at.result c.raw_at-2.result c.in_ok-bound-in-Right.bound z i e f g h c.in-Right.ensures.0 c.in-Right.ensures.1 c.in_ok-bound-in-Right.ensures.bound)
 
 pub returns-in_ok-bound-in-Right-clause-less : goal.returns-in_ok-bound-in-Right-clause-less
-returns-in_ok-bound-in-Right-clause-less c = λ b.
+returns-in_ok-bound-in-Right-clause-less c = λ rs i b.
     let ts = trees c.args.cells.now.cells in
-    let rs = c.args.runs.now.items in
     let n = length c.args.cells.now.cells in
     let p = c.args.left in
     let q = c.args.right in
@@ -209,18 +201,20 @@ returns-in_ok-bound-in-Right-clause-less c = λ b.
     let r = c.deref-right.result in
     let e : tree_at ts l ≡ tree_at ts p = c.deref-left.ensures.tree in
     let f : tree_at ts r ≡ tree_at ts q = c.deref-right.ensures.tree in
-    let g : tree_at ts l ≡ step ts l (raw_of c.at.result) = c.at.ensures.tree in
-    let h : tree_at ts r ≡ step ts r (raw_of c.at-2.result) = c.at-2.ensures.tree in
+    let g : tree_at ts l ≡ step ts l c.raw_at.result = c.raw_at.ensures.tree in
+    let h : tree_at ts r ≡ step ts r c.raw_at-2.result = c.raw_at-2.ensures.tree in
     let z : length ts ≡ n = trees-length c.args.cells.now.cells in
     let us = trees c.bind-in-Right.new.cells.cells in
     let w = ap weight e in
-    less_bound (frees c.bind-in-Right.new.cells.cells) (frees c.args.cells.now.cells) r n (weight (tree_at ts p)) (weight (tree_at ts q)) ts us rs (tree_at ts l) c.in_ok-bound-in-Right.bound z c.requires.runs b
-    c.in_ok-bound-in-Right.ensures.bound c.in_ok-bound-in-Right.ensures.fewer (omega arith)
+    let k : goes_on c.outcome_of-in-Right.result ≡ c.in_ok-bound-in-Right.bound = ap goes_on c.outcome_of-in-Right.ensures ∙ goes_on-outcome_of c.in_ok-bound-in-Right.bound in
+    let j : with_args c.outcome_of-in-Right.result rs ≡ rs = ap (λ o. with_args o rs) c.outcome_of-in-Right.ensures ∙ with_args-outcome_of c.in_ok-bound-in-Right.bound rs in
+    rw j
+    (less_bound (frees c.bind-in-Right.new.cells.cells) (frees c.args.cells.now.cells) r n (weight (tree_at ts p)) (weight (tree_at ts q)) ts us rs (tree_at ts l) c.in_ok-bound-in-Right.bound z i (sym k ∙ b)
+    c.in_ok-bound-in-Right.ensures.bound c.in_ok-bound-in-Right.ensures.fewer (omega arith))
 
-pub returns-in_ok-push-in-Args-clause-turned : goal.returns-in_ok-push-in-Args-clause-turned
-returns-in_ok-push-in-Args-clause-turned c =
+pub returns-in-Args-clause-turned : goal.returns-in-Args-clause-turned
+returns-in-Args-clause-turned c = λ rs i.
     let ts = trees c.args.cells.now.cells in
-    let rs = c.args.runs.now.items in
     let n = length c.args.cells.now.cells in
     let p = c.args.left in
     let q = c.args.right in
@@ -228,20 +222,18 @@ returns-in_ok-push-in-Args-clause-turned c =
     let r = c.deref-right.result in
     let e : tree_at ts l ≡ tree_at ts p = c.deref-left.ensures.tree in
     let f : tree_at ts r ≡ tree_at ts q = c.deref-right.ensures.tree in
-    let g : tree_at ts l ≡ step ts l (raw_of c.at.result) = c.at.ensures.tree in
-    let h : tree_at ts r ≡ step ts r (raw_of c.at-2.result) = c.at-2.ensures.tree in
+    let g : tree_at ts l ≡ step ts l c.raw_at.result = c.raw_at.ensures.tree in
+    let h : tree_at ts r ≡ step ts r c.raw_at-2.result = c.raw_at-2.ensures.tree in
     let z : length ts ≡ n = trees-length c.args.cells.now.cells in
     let a = c.in-Args.ensures.0 in
-    let i = c.in-Args.p in
-    let j = c.in-Args.q in
+    let x = c.in-Args.p in
+    let y = c.in-Args.q in
     let m = c.in-Args.n in
-    subst (λ qs. Turn ts ts rs qs p q) (sym c.in_ok-push-in-Args.ensures.items)
-    (turn_node ts rs p q a i j m (sym e ∙ g ∙ ap (step ts l) c.in-Args.ensures.1) (sym f ∙ h ∙ ap (step ts r) c.in-Args.ensures.2))
+    turn_node ts rs p q a x y m (sym e ∙ g ∙ ap (step ts l) c.in-Args.ensures.1) (sym f ∙ h ∙ ap (step ts r) c.in-Args.ensures.2)
 
-pub returns-in_ok-push-in-Args-clause-less : goal.returns-in_ok-push-in-Args-clause-less
-returns-in_ok-push-in-Args-clause-less c = λ b.
+pub returns-in-Args-clause-less : goal.returns-in-Args-clause-less
+returns-in-Args-clause-less c = λ rs i b.
     let ts = trees c.args.cells.now.cells in
-    let rs = c.args.runs.now.items in
     let n = length c.args.cells.now.cells in
     let p = c.args.left in
     let q = c.args.right in
@@ -249,10 +241,9 @@ returns-in_ok-push-in-Args-clause-less c = λ b.
     let r = c.deref-right.result in
     let e : tree_at ts l ≡ tree_at ts p = c.deref-left.ensures.tree in
     let f : tree_at ts r ≡ tree_at ts q = c.deref-right.ensures.tree in
-    let g : tree_at ts l ≡ step ts l (raw_of c.at.result) = c.at.ensures.tree in
-    let h : tree_at ts r ≡ step ts r (raw_of c.at-2.result) = c.at-2.ensures.tree in
+    let g : tree_at ts l ≡ step ts l c.raw_at.result = c.raw_at.ensures.tree in
+    let h : tree_at ts r ≡ step ts r c.raw_at-2.result = c.raw_at-2.ensures.tree in
     let z : length ts ≡ n = trees-length c.args.cells.now.cells in
     let x = frees c.args.cells.now.cells in
     let k : Run = record { left = c.in-Args.p; right = c.in-Args.q; count = c.in-Args.n } in
-    subst (λ qs. turns x (weight_runs ts qs) < turns x (weight_runs ts rs + 2 * (weight (tree_at ts p) + weight (tree_at ts q)))) (sym c.in_ok-push-in-Args.ensures.items)
-    (less_args x x ts ts rs k (weight (tree_at ts p)) (weight (tree_at ts q)) refl refl (sym (ap weight (sym e ∙ g ∙ ap (step ts l) c.in-Args.ensures.1))) (sym (ap weight (sym f ∙ h ∙ ap (step ts r) c.in-Args.ensures.2))))
+    less_args x x ts ts rs k (weight (tree_at ts p)) (weight (tree_at ts q)) refl refl (sym (ap weight (sym e ∙ g ∙ ap (step ts l) c.in-Args.ensures.1))) (sym (ap weight (sym f ∙ h ∙ ap (step ts r) c.in-Args.ensures.2)))

@@ -1,99 +1,182 @@
-use Rattle.std.proofs.Common.{◌≡◌, [], ◌∷◌, ◌++◌, length, refl, sym, ap, ◌∙◌, subst, arith}
+use Rattle.std.proofs.Common.{◌+◌, ◌-◌, ◌*◌, ◌<◌, [], ◌∷◌, ◌++◌, length, refl, sym, ap, ◌∙◌, subst, arith}
 use Rattle.std.proofs.lemmas.List.{nil_from_length}
-use Rattle.ap_cells.specs.Trees.{trees, frees}
+use Rattle.ap_cells.specs.Trees.{tree_at, trees, frees}
 use Rattle.ap_cells.proofs.Rounds.{trees-length}
 use Rattle.ap_cells.proofs.Stores.{Keeps-refl, Keeps-trans}
-use Rattle.ap_cells.specs.Walks.{Each}
-use Rattle.ap_cells.proofs.Walks.{Each-pop}
-use Rattle.ap_unify.specs.Works.{IsRun, Going, weight_runs}
+use Rattle.ap_cells.specs.Walks.{Each, weight}
+use Rattle.ap_cells.proofs.Walks.{Each-push, Each-pop}
+use Rattle.ap_unify.specs.declared.unification.Run.{Run}
+use Rattle.ap_unify.specs.Works.{IsRun, IsLeft, SolvesRun, Going, Turned, weight_runs, turns, goes_on, with_args}
 use Rattle.ap_unify.proofs.Works.{weight_runs-push}
 use Rattle.ap_unify.proofs.Weights.{run_turn, turns-lt}
 use Rattle.ap_unify.proofs.Goings.{going_start, going_turn, going_zero, going_fail, going_end}
 use Rattle.ap_unify.proofs.unification.solve_all.Goals as goal
 
-pub loop-run-init : goal.loop-run-init
-loop-run-init c =
-    let e : c.push.new.self.items ≡ record { left = c.args.a; right = c.args.b; count = 1 } ∷ [] = c.in_ok-push.ensures.items ∙ ap (λ xs. xs ++ record { left = c.args.a; right = c.args.b; count = 1 } ∷ []) c.requires.empty in
+pub loop-pairs-init : goal.loop-pairs-init
+loop-pairs-init c =
     let ts = trees c.args.cells.now.cells in
     let n = length c.args.cells.now.cells in
-    (subst (λ rs. Going ts ts rs c.args.a c.args.b) (sym e) (going_start ts c.args.a c.args.b), subst (Each (IsRun n)) (sym e) ((omega arith, omega arith), tt), refl, Keeps-refl c.args.cells.now, refl)
+    record {
+      going = subst (λ rs. Going ts ts (rs ++ record { left = c.args.a; right = c.args.b; count = 1 } ∷ []) c.args.a c.args.b) (sym c.requires.empty) (going_start ts c.args.a c.args.b);
+      left = subst (Each (IsRun n)) (sym c.requires.empty) tt;
+      inside = (omega arith, omega arith);
+      len = refl;
+      keeps = Keeps-refl c.args.cells.now;
+      spare = refl;
+    }
+
+pub loop-pairs-smaller-in-Some : goal.loop-pairs-smaller-in-Some
+loop-pairs-smaller-in-Some c =
+    let us = trees c.loop-pairs.cells.cells in
+    let e = ap (weight_runs us) c.in-Some.ensures.items in
+    let w = weight_runs-push us c.loop-pairs.runs.items c.loop-pairs.pairs in
+    turns-lt (frees c.loop-pairs.cells.cells) (weight_runs us (c.pop.new.self.items ++ c.in-Some.next ∷ [])) (weight_runs us (c.loop-pairs.runs.items ++ c.loop-pairs.pairs ∷ [])) (omega arith)
+
+pub loop-pairs-preserved-in-Some : goal.loop-pairs-preserved-in-Some
+loop-pairs-preserved-in-Some c =
+    let ts = trees c.args.cells.now.cells in
+    let us = trees c.loop-pairs.cells.cells in
+    let o = c.loop-pairs.invariant in
+    let k = Each-pop (IsRun (length c.loop-pairs.cells.cells)) c.pop.new.self.items c.in-Some.next (subst (Each (IsRun (length c.loop-pairs.cells.cells))) c.in-Some.ensures.items o.left) in
+    record {
+      going = subst (λ rs. Going ts us rs c.args.a c.args.b) c.in-Some.ensures.items
+          (going_zero ts us (c.loop-pairs.runs.items ++ c.loop-pairs.pairs ∷ []) c.loop-pairs.runs.items c.loop-pairs.pairs c.args.a c.args.b o.going refl c.if-pairs-eq0.true);
+      left = k.0;
+      inside = k.1;
+      len = o.len;
+      keeps = o.keeps;
+      spare = o.spare;
+    }
+
+pub returns-in-None-clause-answer : goal.returns-in-None-clause-answer
+returns-in-None-clause-answer c =
+    let ts = trees c.args.cells.now.cells in
+    let us = trees c.loop-pairs.cells.cells in
+    let z = trees-length c.args.cells.now.cells in
+    going_end ts us c.loop-pairs.runs.items c.args.a c.args.b
+    (going_zero ts us (c.loop-pairs.runs.items ++ c.loop-pairs.pairs ∷ []) c.loop-pairs.runs.items c.loop-pairs.pairs c.args.a c.args.b c.loop-pairs.invariant.going refl c.if-pairs-eq0.true)
+    (nil_from_length c.loop-pairs.runs.items (let k = c.in-None.ensures.cases in omega arith)) (omega arith) (omega arith)
+
+pub solve-requires : goal.solve-requires
+solve-requires c =
+    let l = c.loop-pairs.invariant.inside.0 in
+    let r = c.loop-pairs.invariant.inside.1 in
+    record { inside = (omega arith, omega arith) }
+
+pub returns-in_err-solve-clause-keeps : goal.returns-in_err-solve-clause-keeps
+returns-in_err-solve-clause-keeps c = Keeps-trans c.args.cells.now c.loop-pairs.cells c.solve.new.cells c.loop-pairs.invariant.keeps c.solve.ensures.keeps
+
+pub returns-in-Apart-clause-answer : goal.returns-in-Apart-clause-answer
+returns-in-Apart-clause-answer c =
+    let ts = trees c.args.cells.now.cells in
+    let us = trees c.loop-pairs.cells.cells in
+    let vs = trees c.solve.new.cells.cells in
+    let rs = c.loop-pairs.runs.items in
+    let p = c.loop-pairs.pairs in
+    let t = subst (λ o. Turned us vs rs (with_args o rs) p.left p.right (goes_on o)) c.in-Apart.is (c.in_ok-solve.ensures.turned rs c.loop-pairs.invariant.left) in
+    going_fail ts us vs (rs ++ p ∷ []) rs rs rs p c.args.a c.args.b c.loop-pairs.invariant.going (omega arith) refl t
+
+pub returns-in-Apart-clause-keeps : goal.returns-in-Apart-clause-keeps
+returns-in-Apart-clause-keeps c = Keeps-trans c.args.cells.now c.loop-pairs.cells c.solve.new.cells c.loop-pairs.invariant.keeps c.in_ok-solve.ensures.keeps
+
+pub behind-pairs-requires-clause-fits : goal.behind-pairs-requires-clause-fits
+behind-pairs-requires-clause-fits c =
+    let l = c.loop-pairs.invariant.inside.0 in
+    let r = c.loop-pairs.invariant.inside.1 in
+    let f = c.len-places.ensures.few in
+    let e = c.loop-pairs.invariant.len in
+    (omega arith, omega arith)
+
+pub loop-pairs-smaller-in-Solved : goal.loop-pairs-smaller-in-Solved
+loop-pairs-smaller-in-Solved c =
+    let us = trees c.loop-pairs.cells.cells in
+    let vs = trees c.solve.new.cells.cells in
+    let n = length c.loop-pairs.cells.cells in
+    let rs = c.loop-pairs.runs.items in
+    let p = c.loop-pairs.pairs in
+    let rest : Run = record { left = p.left + 1; right = p.right + 1; count = p.count - 1 } in
+    let qs = rs ++ rest ∷ [] in
+    let l = c.loop-pairs.invariant.inside.0 in
+    let r = c.loop-pairs.invariant.inside.1 in
+    let i = Each-push (IsRun n) rs rest c.loop-pairs.invariant.left (omega arith, omega arith) in
+    let w = weight_runs-push us rs rest in
+    subst (λ k. turns (frees c.solve.new.cells.cells) (weight_runs vs (rs ++ k ∷ [])) < turns (frees c.loop-pairs.cells.cells) (weight_runs us (rs ++ p ∷ []))) (sym c.behind-pairs.ensures)
+    (run_turn (frees c.solve.new.cells.cells) (frees c.loop-pairs.cells.cells) us vs (rs ++ p ∷ []) rs qs qs p (omega arith) refl (omega arith)
+    (subst (λ o. turns (frees c.solve.new.cells.cells) (weight_runs vs (with_args o qs)) < turns (frees c.loop-pairs.cells.cells) (weight_runs us qs + 2 * (weight (tree_at us p.left) + weight (tree_at us p.right)))) c.in-Solved.is
+    (c.in_ok-solve.ensures.less qs i (ap goes_on c.in-Solved.is))))
+
+pub loop-pairs-preserved-in-Solved : goal.loop-pairs-preserved-in-Solved
+loop-pairs-preserved-in-Solved c =
+    let ts = trees c.args.cells.now.cells in
+    let us = trees c.loop-pairs.cells.cells in
+    let vs = trees c.solve.new.cells.cells in
+    let n = length c.loop-pairs.cells.cells in
+    let o = c.loop-pairs.invariant in
+    let rs = c.loop-pairs.runs.items in
+    let p = c.loop-pairs.pairs in
+    let rest : Run = record { left = p.left + 1; right = p.right + 1; count = p.count - 1 } in
+    let qs = rs ++ rest ∷ [] in
+    let l = o.inside.0 in
+    let r = o.inside.1 in
+    let i = Each-push (IsRun n) rs rest o.left (omega arith, omega arith) in
+    let z = trees-length c.loop-pairs.cells.cells in
+    let e = o.len in
+    let t = subst (λ w. Turned us vs qs (with_args w qs) p.left p.right (goes_on w)) c.in-Solved.is (c.in_ok-solve.ensures.turned qs i) in
+    record {
+      going = subst (λ k. Going ts vs (rs ++ k ∷ []) c.args.a c.args.b) (sym c.behind-pairs.ensures)
+          (going_turn ts us vs (rs ++ p ∷ []) rs qs qs p c.args.a c.args.b o.going (omega arith) (omega arith) (omega arith) refl
+          (λ h s. Each-pop (SolvesRun h us) rs rest s) (λ h s q. Each-push (SolvesRun h us) rs rest s q) t);
+      left = subst (λ m. Each (IsRun m) rs) (sym c.in_ok-solve.ensures.len) o.left;
+      inside = subst (λ k. IsRun (length c.solve.new.cells.cells) k) (sym c.behind-pairs.ensures) (let g = c.in_ok-solve.ensures.len in (omega arith, omega arith));
+      len = c.in_ok-solve.ensures.len ∙ o.len;
+      keeps = Keeps-trans c.args.cells.now c.loop-pairs.cells c.solve.new.cells o.keeps c.in_ok-solve.ensures.keeps;
+      spare = c.in_ok-solve.ensures.spare ∙ o.spare;
+    }
 
 pub leave-requires-clause-fits : goal.leave-requires-clause-fits
 leave-requires-clause-fits c =
-    let n = length c.loop-run.cells.cells in
-    let k = Each-pop (IsRun n) c.pop.new.self.items c.in-Some.run' (subst (Each (IsRun n)) c.in-Some.ensures.items c.loop-run.invariant.1) in
-    let l = k.1.0 in
-    let r = k.1.1 in
+    let l = c.loop-pairs.invariant.inside.0 in
+    let r = c.loop-pairs.invariant.inside.1 in
     let f = c.len-places.ensures.few in
-    let e = c.loop-run.invariant.2 in
+    let e = c.loop-pairs.invariant.len in
     (omega arith, omega arith)
 
-pub solve-requires-clause-inside : goal.solve-requires-clause-inside
-solve-requires-clause-inside c =
-    let n = length c.loop-run.cells.cells in
-    let k = Each-pop (IsRun n) c.pop.new.self.items c.in-Some.run' (subst (Each (IsRun n)) c.in-Some.ensures.items c.loop-run.invariant.1) in
-    let l = k.1.0 in
-    let r = k.1.1 in
-    (omega arith, omega arith)
+pub returns-in_err-leave-in-Args-clause-keeps : goal.returns-in_err-leave-in-Args-clause-keeps
+returns-in_err-leave-in-Args-clause-keeps c = Keeps-trans c.args.cells.now c.loop-pairs.cells c.solve.new.cells c.loop-pairs.invariant.keeps c.in_ok-solve.ensures.keeps
 
-pub solve-requires-clause-runs : goal.solve-requires-clause-runs
-solve-requires-clause-runs c =
-    let n = length c.loop-run.cells.cells in
-    let k = Each-pop (IsRun n) c.pop.new.self.items c.in-Some.run' (subst (Each (IsRun n)) c.in-Some.ensures.items c.loop-run.invariant.1) in
-    c.in_ok-leave.ensures.runs n k.1 k.0
+pub loop-pairs-smaller : goal.loop-pairs-smaller
+loop-pairs-smaller c =
+    let us = trees c.loop-pairs.cells.cells in
+    let vs = trees c.solve.new.cells.cells in
+    let n = length c.loop-pairs.cells.cells in
+    let rs = c.loop-pairs.runs.items in
+    let p = c.loop-pairs.pairs in
+    let qs = c.leave.new.runs.items in
+    let i = c.in_ok-leave-in-Args.ensures.runs n c.loop-pairs.invariant.inside c.loop-pairs.invariant.left in
+    run_turn (frees c.solve.new.cells.cells) (frees c.loop-pairs.cells.cells) us vs (rs ++ p ∷ []) rs qs (qs ++ c.in-Args.args ∷ []) p (omega arith) refl (c.in_ok-leave-in-Args.ensures.less us)
+    (subst (λ o. turns (frees c.solve.new.cells.cells) (weight_runs vs (with_args o qs)) < turns (frees c.loop-pairs.cells.cells) (weight_runs us qs + 2 * (weight (tree_at us p.left) + weight (tree_at us p.right)))) c.in-Args.is
+    (c.in_ok-solve.ensures.less qs i (ap goes_on c.in-Args.is)))
 
-pub returns-in_err-solve-clause-keeps : goal.returns-in_err-solve-clause-keeps
-returns-in_err-solve-clause-keeps c = Keeps-trans c.args.cells.now c.loop-run.cells c.solve.new.cells c.loop-run.invariant.3 c.solve.ensures.keeps
-
-pub returns-then-not-branch-clause-answer : goal.returns-then-not-branch-clause-answer
-returns-then-not-branch-clause-answer c =
+pub loop-pairs-preserved : goal.loop-pairs-preserved
+loop-pairs-preserved c =
     let ts = trees c.args.cells.now.cells in
-    let us = trees c.loop-run.cells.cells in
+    let us = trees c.loop-pairs.cells.cells in
     let vs = trees c.solve.new.cells.cells in
-    let t = rw c.if-not-branch.true at c.in_ok-solve.ensures.turned in
-    going_fail ts us vs c.loop-run.runs.items c.pop.new.self.items c.leave.new.runs.items c.solve.new.runs.items c.in-Some.run' c.args.a c.args.b c.loop-run.invariant.0 c.if-run-gt0.true c.in-Some.ensures.items t
-
-pub returns-then-not-branch-clause-keeps : goal.returns-then-not-branch-clause-keeps
-returns-then-not-branch-clause-keeps c = Keeps-trans c.args.cells.now c.loop-run.cells c.solve.new.cells c.loop-run.invariant.3 c.in_ok-solve.ensures.keeps
-
-pub loop-run-smaller-else-not-branch : goal.loop-run-smaller-else-not-branch
-loop-run-smaller-else-not-branch c =
-    let us = trees c.loop-run.cells.cells in
-    let vs = trees c.solve.new.cells.cells in
-    run_turn (frees c.solve.new.cells.cells) (frees c.loop-run.cells.cells) us vs c.loop-run.runs.items c.pop.new.self.items c.leave.new.runs.items c.solve.new.runs.items c.in-Some.run' c.if-run-gt0.true c.in-Some.ensures.items
-    (c.in_ok-leave.ensures.less us) (c.in_ok-solve.ensures.less c.if-not-branch.false)
-
-pub loop-run-preserved-else-not-branch : goal.loop-run-preserved-else-not-branch
-loop-run-preserved-else-not-branch c =
-    let ts = trees c.args.cells.now.cells in
-    let us = trees c.loop-run.cells.cells in
-    let vs = trees c.solve.new.cells.cells in
-    let n = length c.loop-run.cells.cells in
-    let k = Each-pop (IsRun n) c.pop.new.self.items c.in-Some.run' (subst (Each (IsRun n)) c.in-Some.ensures.items c.loop-run.invariant.1) in
-    let t = rw c.if-not-branch.false at c.in_ok-solve.ensures.turned in
-    let z = trees-length c.loop-run.cells.cells in
-    let e = c.loop-run.invariant.2 in (
-      going_turn ts us vs c.loop-run.runs.items c.pop.new.self.items c.leave.new.runs.items c.solve.new.runs.items c.in-Some.run' c.args.a c.args.b c.loop-run.invariant.0 (omega arith) (omega arith) c.if-run-gt0.true c.in-Some.ensures.items
-          (λ h s. c.in_ok-leave.ensures.solved us h s) (λ h s q. c.in_ok-leave.ensures.solves us h s q) t,
-      subst (λ m. Each (IsRun m) c.solve.new.runs.items) (sym c.in_ok-solve.ensures.len) c.in_ok-solve.ensures.runs,
-      c.in_ok-solve.ensures.len ∙ c.loop-run.invariant.2,
-      Keeps-trans c.args.cells.now c.loop-run.cells c.solve.new.cells c.loop-run.invariant.3 c.in_ok-solve.ensures.keeps,
-      c.in_ok-solve.ensures.spare ∙ c.loop-run.invariant.4,
-    )
-
-pub loop-run-smaller : goal.loop-run-smaller
-loop-run-smaller c =
-    let us = trees c.loop-run.cells.cells in
-    let w = ap (weight_runs us) c.in-Some.ensures.items ∙ weight_runs-push us c.pop.new.self.items c.in-Some.run' in
-    turns-lt (frees c.loop-run.cells.cells) (weight_runs us c.pop.new.self.items) (weight_runs us c.loop-run.runs.items) (omega arith)
-
-pub loop-run-preserved : goal.loop-run-preserved
-loop-run-preserved c =
-    let n = length c.loop-run.cells.cells in
-    let k = Each-pop (IsRun n) c.pop.new.self.items c.in-Some.run' (subst (Each (IsRun n)) c.in-Some.ensures.items c.loop-run.invariant.1) in
-    (going_zero (trees c.args.cells.now.cells) (trees c.loop-run.cells.cells) c.loop-run.runs.items c.pop.new.self.items c.in-Some.run' c.args.a c.args.b c.loop-run.invariant.0 c.in-Some.ensures.items (omega arith), k.0, c.loop-run.invariant.2, c.loop-run.invariant.3, c.loop-run.invariant.4)
-
-pub returns-clause-answer : goal.returns-clause-answer
-returns-clause-answer c =
-    let z = trees-length c.args.cells.now.cells in
-    going_end (trees c.args.cells.now.cells) (trees c.loop-run.cells.cells) c.loop-run.runs.items c.args.a c.args.b c.loop-run.invariant.0 (nil_from_length c.loop-run.runs.items (let k = c.in_default.ensures.cases.0 in omega arith)) (omega arith) (omega arith)
+    let n = length c.loop-pairs.cells.cells in
+    let o = c.loop-pairs.invariant in
+    let rs = c.loop-pairs.runs.items in
+    let p = c.loop-pairs.pairs in
+    let qs = c.leave.new.runs.items in
+    let i = c.in_ok-leave-in-Args.ensures.runs n o.inside o.left in
+    let z = trees-length c.loop-pairs.cells.cells in
+    let e = o.len in
+    let t = subst (λ w. Turned us vs qs (with_args w qs) p.left p.right (goes_on w)) c.in-Args.is (c.in_ok-solve.ensures.turned qs i) in
+    record {
+      going = going_turn ts us vs (rs ++ p ∷ []) rs qs (qs ++ c.in-Args.args ∷ []) p c.args.a c.args.b o.going (omega arith) (omega arith) (omega arith) refl
+          (λ h s. c.in_ok-leave-in-Args.ensures.solved us h s) (λ h s q. c.in_ok-leave-in-Args.ensures.solves us h s q) t;
+      left = subst (λ m. Each (IsRun m) qs) (sym c.in_ok-solve.ensures.len) i;
+      inside = subst (λ m. IsRun m c.in-Args.args) (sym c.in_ok-solve.ensures.len) (subst (IsLeft n) c.in-Args.is c.in_ok-solve.ensures.args);
+      len = c.in_ok-solve.ensures.len ∙ o.len;
+      keeps = Keeps-trans c.args.cells.now c.loop-pairs.cells c.solve.new.cells o.keeps c.in_ok-solve.ensures.keeps;
+      spare = c.in_ok-solve.ensures.spare ∙ o.spare;
+    }

@@ -1,0 +1,73 @@
+//! Clauses whose heads can't be taken, told by their first instruction: nothing is bound for that, and nothing undone.
+
+ghost use Rattle.std.specs.Prelude.{◌≡◌, ℕ, ◌<◌, length, true};
+ghost use Rattle.ap_term.specs.Tree.{Tree, Trees, atom, node, count_trees};
+ghost use Rattle.ap_match.specs.Fits.{Fits};
+ghost use Rattle.ap_steps.specs.Moves.{held, HoldPlaces, IsStuck};
+ghost use Rattle.ap_steps.specs.Ways.{steps_from};
+
+use crate::alternatives::instruction_at;
+use crate::runs::is_frame_at;
+use ap_cells::{Cells, Top};
+use ap_instr::{Code, Instr};
+use ap_steps::registers::place_in;
+use ap_term::Atom;
+
+/// Whether a place's term is no such atom, nor an unbound variable.
+fn is_other_atom(cells: &Cells, place: usize, name: Atom) -> bool
+    requires { place < length cells.now.cells }
+    ensures { result ≡ true → (k : ℕ → Tree) → Fits cells.now.cells k → k place ≡ atom name → ⊥ }
+{
+    match cells.top(place) {
+        Top::Free(_) => false,
+        Top::Atom(found) => found != name,
+        Top::Int(_) => true,
+        Top::Node(_, _, _) => true,
+    }
+}
+
+/// Whether a place's term is no structure of that name with so many arguments, nor an unbound variable.
+fn is_other_structure(cells: &Cells, place: usize, name: Atom, count: u8) -> bool
+    requires { place < length cells.now.cells }
+    ensures { result ≡ true → (k : ℕ → Tree) (ts : Trees) → Fits cells.now.cells k → count_trees ts ≡ count → k place ≡ node name ts → ⊥ }
+{
+    match cells.top(place) {
+        Top::Free(_) => false,
+        Top::Node(found, _, arity) => {
+            if arity != count as u32 {
+                return true;
+            }
+            found != name
+        }
+        Top::Int(_) => true,
+        Top::Atom(_) => true,
+    }
+}
+
+/// Whether the instruction at a place can't be taken, whatever comes behind it.
+fn fails_at(cells: &Cells, x: &[u32], code: &Code, at: usize) -> bool
+    requires { HoldPlaces (length cells.now.cells) x.now }
+    ensures { result ≡ true → (y : ℕ → ℕ) → IsStuck cells.now.cells (held x.now) y (steps_from code.now at) }
+{
+    match instruction_at(code, at) {
+        None => false,
+        Some(instr) => match instr {
+            Instr::GetConstant(name, a) => is_other_atom(cells, place_in(x, a), name),
+            Instr::GetStructure(name, count, a) => {
+                is_other_structure(cells, place_in(x, a), name, count)
+            }
+            _ => false,
+        },
+    }
+}
+
+/// Whether the clause at a place can't be entered, by its first argument alone. False says nothing.
+pub fn fails_at_once(cells: &Cells, x: &[u32], code: &Code, at: usize) -> bool
+    requires { HoldPlaces (length cells.now.cells) x.now }
+    ensures { result ≡ true → (y : ℕ → ℕ) → IsStuck cells.now.cells (held x.now) y (steps_from code.now at) }
+{
+    if at < code.instructions().len() && is_frame_at(code, at) {
+        return fails_at(cells, x, code, at + 1);
+    }
+    fails_at(cells, x, code, at)
+}

@@ -1,0 +1,12 @@
+-- Programs beside which a query may be asked by a clause for `?-`.
+use Rattle.std.specs.Prelude.{ℕ, ◌≤◌, List, length}
+use Rattle.ap_term.specs.declared.fixed.TheConstants.{QUERY}
+use Rattle.ap_term.specs.Goals.{Program}
+use Rattle.ap_section.specs.Started.{NoneIsFor}
+use Rattle.ap_worker.specs.Asking.{NeverCalls}
+
+-- Nothing in the program has that name, and the table has the fixed names up to it.
+pub record LeavesQuery (program : Program) (table : List (List ℕ)) : Type 0 where
+  pub calls : NeverCalls QUERY program
+  pub heads : NoneIsFor QUERY program
+  pub fixed : 28 ≤ length table

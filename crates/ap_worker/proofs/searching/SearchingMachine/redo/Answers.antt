@@ -1,0 +1,10 @@
+use Rattle.std.proofs.Common.{◌∷◌, sym, subst}
+use Rattle.ap_section.specs.Stands.{IsAtAnswer}
+use Rattle.ap_worker.specs.Sought.{Stands}
+use Rattle.ap_worker.proofs.searching.SearchingMachine.redo.Goals as goal
+
+pub returns-clause-left : goal.returns-clause-left
+returns-clause-left c = λ p s ss h.
+    let at = subst (λ a. IsAtAnswer a.section.machine) (sym c.self.view_is) c.requires in
+    let k = subst (λ a. Stands a p (s ∷ ss)) (sym c.self.view_is) h in
+    record { good = k.good; code = k.code; states = c.redo.ensures.left at c.self.inside.sound.now s ss k.states }
