@@ -15,3 +15,6 @@ mod start;
 
 pub use advance::{Hook, Turn};
 pub use section::Section;
+
+#[cfg(test)]
+mod tests;
