@@ -4,3 +4,4 @@ pub mod Targets
 pub mod Marks
 pub mod Compared
 pub mod Ran
+pub mod Passed

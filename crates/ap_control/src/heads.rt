@@ -1,15 +1,18 @@
 //! Clauses whose heads can't be taken, told by their first instruction: nothing is bound for that, and nothing undone.
 
-ghost use Rattle.std.specs.Prelude.{◌≡◌, ℕ, ◌<◌, length, true};
+ghost use Rattle.std.specs.Prelude.{◌≡◌, ℕ, ◌<◌, [], ◌∷◌, length, true, None, IfSome};
 ghost use Rattle.ap_term.specs.Tree.{Tree, Trees, atom, node, count_trees};
+ghost use Rattle.ap_instr.specs.StandsFor.{clause_places};
 ghost use Rattle.ap_match.specs.Fits.{Fits};
 ghost use Rattle.ap_steps.specs.Moves.{held, HoldPlaces, IsStuck};
 ghost use Rattle.ap_steps.specs.Ways.{steps_from};
+ghost use Rattle.ap_standing.specs.Machine.{places_from};
+ghost use Rattle.ap_control.specs.Heads.{PassesOver};
 
-use crate::alternatives::instruction_at;
+use crate::alternatives::{Alternative, first, following, instruction_at};
 use crate::runs::is_frame_at;
 use ap_cells::{Cells, Top};
-use ap_instr::{Code, Instr};
+use ap_instr::{Code, Instr, Predicate};
 use ap_steps::registers::place_in;
 use ap_term::Atom;
 
@@ -70,4 +73,40 @@ pub fn fails_at_once(cells: &Cells, x: &[u32], code: &Code, at: usize) -> bool
         return fails_at(cells, x, code, at + 1);
     }
     fails_at(cells, x, code, at)
+}
+
+/// The first choice, from one on, whose clause doesn't fail at once.
+pub fn pass_over(cells: &Cells, x: &[u32], code: &Code, behind: Option<usize>) -> Option<usize>
+    requires { HoldPlaces (length cells.now.cells) x.now }
+    ensures { PassesOver code.now cells.now.cells (held x.now) (places_from code.now behind) (places_from code.now result) }
+{
+    let mut rest = behind;
+    while let Some(found) = following(code, rest) {
+        if !fails_at_once(cells, x, code, found.place as usize) {
+            return rest;
+        }
+        rest = found.behind;
+    }
+    None
+}
+
+/// A predicate's first clause that doesn't fail at once.
+pub fn first_possible(
+    cells: &Cells,
+    x: &[u32],
+    code: &Code,
+    predicate: &Predicate,
+) -> Option<Alternative>
+    requires { HoldPlaces (length cells.now.cells) x.now }
+    ensures none { result ≡ None → PassesOver code.now cells.now.cells (held x.now) (clause_places code.now predicate.now) [] }
+    ensures some { IfSome result (λ a. PassesOver code.now cells.now.cells (held x.now) (clause_places code.now predicate.now) (a.place ∷ places_from code.now a.behind)) }
+{
+    let Some(found) = first(code, predicate) else {
+        return None;
+    };
+    if !fails_at_once(cells, x, code, found.place as usize) {
+        return Some(found);
+    }
+    let rest = pass_over(cells, x, code, found.behind);
+    following(code, rest)
 }

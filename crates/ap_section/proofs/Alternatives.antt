@@ -1,12 +1,14 @@
 -- Choice points as their section's caller sees them, and what is left of their clauses.
-use Rattle.std.proofs.Common.{◌≡◌, ℕ, suc, ◌<◌, List, ◌∷◌, ◌++◌, length, take, drop, refl, ap, sym, ◌∙◌, subst, arith}
+use Rattle.std.proofs.Common.{◌≡◌, ℕ, suc, ◌<◌, List, [], ◌∷◌, ◌++◌, length, take, drop, refl, ap, sym, ◌∙◌, subst, arith}
 use Rattle.std.proofs.lemmas.List.{take-append-le, take_all}
+use Rattle.std.specs.List.{AllByRecursion}
 use Rattle.ap_instr.specs.Code.{Compiled}
 use Rattle.ap_steps.specs.Moves.{held, IsStuck}
 use Rattle.ap_steps.specs.Ways.{AllHaveTargets, steps_from}
 use Rattle.ap_standing.specs.Machine.{Point, Machine}
 use Rattle.ap_standing.specs.Holds.{HoldsRest}
 use Rattle.ap_standing.proofs.Calls.{skipped}
+use Rattle.ap_control.specs.Heads.{IsShut, PassesOver}
 use Rattle.ap_section.specs.View.{Paused, IsFor}
 use Rattle.ap_section.specs.Choices.{Stays, AtNewest, Returned, LeavesOut}
 
@@ -44,6 +46,15 @@ leaves-stuck code s t ls rest more l back at out e is_stuck = record {
       (subst (λ cs. IsStuck cs (held t.machine.x) (held t.machine.y) (steps_from code l)) (at.cells ∙ ap (λ (p : Point). p.cells) eq) is_stuck)
       ss (subst (λ ks. HoldsRest code s.machine.roots q ks qs ss) e (out.keeps q qs is ss h));
 }
+
+-- those in front that can't be entered
+pub leaves-passed : (code : Compiled) (s t : Paused) (ls rest more : List ℕ) → Returned s t → AtNewest t.machine → LeavesOut code s.machine ls rest
+    → PassesOver code t.machine.cells (held t.machine.x) rest more → LeavesOut code s.machine ls more
+leaves-passed code s t ls rest more back at out p = go p.passed rest p.are p.shut out
+  where
+    go : (ks rest : List ℕ) → rest ≡ ks ++ more → AllByRecursion (IsShut code t.machine.cells (held t.machine.x)) ks → LeavesOut code s.machine ls rest → LeavesOut code s.machine ls more
+    go [] rest e shut out = subst (LeavesOut code s.machine ls) e out
+    go (k ∷ ks) rest e shut out = go ks (ks ++ more) refl shut.1 (leaves-stuck code s t ls rest (ks ++ more) k back at out e (shut.0 (held t.machine.y)))
 
 -- ---- registers that were written through a slice
 

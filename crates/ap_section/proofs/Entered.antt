@@ -1,6 +1,8 @@
 -- A call, and the clause that is taken next.
-use Rattle.std.proofs.Common.{◌≡◌, ℕ, ◌+◌, ◌<◌, ◌≤◌, List, [], ◌∷◌, length, take, map, Option, Some, None, slice_get, refl, ap, sym, ◌∙◌, subst, arith}
+use Rattle.std.proofs.Common.{◌≡◌, ℕ, ◌+◌, ◌<◌, ◌≤◌, List, [], ◌∷◌, ◌++◌, length, take, map, Option, Some, None, slice_get, refl, ap, sym, ◌∙◌, subst, arith}
 use Rattle.std.proofs.lemmas.List.{get_or-take}
+use Rattle.std.specs.List.{AllByRecursion}
+use Rattle.ap_term.specs.Tree.{Trees}
 use Rattle.ap_term.specs.Goals.{Program}
 use Rattle.ap_term.specs.WellFormed.{IsProgram}
 use Rattle.ap_term.specs.Search.{State}
@@ -9,12 +11,12 @@ use Rattle.ap_instr.specs.declared.compiled.Predicate.{Predicate}
 use Rattle.ap_instr.specs.Code.{Compiled}
 use Rattle.ap_instr.specs.StandsFor.{StandsFor, clause_places}
 use Rattle.ap_steps.specs.Moves.{held}
-use Rattle.ap_steps.specs.Standing.{Return}
-use Rattle.ap_standing.specs.Machine.{Point, calling, inside, failed, Machine, places_from, places}
-use Rattle.ap_standing.specs.Holds.{AreOpen, HoldsPoints, HoldsRest, Holds}
+use Rattle.ap_steps.specs.Standing.{Return, AtCall}
+use Rattle.ap_standing.specs.Machine.{Point, calling, inside, failed, Machine, standing_at, places_from, places}
+use Rattle.ap_standing.specs.Holds.{AreOpen, HoldsPoints, HoldsRest, Holds, Turned}
 use Rattle.ap_standing.specs.Laws.{machine, IsTurn, KeepsStanding, SameArguments}
-use Rattle.ap_standing.proofs.Calls.{turned, taken, renamed}
-use Rattle.ap_standing.proofs.Turns.{rest-none}
+use Rattle.ap_standing.proofs.Calls.{turned, taken, skipped, renamed}
+use Rattle.ap_standing.proofs.Turns.{SameSet-trans, rest-none, AtCall-registers}
 use Rattle.ap_standing.proofs.Machines.{points-failed, failed-points}
 use Rattle.ap_cells.specs.Store.{Store, undone}
 use Rattle.ap_environments.specs.Kept.{Kept}
@@ -22,37 +24,91 @@ use Rattle.ap_section.specs.declared.section.Now.{Now as Kind}
 use Rattle.ap_section.specs.declared.section.Now.TheVariants.{Inside, Failed}
 use Rattle.ap_section.specs.View.{Paused, now_of, point_of, machine_of}
 use Rattle.ap_section.proofs.Solving.{IsTurn-from}
+use Rattle.ap_resolution.specs.Instances.{Inst}
 use Rattle.ap_control.specs.declared.alternatives.Alternative.{Alternative}
+use Rattle.ap_control.specs.Heads.{IsShut, PassesOver}
 use Rattle.ap_section.specs.Choices.{Stays, AtNewest, Returned, LeavesOut, places_of, points_left, alternatives}
 use Rattle.ap_section.proofs.Alternatives.{Returned-trans}
+
+-- what is left depends on the call's own arguments alone
+regiven : (code : Compiled) (roots : List ℕ) (qs : List Point) (point other : Point) → other.cells ≡ point.cells → other.returns ≡ point.returns → other.predicate ≡ point.predicate
+    → (q : Predicate) → slice_get code.predicates point.predicate ≡ Some q → SameArguments q.arity (held other.arguments) (held point.arguments)
+    → (ls : List ℕ) (ss : List State) → HoldsRest code roots point ls qs ss → HoldsRest code roots other ls qs ss
+regiven code roots qs point other ec er ep q known args ls ss h =
+    let u = h.0 in
+    let n : ℕ = u.predicate.arity in
+    let eq : q ≡ u.predicate = let e : Some q ≡ Some u.predicate = sym known ∙ u.known in cc in
+    let named : Point = record point { arguments = other.arguments } in
+    let I : Trees → Trees → Type 0 = AtCall code (standing_at roots point) (held point.arguments) u.predicate.name n in
+    let J : Trees → Trees → Type 0 = AtCall code (standing_at roots point) (held other.arguments) u.predicate.name n in
+    let given : HoldsRest code roots named ls qs ss = (
+      record {
+        predicate = u.predicate;
+        state = u.state;
+        goal = u.goal;
+        rest = u.rest;
+        clauses = u.clauses;
+        known = u.known;
+        same = SameSet-trans J I (Inst u.state)
+            (AtCall-registers code (standing_at roots point) (held other.arguments) (held point.arguments) u.predicate.name n (subst (λ (p : Predicate). SameArguments p.arity (held other.arguments) (held point.arguments)) eq args))
+            u.same;
+        plain = u.plain;
+        opens = u.opens;
+        ordinary = u.ordinary;
+        heads = u.heads;
+        good = u.good;
+        reads = u.reads;
+        open_returns = u.open_returns;
+      },
+      h.1,
+      h.2,
+      h.3,
+    ) in
+    renamed code roots qs named other ec er refl ep ls ss given
 
 module _ (code : Compiled) (cs : List Raw) (x y : List ℕ) (ws : List Return) (roots : List ℕ) (qs : List Point) (number : ℕ)
     (q : Predicate) (known : slice_get code.predicates number ≡ Some q) (p : Program) (good : IsProgram p) (stands : StandsFor code p) where
   abbrev before : Machine
   before = machine cs x y ws roots qs (calling number)
 
-  pub entered-none : clause_places code q ≡ [] → IsTurn code p before (machine cs x y ws roots qs failed)
-  entered-none e ss h =
-      let point : Point = record { cells = cs; returns = ws; arguments = x; predicate = number; place = 0; behind = None } in
-      let t = turned code roots qs p good stands q point known x y (λ w a b. refl) ss h in
-      let r : HoldsRest code roots point [] qs t.0 = subst (λ ls. HoldsRest code roots point ls qs t.0) e t.2 in
-      (t.0, t.1, points-failed code (machine cs x y ws roots qs failed) refl h.5 t.0 (rest-none code roots point qs t.0 r))
+  -- the call's own registers, as a choice point's arguments
+  abbrev here : Point
+  here = record { cells = cs; returns = ws; arguments = x; predicate = number; place = 0; behind = None }
 
-  pub entered-one : (l : ℕ) (behind : Option ℕ) → clause_places code q ≡ l ∷ places_from code behind → behind ≡ None → IsTurn code p before (machine cs x y ws roots qs (inside l))
-  entered-one l behind e alone ss h =
-      let point : Point = record { cells = cs; returns = ws; arguments = x; predicate = number; place = 0; behind = None } in
-      let t = turned code roots qs p good stands q point known x y (λ w a b. refl) ss h in
-      let r : HoldsRest code roots point (l ∷ []) qs t.0 = subst (λ ls. HoldsRest code roots point ls qs t.0) (e ∙ ap (λ o. l ∷ places_from code o) alone) t.2 in
-      (t.0, t.1, taken code roots qs point l [] qs x y (λ n w a b. refl) (λ left u. rest-none code roots point qs left u) t.0 r)
+  -- clauses that can't be entered have no children
+  passed : (ls rest : List ℕ) → PassesOver code cs (held x) ls rest → (ss : List State) → HoldsRest code roots here ls qs ss → HoldsRest code roots here rest qs ss
+  passed ls rest p ss h = go p.passed ls p.are p.shut h
+    where
+      go : (ks ls : List ℕ) → ls ≡ ks ++ rest → AllByRecursion (IsShut code cs (held x)) ks → HoldsRest code roots here ls qs ss → HoldsRest code roots here rest qs ss
+      go [] ls e shut h = subst (λ us. HoldsRest code roots here us qs ss) e h
+      go (k ∷ ks) ls e shut h =
+          go ks (ks ++ rest) refl shut.1
+          (skipped code roots qs here k (ks ++ rest) x y (λ n w a b. refl) (shut.0 (held y)) ss (subst (λ us. HoldsRest code roots here us qs ss) e h))
 
-  pub entered-many : (us : List Raw) → us ≡ cs → (args : List ℕ) → args ≡ take (q.arity + 1) x → (place : ℕ) (behind : Option ℕ) → clause_places code q ≡ place ∷ places_from code behind
+  -- the children by the clauses that are left
+  turned-to : (rest : List ℕ) → PassesOver code cs (held x) (clause_places code q) rest → (ss : List State) → Holds code before ss → (ts : List State) × Turned p 1 ss ts × HoldsRest code roots here rest qs ts
+  turned-to rest over ss h =
+      let t = turned code roots qs p good stands q here known x y (λ w a b. refl) ss h in
+      (t.0, t.1, passed (clause_places code q) rest over t.0 t.2)
+
+  pub entered-none : PassesOver code cs (held x) (clause_places code q) [] → IsTurn code p before (machine cs x y ws roots qs failed)
+  entered-none over ss h =
+      let t = turned-to [] over ss h in
+      (t.0, t.1, points-failed code (machine cs x y ws roots qs failed) refl h.5 t.0 (rest-none code roots here qs t.0 t.2))
+
+  pub entered-one : (l : ℕ) (ls : List ℕ) → PassesOver code cs (held x) (clause_places code q) (l ∷ ls) → PassesOver code cs (held x) ls [] → IsTurn code p before (machine cs x y ws roots qs (inside l))
+  entered-one l ls over none ss h =
+      let t = turned-to (l ∷ ls) over ss h in
+      (t.0, t.1, taken code roots qs here l ls qs x y (λ n w a b. refl) (λ left u. rest-none code roots here qs left (passed ls [] none left u)) t.0 t.2)
+
+  pub entered-many : (us : List Raw) → us ≡ cs → (args : List ℕ) → args ≡ take (q.arity + 1) x → (place : ℕ) (behind : Option ℕ) → PassesOver code cs (held x) (clause_places code q) (place ∷ places_from code behind)
       → IsTurn code p before (machine cs x y ws roots (record { cells = us; returns = ws; arguments = args; predicate = number; place = place; behind = behind } ∷ qs) failed)
-  entered-many us eu args ea place behind e ss h =
+  entered-many us eu args ea place behind over ss h =
       let point : Point = record { cells = cs; returns = ws; arguments = take (q.arity + 1) x; predicate = number; place = place; behind = behind } in
       let other : Point = record { cells = us; returns = ws; arguments = args; predicate = number; place = place; behind = behind } in
-      let same : SameArguments q.arity (held x) (held point.arguments) = λ w a b. sym (get_or-take (q.arity + 1) x w 0 b) in
-      let t = turned code roots qs p good stands q point known x y same ss h in
-      let r : HoldsRest code roots point (places code other) qs t.0 = subst (λ ls. HoldsRest code roots point ls qs t.0) e t.2 in
+      let same : SameArguments q.arity (held point.arguments) (held x) = λ w a b. get_or-take (q.arity + 1) x w 0 b in
+      let t = turned-to (places code other) over ss h in
+      let r : HoldsRest code roots point (places code other) qs t.0 = regiven code roots qs here point refl refl refl q known same (places code other) t.0 t.2 in
       (t.0, t.1, points-failed code (machine cs x y ws roots (other ∷ qs) failed) refl h.5 t.0 (renamed code roots qs point other eu refl ea refl (places code other) t.0 r))
 
 -- ---- the next clause of the newest choice point
@@ -105,25 +161,33 @@ module _ (v : Store) (k : Kept) (x y roots : List ℕ) (next : Kind) (spent budg
   enters : (m' : Machine) → IsTurn code p (machine v.cells x y k.returns roots (map (point_of v) k.moments) (calling number)) m' → IsTurn code p s.machine m'
   enters m' t = IsTurn-from code p s.machine v.cells x y k.returns roots (map (point_of v) k.moments) (now_of next) (calling number) m' (ap (λ (t : Paused). t.machine) view) due t
 
-  pub turns-to-none : clause_places code predicate ≡ [] → IsTurn code p s.machine (machine_of v k x y roots Failed)
-  turns-to-none e =
-      enters (machine_of v k x y roots Failed)
-      (entered-none code v.cells x y k.returns roots (map (point_of v) k.moments) number q known p good stands (ap (clause_places code) (sym same-predicate) ∙ e))
+  -- clauses that are passed over on the section's cells and registers
+  passes : (rest : List ℕ) → PassesOver code s.machine.cells (held s.machine.x) (clause_places code predicate) rest → PassesOver code v.cells (held x) (clause_places code q) rest
+  passes rest over =
+      subst (λ (r : Predicate). PassesOver code v.cells (held x) (clause_places code r) rest) same-predicate
+      (subst (λ (t : Paused). PassesOver code t.machine.cells (held t.machine.x) (clause_places code predicate) rest) (sym view) over)
 
-  pub turns-to-one : (l : ℕ) (behind : Option ℕ) → clause_places code predicate ≡ l ∷ places_from code behind → behind ≡ None → IsTurn code p s.machine (machine_of v k x y roots (Inside l))
-  turns-to-one l behind e alone =
+  pub turns-to-none : PassesOver code s.machine.cells (held s.machine.x) (clause_places code predicate) [] → IsTurn code p s.machine (machine_of v k x y roots Failed)
+  turns-to-none over =
+      enters (machine_of v k x y roots Failed)
+      (entered-none code v.cells x y k.returns roots (map (point_of v) k.moments) number q known p good stands (passes [] over))
+
+  pub turns-to-one : (l : ℕ) (ls : List ℕ) → PassesOver code s.machine.cells (held s.machine.x) (clause_places code predicate) (l ∷ ls) → PassesOver code s.machine.cells (held s.machine.x) ls []
+      → IsTurn code p s.machine (machine_of v k x y roots (Inside l))
+  turns-to-one l ls over none =
       enters (machine_of v k x y roots (Inside l))
-      (entered-one code v.cells x y k.returns roots (map (point_of v) k.moments) number q known p good stands l behind (ap (clause_places code) (sym same-predicate) ∙ e) alone)
+      (entered-one code v.cells x y k.returns roots (map (point_of v) k.moments) number q known p good stands l ls (passes (l ∷ ls) over)
+      (subst (λ (t : Paused). PassesOver code t.machine.cells (held t.machine.x) ls []) (sym view) none))
 
   pub turns-to-many : (cells trail place : ℕ) (behind : Option ℕ) (args : List ℕ) (l : Kept)
       → l ≡ record { returns = k.returns; moments = record { choice = record { cells = cells; trail = trail; predicate = number; place = place; behind = behind }; returns = k.returns; arguments = args } ∷ k.moments }
-      → undone v cells trail ≡ v.cells → args ≡ take (predicate.arity + 1) x → clause_places code predicate ≡ place ∷ places_from code behind
+      → undone v cells trail ≡ v.cells → args ≡ take (predicate.arity + 1) x → PassesOver code s.machine.cells (held s.machine.x) (clause_places code predicate) (place ∷ places_from code behind)
       → IsTurn code p s.machine (machine_of v l x y roots Failed)
-  turns-to-many cells trail place behind args l el leads ea e =
+  turns-to-many cells trail place behind args l el leads ea over =
       subst (λ j. IsTurn code p s.machine (machine_of v j x y roots Failed)) (sym el)
       (enters (machine_of v (record { returns = k.returns; moments = record { choice = record { cells = cells; trail = trail; predicate = number; place = place; behind = behind }; returns = k.returns; arguments = args } ∷ k.moments }) x y roots Failed)
       (entered-many code v.cells x y k.returns roots (map (point_of v) k.moments) number q known p good stands (undone v cells trail) leads args
-      (ea ∙ ap (λ (r : Predicate). take (r.arity + 1) x) same-predicate) place behind (ap (clause_places code) (sym same-predicate) ∙ e)))
+      (ea ∙ ap (λ (r : Predicate). take (r.arity + 1) x) same-predicate) place behind (passes (place ∷ places_from code behind) over)))
 
 module _ (code : Compiled) (s t u n r : Paused) (q : Point) (qs : List Point) (is : s.machine.points ≡ q ∷ qs) (due : s.machine.now ≡ failed) (first : Returned s t) (second : Returned t u)
     (behind : Option ℕ) (eb : q.behind ≡ behind) (place : ℕ) (ep : q.place ≡ place) (found : Option Alternative) (out : LeavesOut code t.machine (places_from code behind) (places_of code found))

@@ -4,20 +4,21 @@ ghost use Rattle.std.specs.Prelude.{◌≡◌, ℕ, ◌<◌, ◌≤◌, List, []
 ghost use Rattle.ap_term.specs.Goals.{Program};
 ghost use Rattle.ap_term.specs.WellFormed.{IsProgram};
 ghost use Rattle.ap_instr.specs.declared.compiled.Predicate.{Predicate as PredicateOf};
-ghost use Rattle.ap_instr.specs.StandsFor.{StandsFor};
+ghost use Rattle.ap_instr.specs.StandsFor.{StandsFor, clause_places};
 ghost use Rattle.ap_environments.specs.Kept.{Moment};
 ghost use Rattle.ap_cells.specs.Store.{Store, Keeps};
 ghost use Rattle.ap_steps.specs.Moves.{held, HoldPlaces, IsStuck};
 ghost use Rattle.ap_steps.specs.Ways.{AllHaveTargets, room, steps_from};
 ghost use Rattle.ap_standing.specs.Machine.{Point, calling, inside, failed, places_from};
 ghost use Rattle.ap_standing.specs.Laws.{IsTurn, KeepsStanding};
+ghost use Rattle.ap_control.specs.Heads.{PassesOver};
 ghost use Rattle.ap_section.specs.View.{IsFor};
 ghost use Rattle.ap_section.specs.Choices.{Stays, AtNewest, Returned, LeavesOut, places_of, points_left, alternatives};
 ghost use Rattle.ap_section.specs.Back.{CanGoBack, WentBack};
 
 use crate::section::{Now, Section};
 use ap_cells::{CellMark, Cells};
-use ap_control::{Alternative, first, following, run_to_transfer};
+use ap_control::{Alternative, first_possible, following, pass_over, run_to_transfer};
 use ap_environments::{Choice, Environments};
 use ap_instr::{Code, Predicate};
 use ap_term::NoMemory;
@@ -77,8 +78,23 @@ fn run_and_go_back(
 }
 
 impl Section {
-    /// Enters a predicate of the table, which is a turn: a choice point keeps all its clauses, unless there is one alone.
-    /// Without memory nothing changes.
+    /// The first clause of a predicate that doesn't fail at once on the argument registers.
+    fn first_clause(&self, code: &Code, predicate: &Predicate) -> Option<Alternative>
+        ensures none { result ≡ None → PassesOver code.now self.now.machine.cells (held self.now.machine.x) (clause_places code.now predicate.now) [] }
+        ensures some { IfSome result (λ a. PassesOver code.now self.now.machine.cells (held self.now.machine.x) (clause_places code.now predicate.now) (a.place ∷ places_from code.now a.behind)) }
+    {
+        first_possible(&self.cells, &self.x, code, predicate)
+    }
+
+    /// The first choice, from one on, whose clause doesn't fail at once on the argument registers.
+    fn choice_from(&self, code: &Code, behind: Option<usize>) -> Option<usize>
+        ensures { PassesOver code.now self.now.machine.cells (held self.now.machine.x) (places_from code.now behind) (places_from code.now result) }
+    {
+        pass_over(&self.cells, &self.x, code, behind)
+    }
+
+    /// Enters a predicate of the table, which is a turn. Clauses that fail at once are passed over; where two others or more
+    /// are left, a choice point keeps them, and where one is, control goes right inside it. Without memory nothing changes.
     pub(crate) fn enter(&mut self, code: &Code, number: u32) -> Result<(), NoMemory>
         requires due { self.old.machine.now ≡ calling number }
         requires is_for { IsFor code.now self.old }
@@ -90,13 +106,13 @@ impl Section {
             self.next = Now::Failed;
             return Ok(());
         };
-        let Some(alternative) = first(code, &predicate) else {
+        let Some(alternative) = self.first_clause(code, &predicate) else {
             self.next = Now::Failed;
             return Ok(());
         };
-        match alternative.behind {
+        match self.choice_from(code, alternative.behind) {
             None => self.next = Now::Inside(alternative.place as usize),
-            Some(behind) => {
+            Some(_) => {
                 self.cells.is_store();
                 let mark = self.cells.mark();
                 let choice = Choice {
@@ -104,7 +120,7 @@ impl Section {
                     trail: mark.trail,
                     predicate: number,
                     place: alternative.place,
-                    behind: Some(behind),
+                    behind: alternative.behind,
                 };
                 let arguments = &self.x[..predicate.arity as usize + 1];
                 self.environments.keep(choice, arguments)?;
@@ -165,12 +181,12 @@ impl Section {
         ensures left { IfOk result (λ found. LeavesOut code.now self.old.machine (places_from code.now behind) (places_of code.now found)) }
         ensures back { Returned self.old self.new }
     {
-        let mut rest = behind;
+        let mut rest = self.choice_from(code, behind);
         while let Some(found) = following(code, rest) {
             if self.try_clause(code, found.place)? {
                 return Ok(Some(found));
             }
-            rest = found.behind;
+            rest = self.choice_from(code, found.behind);
         }
         Ok(None)
     }

@@ -1,12 +1,14 @@
 use Rattle.std.proofs.Common.{[], ◌∷◌}
 use Rattle.ap_standing.specs.Machine.{places_from}
-use Rattle.ap_section.proofs.Alternatives.{Returned-trans, Returned-refl, IsFor-stays, leaves-all, leaves-same, leaves-stuck}
+use Rattle.ap_section.specs.Choices.{Returned}
+use Rattle.ap_section.proofs.Alternatives.{Returned-trans, Returned-refl, IsFor-stays, leaves-all, leaves-same, leaves-stuck, leaves-passed}
 use Rattle.ap_section.proofs.section.Section.next_match.Goals as goal
 
 pub loop-found-init : goal.loop-found-init
 loop-found-init c = record {
   back = Returned-refl c.args.self.now c.requires.at;
-  left = leaves-all c.args.code.now c.args.self.now.machine (places_from c.args.code.now c.args.behind);
+  left = leaves-passed c.args.code.now c.args.self.now c.args.self.now (places_from c.args.code.now c.args.behind) (places_from c.args.code.now c.args.behind) (places_from c.args.code.now c.choice_from-rest.result)
+      (Returned-refl c.args.self.now c.requires.at) c.requires.at (leaves-all c.args.code.now c.args.self.now.machine (places_from c.args.code.now c.args.behind)) c.choice_from-rest.ensures;
 }
 
 pub try_clause-requires-clause-is_for : goal.try_clause-requires-clause-is_for
@@ -27,12 +29,17 @@ pub returns-then-branch-clause-back : goal.returns-then-branch-clause-back
 returns-then-branch-clause-back c = Returned-trans c.args.self.now c.loop-found.self c.try_clause.new.self c.loop-found.invariant.back c.try_clause.ensures.back
 
 pub loop-found-preserved : goal.loop-found-preserved
-loop-found-preserved c = record {
-  back = Returned-trans c.args.self.now c.loop-found.self c.try_clause.new.self c.loop-found.invariant.back c.try_clause.ensures.back;
-  left = leaves-stuck c.args.code.now c.args.self.now c.loop-found.self (places_from c.args.code.now c.args.behind) (places_from c.args.code.now c.loop-found.rest)
-      (places_from c.args.code.now c.in-Some.found.behind) c.in-Some.found.place c.loop-found.invariant.back c.loop-found.invariant.back.at c.loop-found.invariant.left c.in-Some.ensures.some
-      (c.in_ok-try_clause.ensures.stuck c.if-branch.false);
-}
+loop-found-preserved c =
+    let code = c.args.code.now in
+    let first = c.loop-found.invariant.back in
+    let back : Returned c.args.self.now c.try_clause.new.self = Returned-trans c.args.self.now c.loop-found.self c.try_clause.new.self first c.try_clause.ensures.back in
+    record {
+      back = back;
+      left = leaves-passed code c.args.self.now c.try_clause.new.self (places_from code c.args.behind) (places_from code c.in-Some.found.behind) (places_from code c.choice_from-rest-in-Some.result) back back.at
+          (leaves-stuck code c.args.self.now c.loop-found.self (places_from code c.args.behind) (places_from code c.loop-found.rest)
+          (places_from code c.in-Some.found.behind) c.in-Some.found.place first first.at c.loop-found.invariant.left c.in-Some.ensures.some
+          (c.in_ok-try_clause.ensures.stuck c.if-branch.false)) c.choice_from-rest-in-Some.ensures;
+    }
 
 pub returns-clause-left : goal.returns-clause-left
 returns-clause-left c =
