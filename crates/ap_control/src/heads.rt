@@ -1,7 +1,7 @@
 //! Clauses whose heads can't be taken, told by their first instruction: nothing is bound for that, and nothing undone.
 
-ghost use Rattle.std.specs.Prelude.{◌≡◌, ℕ, ◌<◌, [], ◌∷◌, length, true, None, IfSome};
-ghost use Rattle.ap_term.specs.Tree.{Tree, Trees, atom, node, count_trees};
+ghost use Rattle.std.specs.Prelude.{◌≡◌, ℕ, ◌<◌, [], ◌∷◌, length, slice_get, true, None, IfSome};
+ghost use Rattle.ap_term.specs.Tree.{Tree, Trees, atom, int, node, count_trees};
 ghost use Rattle.ap_instr.specs.StandsFor.{clause_places};
 ghost use Rattle.ap_match.specs.Fits.{Fits};
 ghost use Rattle.ap_steps.specs.Moves.{held, HoldPlaces, IsStuck};
@@ -47,6 +47,37 @@ fn is_other_structure(cells: &Cells, place: usize, name: Atom, count: u8) -> boo
     }
 }
 
+/// Whether a place's term is no such integer, nor an unbound variable.
+fn is_other_integer(cells: &Cells, place: usize, value: i64) -> bool
+    requires { place < length cells.now.cells }
+    ensures { result ≡ true → (k : ℕ → Tree) → Fits cells.now.cells k → k place ≡ int value → ⊥ }
+{
+    match cells.top(place) {
+        Top::Free(_) => false,
+        Top::Int(found) => found != value,
+        Top::Atom(_) => true,
+        Top::Node(_, _, _) => true,
+    }
+}
+
+/// An integer of the code's table.
+fn integer_at(code: &Code, index: u32) -> Option<i64>
+    ensures { result ≡ slice_get code.now.integers index }
+{
+    code.integers().get(index as usize).copied()
+}
+
+/// Whether a place's term is not the integer that the code's table has at an index, nor an unbound variable.
+fn is_other_listed(cells: &Cells, place: usize, code: &Code, index: u32) -> bool
+    requires { place < length cells.now.cells }
+    ensures { result ≡ true → (k : ℕ → Tree) → Fits cells.now.cells k → IfSome (slice_get code.now.integers index) (λ value. k place ≡ int value → ⊥) }
+{
+    match integer_at(code, index) {
+        Some(value) => is_other_integer(cells, place, value),
+        None => false,
+    }
+}
+
 /// Whether the instruction at a place can't be taken, whatever comes behind it.
 fn fails_at(cells: &Cells, x: &[u32], code: &Code, at: usize) -> bool
     requires { HoldPlaces (length cells.now.cells) x.now }
@@ -56,6 +87,7 @@ fn fails_at(cells: &Cells, x: &[u32], code: &Code, at: usize) -> bool
         None => false,
         Some(instr) => match instr {
             Instr::GetConstant(name, a) => is_other_atom(cells, place_in(x, a), name),
+            Instr::GetInteger(index, a) => is_other_listed(cells, place_in(x, a), code, index),
             Instr::GetStructure(name, count, a) => {
                 is_other_structure(cells, place_in(x, a), name, count)
             }
