@@ -1,16 +1,17 @@
-//! Clauses whose heads can't be taken, told by their first instruction: nothing is bound for that, and nothing undone.
+//! Clauses whose heads can't be taken, told by the constants and the first structure there: nothing is bound for that, and
+//! nothing undone.
 
-ghost use Rattle.std.specs.Prelude.{◌≡◌, ℕ, ◌<◌, [], ◌∷◌, length, true, None, IfSome};
-ghost use Rattle.ap_term.specs.Tree.{Tree, Trees, atom, node, count_trees};
+ghost use Rattle.std.specs.Prelude.{◌≡◌, ℕ, ◌+◌, ◌<◌, List, [], ◌∷◌, length, slice_get, true, None, IfSome};
+ghost use Rattle.ap_term.specs.Tree.{Tree, Trees, atom, int, node, count_trees};
 ghost use Rattle.ap_instr.specs.StandsFor.{clause_places};
 ghost use Rattle.ap_match.specs.Fits.{Fits};
 ghost use Rattle.ap_steps.specs.Moves.{held, HoldPlaces, IsStuck};
 ghost use Rattle.ap_steps.specs.Ways.{steps_from};
 ghost use Rattle.ap_standing.specs.Machine.{places_from};
-ghost use Rattle.ap_control.specs.Heads.{PassesOver};
+ghost use Rattle.ap_cells.specs.declared.cells.Raw.{Raw};
+ghost use Rattle.ap_control.specs.Heads.{PassesOver, only_asks};
 
 use crate::alternatives::{Alternative, first, following, instruction_at};
-use crate::runs::is_frame_at;
 use ap_cells::{Cells, Top};
 use ap_instr::{Code, Instr, Predicate};
 use ap_steps::registers::place_in;
@@ -47,6 +48,37 @@ fn is_other_structure(cells: &Cells, place: usize, name: Atom, count: u8) -> boo
     }
 }
 
+/// Whether a place's term is no such integer, nor an unbound variable.
+fn is_other_integer(cells: &Cells, place: usize, value: i64) -> bool
+    requires { place < length cells.now.cells }
+    ensures { result ≡ true → (k : ℕ → Tree) → Fits cells.now.cells k → k place ≡ int value → ⊥ }
+{
+    match cells.top(place) {
+        Top::Free(_) => false,
+        Top::Int(found) => found != value,
+        Top::Atom(_) => true,
+        Top::Node(_, _, _) => true,
+    }
+}
+
+/// An integer of the code's table.
+fn integer_at(code: &Code, index: u32) -> Option<i64>
+    ensures { result ≡ slice_get code.now.integers index }
+{
+    code.integers().get(index as usize).copied()
+}
+
+/// Whether a place's term is not the integer that the code's table has at an index, nor an unbound variable.
+fn is_other_listed(cells: &Cells, place: usize, code: &Code, index: u32) -> bool
+    requires { place < length cells.now.cells }
+    ensures { result ≡ true → (k : ℕ → Tree) → Fits cells.now.cells k → IfSome (slice_get code.now.integers index) (λ value. k place ≡ int value → ⊥) }
+{
+    match integer_at(code, index) {
+        Some(value) => is_other_integer(cells, place, value),
+        None => false,
+    }
+}
+
 /// Whether the instruction at a place can't be taken, whatever comes behind it.
 fn fails_at(cells: &Cells, x: &[u32], code: &Code, at: usize) -> bool
     requires { HoldPlaces (length cells.now.cells) x.now }
@@ -56,6 +88,7 @@ fn fails_at(cells: &Cells, x: &[u32], code: &Code, at: usize) -> bool
         None => false,
         Some(instr) => match instr {
             Instr::GetConstant(name, a) => is_other_atom(cells, place_in(x, a), name),
+            Instr::GetInteger(index, a) => is_other_listed(cells, place_in(x, a), code, index),
             Instr::GetStructure(name, count, a) => {
                 is_other_structure(cells, place_in(x, a), name, count)
             }
@@ -64,15 +97,45 @@ fn fails_at(cells: &Cells, x: &[u32], code: &Code, at: usize) -> bool
     }
 }
 
-/// Whether the clause at a place can't be entered, by its first argument alone. False says nothing.
+/// Whether an instruction only asks: for a constant in an argument register, or for nothing.
+fn only_asks(instr: &Instr) -> bool
+    ensures { result ≡ only_asks instr.now }
+{
+    match *instr {
+        Instr::GetConstant(_, _) => true,
+        Instr::GetInteger(_, _) => true,
+        Instr::Allocate(_) => true,
+        Instr::Deallocate => true,
+        _ => false,
+    }
+}
+
+/// Whether the instruction at a place leaves all as it is, so that a clause is shut where what comes behind it is.
+fn leaves_all(code: &Code, at: usize) -> bool
+    requires { at < length code.now.instructions }
+    ensures { result ≡ true → (cs : List Raw) (x y : ℕ → ℕ) → IsStuck cs x y (steps_from code.now (at + 1)) → IsStuck cs x y (steps_from code.now at) }
+{
+    match instruction_at(code, at) {
+        None => false,
+        Some(instr) => only_asks(&instr),
+    }
+}
+
+/// Whether the clause at a place can't be entered, by the constants and the first structure of its head alone. False says
+/// nothing.
 pub fn fails_at_once(cells: &Cells, x: &[u32], code: &Code, at: usize) -> bool
     requires { HoldPlaces (length cells.now.cells) x.now }
     ensures { result ≡ true → (y : ℕ → ℕ) → IsStuck cells.now.cells (held x.now) y (steps_from code.now at) }
 {
-    if at < code.instructions().len() && is_frame_at(code, at) {
-        return fails_at(cells, x, code, at + 1);
+    for place in at..code.instructions().len() {
+        if fails_at(cells, x, code, place) {
+            return true;
+        }
+        if !leaves_all(code, place) {
+            return false;
+        }
     }
-    fails_at(cells, x, code, at)
+    false
 }
 
 /// The first choice, from one on, whose clause doesn't fail at once.

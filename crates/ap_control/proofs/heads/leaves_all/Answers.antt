@@ -1,0 +1,30 @@
+use Rattle.std.proofs.Common.{◌≡◌, ℕ, ℤ, true, List, Option, Some, None, ◌+◌, ◌∷◌, slice_get, sym, ◌∙◌, subst}
+use Rattle.ap_term.specs.Tree.{Tree, Trees}
+use Rattle.ap_cells.specs.declared.cells.Raw.{Raw}
+use Rattle.ap_instr.specs.declared.instruction.Instr.{Instr}
+use Rattle.ap_instr.specs.declared.instruction.Instr.TheVariants.{GetConstant, GetInteger, Allocate, Deallocate}
+use Rattle.ap_instr.specs.Code.{Compiled}
+use Rattle.ap_instr.specs.Step.{Step, get_constant, with_integer, step_of}
+use Rattle.ap_steps.specs.Moves.{Asked}
+use Rattle.ap_steps.specs.Ways.{steps_from}
+use Rattle.ap_steps.proofs.Places.{steps-here}
+use Rattle.ap_control.specs.Heads.{only_asks}
+use Rattle.ap_control.proofs.heads.leaves_all.Goals as goal
+
+-- what comes behind a constant that is asked for is asked, too
+behind-listed : (cs : List Raw) (x y : ℕ → ℕ) (a : ℕ) (is : List Step) (k : ℕ → Tree) (bs : Trees) (o : Option ℤ) → Asked cs x y (with_integer o (λ t. get_constant t a) ∷ is) k bs → Asked cs x y is k bs
+behind-listed cs x y a is k bs None h = absurd h.1
+behind-listed cs x y a is k bs (Some value) h = (h.0, h.1.1)
+
+behind : (code : Compiled) (cs : List Raw) (x y : ℕ → ℕ) (is : List Step) (k : ℕ → Tree) (bs : Trees) (i : Instr) → only_asks i ≡ true → Asked cs x y (step_of code i ∷ is) k bs → Asked cs x y is k bs
+behind code cs x y is k bs (GetConstant c a) e h = (h.0, h.1.1)
+behind code cs x y is k bs (GetInteger i a) e h = behind-listed cs x y a is k bs (slice_get code.integers i) h
+behind code cs x y is k bs (Allocate n) e h = h
+behind code cs x y is k bs Deallocate e h = h
+behind code cs x y is k bs i e h = absurd (let z : ⊥ = cc in z)
+
+pub returns-in-Some : goal.returns-in-Some
+returns-in-Some c = λ b cs x y stuck k bs h.
+    let code = c.args.code.now in
+    let stands : slice_get code.instructions c.args.at ≡ Some c.in-Some.instr = sym c.instruction_at.ensures ∙ c.in-Some.is in
+    stuck k bs (behind code cs x y (steps_from code (c.args.at + 1)) k bs c.in-Some.instr (sym c.only_asks.ensures ∙ b) (subst (λ is. Asked cs x y is k bs) (steps-here code c.args.at c.in-Some.instr stands) h))
