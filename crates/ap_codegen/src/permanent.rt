@@ -16,21 +16,32 @@ use ap_instr::Slot;
 use ap_term::{Args, Atom, NoMemory, Term, add_vars};
 use std::alloc::Global;
 
-/// How many registers a clause may have. A term's depth is below it, so terms that are nested along their last arguments
-/// don't fill the machine's stack.
-const MAX_REGISTERS: usize = 131_072;
-
-/// The register n above another, where there is one.
+/// The place n above another, where there is one.
 pub fn above(m: u32, n: usize) -> Result<u32, NoMemory>
     ensures { IfOk result (λ k. k ≡ m + n) }
 {
-    if n >= MAX_REGISTERS {
+    if n > 4294967295 {
         return Err(NoMemory);
     }
     match m.checked_add(n as u32) {
-        Some(k) if (k as usize) < MAX_REGISTERS => Ok(k),
-        _ => Err(NoMemory),
+        Some(k) => Ok(k),
+        None => Err(NoMemory),
     }
+}
+
+/// How many registers a term's arguments may take. A term's depth is below it, so terms that are nested along their last
+/// arguments don't fill the machine's stack.
+const MAX_TEMPORARIES: u32 = 65_536;
+
+/// The register n above another, where a term may have one.
+fn behind(m: u32, n: usize) -> Result<u32, NoMemory>
+    ensures { IfOk result (λ k. k ≡ m + n) }
+{
+    let k = above(m, n)?;
+    if k > MAX_TEMPORARIES {
+        return Err(NoMemory);
+    }
+    Ok(k)
 }
 
 /// How many arguments there are, where an instruction can say it.
@@ -136,7 +147,7 @@ fn nested(code: &mut Vec<Step>, args: &Args, seen: &mut Vec<u64>, m: u32) -> Res
     ensures seen { OnOk result (seen.new.items ≡ see_nested args.now seen.old.items) }
 {
     let mut at = m;
-    let end = above(m, args.len())?;
+    let end = behind(m, args.len())?;
     for t in args.as_slice() {
         if let Term::Node(_, _) = t {
             build(code, t, at, seen, end)?;
@@ -241,7 +252,7 @@ fn take_nested(
     ensures seen { OnOk result (seen.new.items ≡ see_opened args.now seen.old.items) }
 {
     let mut at = m;
-    let end = above(m, args.len())?;
+    let end = behind(m, args.len())?;
     for t in args.as_slice() {
         if let Term::Node(_, _) = t {
             take_apart(code, t, at, seen, end)?;
