@@ -14,7 +14,7 @@ use Rattle.ap_cells.specs.declared.cells.Raw.{Raw}
 use Rattle.ap_cells.specs.declared.cells.Raw.TheVariants.{Free, Same, Int, Atom, Node}
 use Rattle.ap_cells.specs.Trees.{tree_at, step, Within, Stand, Finite, trees, IsEnd, link, frees, free_one}
 use Rattle.ap_cells.specs.Store.{Store, freed, Closed, IsMark, IsTrail, IsStore, undone, Keeps}
-use Rattle.ap_cells.proofs.Stands.{Stand-push, Stand-cut, Stand-bind, Stand-free}
+use Rattle.ap_cells.proofs.Stands.{Stand-push, Stand-cut, Stand-bind, Stand-down, Stand-free}
 use Rattle.ap_cells.proofs.Rounds.{trees_are, or_split}
 
 pub freed-length : (xs : List ℕ) (cs : List Raw) → length (freed xs cs) ≡ length cs
@@ -251,47 +251,42 @@ bound_none (Int z) h = refl
 bound_none (Atom a) h = refl
 bound_none (Node a p n) h = refl
 
--- the cell by which a place is bound to what stands at the end of a chain
-abbrev Links : List Tree → ℕ → ℕ → ℕ → Raw → Type 0
-Links ts n place end r = (step ts place (link end r) ≡ tree_at ts end) × Within n place (link end r) × (link end r ≡ Free → ⊥)
+-- the cell by which a place has the term of what stands at the end of a chain
+abbrev pub Links : List Tree → ℕ → ℕ → ℕ → Raw → Type 0
+Links ts n place end c = (step ts place c ≡ tree_at ts end) × Within n place c × (c ≡ Free → ⊥)
 
-pub links : (ts : List Tree) (n place end : ℕ) (r : Raw) → tree_at ts end ≡ step ts end r → Within n end r → IsEnd r → ((x : ℕ) → tree_at ts end ≡ var x → x < place) → Links ts n place end r
+pub links : (ts : List Tree) (n place end : ℕ) (r : Raw) → tree_at ts end ≡ step ts end r → Within n end r → IsEnd r → ((x : ℕ) → tree_at ts end ≡ var x → x < place) → Links ts n place end (link end r)
 links ts n place end Free e w i d = (refl, d end e, λ p. cc)
 links ts n place end (Same j) e w i d = absurd i
 links ts n place end (Int z) e w i d = (sym e, tt, λ p. cc)
 links ts n place end (Atom a) e w i d = (sym e, tt, λ p. cc)
 links ts n place end (Node a p m) e w i d = (sym e, w, λ p. cc)
 
+-- at a new place
+pub links-new : (cs : List Raw) (trail : List ℕ) (end : ℕ) (r : Raw) → IsStore cs trail → end < length cs → tree_at (trees cs) end ≡ step (trees cs) end r → Within (length cs) end r → IsEnd r → Links (trees cs) (length cs) (length cs) end (link end r)
+links-new cs trail end r s h e w i =
+    links (trees cs) (length cs) (length cs) end r e w i (λ x v. let d = Stand-down cs (trees cs) (IsStore-stand cs trail s) (end + 1) end x Free (omega arith) h v in omega arith)
+
 -- a place bound
-pub record Bound (cs : List Raw) (trail : List ℕ) (place to : ℕ) (c : Raw) : Type 0 where
+pub record Bound (cs : List Raw) (trail : List ℕ) (place : ℕ) (c : Raw) : Type 0 where
   pub store : IsStore (set cs place c) (trail ++ place ∷ [])
   pub room : length trail + 1 ≤ length cs
-  pub trees_new : trees (set cs place c) ≡ map (instance (value (one place (tree_at (trees cs) to)))) (trees cs)
+  pub trees_new : trees (set cs place c) ≡ map (instance (value (one place (step (trees cs) place c)))) (trees cs)
   pub free : (d : Raw) → get_or cs place d ≡ Free
   pub fewer : frees (set cs place c) + 1 ≡ frees cs
 
-pub bound_is : (cs : List Raw) (trail : List ℕ) (place to end : ℕ) (r : Raw) → IsStore cs trail → place < length cs → end < length cs → tree_at (trees cs) place ≡ var place
-    → occurs place (tree_at (trees cs) to) ≡ false → ((x : ℕ) → tree_at (trees cs) to ≡ var x → x < place) → tree_at (trees cs) end ≡ tree_at (trees cs) to
-    → r ≡ get_or cs end r → IsEnd r → Bound cs trail place to (link end r)
-bound_is cs trail place to end r s h l u o d e q i = record {
-  store = IsStore-bind cs trail place (link end r) s h free k.1 k.2 absent;
-  room = omega (arith, IsTrail-length (set cs place (link end r)) (trail ++ place ∷ []) (IsTrail-bind cs trail place (link end r) s.is_trail h free k.2), length_push trail place, length-set cs place (link end r));
-  trees_new = trees-bind cs trail place (link end r) s h free k.1 k.2 absent ∙ ap (λ t. map (instance (value (one place t))) (trees cs)) (k.0 ∙ e);
+pub bound_is : (cs : List Raw) (trail : List ℕ) (place : ℕ) (c : Raw) → IsStore cs trail → place < length cs → Within (length cs) place c → (c ≡ Free → ⊥) → tree_at (trees cs) place ≡ var place
+    → occurs place (step (trees cs) place c) ≡ false → Bound cs trail place c
+bound_is cs trail place c s h w b u absent = record {
+  store = IsStore-bind cs trail place c s h free w b absent;
+  room = omega (arith, IsTrail-length (set cs place c) (trail ++ place ∷ []) (IsTrail-bind cs trail place c s.is_trail h free b), length_push trail place, length-set cs place c);
+  trees_new = trees-bind cs trail place c s h free w b absent;
   free = free;
-  fewer = let e = sum_by-set free_one cs place (link end r) Free h in let z = bound_none (link end r) k.2 in let y = ap free_one (free Free) in omega arith;
+  fewer = let e = sum_by-set free_one cs place c Free h in let z = bound_none c b in let y = ap free_one (free Free) in omega arith;
 }
   where
-    t : Stand cs (trees cs)
-    t = IsStore-stand cs trail s
-
-    free : (c : Raw) → get_or cs place c ≡ Free
-    free c = Stand-free cs (trees cs) place c t h u
-
-    k : Links (trees cs) (length cs) place end r
-    k = links (trees cs) (length cs) place end r (t.each end r l ∙ ap (step (trees cs) end) (sym q)) (subst (Within (length cs) end) (sym q) (t.within end r l)) i (λ x v. d x (sym e ∙ v))
-
-    absent : occurs place (step (trees cs) place (link end r)) ≡ false
-    absent = ap (occurs place) (k.0 ∙ e) ∙ o
+    free : (d : Raw) → get_or cs place d ≡ Free
+    free d = Stand-free cs (trees cs) place d (IsStore-stand cs trail s) h u
 
 pub freed-first : (xs : List ℕ) (cs : List Raw) (x : ℕ) → freed xs (set cs x Free) ≡ set (freed xs cs) x Free
 freed-first [] cs x = refl

@@ -69,9 +69,10 @@ impl Model for Cells {
 }
 
 /// A cell as it is kept. Its places fit.
-fn packed(cell: Cell, places: usize) -> Raw
-    requires few { places ≤ 4294967295 }
-    requires within { Within places places (raw_of cell) }
+#[inline]
+fn packed(cell: Cell, place: usize, places: usize) -> Raw
+    requires few { (place ≤ places) × (places ≤ 4294967295) }
+    requires within { Within places place (raw_of cell) }
     ensures { result ≡ raw_of cell }
 {
     match cell {
@@ -84,6 +85,7 @@ fn packed(cell: Cell, places: usize) -> Raw
 }
 
 /// A cell as its readers see it.
+#[inline]
 fn unpacked(raw: Raw) -> Cell
     ensures { raw_of result ≡ raw }
 {
@@ -97,6 +99,7 @@ fn unpacked(raw: Raw) -> Cell
 }
 
 /// The cell by which another place has the term of the place `end`, at which `raw` stands.
+#[inline]
 fn linked(end: usize, raw: Raw) -> Raw
     requires { end < 4294967295 }
     ensures { result ≡ link end raw }
@@ -153,6 +156,7 @@ impl Cells {
     }
 
     /// How many cells there are; their places are the numbers below. Those that can be pushed have places of 32 bits, too.
+    #[inline]
     pub fn len(&self) -> usize
         ensures place { result ≡ length self.now.cells }
         ensures few { length self.now.cells ≤ 4294967295 }
@@ -162,6 +166,7 @@ impl Cells {
     }
 
     /// A law: the cells stand for finite terms, also where bindings are taken back.
+    #[inline]
     pub fn is_store(&self)
         ensures { IsStore self.now.cells self.now.trail }
     {
@@ -180,6 +185,7 @@ impl Cells {
     }
 
     /// Makes room for n more cells. Where there is room already that is one comparison.
+    #[inline]
     pub fn reserve(&mut self, n: usize) -> Result<(), NoMemory>
         ensures cells { self.new.cells ≡ self.old.cells }
         ensures trail { self.new.trail ≡ self.old.trail }
@@ -212,7 +218,25 @@ impl Cells {
         Ok(())
     }
 
+    /// Puts a cell at a new place, as it is kept.
+    #[inline]
+    fn push_raw(&mut self, cell: Raw) -> usize
+        requires room { 0 < self.old.spare }
+        requires within { Within (length self.old.cells) (length self.old.cells) cell }
+        ensures place { result ≡ length self.old.cells }
+        ensures cells { self.new.cells ≡ self.old.cells ++ cell ∷ [] }
+        ensures trees { trees self.new.cells ≡ trees self.old.cells ++ step (trees self.old.cells) (length self.old.cells) cell ∷ [] }
+        ensures trail { self.new.trail ≡ self.old.trail }
+        ensures spare { self.new.spare + 1 ≡ self.old.spare }
+        ensures keeps { Keeps self.old self.new }
+    {
+        let place = self.cells.len();
+        self.cells.push_reserved(cell);
+        place
+    }
+
     /// Puts a cell at a new place. It takes no memory.
+    #[inline]
     pub fn push(&mut self, cell: Cell) -> usize
         requires room { 0 < self.old.spare }
         requires within { Within (length self.old.cells) (length self.old.cells) (raw_of cell) }
@@ -223,12 +247,31 @@ impl Cells {
         ensures spare { self.new.spare + 1 ≡ self.old.spare }
         ensures keeps { Keeps self.old self.new }
     {
-        let place = self.cells.len();
-        self.cells.push_reserved(packed(cell, place));
-        place
+        let places = self.cells.len();
+        self.push_raw(packed(cell, places, places))
+    }
+
+    /// Puts a cell at a new place that has the term of another. It takes no memory. What stands at the end of that one's chain
+    /// is copied, so that chains don't grow.
+    #[inline]
+    pub fn push_same(&mut self, to: usize) -> usize
+        requires room { 0 < self.old.spare }
+        requires inside { to < length self.old.cells }
+        ensures place { result ≡ length self.old.cells }
+        ensures trees { trees self.new.cells ≡ trees self.old.cells ++ tree_at (trees self.old.cells) to ∷ [] }
+        ensures len { length self.new.cells ≡ length self.old.cells + 1 }
+        ensures trail { self.new.trail ≡ self.old.trail }
+        ensures spare { self.new.spare + 1 ≡ self.old.spare }
+        ensures keeps { Keeps self.old self.new }
+    {
+        self.is_store();
+        let end = self.deref(to);
+        let cell = linked(end, self.raw_at(end));
+        self.push_raw(cell)
     }
 
     /// The cell at a place, as it is kept.
+    #[inline]
     pub fn raw_at(&self, place: usize) -> Raw
         requires { place < length self.now.cells }
         ensures cell { (d : Raw) → result ≡ slice_index_or self.now.cells place d }
@@ -240,6 +283,7 @@ impl Cells {
     }
 
     /// The cell at a place.
+    #[inline]
     pub fn at(&self, place: usize) -> Cell
         requires { place < length self.now.cells }
         ensures tree { tree_at (trees self.now.cells) place ≡ step (trees self.now.cells) place (raw_of result) }
@@ -250,6 +294,7 @@ impl Cells {
     }
 
     /// The place at the end of the chain from a place.
+    #[inline]
     pub fn deref(&self, place: usize) -> usize
         requires { place < length self.now.cells }
         ensures place { result < length self.now.cells }
@@ -265,7 +310,44 @@ impl Cells {
         }
     }
 
+    /// Makes a cell of an unbound place, in whose term the place doesn't stand.
+    #[inline]
+    fn bind_raw(&mut self, place: usize, cell: Raw)
+        requires inside { place < length self.old.cells }
+        requires within { Within (length self.old.cells) place cell }
+        requires bound { cell ≡ Free → ⊥ }
+        requires unbound { tree_at (trees self.old.cells) place ≡ var place }
+        requires absent { occurs place (step (trees self.old.cells) place cell) ≡ false }
+        ensures trees { trees self.new.cells ≡ map (instance (value (one place (step (trees self.old.cells) place cell)))) (trees self.old.cells) }
+        ensures len { length self.new.cells ≡ length self.old.cells }
+        ensures fewer { frees self.new.cells + 1 ≡ frees self.old.cells }
+        ensures spare { self.new.spare ≡ self.old.spare }
+        ensures keeps { Keeps self.old self.new }
+    {
+        self.cells[place] = cell;
+        self.trail.push_reserved(place as u32);
+    }
+
+    /// Binds an unbound place to the term of a cell, in which it doesn't stand. It takes no new cell.
+    #[inline]
+    pub fn bind_to(&mut self, place: usize, cell: Cell)
+        requires inside { place < length self.old.cells }
+        requires within { Within (length self.old.cells) place (raw_of cell) }
+        requires bound { raw_of cell ≡ Free → ⊥ }
+        requires unbound { tree_at (trees self.old.cells) place ≡ var place }
+        requires absent { occurs place (step (trees self.old.cells) place (raw_of cell)) ≡ false }
+        ensures trees { trees self.new.cells ≡ map (instance (value (one place (step (trees self.old.cells) place (raw_of cell))))) (trees self.old.cells) }
+        ensures len { length self.new.cells ≡ length self.old.cells }
+        ensures fewer { frees self.new.cells + 1 ≡ frees self.old.cells }
+        ensures spare { self.new.spare ≡ self.old.spare }
+        ensures keeps { Keeps self.old self.new }
+    {
+        let places = self.cells.len();
+        self.bind_raw(place, packed(cell, place, places));
+    }
+
     /// Binds an unbound place to the term of another, in which it doesn't stand. Of two variables the higher one is bound.
+    #[inline]
     pub fn bind(&mut self, place: usize, to: usize)
         requires inside { (place < length self.old.cells) × (to < length self.old.cells) }
         requires unbound { tree_at (trees self.old.cells) place ≡ var place }
@@ -279,8 +361,7 @@ impl Cells {
     {
         let end = self.deref(to);
         let cell = linked(end, self.raw_at(end));
-        self.cells[place] = cell;
-        self.trail.push_reserved(place as u32);
+        self.bind_raw(place, cell);
     }
 
     /// Takes back all that came since a mark.

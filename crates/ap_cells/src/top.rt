@@ -19,18 +19,21 @@ pub enum Top {
 
 impl Cells {
     /// The outermost part of a place's term.
+    #[inline]
     pub fn top(&self, place: usize) -> Top
         requires { place < length self.now.cells }
         ensures tree { tree_at (trees self.now.cells) place ≡ topped (trees self.now.cells) result }
         ensures inside { IsTop (trees self.now.cells) (length self.now.cells) result }
     {
-        let end = self.deref(place);
-        match self.raw_at(end) {
-            Raw::Free => Top::Free(end),
-            Raw::Same(_) => Top::Free(end),
-            Raw::Int(z) => Top::Int(z),
-            Raw::Atom(a) => Top::Atom(a),
-            Raw::Node(a, first, count) => Top::Node(a, first as usize, count),
+        let mut at = place;
+        loop {
+            match self.raw_at(at) {
+                Raw::Free => return Top::Free(at),
+                Raw::Same(j) => at = j as usize,
+                Raw::Int(z) => return Top::Int(z),
+                Raw::Atom(a) => return Top::Atom(a),
+                Raw::Node(a, first, count) => return Top::Node(a, first as usize, count),
+            }
         }
     }
 }

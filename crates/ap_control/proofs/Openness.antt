@@ -1,15 +1,15 @@
--- Instructions on registers and cells leave code open.
-use Rattle.std.proofs.Common.{◌≡◌, ℕ, suc, ◌+◌, Bool, true, false, if◌then◌else◌, List, [], ◌∷◌, drop, slice_get, Option, Some, None, refl, ap, sym, ◌∙◌, subst, ℤ}
-use Rattle.std.proofs.lemmas.List.{drop-drop}
+-- Instructions that lead to the next one leave code open.
+use Rattle.std.proofs.Common.{◌≡◌, ℕ, zero, suc, ◌+◌, false, List, ◌∷◌, slice_get, Option, Some, None, sym, subst, arith, ℤ}
 use Rattle.std.proofs.lemmas.Bool.{false≢true}
 use Rattle.ap_instr.specs.declared.instruction.Instr.{Instr}
 use Rattle.ap_instr.specs.declared.instruction.Instr.TheVariants.{GetVariable, GetValue, GetConstant, GetInteger, GetStructure, PutVariable, PutValue, PutConstant, PutInteger, PutStructure, UnifyVariable, UnifyValue, UnifyConstant, UnifyInteger, Allocate, Deallocate, Call, Execute, Proceed, Builtin, Jump, Fail, Try, Retry, Trust}
 use Rattle.ap_instr.specs.Code.{Compiled}
-use Rattle.ap_instr.specs.Step.{Step, get_constant, put_constant, unify_constant, with_integer, step_of, steps_of}
+use Rattle.ap_instr.specs.Step.{Step, get_constant, put_constant, unify_constant, with_integer, step_of}
 use Rattle.ap_instr.specs.Runs.{AsksOpenly}
-use Rattle.ap_steps.specs.Ways.{is_control, count_ahead, steps_from}
+use Rattle.ap_steps.specs.Ways.{is_transfer, NoneOfControl, steps_from}
+use Rattle.ap_steps.proofs.Places.{steps-here, plain-transfer}
 
-passed : (code : Compiled) (i : Instr) (is : List Step) → is_control i ≡ false → AsksOpenly (step_of code i ∷ is) → AsksOpenly is
+passed : (code : Compiled) (i : Instr) (is : List Step) → is_transfer i ≡ false → AsksOpenly (step_of code i ∷ is) → AsksOpenly is
 passed code (GetVariable v a) is e o = o
 passed code (GetValue v a) is e o = o
 passed code (GetConstant c a) is e o = o
@@ -36,8 +36,8 @@ passed code (UnifyInteger i) is e o = go (slice_get code.integers i) o
     go : (z : Option ℤ) → AsksOpenly (with_integer z unify_constant ∷ is) → AsksOpenly is
     go None o = o
     go (Some z) o = o
-passed code (Allocate n) is e o = absurd (false≢true (sym e))
-passed code Deallocate is e o = absurd (false≢true (sym e))
+passed code (Allocate n) is e o = o
+passed code Deallocate is e o = o
 passed code (Call q) is e o = absurd (false≢true (sym e))
 passed code (Execute q) is e o = absurd (false≢true (sym e))
 passed code Proceed is e o = absurd (false≢true (sym e))
@@ -48,16 +48,16 @@ passed code (Try l) is e o = absurd (false≢true (sym e))
 passed code (Retry l) is e o = absurd (false≢true (sym e))
 passed code (Trust l) is e o = absurd (false≢true (sym e))
 
-ahead : (code : Compiled) (is : List Instr) → AsksOpenly (steps_of code is) → AsksOpenly (steps_of code (drop (count_ahead is) is))
-ahead code [] o = o
-ahead code (i ∷ is) o = go (is_control i) refl o (ahead code is)
-  where
-    go : (b : Bool) → is_control i ≡ b → AsksOpenly (step_of code i ∷ steps_of code is) → (AsksOpenly (steps_of code is) → AsksOpenly (steps_of code (drop (count_ahead is) is)))
-        → AsksOpenly (steps_of code (drop (if b then 0 else suc (count_ahead is)) (i ∷ is)))
-    go true e o ih = o
-    go false e o ih = ih (passed code i (steps_of code is) e o)
+past : (code : Compiled) (at : ℕ) (i : Instr) → slice_get code.instructions at ≡ Some i → is_transfer i ≡ false → AsksOpenly (steps_from code at) → AsksOpenly (steps_from code (at + 1))
+past code at i e goes_on o = passed code i (steps_from code (at + 1)) goes_on (subst AsksOpenly (steps-here code at i e) o)
 
--- up to the next instruction of control
-pub openly-ahead : (code : Compiled) (at to : ℕ) → to ≡ at + count_ahead (drop at code.instructions) → AsksOpenly (steps_from code at) → AsksOpenly (steps_from code to)
-openly-ahead code at to e o =
-    subst (λ is. AsksOpenly (steps_of code is)) (drop-drop (count_ahead (drop at code.instructions)) at code.instructions ∙ ap (λ n. drop n code.instructions) (sym e)) (ahead code (drop at code.instructions) o)
+past_all : (code : Compiled) (at n : ℕ) → NoneOfControl code.instructions at n → AsksOpenly (steps_from code at) → AsksOpenly (steps_from code (at + n))
+past_all code at zero none o = let q : at ≡ at + 0 = omega arith in subst (λ m. AsksOpenly (steps_from code m)) q o
+past_all code at (suc n) none o =
+    let last = none n (omega arith) in
+    let q : at + n + 1 ≡ at + suc n = omega arith in
+    subst (λ m. AsksOpenly (steps_from code m)) q (past code (at + n) last.0 last.1 (plain-transfer last.0 last.2) (past_all code at n (λ k l. none k (omega arith)) o))
+
+-- behind an instruction and its arguments
+pub openly-past : (code : Compiled) (at n : ℕ) (i : Instr) → slice_get code.instructions at ≡ Some i → is_transfer i ≡ false → NoneOfControl code.instructions (at + 1) n → AsksOpenly (steps_from code at) → AsksOpenly (steps_from code (at + 1 + n))
+openly-past code at n i e goes_on none o = past_all code (at + 1) n none (past code at i e goes_on o)

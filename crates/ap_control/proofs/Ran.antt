@@ -1,46 +1,53 @@
--- Runs, one behind another.
-use Rattle.std.proofs.Common.{◌≡◌, ℕ, ◌+◌, ◌≤◌, if◌then◌else◌, List, ◌∷◌, length, drop, ap, ◌∙◌, subst, arith}
+-- Runs, one instruction behind another.
+use Rattle.std.proofs.Common.{◌≡◌, ℕ, zero, suc, ◌+◌, ◌≤◌, List, ◌∷◌, length, drop, slice_get, Some, ap, subst, arith}
+use Rattle.std.proofs.lemmas.Option.{slice_get_within}
 use Rattle.ap_cells.specs.declared.cells.Raw.{Raw}
+use Rattle.ap_cells.specs.Store.{Store}
+use Rattle.ap_instr.specs.declared.instruction.Instr.{Instr}
 use Rattle.ap_instr.specs.Code.{Compiled}
-use Rattle.ap_instr.specs.Step.{frame, steps_of}
-use Rattle.ap_instr.specs.Runs.{AsksOpenly}
+use Rattle.ap_instr.specs.Step.{step_of}
 use Rattle.ap_steps.specs.Moves.{held, HoldPlaces, Moves, IsStuck}
-use Rattle.ap_steps.specs.Ways.{cells_of, room, steps_from, Came}
+use Rattle.ap_steps.specs.Ways.{cells_of, room, NoneOfControl, steps_from, Passed}
 use Rattle.ap_steps.proofs.Steps.{Moves-refl, Moves-trans, Moves-stuck}
-use Rattle.ap_steps.proofs.Places.{drop-here}
-use Rattle.ap_control.specs.Runs.{Ran, IsFrameAt}
-use Rattle.ap_control.proofs.Openness.{openly-ahead}
+use Rattle.ap_steps.proofs.Places.{steps-here, room-here, none-room}
+use Rattle.ap_control.specs.Runs.{Ran}
+use Rattle.ap_control.proofs.Openness.{openly-past}
 
 pub ran-nowhere : (code : Compiled) (at : ℕ) (cs : List Raw) (x y : List ℕ) → HoldPlaces (length cs) x → HoldPlaces (length cs) y → Ran code at cs x y at cs x y
 ran-nowhere code at cs x y hx hy = record { moves = Moves-refl cs (held x) (held y) (steps_from code at); openly = λ o. o; holds_x = hx; holds_y = hy }
 
-module _ (code : Compiled) (at place : ℕ) (cs ds : List Raw) (x y x' y' : List ℕ) (r : Ran code at cs x y place ds x' y') where
-  pub ran-on : (to : ℕ) (es : List Raw) (x'' y'' : List ℕ) → Came code place ds x' y' to es x'' y'' → Ran code at cs x y to es x'' y''
-  ran-on to es x'' y'' c = record {
-    moves = Moves-trans cs ds es (held x) (held y) (held x') (held y') (held x'') (held y'') (steps_from code at) (steps_from code place) (steps_from code to) r.moves c.moves;
-    openly = λ o. openly-ahead code place to c.place (r.openly o);
-    holds_x = c.holds_x;
-    holds_y = c.holds_y;
-  }
+-- one instruction more, which stands at a place
+module _ (code : Compiled) (at place : ℕ) (cs : List Raw) (x y : List ℕ) (v : Store) (x' y' : List ℕ) (i : Instr) (e : slice_get code.instructions place ≡ Some i) where
+  module _ (r : Ran code at cs x y place v.cells x' y') where
+    here : Moves cs (held x) (held y) (steps_from code at) v.cells (held x') (held y') (step_of code i ∷ steps_from code (place + 1))
+    here = subst (Moves cs (held x) (held y) (steps_from code at) v.cells (held x') (held y')) (steps-here code place i e) r.moves
 
-  pub ran-stuck : IsStuck ds (held x') (held y') (steps_from code place) → IsStuck cs (held x) (held y) (steps_from code at)
-  ran-stuck s = Moves-stuck cs ds (held x) (held y) (held x') (held y') (steps_from code at) (steps_from code place) r.moves s
+    pub ran-on : (n : ℕ) (w : Store) (x'' y'' : List ℕ) → Passed code i (place + 1) n v x' y' w x'' y'' → Ran code at cs x y (place + (1 + n)) w.cells x'' y''
+    ran-on n w x'' y'' p =
+        let q : place + 1 + n ≡ place + (1 + n) = omega arith in
+        subst (λ m. Ran code at cs x y m w.cells x'' y'') q (record {
+          moves = Moves-trans cs v.cells w.cells (held x) (held y) (held x') (held y') (held x'') (held y'') (steps_from code at) (step_of code i ∷ steps_from code (place + 1)) (steps_from code (place + 1 + n)) here p.moves;
+          openly = λ o. openly-past code place n i e p.goes_on p.arguments (r.openly o);
+          holds_x = p.holds_x;
+          holds_y = p.holds_y;
+        })
 
-  pub ran-frame : IsFrameAt code place → Ran code at cs x y (place + 1) ds x' y'
-  ran-frame f =
-      let same : steps_from code place ≡ frame ∷ steps_from code (place + 1) = ap (steps_of code) (drop-here code.instructions place f.instr f.stands) ∙ ap (λ i. i ∷ steps_from code (place + 1)) f.is_frame in
-      let m : Moves cs (held x) (held y) (steps_from code at) ds (held x') (held y') (frame ∷ steps_from code (place + 1)) = subst (Moves cs (held x) (held y) (steps_from code at) ds (held x') (held y')) same r.moves in
-      record {
-        moves = record { longer = m.longer; forth = m.forth; back = m.back };
-        openly = λ o. subst AsksOpenly same (r.openly o);
-        holds_x = r.holds_x;
-        holds_y = r.holds_y;
-      }
+    pub ran-stuck : IsStuck v.cells (held x') (held y') (step_of code i ∷ steps_from code (place + 1)) → IsStuck cs (held x) (held y) (steps_from code at)
+    ran-stuck s = Moves-stuck cs v.cells (held x) (held y) (held x') (held y') (steps_from code at) (step_of code i ∷ steps_from code (place + 1)) here s
 
-pub room-frame : (code : Compiled) (at n : ℕ) → IsFrameAt code at → room (drop at code.instructions) ≤ n → room (drop (at + 1) code.instructions) ≤ n
-room-frame code at n f h =
-    let e : room (drop at code.instructions) ≡ cells_of f.instr + room (drop (at + 1) code.instructions) =
-    ap room (drop-here code.instructions at f.instr f.stands) ∙ ap (λ b. if b then 0 else cells_of f.instr + room (drop (at + 1) code.instructions)) f.goes_on
-    in
-    let z = f.makes_none in
-    omega arith
+  pub room-on : (n : ℕ) (w : Store) (x'' y'' : List ℕ) → Passed code i (place + 1) n v x' y' w x'' y'' → room (drop place code.instructions) ≤ v.spare → room (drop (place + (1 + n)) code.instructions) ≤ w.spare
+  room-on n w x'' y'' p h =
+      let a : room (drop place code.instructions) ≡ cells_of i + room (drop (place + 1) code.instructions) = room-here code.instructions place i e p.goes_on in
+      let b : room (drop (place + 1 + n) code.instructions) ≤ room (drop (place + 1) code.instructions) = none-room code.instructions (place + 1) n p.arguments in
+      let q : place + 1 + n ≡ place + (1 + n) = omega arith in
+      let c : room (drop (place + 1 + n) code.instructions) ≡ room (drop (place + (1 + n)) code.instructions) = ap (λ m. room (drop m code.instructions)) q in
+      let d : v.spare ≤ w.spare + cells_of i = p.spare in
+      omega arith
+
+-- instructions that stand there lie inside
+pub none-inside : (is : List Instr) (at n : ℕ) → NoneOfControl is at n → at ≤ length is → at + n ≤ length is
+none-inside is at n none h = go n none
+  where
+    go : (n : ℕ) → NoneOfControl is at n → at + n ≤ length is
+    go zero none = omega arith
+    go (suc n) none = let last = none n (omega arith) in let l = slice_get_within is (at + n) last.0 last.1 in omega arith

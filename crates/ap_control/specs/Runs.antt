@@ -1,13 +1,11 @@
 -- A run of instructions up to one that leads elsewhere than to the one behind it.
-use Rattle.std.specs.Prelude.{◌≡◌, ℕ, Bool, true, false, List, length, slice_get, Option, Some, None}
+use Rattle.std.specs.Prelude.{◌≡◌, ℕ, true, List, length, slice_get, Option, Some, None}
 use Rattle.ap_instr.specs.declared.instruction.Instr.{Instr}
-use Rattle.ap_instr.specs.declared.instruction.Instr.TheVariants.{Allocate, Deallocate}
-use Rattle.ap_instr.specs.Step.{frame, step_of}
 use Rattle.ap_cells.specs.declared.cells.Raw.{Raw}
 use Rattle.ap_instr.specs.Code.{Compiled}
 use Rattle.ap_instr.specs.Runs.{AsksOpenly}
 use Rattle.ap_steps.specs.Moves.{held, HoldPlaces, Moves, IsStuck}
-use Rattle.ap_steps.specs.Ways.{is_transfer, cells_of, steps_from}
+use Rattle.ap_steps.specs.Ways.{is_transfer, steps_from}
 
 pub record Ran (code : Compiled) (at : ℕ) (cs : List Raw) (x y : List ℕ) (to : ℕ) (ds : List Raw) (x' y' : List ℕ) : Type 0 where
   pub moves : Moves cs (held x) (held y) (steps_from code at) ds (held x') (held y') (steps_from code to)
@@ -19,20 +17,6 @@ pub record Ran (code : Compiled) (at : ℕ) (cs : List Raw) (x y : List ℕ) (to
 abbrev pub RanOrStuck : Compiled → ℕ → List Raw → List ℕ → List ℕ → Option ℕ → List Raw → List ℕ → List ℕ → Type 0
 RanOrStuck code at cs x y (Some to) ds x' y' = Ran code at cs x y to ds x' y'
 RanOrStuck code at cs x y None ds x' y' = IsStuck cs (held x) (held y) (steps_from code at)
-
--- an environment is made or given back at the place
-pub record IsFrameAt (code : Compiled) (at : ℕ) : Type 0 where
-  pub instr : Instr
-  pub stands : slice_get code.instructions at ≡ Some instr
-  pub is_frame : step_of code instr ≡ frame
-  pub makes_none : cells_of instr ≡ 0
-  pub goes_on : is_transfer instr ≡ false
-
--- whether an instruction makes an environment, or gives it back
-abbrev pub is_frame : Instr → Bool
-is_frame (Allocate n) = true
-is_frame Deallocate = true
-is_frame _ = false
 
 -- an instruction stands at the place that leads elsewhere than to the one behind it
 abbrev pub IsTransferAt : Compiled → ℕ → Type 0

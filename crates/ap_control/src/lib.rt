@@ -16,3 +16,6 @@ pub use heads::{fails_at_once, first_possible, pass_over};
 pub use relations::solve;
 pub use runs::{builtin_at, run_to_transfer, used};
 pub use widths::{Widths, widths_of};
+
+#[cfg(test)]
+mod tests;

@@ -3,8 +3,8 @@
 ghost use Rattle.std.specs.Prelude.{◌≡◌, ℕ, ◌+◌, ◌<◌, ◌≤◌, length, drop, take, slice_get, None, Some, true, false, IfOk, IfSome};
 ghost use Rattle.ap_cells.specs.Store.{Keeps};
 ghost use Rattle.ap_steps.specs.Moves.{held, HoldPlaces};
-ghost use Rattle.ap_steps.specs.Ways.{is_control, is_transfer, AllHaveTargets, room};
-ghost use Rattle.ap_control.specs.Runs.{RanOrStuck, is_frame, IsFrameAt, IsTransferAt};
+ghost use Rattle.ap_steps.specs.Ways.{AllHaveTargets, room};
+ghost use Rattle.ap_control.specs.Runs.{RanOrStuck, IsTransferAt};
 ghost use Rattle.ap_instr.specs.declared.builtins.Builtin.{Builtin as BuiltinOf};
 ghost use Rattle.ap_instr.specs.declared.instruction.Instr.{Instr as InstrOf};
 ghost use Rattle.ap_instr.specs.declared.instruction.Instr.TheVariants.{Builtin as builtin_instr};
@@ -12,7 +12,7 @@ ghost use Rattle.ap_instr.specs.declared.instruction.Instr.TheVariants.{Builtin 
 use crate::alternatives::instruction_at;
 use ap_cells::Cells;
 use ap_instr::{Builtin, Code, Instr};
-use ap_steps::run::run_to_control;
+use ap_steps::run::{Outcome, step};
 use ap_term::NoMemory;
 use ap_unify::Work;
 
@@ -39,28 +39,6 @@ pub fn builtin_at(code: &Code, at: usize) -> Option<Builtin>
     }
 }
 
-/// Whether an instruction makes an environment, or gives it back.
-fn is_frame(instr: &Instr) -> bool
-    ensures { result ≡ is_frame instr.now }
-{
-    match *instr {
-        Instr::Allocate(_) => true,
-        Instr::Deallocate => true,
-        _ => false,
-    }
-}
-
-/// Whether an environment is made or given back at a place.
-pub(crate) fn is_frame_at(code: &Code, at: usize) -> bool
-    ensures frame { result ≡ true → IsFrameAt code.now at }
-    ensures transfer { result ≡ false → (i : InstrOf) → slice_get code.now.instructions at ≡ Some i → is_control i ≡ true → is_transfer i ≡ true }
-{
-    match instruction_at(code, at) {
-        None => false,
-        Some(instr) => is_frame(&instr),
-    }
-}
-
 /// Takes the instructions from a place on up to the next one that leads elsewhere than to the one behind it.
 pub fn run_to_transfer(
     cells: &mut Cells,
@@ -82,12 +60,14 @@ pub fn run_to_transfer(
 {
     let places = code.instructions().len();
     let mut place = at;
-    while let Some(to) = run_to_control(cells, x, y, code, place, work)? {
-        prove!(to < places);
-        if !is_frame_at(code, to) {
-            return Ok(Some(to));
+    'run: while let Some(instr) = instruction_at(code, place) {
+        prove!(place < places);
+        let outcome = step(cells, x, y, code, place + 1, instr, work)?;
+        match outcome {
+            Outcome::On(arguments) => place += 1 + arguments,
+            Outcome::Transfer => return Ok(Some(place)),
+            Outcome::Stuck => return Ok(None),
         }
-        place = to + 1;
     }
     Ok(None)
 }

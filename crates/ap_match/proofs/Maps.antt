@@ -1,5 +1,5 @@
 -- What a push, a binding and a unification make of the maps that fit.
-use Rattle.std.proofs.Common.{◌≡◌, ℕ, zero, suc, ◌+◌, ◌<◌, ◌≤◌, ◌==◌, Bool, true, false, if◌then◌else◌, List, [], ◌∷◌, ◌++◌, length, map, inl, inr, refl, sym, ap, ◌∙◌, arith}
+use Rattle.std.proofs.Common.{◌≡◌, ℕ, zero, suc, ◌+◌, ◌<◌, ◌≤◌, ◌==◌, Bool, true, false, if◌then◌else◌, List, [], ◌∷◌, ◌++◌, length, map, ◌⊎◌, inl, inr, refl, sym, ap, ◌∙◌, arith}
 use Rattle.std.proofs.lemmas.Bool.Decides.{Decides-eqb}
 use Rattle.std.proofs.lemmas.Bool.{cases_lt}
 use Rattle.std.proofs.lemmas.List.{get_or-map, get_or_append_left, get_or_push, length_push}
@@ -56,22 +56,23 @@ fits-agree cs k l a h = (h.0, λ i b. sym (a i b) ∙ h.1 i b)
 
 -- ---- unification
 
-module _ (old new : List Raw) (a b : ℕ) (in_a : a < length old) (in_b : b < length old) (len : length new ≡ length old) where
+-- a place's term and the term t, which is T under each map that fits
+module _ (old new : List Raw) (a : ℕ) (in_a : a < length old) (len : length new ≡ length old) (t : Tree) (T : (ℕ → Tree) → Tree) (is_T : (f k : ℕ → Tree) → Under (length old) (trees old) f k → T k ≡ instance f t) where
   at-new : (by : ℕ → Tree) → trees new ≡ map (instance by) (trees old) → (i : ℕ) → i < length old → tree_at (trees new) i ≡ instance by (tree_at (trees old) i)
   at-new by e i h = ap (λ ts. tree_at ts i) e ∙ get_or-map (instance by) (trees old) i (var i) (var i) (omega (arith, trees-length old))
 
-  pub unified-fits : Unified (trees old) (trees new) (tree_at (trees old) a) (tree_at (trees old) b) → Becomes old new (λ k. k a ≡ k b) (λ k. Unit {0})
-  unified-fits u = record {
+  unified-term : Unified (trees old) (trees new) (tree_at (trees old) a) t → Becomes old new (λ k. k a ≡ T k) (λ k. Unit {0})
+  unified-term u = record {
     longer = omega arith;
     only = λ k h.
         let g : ℕ → Tree = λ x. instance h.0 (u.by x) in
         let each : (i : ℕ) → i < length old → k i ≡ instance g (tree_at (trees old) i) = λ i l. h.1 i (omega arith) ∙ ap (instance h.0) (at-new u.by u.now i l) ∙ instance_twice u.by h.0 (tree_at (trees old) i) in (
           (g, each),
-          each a in_a ∙ sym (instance_twice u.by h.0 (tree_at (trees old) a)) ∙ ap (instance h.0) u.unifies ∙ instance_twice u.by h.0 (tree_at (trees old) b) ∙ sym (each b in_b),
+          each a in_a ∙ sym (instance_twice u.by h.0 (tree_at (trees old) a)) ∙ ap (instance h.0) u.unifies ∙ instance_twice u.by h.0 t ∙ sym (is_T g k each),
           tt,
         );
     each = λ k h e.
-        let same : (x : ℕ) → instance h.0 (u.by x) ≡ h.0 x = u.general h.0 (sym (h.1 a in_a) ∙ e ∙ h.1 b in_b) in (
+        let same : (x : ℕ) → instance h.0 (u.by x) ≡ h.0 x = u.general h.0 (sym (h.1 a in_a) ∙ e ∙ is_T h.0 k h.1) in (
           k,
           λ i l. refl,
           (
@@ -83,6 +84,10 @@ module _ (old new : List Raw) (a b : ℕ) (in_a : a < length old) (in_b : b < le
           ),
         );
   }
+
+module _ (old new : List Raw) (a b : ℕ) (in_a : a < length old) (in_b : b < length old) (len : length new ≡ length old) where
+  pub unified-fits : Unified (trees old) (trees new) (tree_at (trees old) a) (tree_at (trees old) b) → Becomes old new (λ k. k a ≡ k b) (λ k. Unit {0})
+  unified-fits u = unified-term old new a in_a len (tree_at (trees old) b) (λ k. k b) (λ f k v. v b in_b) u
 
   pub answered : (r : Bool) → Answer (trees old) (trees new) (tree_at (trees old) a) (tree_at (trees old) b) r → Answered old new (λ k. k a ≡ k b) r
   answered true u = unified-fits u
@@ -99,6 +104,13 @@ bound ts us x t u free absent e = record {
   where
     here : value (one x t) x ≡ t
     here = ap (λ b. if b then t else var x) (same_test x x refl)
+
+-- an unbound place bound to the term of a cell
+pub bound-fits : (old new : List Raw) (x : ℕ) (c : Raw) → x < length old → Within (length old) x c → (c ≡ Free → ⊥) → tree_at (trees old) x ≡ var x → occurs x (step (trees old) x c) ≡ false → length new ≡ length old
+    → trees new ≡ map (instance (value (one x (step (trees old) x c)))) (trees old) → Becomes old new (λ k. k x ≡ cell_tree k x c) (λ k. Unit {0})
+bound-fits old new x c l within bare free absent len now =
+    unified-term old new x l len (step (trees old) x c) (λ k. cell_tree k x c) (λ f k u. sym (step-under (length old) (trees old) f k u x c (omega arith) within (λ e. absurd (bare e))))
+    (bound (trees old) (trees new) x (step (trees old) x c) (tree_at (trees old) x) free absent now)
 
 -- ---- a push
 
@@ -124,18 +136,46 @@ cell-agree n k l a (Int z) e w = refl
 cell-agree n k l a (Atom b) e w = refl
 cell-agree n k l a (Node b p m) e w = ap (node b) (spread-agree k l p m (λ i b c. a i (omega arith)))
 
-module _ (old : List Raw) (c : Raw) (inside : (i : ℕ) → i < length old → Local (λ x. x < length old) (tree_at (trees old) i)) (within : Within (length old) (length old) c) (pushed : trees (old ++ c ∷ []) ≡ trees old ++ step (trees old) (length old) c ∷ []) where
-  n : ℕ
-  n = length old
+-- with one tree more
+module _ (old new : List Raw) (t : Tree) (pushed : trees new ≡ trees old ++ t ∷ []) where
+  below : (i : ℕ) → i < length old → tree_at (trees new) i ≡ tree_at (trees old) i
+  below i h = ap (λ ts. tree_at ts i) pushed ∙ get_or_append_left (trees old) (t ∷ []) (var i) i (omega (arith, trees-length old))
 
+  last : tree_at (trees new) (length old) ≡ t
+  last = ap (λ ts. tree_at ts (length old)) pushed ∙ get_or_push (trees old) t (var (length old)) (length old) (trees-length old)
+
+-- the term of another place
+module _ (old new : List Raw) (to : ℕ) (in_to : to < length old) (len : length new ≡ length old + 1) (pushed : trees new ≡ trees old ++ tree_at (trees old) to ∷ []) where
+  pub same-longer : (k : ℕ → Tree) → Fits old k → k (length old) ≡ k to → Fits new k
+  same-longer k h e = (h.0, λ i l. at i l (cases_lt i (length old)))
+    where
+      at : (i : ℕ) → i < length new → (i < length old) ⊎ (length old ≤ i) → k i ≡ instance h.0 (tree_at (trees new) i)
+      at i l (inl b) = h.1 i b ∙ ap (instance h.0) (sym (below old new (tree_at (trees old) to) pushed i b))
+      at i l (inr b) =
+          let q : i ≡ length old = omega arith in
+          ap k q ∙ e ∙ h.1 to in_to ∙ ap (instance h.0) (sym (last old new (tree_at (trees old) to) pushed) ∙ ap (tree_at (trees new)) (sym q))
+
+  pub same-fits : Becomes old new (λ k. Unit {0}) (λ k. k (length old) ≡ k to)
+  same-fits = record {
+    longer = omega arith;
+    only = λ k h.
+        let under : Under (length old) (trees old) h.0 k = λ i l. h.1 i (omega arith) ∙ ap (instance h.0) (below old new (tree_at (trees old) to) pushed i l) in
+        ((h.0, under), tt, h.1 (length old) (omega arith) ∙ ap (instance h.0) (last old new (tree_at (trees old) to) pushed) ∙ sym (under to in_to));
+    each = λ k h e.
+        let l : ℕ → Tree = set k (length old) (k to) in
+        let a : Agree (length old) k l = λ i b. sym (set-below k (length old) i (k to) b) in
+        (l, a, same-longer l (fits-agree old k l a h) (set-here k (length old) (k to) ∙ a to in_to));
+  }
+
+module _ (old : List Raw) (c : Raw) (inside : (i : ℕ) → i < length old → Local (λ x. x < length old) (tree_at (trees old) i)) (within : Within (length old) (length old) c) (pushed : trees (old ++ c ∷ []) ≡ trees old ++ step (trees old) (length old) c ∷ []) where
   abbrev new : List Raw
   new = old ++ c ∷ []
 
-  pub below : (i : ℕ) → i < length old → tree_at (trees new) i ≡ tree_at (trees old) i
-  below i h = ap (λ ts. tree_at ts i) pushed ∙ get_or_append_left (trees old) (step (trees old) (length old) c ∷ []) (var i) i (omega (arith, trees-length old))
+  before : (i : ℕ) → i < length old → tree_at (trees new) i ≡ tree_at (trees old) i
+  before = below old new (step (trees old) (length old) c) pushed
 
-  pub last : tree_at (trees new) (length old) ≡ step (trees old) (length old) c
-  last = ap (λ ts. tree_at ts (length old)) pushed ∙ get_or_push (trees old) (step (trees old) (length old) c) (var (length old)) (length old) (trees-length old)
+  end : tree_at (trees new) (length old) ≡ step (trees old) (length old) c
+  end = last old new (step (trees old) (length old) c) pushed
 
   -- a map that fits the old cells, with a tree for the new place
   pub fits-longer : (k : ℕ → Tree) → Fits old k → k (length old) ≡ cell_tree k (length old) c → Fits new k
@@ -149,18 +189,18 @@ module _ (old : List Raw) (c : Raw) (inside : (i : ℕ) → i < length old → L
 
       at : (i : ℕ) → i < length new → k i ≡ instance g (tree_at (trees new) i)
       at i l = elim (cases_lt i (length old)) [
-        | inl b ↦ under i b ∙ ap (instance g) (sym (below i b))
+        | inl b ↦ under i b ∙ ap (instance g) (sym (before i b))
         | inr b ↦
             let q : i ≡ length old = omega (arith, length_push old c) in
-            ap k q ∙ e ∙ sym (step-under (length old) (trees old) g k under (length old) c (omega arith) within (λ p. set-here h.0 (length old) (k (length old)))) ∙ ap (instance g) (sym last ∙ ap (tree_at (trees new)) (sym q))
+            ap k q ∙ e ∙ sym (step-under (length old) (trees old) g k under (length old) c (omega arith) within (λ p. set-here h.0 (length old) (k (length old)))) ∙ ap (instance g) (sym end ∙ ap (tree_at (trees new)) (sym q))
       ]
 
   pub push-fits : Becomes old new (λ k. Unit {0}) (λ k. k (length old) ≡ cell_tree k (length old) c)
   push-fits = record {
     longer = omega (arith, length_push old c);
     only = λ k h.
-        let under : Under (length old) (trees old) h.0 k = λ i l. h.1 i (omega (arith, length_push old c)) ∙ ap (instance h.0) (below i l) in
-        let own : k (length old) ≡ instance h.0 (step (trees old) (length old) c) = h.1 (length old) (omega (arith, length_push old c)) ∙ ap (instance h.0) last in
+        let under : Under (length old) (trees old) h.0 k = λ i l. h.1 i (omega (arith, length_push old c)) ∙ ap (instance h.0) (before i l) in
+        let own : k (length old) ≡ instance h.0 (step (trees old) (length old) c) = h.1 (length old) (omega (arith, length_push old c)) ∙ ap (instance h.0) end in
         ((h.0, under), tt, own ∙ step-under (length old) (trees old) h.0 k under (length old) c (omega arith) within (λ p. sym (own ∙ ap (λ d. instance h.0 (step (trees old) (length old) d)) p)));
     each = λ k h e.
         let l : ℕ → Tree = set k (length old) (cell_tree k (length old) c) in
@@ -173,24 +213,3 @@ module _ (old : List Raw) (c : Raw) (inside : (i : ℕ) → i < length old → L
           set-here k (length old) (cell_tree k (length old) c)
           ∙ cell-agree (length old) k (set k (length old) (cell_tree k (length old) c)) (λ i b. sym (set-below k (length old) i (cell_tree k (length old) c) b)) c
           (λ e. sym (set-here k (length old) (cell_tree k (length old) c) ∙ ap (cell_tree k (length old)) e)) within
-
-  -- an unbound place bound to the new one, at which no variable stands
-  pub bound-fits : (bound_cells : List Raw) (x : ℕ) → x < length old → (c ≡ Free → ⊥) → Unified (trees new) (trees bound_cells) (tree_at (trees new) x) (tree_at (trees new) (length old)) → length bound_cells ≡ length new
-      → Becomes old bound_cells (λ k. k x ≡ cell_tree k (length old) c) (λ k. Unit {0})
-  bound-fits bs x l bare u len = record {
-    longer = omega (arith, length_push old c);
-    only = λ k h.
-        let v = unification.only k h in
-        let w = push-fits.only k v.0 in
-        (w.0, v.1 ∙ w.2, tt);
-    each = λ k h e.
-        let w = push-fits.each k h tt in
-        let m : ℕ → Tree = w.0 in
-        let own : m (length old) ≡ cell_tree m (length old) c = (push-fits.only m w.2).2 in
-        let same : cell_tree k (length old) c ≡ cell_tree m (length old) c = cell-agree (length old) k m w.1 c (λ p. absurd (bare p)) within in
-        let v = unification.each m w.2 (sym (w.1 x l) ∙ e ∙ same ∙ sym own) in
-        (v.0, λ i b. w.1 i b ∙ v.1 i (omega (arith, length_push old c)), v.2);
-  }
-    where
-      unification : Becomes new bs (λ k. k x ≡ k (length old)) (λ k. Unit {0})
-      unification = unified-fits new bs x (length old) (omega (arith, length_push old c)) (omega (arith, length_push old c)) len u

@@ -1,11 +1,10 @@
 -- What new cells, and a term that is matched with a constant, make of the maps that fit.
-use Rattle.std.proofs.Common.{◌≡◌, ℕ, ℤ, zero, suc, ◌+◌, ◌<◌, ◌≤◌, ◌==◌, ◌||◌, Bool, true, false, List, [], ◌∷◌, ◌++◌, length, map, refl, sym, ap, ◌∙◌, subst, arith}
+use Rattle.std.proofs.Common.{◌≡◌, ℕ, ℤ, zero, suc, ◌+◌, ◌<◌, ◌≤◌, ◌==◌, ◌||◌, Bool, true, false, List, [], ◌∷◌, ◌++◌, length, refl, sym, ap, ◌∙◌, subst, arith}
 use Rattle.std.specs.Ordering.{int_eq}
 use Rattle.std.proofs.lemmas.Bool.Decides.{Decides-int_eq}
 use Rattle.std.proofs.lemmas.Bool.{false≢true}
-use Rattle.ap_term.specs.Tree.{Tree, var, int, atom, node}
+use Rattle.ap_term.specs.Tree.{Tree, int, atom, node}
 use Rattle.ap_term.specs.Vars.{occurs, occurs_all}
-use Rattle.ap_term.specs.Substitution.{instance, value, one}
 use Rattle.ap_term.proofs.Solutions.{same_var, same_test}
 use Rattle.ap_cells.specs.declared.cells.Raw.{Raw}
 use Rattle.ap_cells.specs.Trees.{tree_at, trees, span, step, Within}
@@ -13,7 +12,7 @@ use Rattle.ap_cells.specs.Store.{IsStore}
 use Rattle.ap_instr.specs.Runs.{spread}
 use Rattle.ap_match.specs.Fits.{Fits, Agree, cell_tree, Becomes, Answered}
 use Rattle.ap_match.proofs.Inside.{inside}
-use Rattle.ap_match.proofs.Maps.{spread-agree, below, last, fits-longer, push-fits, bound, bound-fits}
+use Rattle.ap_match.proofs.Maps.{spread-agree, fits-longer, push-fits}
 
 -- a new cell behind the old ones
 module _ (old new : List Raw) (trail : List ℕ) (c : Raw) (s : IsStore old trail) (w : Within (length old) (length old) c) (e : new ≡ old ++ c ∷ []) (t : trees new ≡ trees old ++ step (trees old) (length old) c ∷ []) where
@@ -29,30 +28,6 @@ module _ (old new : List Raw) (trail : List ℕ) (c : Raw) (s : IsStore old trai
   pub push-longer : (place : ℕ) → place ≡ length old → (k : ℕ → Tree) → Fits old k → k place ≡ cell_tree k place c → Fits new k
   push-longer place p k h q =
       subst (λ cs. Fits cs k) (sym e) (fits-longer old c (inside old trail s) w pushed k h (subst (λ n. k n ≡ cell_tree k n c) p q))
-
-  pub tree-below : (i : ℕ) → i < length old → tree_at (trees new) i ≡ tree_at (trees old) i
-  tree-below i l = ap (λ cs. tree_at (trees cs) i) e ∙ below old c (inside old trail s) w pushed i l
-
-  pub tree-last : (place : ℕ) → place ≡ length old → tree_at (trees new) place ≡ step (trees old) (length old) c
-  tree-last place p = ap (tree_at (trees new)) p ∙ ap (λ cs. tree_at (trees cs) (length old)) e ∙ last old c (inside old trail s) w pushed
-
-  -- bound to the new place, at which no variable stands
-  pub bind-becomes : (bound_cells : List Raw) (x place : ℕ) → place ≡ length old → x < length old → tree_at (trees old) x ≡ var x → ((y : ℕ) → step (trees old) (length old) c ≡ var y → ⊥)
-      → occurs x (step (trees old) (length old) c) ≡ false → trees bound_cells ≡ map (instance (value (one x (tree_at (trees new) place)))) (trees new) → length bound_cells ≡ length new
-      → Becomes old bound_cells (λ k. k x ≡ cell_tree k (length old) c) (λ k. Unit {0})
-  bind-becomes bs x place p l free term absent now len =
-      bound-fits old c (inside old trail s) w pushed bs x l (λ q. term (length old) (ap (step (trees old) (length old)) q))
-      (bound (trees (old ++ c ∷ [])) (trees bs) x (tree_at (trees (old ++ c ∷ [])) (length old)) (tree_at (trees (old ++ c ∷ [])) x) (at x l ∙ free) (ap (occurs x) end ∙ absent) whole)
-      (len ∙ ap length e)
-    where
-      at : (i : ℕ) → i < length old → tree_at (trees (old ++ c ∷ [])) i ≡ tree_at (trees old) i
-      at i b = below old c (inside old trail s) w pushed i b
-
-      end : tree_at (trees (old ++ c ∷ [])) (length old) ≡ step (trees old) (length old) c
-      end = last old c (inside old trail s) w pushed
-
-      whole : trees bs ≡ map (instance (value (one x (tree_at (trees (old ++ c ∷ [])) (length old))))) (trees (old ++ c ∷ []))
-      whole = subst (λ cs. trees bs ≡ map (instance (value (one x (tree_at (trees cs) (length old))))) (trees cs)) e (now ∙ ap (λ q. map (instance (value (one x (tree_at (trees new) q)))) (trees new)) p)
 
 -- what is asked, in other words
 pub Becomes-asked : (old new : List Raw) (P Q R : (ℕ → Tree) → Type 0) → ((k : ℕ → Tree) → Fits old k → P k → Q k) → ((k : ℕ → Tree) → Fits old k → Q k → P k) → Becomes old new P R → Becomes old new Q R

@@ -6,7 +6,7 @@
 
 mod matching;
 
-pub use matching::{equate, match_atom, match_built, match_integer, push_new};
+pub use matching::{equate, match_atom, match_built, match_integer, push_new, push_value};
 
 #[cfg(test)]
 mod tests;

@@ -5,6 +5,7 @@ ghost use Rattle.std.specs.Ordering.{int_eq};
 ghost use Rattle.ap_term.specs.Tree.{Tree, var, int, atom, node};
 ghost use Rattle.ap_term.specs.Vars.{occurs, occurs_all};
 ghost use Rattle.ap_cells.specs.Raws.{raw_of};
+ghost use Rattle.ap_cells.specs.declared.cells.Raw.TheVariants.{Free};
 ghost use Rattle.ap_cells.specs.Trees.{tree_at, trees, span, step, Within};
 ghost use Rattle.ap_cells.specs.Store.{Keeps};
 ghost use Rattle.ap_instr.specs.Runs.{spread};
@@ -30,30 +31,45 @@ pub fn push_new(cells: &mut Cells, cell: Cell) -> usize
     cells.push(cell)
 }
 
-/// Binds an unbound place to a new cell, at which no variable stands and in whose term the place doesn't.
-fn bind_new(cells: &mut Cells, x: usize, cell: Cell)
+/// A new place with the term of another. It takes no memory.
+#[inline]
+pub fn push_value(cells: &mut Cells, to: usize) -> usize
     requires room { 0 < cells.old.spare }
-    requires inside { x < length cells.old.cells }
-    requires within { Within (length cells.old.cells) (length cells.old.cells) (raw_of cell) }
-    requires unbound { tree_at (trees cells.old.cells) x ≡ var x }
-    requires absent { occurs x (step (trees cells.old.cells) (length cells.old.cells) (raw_of cell)) ≡ false }
-    requires term { (y : ℕ) → step (trees cells.old.cells) (length cells.old.cells) (raw_of cell) ≡ var y → ⊥ }
-    ensures becomes { Becomes cells.old.cells cells.new.cells (λ k. k x ≡ cell_tree k (length cells.old.cells) (raw_of cell)) (λ k. Unit {0}) }
+    requires inside { to < length cells.old.cells }
+    ensures place { result ≡ length cells.old.cells }
+    ensures becomes { Becomes cells.old.cells cells.new.cells (λ k. Unit {0}) (λ k. k result ≡ k to) }
+    ensures fits { (k : ℕ → Tree) → Fits cells.old.cells k → k result ≡ k to → Fits cells.new.cells k }
     ensures len { length cells.new.cells ≡ length cells.old.cells + 1 }
     ensures spare { cells.new.spare + 1 ≡ cells.old.spare }
     ensures keeps { Keeps cells.old cells.new }
 {
-    cells.is_store();
-    let place = cells.push(cell);
-    cells.bind(x, place);
+    cells.push_same(to)
 }
 
+/// Binds an unbound place to the term of a cell, in which it doesn't stand.
+#[inline]
+fn bind_term(cells: &mut Cells, x: usize, cell: Cell)
+    requires inside { x < length cells.old.cells }
+    requires within { Within (length cells.old.cells) x (raw_of cell) }
+    requires bound { raw_of cell ≡ Free → ⊥ }
+    requires unbound { tree_at (trees cells.old.cells) x ≡ var x }
+    requires absent { occurs x (step (trees cells.old.cells) x (raw_of cell)) ≡ false }
+    ensures becomes { Becomes cells.old.cells cells.new.cells (λ k. k x ≡ cell_tree k x (raw_of cell)) (λ k. Unit {0}) }
+    ensures len { length cells.new.cells ≡ length cells.old.cells }
+    ensures spare { cells.new.spare ≡ cells.old.spare }
+    ensures keeps { Keeps cells.old cells.new }
+{
+    cells.bind_to(x, cell);
+}
+
+#[inline]
 fn same_atom(a: Atom, b: Atom) -> bool
     ensures { result ≡ (a == b) }
 {
     a == b
 }
 
+#[inline]
 fn same_integer(a: i64, b: i64) -> bool
     ensures { result ≡ int_eq a b }
 {
@@ -62,16 +78,15 @@ fn same_integer(a: i64, b: i64) -> bool
 
 /// Makes a place's term an atom, if it can be. It takes no memory.
 pub fn match_atom(cells: &mut Cells, place: usize, name: Atom) -> bool
-    requires room { 0 < cells.old.spare }
     requires inside { place < length cells.old.cells }
     ensures answered { Answered cells.old.cells cells.new.cells (λ k. k place ≡ atom name) result }
-    ensures longer { length cells.old.cells ≤ length cells.new.cells }
-    ensures spare { cells.old.spare ≤ cells.new.spare + 1 }
+    ensures len { length cells.new.cells ≡ length cells.old.cells }
+    ensures spare { cells.new.spare ≡ cells.old.spare }
     ensures keeps { Keeps cells.old cells.new }
 {
     match cells.top(place) {
         Top::Free(x) => {
-            bind_new(cells, x, Cell::Atom(name));
+            bind_term(cells, x, Cell::Atom(name));
             true
         }
         Top::Atom(found) => same_atom(found, name),
@@ -82,16 +97,15 @@ pub fn match_atom(cells: &mut Cells, place: usize, name: Atom) -> bool
 
 /// Makes a place's term an integer, if it can be. It takes no memory.
 pub fn match_integer(cells: &mut Cells, place: usize, value: i64) -> bool
-    requires room { 0 < cells.old.spare }
     requires inside { place < length cells.old.cells }
     ensures answered { Answered cells.old.cells cells.new.cells (λ k. k place ≡ int value) result }
-    ensures longer { length cells.old.cells ≤ length cells.new.cells }
-    ensures spare { cells.old.spare ≤ cells.new.spare + 1 }
+    ensures len { length cells.new.cells ≡ length cells.old.cells }
+    ensures spare { cells.new.spare ≡ cells.old.spare }
     ensures keeps { Keeps cells.old cells.new }
 {
     match cells.top(place) {
         Top::Free(x) => {
-            bind_new(cells, x, Cell::Int(value));
+            bind_term(cells, x, Cell::Int(value));
             true
         }
         Top::Int(found) => same_integer(found, value),
@@ -183,16 +197,15 @@ pub fn equate(cells: &mut Cells, a: usize, b: usize, work: &mut Work) -> Result<
     Ok(answer)
 }
 
-/// Binds a place to a new compound term, of a name and the cells from `first` on, where it is unbound and these are constants
+/// Binds a place to the compound term of a name and the cells from `first` on, where it is unbound and these are constants
 /// and other variables. Else it does nothing.
 fn bind_built(cells: &mut Cells, place: usize, name: Atom, first: usize, count: u32) -> bool
-    requires room { 0 < cells.old.spare }
     requires inside { place < length cells.old.cells }
     requires args { first + count ≤ length cells.old.cells }
     ensures bound { result ≡ true → Becomes cells.old.cells cells.new.cells (λ k. k place ≡ node name (spread k first count)) (λ k. Unit {0}) }
     ensures same { result ≡ false → cells.new ≡ cells.old }
-    ensures len { result ≡ true → length cells.new.cells ≡ length cells.old.cells + 1 }
-    ensures spare { result ≡ true → cells.new.spare + 1 ≡ cells.old.spare }
+    ensures len { length cells.new.cells ≡ length cells.old.cells }
+    ensures spare { cells.new.spare ≡ cells.old.spare }
     ensures keeps { Keeps cells.old cells.new }
 {
     match cells.top(place) {
@@ -200,14 +213,14 @@ fn bind_built(cells: &mut Cells, place: usize, name: Atom, first: usize, count: 
             if !are_apart(cells, x, first, count) {
                 return false;
             }
-            bind_new(cells, x, Cell::Node(name, first, count));
+            bind_term(cells, x, Cell::Node(name, first, count));
             true
         }
         _ => false,
     }
 }
 
-/// Makes a place's term a new compound term, of a name and the cells from `first` on, if it can be. After false, or want of
+/// Makes a place's term the compound term of a name and the cells from `first` on, if it can be. After false, or want of
 /// memory, some bindings may be made; `undo_to` takes them back.
 pub fn match_built(
     cells: &mut Cells,
@@ -221,8 +234,8 @@ pub fn match_built(
     requires inside { place < length cells.old.cells }
     requires args { first + count ≤ length cells.old.cells }
     ensures answered { IfOk result (λ r. Answered cells.old.cells cells.new.cells (λ k. k place ≡ node name (spread k first count)) r) }
-    ensures len { length cells.new.cells ≡ length cells.old.cells + 1 }
-    ensures spare { cells.new.spare + 1 ≡ cells.old.spare }
+    ensures longer { length cells.old.cells ≤ length cells.new.cells }
+    ensures spare { cells.old.spare ≤ cells.new.spare + 1 }
     ensures keeps { Keeps cells.old cells.new }
 {
     if bind_built(cells, place, name, first, count) {

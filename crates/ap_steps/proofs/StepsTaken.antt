@@ -1,14 +1,17 @@
 -- The steps that instructions take, by what their registers hold.
-use Rattle.std.proofs.Common.{◌≡◌, ℕ, ◌+◌, Bool, true, false, List, ◌∷◌, length, refl, ap, sym, ◌∙◌, subst, arith}
+use Rattle.std.proofs.Common.{◌≡◌, ℕ, ◌+◌, ◌≤◌, Bool, true, false, List, ◌∷◌, length, refl, ap, sym, ◌∙◌, subst, arith}
 use Rattle.ap_term.specs.Tree.{Tree}
 use Rattle.ap_cells.specs.declared.cells.Raw.{Raw}
 use Rattle.ap_instr.specs.declared.instruction.Slot.{Slot}
 use Rattle.ap_instr.specs.Code.{Compiled}
-use Rattle.ap_instr.specs.Step.{Step, get_variable, put_variable, put_value, put_constant}
+use Rattle.ap_instr.specs.declared.instruction.Instr.{Instr}
+use Rattle.ap_instr.specs.Step.{Step, get_variable, put_variable, put_value, put_constant, frame, step_of}
+use Rattle.ap_cells.specs.Store.{Store}
 use Rattle.ap_instr.specs.Runs.{set, read, set_x, set_y}
 use Rattle.ap_match.specs.Fits.{Fits, cell_tree, Becomes}
 use Rattle.ap_steps.specs.Moves.{held, HoldPlaces, Moves, Taken}
-use Rattle.ap_steps.specs.Ways.{steps_from, StepTaken}
+use Rattle.ap_steps.specs.declared.run.Outcome.TheVariants.{On}
+use Rattle.ap_steps.specs.Ways.{is_transfer, cells_of, came_to, NoneOfControl, steps_from, StepTaken, CameTo}
 use Rattle.ap_steps.proofs.RegisterMaps.{funext}
 use Rattle.ap_steps.proofs.Steps.{variable-taken, put_value-taken, put_constant-taken, put_variable-taken}
 
@@ -49,3 +52,21 @@ put_variable_done cs ds x xm x' y y' hx hy v a p e b all em ex ey =
 pub plain-taken : (code : Compiled) (i : Step) (at : ℕ) (cs ds : List Raw) (x y x' y' : ℕ → ℕ) (b : Bool) → Taken cs x y i ds x' y' b → StepTaken code i at 0 cs x y ds x' y' b
 plain-taken code i at cs ds x y x' y' true t = let q : at ≡ at + 0 = omega arith in subst (λ n. Moves cs x y (i ∷ steps_from code at) ds x' y' (steps_from code n)) q (t (steps_from code at))
 plain-taken code i at cs ds x y x' y' false t = t (steps_from code at)
+
+-- an instruction that was taken, or can't be
+pub came : (code : Compiled) (i : Instr) (at n : ℕ) (v w : Store) (x y x' y' : List ℕ) (b : Bool) → is_transfer i ≡ false → StepTaken code (step_of code i) at n v.cells (held x) (held y) w.cells (held x') (held y') b
+    → (b ≡ true → NoneOfControl code.instructions at n) → (b ≡ true → HoldPlaces (length w.cells) x') → (b ≡ true → HoldPlaces (length w.cells) y') → (b ≡ true → v.spare ≤ w.spare + cells_of i) → CameTo code i at v x y (came_to b n) w x' y'
+came code i at n v w x y x' y' true e t arguments hx hy spare = record { goes_on = e; arguments = arguments refl; moves = t; holds_x = hx refl; holds_y = hy refl; spare = spare refl }
+came code i at n v w x y x' y' false e t arguments hx hy spare = t
+
+-- one without arguments
+pub came-plain : (code : Compiled) (i : Instr) (at : ℕ) (v w : Store) (x y x' y' : List ℕ) (b : Bool) → is_transfer i ≡ false → Taken v.cells (held x) (held y) (step_of code i) w.cells (held x') (held y') b
+    → (b ≡ true → HoldPlaces (length w.cells) x') → (b ≡ true → HoldPlaces (length w.cells) y') → (b ≡ true → v.spare ≤ w.spare + cells_of i) → CameTo code i at v x y (came_to b 0) w x' y'
+came-plain code i at v w x y x' y' b e t hx hy spare = came code i at 0 v w x y x' y' b e (plain-taken code (step_of code i) at v.cells w.cells (held x) (held y) (held x') (held y') b t) (λ p k l. absurd (omega arith)) hx hy spare
+
+-- one that makes an environment, or gives it back
+pub frame-came : (code : Compiled) (i : Instr) (at : ℕ) (v : Store) (x y : List ℕ) → is_transfer i ≡ false → step_of code i ≡ frame → HoldPlaces (length v.cells) x → HoldPlaces (length v.cells) y → CameTo code i at v x y (On 0) v x y
+frame-came code i at v x y e f hx hy =
+    came-plain code i at v v x y x y true e
+    (subst (λ s. Taken v.cells (held x) (held y) s v.cells (held x) (held y) true) (sym f) (λ is. record { longer = omega arith; forth = λ k bs h. (k, λ j b. refl, h); back = λ l bs h. h }))
+    (λ p. hx) (λ p. hy) (λ p. omega arith)

@@ -1,10 +1,13 @@
--- Where the instructions of a clause lead, up to the next one of control.
-use Rattle.std.specs.Prelude.{◌≡◌, ℕ, suc, ◌+◌, ◌<◌, Bool, true, false, if◌then◌else◌, List, [], ◌∷◌, length, drop, slice_get, Option, Some, None}
+-- Where the instructions of a clause lead.
+use Rattle.std.specs.Prelude.{◌≡◌, ℕ, ◌+◌, ◌<◌, ◌≤◌, Bool, true, false, if◌then◌else◌, List, [], ◌∷◌, length, drop, slice_get, Some}
 use Rattle.ap_cells.specs.declared.cells.Raw.{Raw}
+use Rattle.ap_cells.specs.Store.{Store}
 use Rattle.ap_instr.specs.declared.instruction.Instr.{Instr}
-use Rattle.ap_instr.specs.declared.instruction.Instr.TheVariants.{GetConstant, GetInteger, GetStructure, PutVariable, PutConstant, PutInteger, PutStructure, Allocate, Deallocate, Call, Execute, Proceed, Builtin, Jump, Fail, Try, Retry, Trust}
+use Rattle.ap_instr.specs.declared.instruction.Instr.TheVariants.{GetStructure, PutVariable, PutConstant, PutInteger, PutStructure, Allocate, Deallocate, Call, Execute, Proceed, Builtin, Jump, Fail, Try, Retry, Trust}
 use Rattle.ap_instr.specs.Code.{Compiled}
-use Rattle.ap_instr.specs.Step.{Step, steps_of}
+use Rattle.ap_instr.specs.Step.{Step, step_of, steps_of}
+use Rattle.ap_steps.specs.declared.run.Outcome.{Outcome}
+use Rattle.ap_steps.specs.declared.run.Outcome.TheVariants.{On, Transfer, Stuck}
 use Rattle.ap_steps.specs.Moves.{held, HoldPlaces, HasTargets, Moves, IsStuck}
 
 -- an instruction of control, and none on registers and cells
@@ -28,19 +31,12 @@ is_transfer (Allocate n) = false
 is_transfer Deallocate = false
 is_transfer i = is_control i
 
--- how many instructions stand before the next one of control
-abbrev pub count_ahead : List Instr → ℕ
-count_ahead [] = 0
-count_ahead (i ∷ is) = if is_control i then 0 else suc (count_ahead is)
-
 -- so many instructions from a place on, none of control
 abbrev pub NoneOfControl : List Instr → ℕ → ℕ → Type 0
 NoneOfControl is at n = (k : ℕ) → k < n → (i : Instr) × (slice_get is (at + k) ≡ Some i) × (is_control i ≡ false)
 
 -- the most cells that an instruction makes; a structure's own is one, and those of its arguments count with it
 abbrev pub cells_of : Instr → ℕ
-cells_of (GetConstant c a) = 1
-cells_of (GetInteger i a) = 1
 cells_of (GetStructure f n a) = n + 1
 cells_of (PutVariable v a) = 1
 cells_of (PutConstant c a) = 1
@@ -52,12 +48,6 @@ cells_of _ = 0
 abbrev pub room : List Instr → ℕ
 room [] = 0
 room (i ∷ is) = if is_transfer i then 0 else cells_of i + room is
-
--- how many arguments an instruction has behind it
-abbrev pub arguments_of : Instr → ℕ
-arguments_of (GetStructure f n a) = n
-arguments_of (PutStructure f n a) = n
-arguments_of _ = 0
 
 -- up to the next instruction of control, the registers that are written are among so many X and Y registers
 abbrev pub AllHaveTargets : List Instr → ℕ → ℕ → Type 0
@@ -73,15 +63,22 @@ abbrev pub StepTaken : Compiled → Step → ℕ → ℕ → List Raw → (ℕ �
 StepTaken code i at n cs x y ds x' y' true = Moves cs x y (i ∷ steps_from code at) ds x' y' (steps_from code (at + n))
 StepTaken code i at n cs x y ds x' y' false = IsStuck cs x y (i ∷ steps_from code at)
 
--- the instructions from a place on were taken, up to the next one of control
-pub record Came (code : Compiled) (at : ℕ) (cs : List Raw) (x y : List ℕ) (to : ℕ) (ds : List Raw) (x' y' : List ℕ) : Type 0 where
-  pub moves : Moves cs (held x) (held y) (steps_from code at) ds (held x') (held y') (steps_from code to)
-  pub place : to ≡ at + count_ahead (drop at code.instructions)
-  pub control : (i : Instr) × (slice_get code.instructions to ≡ Some i) × (is_control i ≡ true)
-  pub holds_x : HoldPlaces (length ds) x'
-  pub holds_y : HoldPlaces (length ds) y'
+-- what becomes of a step with n arguments that was taken, or can't be
+abbrev pub came_to : Bool → ℕ → Outcome
+came_to true n = On n
+came_to false n = Stuck
 
--- the same, or they can ask for nothing
-abbrev pub CameOrStuck : Compiled → ℕ → List Raw → List ℕ → List ℕ → Option ℕ → List Raw → List ℕ → List ℕ → Type 0
-CameOrStuck code at cs x y (Some to) ds x' y' = Came code at cs x y to ds x' y'
-CameOrStuck code at cs x y None ds x' y' = IsStuck cs (held x) (held y) (steps_from code at)
+-- an instruction was taken with n arguments, whose instructions stand from a place on
+pub record Passed (code : Compiled) (i : Instr) (at n : ℕ) (v : Store) (x y : List ℕ) (w : Store) (x' y' : List ℕ) : Type 0 where
+  pub goes_on : is_transfer i ≡ false
+  pub arguments : NoneOfControl code.instructions at n
+  pub moves : Moves v.cells (held x) (held y) (step_of code i ∷ steps_from code at) w.cells (held x') (held y') (steps_from code (at + n))
+  pub holds_x : HoldPlaces (length w.cells) x'
+  pub holds_y : HoldPlaces (length w.cells) y'
+  pub spare : v.spare ≤ w.spare + cells_of i
+
+-- the same, or it leads elsewhere than to the next one, and nothing was done, or it can't be taken, whatever comes behind
+abbrev pub CameTo : Compiled → Instr → ℕ → Store → List ℕ → List ℕ → Outcome → Store → List ℕ → List ℕ → Type 0
+CameTo code i at v x y (On n) w x' y' = Passed code i at n v x y w x' y'
+CameTo code i at v x y Transfer w x' y' = (is_transfer i ≡ true) × (w ≡ v) × (x' ≡ x) × (y' ≡ y)
+CameTo code i at v x y Stuck w x' y' = IsStuck v.cells (held x) (held y) (step_of code i ∷ steps_from code at)

@@ -16,10 +16,11 @@ use crate::registers::{read, write};
 use crate::tables::{instruction_at, integer_at};
 use ap_cells::{Cell, Cells};
 use ap_instr::{Code, Instr, Slot};
-use ap_match::push_new;
+use ap_match::{push_new, push_value};
 use ap_term::Atom;
 
 /// `unify_variable V`: the register gets the argument's place, a new unbound cell.
+#[inline]
 pub fn build_variable(cells: &mut Cells, x: &mut [u32], y: &mut [u32], v: Slot)
     requires room { 0 < cells.old.spare }
     requires has { HasRegister v (length x.old) (length y.old) }
@@ -39,6 +40,7 @@ pub fn build_variable(cells: &mut Cells, x: &mut [u32], y: &mut [u32], v: Slot)
 
 /// `unify_value V`: the argument is the register's term. False where the register holds `whole`, the place of the structure
 /// itself, which is to come.
+#[inline]
 pub fn build_value(cells: &mut Cells, x: &[u32], y: &[u32], v: Slot) -> bool
     requires room { 0 < cells.old.spare }
     ensures built { (whole : ℕ) → ((read v (held x.now) (held y.now) ≡ whole → ⊥) → read v (held x.now) (held y.now) < length cells.old.cells) → BuiltOr whole cells.old.cells (held x.now) (held y.now) (unify_value v) cells.new.cells (held x.now) (held y.now) result }
@@ -48,7 +50,7 @@ pub fn build_value(cells: &mut Cells, x: &[u32], y: &[u32], v: Slot) -> bool
 {
     let place = read(x, y, v);
     if place < cells.len() {
-        push_new(cells, Cell::Same(place));
+        push_value(cells, place);
         true
     } else {
         false
@@ -56,6 +58,7 @@ pub fn build_value(cells: &mut Cells, x: &[u32], y: &[u32], v: Slot) -> bool
 }
 
 /// The argument is a constant.
+#[inline]
 fn build_cell(cells: &mut Cells, cell: Cell)
     requires room { 0 < cells.old.spare }
     requires constant { (k : ℕ → Tree) → cell_tree k (length cells.old.cells) (raw_of cell) ≡ constant_of cell }
@@ -69,6 +72,7 @@ fn build_cell(cells: &mut Cells, cell: Cell)
 }
 
 /// `unify_constant C`: the argument is an atom.
+#[inline]
 pub fn build_atom(cells: &mut Cells, name: Atom)
     requires room { 0 < cells.old.spare }
     ensures built { (xs ys : List ℕ) → Built cells.old.cells (held xs) (held ys) (unify_constant (atom name)) cells.new.cells (held xs) (held ys) }
@@ -80,6 +84,7 @@ pub fn build_atom(cells: &mut Cells, name: Atom)
 }
 
 /// `unify_integer I`: the argument is an integer.
+#[inline]
 pub fn build_integer(cells: &mut Cells, value: i64)
     requires room { 0 < cells.old.spare }
     ensures built { (xs ys : List ℕ) → Built cells.old.cells (held xs) (held ys) (unify_constant (int value)) cells.new.cells (held xs) (held ys) }
@@ -91,6 +96,7 @@ pub fn build_integer(cells: &mut Cells, value: i64)
 }
 
 /// `unify_integer I`: the argument is an integer of the code's table. False where the table doesn't have it.
+#[inline]
 fn build_listed(cells: &mut Cells, code: &Code, i: u32) -> bool
     requires room { 0 < cells.old.spare }
     ensures built { (whole : ℕ) (xs ys : List ℕ) → BuiltOr whole cells.old.cells (held xs) (held ys) (with_integer (slice_get code.now.integers i) unify_constant) cells.new.cells (held xs) (held ys) result }

@@ -17,6 +17,7 @@ use ap_term::{Atom, NoMemory};
 use ap_unify::Work;
 
 /// `unify_variable V`: the register gets the argument's place.
+#[inline]
 fn match_variable(cells: &Cells, x: &mut [u32], y: &mut [u32], v: Slot, place: usize)
     requires has { HasRegister v (length x.old) (length y.old) }
     requires inside { place < length cells.now.cells }
@@ -32,6 +33,7 @@ fn match_variable(cells: &Cells, x: &mut [u32], y: &mut [u32], v: Slot, place: u
 }
 
 /// `unify_value V`: what the register holds and the argument are made equal, if they can be.
+#[inline]
 fn match_value(
     cells: &mut Cells,
     x: &[u32],
@@ -44,8 +46,8 @@ fn match_value(
     requires y { HoldPlaces (length cells.old.cells) y.now }
     requires inside { place < length cells.old.cells }
     ensures matched { IfOk result (λ b. Matched cells.old.cells (held x.now) (held y.now) (unify_value v) place cells.new.cells (held x.now) (held y.now) b) }
-    ensures longer { length cells.old.cells ≤ length cells.new.cells }
-    ensures spare { cells.old.spare ≤ cells.new.spare + 1 }
+    ensures len { length cells.new.cells ≡ length cells.old.cells }
+    ensures spare { cells.new.spare ≡ cells.old.spare }
     ensures keeps { Keeps cells.old cells.new }
 {
     let left = read(x, y, v);
@@ -54,14 +56,14 @@ fn match_value(
 }
 
 /// `unify_constant C`: the argument is made an atom, if it can be.
+#[inline]
 fn match_name(cells: &mut Cells, x: &[u32], y: &[u32], name: Atom, place: usize) -> bool
-    requires room { 0 < cells.old.spare }
     requires x { HoldPlaces (length cells.old.cells) x.now }
     requires y { HoldPlaces (length cells.old.cells) y.now }
     requires inside { place < length cells.old.cells }
     ensures matched { Matched cells.old.cells (held x.now) (held y.now) (unify_constant (atom name)) place cells.new.cells (held x.now) (held y.now) result }
-    ensures longer { length cells.old.cells ≤ length cells.new.cells }
-    ensures spare { cells.old.spare ≤ cells.new.spare + 1 }
+    ensures len { length cells.new.cells ≡ length cells.old.cells }
+    ensures spare { cells.new.spare ≡ cells.old.spare }
     ensures keeps { Keeps cells.old cells.new }
 {
     match_atom(cells, place, name)
@@ -69,14 +71,14 @@ fn match_name(cells: &mut Cells, x: &[u32], y: &[u32], name: Atom, place: usize)
 
 /// `unify_integer I`: the argument is made an integer of the code's table, if it can be. False where the table doesn't have
 /// it, too.
+#[inline]
 fn match_listed(cells: &mut Cells, x: &[u32], y: &[u32], code: &Code, i: u32, place: usize) -> bool
-    requires room { 0 < cells.old.spare }
     requires x { HoldPlaces (length cells.old.cells) x.now }
     requires y { HoldPlaces (length cells.old.cells) y.now }
     requires inside { place < length cells.old.cells }
     ensures matched { Matched cells.old.cells (held x.now) (held y.now) (with_integer (slice_get code.now.integers i) unify_constant) place cells.new.cells (held x.now) (held y.now) result }
-    ensures longer { length cells.old.cells ≤ length cells.new.cells }
-    ensures spare { cells.old.spare ≤ cells.new.spare + 1 }
+    ensures len { length cells.new.cells ≡ length cells.old.cells }
+    ensures spare { cells.new.spare ≡ cells.old.spare }
     ensures keeps { Keeps cells.old cells.new }
 {
     match integer_at(code, i) {
@@ -86,6 +88,7 @@ fn match_listed(cells: &mut Cells, x: &[u32], y: &[u32], code: &Code, i: u32, pl
 }
 
 /// An argument at a place, by its instruction. False where it can't be matched, or the instruction is none of an argument's.
+#[inline(always)]
 fn match_argument(
     cells: &mut Cells,
     x: &mut [u32],
@@ -95,7 +98,6 @@ fn match_argument(
     place: usize,
     work: &mut Work,
 ) -> Result<bool, NoMemory>
-    requires room { 0 < cells.old.spare }
     requires has { HasTargets instr (length x.old) (length y.old) }
     requires holds_x { HoldPlaces (length cells.old.cells) x.old }
     requires holds_y { HoldPlaces (length cells.old.cells) y.old }
@@ -106,8 +108,8 @@ fn match_argument(
     ensures holds_y { HoldPlaces (length cells.new.cells) y.new }
     ensures x_len { length x.new ≡ length x.old }
     ensures y_len { length y.new ≡ length y.old }
-    ensures longer { length cells.old.cells ≤ length cells.new.cells }
-    ensures spare { cells.old.spare ≤ cells.new.spare + 1 }
+    ensures len { length cells.new.cells ≡ length cells.old.cells }
+    ensures spare { cells.new.spare ≡ cells.old.spare }
     ensures keeps { Keeps cells.old cells.new }
 {
     match instr {
@@ -137,7 +139,6 @@ pub fn match_arguments(
     count: usize,
     work: &mut Work,
 ) -> Result<bool, NoMemory>
-    requires room { count ≤ cells.old.spare }
     requires inside { at ≤ length code.now.instructions }
     requires targets { AllHaveTargets (drop at code.now.instructions) (length x.old) (length y.old) }
     requires holds_x { HoldPlaces (length cells.old.cells) x.old }
@@ -149,7 +150,7 @@ pub fn match_arguments(
     ensures holds_y { HoldPlaces (length cells.new.cells) y.new }
     ensures x_len { length x.new ≡ length x.old }
     ensures y_len { length y.new ≡ length y.old }
-    ensures spare { cells.old.spare ≤ cells.new.spare + count }
+    ensures spare { cells.new.spare ≡ cells.old.spare }
     ensures keeps { Keeps cells.old cells.new }
 {
     let instructions = code.instructions().len();

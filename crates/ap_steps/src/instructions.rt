@@ -18,6 +18,7 @@ use ap_term::{Atom, NoMemory};
 use ap_unify::Work;
 
 /// `get_variable V, A`: the register gets what the argument holds.
+#[inline]
 pub fn get_variable(x: &mut [u32], y: &mut [u32], v: Slot, a: u32)
     requires { HasRegister v (length x.old) (length y.old) }
     ensures taken { (cs : List Raw) → Taken cs (held x.old) (held y.old) (get_variable v a) cs (held x.new) (held y.new) true }
@@ -31,6 +32,7 @@ pub fn get_variable(x: &mut [u32], y: &mut [u32], v: Slot, a: u32)
 }
 
 /// `get_value V, A`: what both hold is made equal, if it can be.
+#[inline]
 pub fn get_value(
     cells: &mut Cells,
     x: &[u32],
@@ -53,32 +55,33 @@ pub fn get_value(
 }
 
 /// `get_constant C, A`: the argument is made an atom, if it can be.
+#[inline]
 pub fn get_constant(cells: &mut Cells, x: &[u32], y: &[u32], name: Atom, a: u32) -> bool
     requires x { HoldPlaces (length cells.old.cells) x.now }
     requires y { HoldPlaces (length cells.old.cells) y.now }
-    requires room { 0 < cells.old.spare }
     ensures taken { Taken cells.old.cells (held x.now) (held y.now) (get_constant (atom name) a) cells.new.cells (held x.now) (held y.now) result }
-    ensures longer { length cells.old.cells ≤ length cells.new.cells }
-    ensures spare { cells.old.spare ≤ cells.new.spare + 1 }
+    ensures len { length cells.new.cells ≡ length cells.old.cells }
+    ensures spare { cells.new.spare ≡ cells.old.spare }
     ensures keeps { Keeps cells.old cells.new }
 {
     match_atom(cells, place_in(x, a), name)
 }
 
 /// `get_integer I, A`: the argument is made an integer, if it can be.
+#[inline]
 pub fn get_integer(cells: &mut Cells, x: &[u32], y: &[u32], value: i64, a: u32) -> bool
     requires x { HoldPlaces (length cells.old.cells) x.now }
     requires y { HoldPlaces (length cells.old.cells) y.now }
-    requires room { 0 < cells.old.spare }
     ensures taken { Taken cells.old.cells (held x.now) (held y.now) (get_constant (int value) a) cells.new.cells (held x.now) (held y.now) result }
-    ensures longer { length cells.old.cells ≤ length cells.new.cells }
-    ensures spare { cells.old.spare ≤ cells.new.spare + 1 }
+    ensures len { length cells.new.cells ≡ length cells.old.cells }
+    ensures spare { cells.new.spare ≡ cells.old.spare }
     ensures keeps { Keeps cells.old cells.new }
 {
     match_integer(cells, place_in(x, a), value)
 }
 
 /// `put_value V, A`: the argument gets what the register holds.
+#[inline]
 pub fn put_value(x: &mut [u32], y: &[u32], v: Slot, a: u32)
     requires { a < length x.old }
     ensures taken { (cs : List Raw) → Taken cs (held x.old) (held y.now) (put_value v a) cs (held x.new) (held y.now) true }
@@ -90,6 +93,7 @@ pub fn put_value(x: &mut [u32], y: &[u32], v: Slot, a: u32)
 }
 
 /// `put_constant C, A` or `put_integer I, A`: the argument gets a new cell with the constant.
+#[inline]
 fn put_cell(cells: &mut Cells, x: &mut [u32], a: u32, cell: Cell)
     requires room { 0 < cells.old.spare }
     requires constant { (k : ℕ → Tree) → cell_tree k (length cells.old.cells) (raw_of cell) ≡ constant_of cell }
@@ -109,6 +113,7 @@ fn put_cell(cells: &mut Cells, x: &mut [u32], a: u32, cell: Cell)
 }
 
 /// `put_constant C, A`: the argument gets a new cell with an atom.
+#[inline]
 pub fn put_constant(cells: &mut Cells, x: &mut [u32], name: Atom, a: u32)
     requires room { 0 < cells.old.spare }
     requires has { a < length x.old }
@@ -123,6 +128,7 @@ pub fn put_constant(cells: &mut Cells, x: &mut [u32], name: Atom, a: u32)
 }
 
 /// `put_integer I, A`: the argument gets a new cell with an integer.
+#[inline]
 pub fn put_integer(cells: &mut Cells, x: &mut [u32], value: i64, a: u32)
     requires room { 0 < cells.old.spare }
     requires has { a < length x.old }
@@ -137,6 +143,7 @@ pub fn put_integer(cells: &mut Cells, x: &mut [u32], value: i64, a: u32)
 }
 
 /// `put_variable V, A`: the register and the argument get a new unbound cell.
+#[inline]
 pub fn put_variable(cells: &mut Cells, x: &mut [u32], y: &mut [u32], v: Slot, a: u32)
     requires room { 0 < cells.old.spare }
     requires has { HasRegister v (length x.old) (length y.old) }

@@ -1,7 +1,7 @@
 //! The instructions of a clause over cells and registers.
 //!
-//! Stands on `ap_match` and `ap_instr`. The one contract used above: `run_to_control` takes instructions up to the next one of
-//! control, where the code asks for the same goals as before, or says no, where it can ask for nothing.
+//! Stands on `ap_match` and `ap_instr`. The one contract used above: `step` takes an instruction, and the code asks for the same
+//! goals as before, or says no, where it can ask for nothing.
 #![tactic(auto)]
 
 pub mod arguments;
@@ -13,5 +13,3 @@ pub mod room;
 pub mod run;
 pub mod structures;
 mod tables;
-#[cfg(test)]
-mod tests;

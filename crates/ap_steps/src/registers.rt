@@ -7,6 +7,7 @@ ghost use Rattle.ap_steps.specs.Moves.{held, HoldPlaces, HasRegister};
 use ap_instr::Slot;
 
 /// What an argument register holds; place 0 past the last one.
+#[inline]
 pub fn argument(registers: &[u32], number: u32) -> u32
     ensures { result ≡ held registers.now number }
 {
@@ -17,6 +18,7 @@ pub fn argument(registers: &[u32], number: u32) -> u32
 }
 
 /// What an X or Y register holds.
+#[inline]
 pub fn register(x: &[u32], y: &[u32], v: Slot) -> u32
     ensures { result ≡ read v (held x.now) (held y.now) }
 {
@@ -27,6 +29,7 @@ pub fn register(x: &[u32], y: &[u32], v: Slot) -> u32
 }
 
 /// The place that an argument register holds.
+#[inline]
 pub fn place_in(registers: &[u32], number: u32) -> usize
     ensures { result ≡ held registers.now number }
 {
@@ -34,6 +37,7 @@ pub fn place_in(registers: &[u32], number: u32) -> usize
 }
 
 /// The place that an X or Y register holds.
+#[inline]
 pub fn read(x: &[u32], y: &[u32], v: Slot) -> usize
     ensures { result ≡ read v (held x.now) (held y.now) }
 {
@@ -41,6 +45,7 @@ pub fn read(x: &[u32], y: &[u32], v: Slot) -> usize
 }
 
 /// Puts a place into a register.
+#[inline]
 pub fn put(registers: &mut [u32], number: usize, place: u32)
     requires { number < length registers.old }
     ensures held { (w : ℕ) → held registers.new w ≡ set (held registers.old) number place w }
@@ -50,6 +55,7 @@ pub fn put(registers: &mut [u32], number: usize, place: u32)
 }
 
 /// Puts a place into an X or Y register.
+#[inline]
 pub fn write(x: &mut [u32], y: &mut [u32], v: Slot, place: u32)
     requires { HasRegister v (length x.old) (length y.old) }
     ensures x { (w : ℕ) → held x.new w ≡ set_x v place (held x.old) w }

@@ -30,8 +30,6 @@ fn cells_of(instr: &Instr) -> usize
     ensures { result ≡ cells_of instr.now }
 {
     match *instr {
-        Instr::GetConstant(_, _) => 1,
-        Instr::GetInteger(_, _) => 1,
         Instr::GetStructure(_, count, _) => count as usize + 1,
         Instr::PutVariable(_, _) => 1,
         Instr::PutConstant(_, _) => 1,

@@ -16,6 +16,7 @@ use ap_term::{Atom, NoMemory};
 use ap_unify::Work;
 
 /// `put_structure F, A`: the argument gets a new structure. False where one of the structure's arguments can't be built.
+#[inline]
 pub fn put_structure(
     cells: &mut Cells,
     x: &mut [u32],
@@ -52,6 +53,7 @@ pub fn put_structure(
 }
 
 /// A structure that is built and made equal to a place's term, if it can be.
+#[inline]
 fn build_structure(
     cells: &mut Cells,
     x: &mut [u32],
@@ -87,6 +89,7 @@ fn build_structure(
 }
 
 /// Whether a structure that is there has a name and so many arguments.
+#[inline]
 fn is_of(found: Atom, arity: u32, name: Atom, count: u8) -> bool
     ensures same { result ≡ true → (found ≡ name) × (arity ≡ count) }
     ensures other { found ≡ name → arity ≡ count → result ≡ true }
@@ -96,6 +99,7 @@ fn is_of(found: Atom, arity: u32, name: Atom, count: u8) -> bool
 
 /// `get_structure F, A`: the argument is made a structure, if it can be. Where it is one, its arguments are matched; where it is
 /// unbound, a new one is built for it.
+#[inline]
 pub fn get_structure(
     cells: &mut Cells,
     x: &mut [u32],

@@ -1,55 +1,76 @@
-use Rattle.std.proofs.Common.{◌≤◌, length, drop, ap, ◌∙◌, subst, arith}
-use Rattle.std.proofs.lemmas.Option.{slice_get_within}
-use Rattle.std.specs.Option.{IfSome}
-use Rattle.ap_steps.specs.Ways.{room, CameOrStuck}
-use Rattle.ap_control.specs.Runs.{IsFrameAt}
+use Rattle.std.proofs.Common.{◌≡◌, ◌+◌, [], length, slice_get, Some, sym, ap, ◌∙◌, subst, arith}
+use Rattle.ap_steps.specs.Moves.{held, HasTargets, Moves}
+use Rattle.ap_steps.specs.Ways.{CameTo, Passed, steps_from}
+use Rattle.ap_steps.proofs.Places.{steps-past, targets-here, room-here}
+use Rattle.ap_steps.proofs.Steps.{Moves-stuck}
 use Rattle.ap_control.proofs.Marks.{Keeps-trans}
-use Rattle.ap_control.proofs.Ran.{ran-on, ran-stuck, ran-frame, room-frame}
+use Rattle.ap_control.proofs.Ran.{ran-on, ran-stuck, room-on, none-inside}
 use Rattle.ap_control.proofs.runs.run_to_transfer.Goals as goal
 
-pub returns-in_err-to-clause-keeps : goal.returns-in_err-to-clause-keeps
-returns-in_err-to-clause-keeps c = Keeps-trans c.args.cells.now c.loop-to.cells c.run_to_control.new.cells c.loop-to.invariant.keeps c.run_to_control.ensures.keeps
+pub step-requires-clause-room : goal.step-requires-clause-room
+step-requires-clause-room c =
+    λ goes_on.
+    let r = room-here c.args.code.now.instructions c.run.place c.in-Some.instr (sym c.in-Some.ensures) goes_on in
+    let has_room = c.run.invariant.room in
+    omega arith
 
-pub prove-unreachable-requires : goal.prove-unreachable-requires
-prove-unreachable-requires c =
-    let came = subst (λ o. CameOrStuck c.args.code.now c.loop-to.place c.loop-to.cells.cells c.loop-to.x c.loop-to.y o c.run_to_control.new.cells.cells c.run_to_control.new.x c.run_to_control.new.y) c.in-Some.is c.in_ok-to.ensures.came in
-    let within = slice_get_within c.args.code.now.instructions c.in-Some.to came.control.0 came.control.1 in
+pub step-requires-clause-has : goal.step-requires-clause-has
+step-requires-clause-has c =
+    let v = c.run.invariant in
+    let h : HasTargets c.in-Some.instr (length c.args.x.now) (length c.args.y.now) =
+    (targets-here c.args.code.now.instructions c.run.place (length c.args.x.now) (length c.args.y.now) c.in-Some.instr (sym c.in-Some.ensures) (c.requires.targets c.run.place)).0
+    in
+    subst (λ n. HasTargets c.in-Some.instr n (length c.run.y)) (sym v.x_len) (subst (HasTargets c.in-Some.instr (length c.args.x.now)) (sym v.y_len) h)
+
+pub returns-in_err-outcome-clause-keeps : goal.returns-in_err-outcome-clause-keeps
+returns-in_err-outcome-clause-keeps c = Keeps-trans c.args.cells.now c.run.cells c.step.new.cells c.run.invariant.keeps c.step.ensures.keeps
+
+pub overflow_add-place-in-On : goal.overflow_add-place-in-On
+overflow_add-place-in-On c =
+    let p : Passed c.args.code.now c.in-Some.instr (c.run.place + 1) c.in-On.arguments c.run.cells c.run.x c.run.y c.step.new.cells c.step.new.x c.step.new.y =
+    subst (λ o. CameTo c.args.code.now c.in-Some.instr (c.run.place + 1) c.run.cells c.run.x c.run.y o c.step.new.cells c.step.new.x c.step.new.y) c.in-On.is c.in_ok-outcome.ensures.came
+    in
     let same = ap length c.instructions-places.ensures in
-    let past = c.if-prove.true in
-    absurd (omega arith)
+    let inside = none-inside c.args.code.now.instructions (c.run.place + 1) c.in-On.arguments p.arguments (omega arith) in
+    omega arith
 
-pub returns-then-not-is_frame_at-clause-ran : goal.returns-then-not-is_frame_at-clause-ran
-returns-then-not-is_frame_at-clause-ran c =
-    let ds = c.run_to_control.new.cells.cells in
-    let came = subst (λ o. CameOrStuck c.args.code.now c.loop-to.place c.loop-to.cells.cells c.loop-to.x c.loop-to.y o ds c.run_to_control.new.x c.run_to_control.new.y) c.in-Some.is c.in_ok-to.ensures.came in
-    ran-on c.args.code.now c.args.at c.loop-to.place c.args.cells.now.cells c.loop-to.cells.cells c.args.x.now c.args.y.now c.loop-to.x c.loop-to.y c.loop-to.invariant.ran c.in-Some.to ds c.run_to_control.new.x c.run_to_control.new.y came
+pub overflow_add-place-in-On-2 : goal.overflow_add-place-in-On-2
+overflow_add-place-in-On-2 c =
+    let p : Passed c.args.code.now c.in-Some.instr (c.run.place + 1) c.in-On.arguments c.run.cells c.run.x c.run.y c.step.new.cells c.step.new.x c.step.new.y =
+    subst (λ o. CameTo c.args.code.now c.in-Some.instr (c.run.place + 1) c.run.cells c.run.x c.run.y o c.step.new.cells c.step.new.x c.step.new.y) c.in-On.is c.in_ok-outcome.ensures.came
+    in
+    let same = ap length c.instructions-places.ensures in
+    let inside = none-inside c.args.code.now.instructions (c.run.place + 1) c.in-On.arguments p.arguments (omega arith) in
+    omega arith
 
-pub returns-then-not-is_frame_at-clause-keeps : goal.returns-then-not-is_frame_at-clause-keeps
-returns-then-not-is_frame_at-clause-keeps c = Keeps-trans c.args.cells.now c.loop-to.cells c.run_to_control.new.cells c.loop-to.invariant.keeps c.run_to_control.ensures.keeps
-
-pub loop-to-preserved : goal.loop-to-preserved
-loop-to-preserved c =
+pub run-preserved : goal.run-preserved
+run-preserved c =
+    let v = c.run.invariant in
     let code = c.args.code.now in
-    let ds = c.run_to_control.new.cells.cells in
-    let x = c.run_to_control.new.x in
-    let y = c.run_to_control.new.y in
-    let frame : IsFrameAt code c.in-Some.to = c.is_frame_at.ensures.frame c.if-not-is_frame_at.false in
-    let came = subst (λ o. CameOrStuck code c.loop-to.place c.loop-to.cells.cells c.loop-to.x c.loop-to.y o ds x y) c.in-Some.is c.in_ok-to.ensures.came in
-    let ran = ran-on code c.args.at c.loop-to.place c.args.cells.now.cells c.loop-to.cells.cells c.args.x.now c.args.y.now c.loop-to.x c.loop-to.y c.loop-to.invariant.ran c.in-Some.to ds x y came in
-    let has_room : room (drop c.in-Some.to code.instructions) ≤ c.run_to_control.new.cells.spare = subst (λ o. IfSome o (λ p. room (drop p code.instructions) ≤ c.run_to_control.new.cells.spare)) c.in-Some.is c.in_ok-to.ensures.room in
+    let e : slice_get code.instructions c.run.place ≡ Some c.in-Some.instr = sym c.in-Some.ensures in
+    let p : Passed code c.in-Some.instr (c.run.place + 1) c.in-On.arguments c.run.cells c.run.x c.run.y c.step.new.cells c.step.new.x c.step.new.y =
+    subst (λ o. CameTo code c.in-Some.instr (c.run.place + 1) c.run.cells c.run.x c.run.y o c.step.new.cells c.step.new.x c.step.new.y) c.in-On.is c.in_ok-outcome.ensures.came
+    in
     record {
-      ran = ran-frame code c.args.at c.in-Some.to c.args.cells.now.cells ds c.args.x.now c.args.y.now x y ran frame;
-      room = room-frame code c.in-Some.to c.run_to_control.new.cells.spare frame has_room;
-      x_len = c.run_to_control.ensures.x_len ∙ c.loop-to.invariant.x_len;
-      y_len = c.run_to_control.ensures.y_len ∙ c.loop-to.invariant.y_len;
-      keeps = Keeps-trans c.args.cells.now c.loop-to.cells c.run_to_control.new.cells c.loop-to.invariant.keeps c.run_to_control.ensures.keeps;
+      ran = ran-on code c.args.at c.run.place c.args.cells.now.cells c.args.x.now c.args.y.now c.run.cells c.run.x c.run.y c.in-Some.instr e v.ran c.in-On.arguments c.step.new.cells c.step.new.x c.step.new.y p;
+      room = room-on code c.args.at c.run.place c.args.cells.now.cells c.args.x.now c.args.y.now c.run.cells c.run.x c.run.y c.in-Some.instr e c.in-On.arguments c.step.new.cells c.step.new.x c.step.new.y p v.room;
+      x_len = c.step.ensures.x_len ∙ v.x_len;
+      y_len = c.step.ensures.y_len ∙ v.y_len;
+      keeps = Keeps-trans c.args.cells.now c.run.cells c.step.new.cells v.keeps c.step.ensures.keeps;
     }
+
+pub returns-in-Stuck-clause-ran : goal.returns-in-Stuck-clause-ran
+returns-in-Stuck-clause-ran c =
+    let code = c.args.code.now in
+    ran-stuck code c.args.at c.run.place c.args.cells.now.cells c.args.x.now c.args.y.now c.run.cells c.run.x c.run.y c.in-Some.instr (sym c.in-Some.ensures) c.run.invariant.ran
+    (subst (λ o. CameTo code c.in-Some.instr (c.run.place + 1) c.run.cells c.run.x c.run.y o c.step.new.cells c.step.new.x c.step.new.y) c.in-Stuck.is c.in_ok-outcome.ensures.came)
+
+pub returns-in-Stuck-clause-keeps : goal.returns-in-Stuck-clause-keeps
+returns-in-Stuck-clause-keeps c = Keeps-trans c.args.cells.now c.run.cells c.step.new.cells c.run.invariant.keeps c.step.ensures.keeps
 
 pub returns-clause-ran : goal.returns-clause-ran
 returns-clause-ran c =
-    let ds = c.run_to_control.new.cells.cells in
-    ran-stuck c.args.code.now c.args.at c.loop-to.place c.args.cells.now.cells c.loop-to.cells.cells c.args.x.now c.args.y.now c.loop-to.x c.loop-to.y c.loop-to.invariant.ran
-    (subst (λ o. CameOrStuck c.args.code.now c.loop-to.place c.loop-to.cells.cells c.loop-to.x c.loop-to.y o ds c.run_to_control.new.x c.run_to_control.new.y) c.in_default.is c.in_ok-to.ensures.came)
-
-pub returns-clause-keeps : goal.returns-clause-keeps
-returns-clause-keeps c = Keeps-trans c.args.cells.now c.loop-to.cells c.run_to_control.new.cells c.loop-to.invariant.keeps c.run_to_control.ensures.keeps
+    let js = steps_from c.args.code.now c.args.at in
+    Moves-stuck c.args.cells.now.cells c.run.cells.cells (held c.args.x.now) (held c.args.y.now) (held c.run.x) (held c.run.y) js []
+    (subst (λ hs. Moves c.args.cells.now.cells (held c.args.x.now) (held c.args.y.now) js c.run.cells.cells (held c.run.x) (held c.run.y) hs) (steps-past c.args.code.now c.run.place (sym c.instruction_at.ensures ∙ c.in_default.is)) c.run.invariant.ran.moves)
+    (λ k bs h. h.1)

@@ -4,11 +4,11 @@ use Rattle.ap_steps.specs.Ways.{room}
 use Rattle.ap_control.specs.Runs.{Ran}
 use Rattle.ap_control.proofs.runs.run_to_transfer.Given as goal
 
-abbrev pub decreases-loop-to : goal.decreases-loop-to
-decreases-loop-to l = length l.code.instructions - l.place
+abbrev pub decreases-run : goal.decreases-run
+decreases-run l = length l.code.instructions - l.place
 
-abbrev pub invariant-loop-to : goal.invariant-loop-to
-invariant-loop-to l = record {
+abbrev pub invariant-run : goal.invariant-run
+invariant-run l = record {
   ran : Ran l.code l.at l.fn.cells.cells l.fn.x l.fn.y l.place l.cells.cells l.x l.y;
   room : room (drop l.place l.code.instructions) ≤ l.cells.spare;
   x_len : length l.x ≡ length l.fn.x;

@@ -8,8 +8,8 @@ use Rattle.ap_match.proofs.matching.match_atom.Goals as goal
 
 pub returns-in-Free-clause-answered : goal.returns-in-Free-clause-answered
 returns-in-Free-clause-answered c =
-    Becomes-asked c.args.cells.now.cells c.bind_new.new.cells.cells (λ k. k c.in-Free.x ≡ atom c.args.name) (λ k. k c.args.place ≡ atom c.args.name) (λ k. Unit {0})
-    (λ k h e. at k h ∙ e) (λ k h e. sym (at k h) ∙ e) c.bind_new.ensures.becomes
+    Becomes-asked c.args.cells.now.cells c.bind_term.new.cells.cells (λ k. k c.in-Free.x ≡ atom c.args.name) (λ k. k c.args.place ≡ atom c.args.name) (λ k. Unit {0})
+    (λ k h e. at k h ∙ e) (λ k h e. sym (at k h) ∙ e) c.bind_term.ensures.becomes
   where
     at : (k : ℕ → Tree) → Fits c.args.cells.now.cells k → k c.args.place ≡ k c.in-Free.x
     at k h = fits-top c.args.cells.now.cells k c.args.place (Free c.in-Free.x) h c.requires.inside c.in-Free.ensures.tree c.in-Free.ensures.inside

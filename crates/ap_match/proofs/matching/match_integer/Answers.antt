@@ -11,8 +11,8 @@ use Rattle.ap_match.proofs.matching.match_integer.Goals as goal
 
 pub returns-in-Free-clause-answered : goal.returns-in-Free-clause-answered
 returns-in-Free-clause-answered c =
-    let b : Becomes c.args.cells.now.cells c.bind_new.new.cells.cells (λ k. k c.in-Free.x ≡ int c.args.value) (λ k. Unit {0}) = simp (to_z-of_z w64 c.args.value c.ranges.value) at c.bind_new.ensures.becomes in
-    Becomes-asked c.args.cells.now.cells c.bind_new.new.cells.cells (λ k. k c.in-Free.x ≡ int c.args.value) (λ k. k c.args.place ≡ int c.args.value) (λ k. Unit {0})
+    let b : Becomes c.args.cells.now.cells c.bind_term.new.cells.cells (λ k. k c.in-Free.x ≡ int c.args.value) (λ k. Unit {0}) = simp (to_z-of_z w64 c.args.value c.ranges.value) at c.bind_term.ensures.becomes in
+    Becomes-asked c.args.cells.now.cells c.bind_term.new.cells.cells (λ k. k c.in-Free.x ≡ int c.args.value) (λ k. k c.args.place ≡ int c.args.value) (λ k. Unit {0})
     (λ k h e. at k h ∙ e) (λ k h e. sym (at k h) ∙ e) b
   where
     at : (k : ℕ → Tree) → Fits c.args.cells.now.cells k → k c.args.place ≡ k c.in-Free.x

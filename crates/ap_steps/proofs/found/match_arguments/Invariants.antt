@@ -15,6 +15,6 @@ invariant-loop-i l = record {
   holds_y : HoldPlaces (length l.cells.cells) l.y;
   x_len : length l.x ≡ length l.fn.x;
   y_len : length l.y ≡ length l.fn.y;
-  spare : l.fn.cells.spare ≤ l.cells.spare + l.i;
+  spare : l.cells.spare ≡ l.fn.cells.spare;
   keeps : Keeps l.fn.cells l.cells;
 }

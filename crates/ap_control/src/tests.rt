@@ -1,23 +1,21 @@
 // A clause with a structure in its head and one in its body, from the outside and with ample memory.
 ghost use Rattle.std.specs.Prelude.{◌≡◌, ℕ, ◌<◌, ◌≤◌, length, IfOk};
 ghost use Rattle.ap_steps.specs.Moves.{held};
-ghost use Rattle.ap_steps.specs.Ways.{AllHaveTargets};
 
-use crate::registers::argument;
-use crate::room::most_room;
-use crate::run::run_to_control;
+use crate::runs::run_to_transfer;
+use crate::widths::widths_of;
 use ap_cells::{Cell, Cells, Top};
 use ap_instr::{Code, Instr, Slot};
 use ap_match::push_new;
+use ap_steps::registers::argument;
+use ap_steps::room::most_room;
 use ap_term::{Atom, fixed};
 use ap_unify::Work;
 use std::alloc::Global;
 use std::test::Fail;
 
 // p(X + true) :- q(X - 7), with X made equal to itself before the call.
-fn instructions(alloc: Global) -> Result<Vec<Instr>, Fail>
-    ensures { IfOk result (λ v. AllHaveTargets v.items 3 0) }
-{
+fn instructions(alloc: Global) -> Result<Vec<Instr>, Fail> {
     let instructions = vec![in alloc;
         Instr::GetStructure(Atom::at(fixed::PLUS), 2, 1),
         Instr::UnifyVariable(Slot::X(2)),
@@ -31,9 +29,7 @@ fn instructions(alloc: Global) -> Result<Vec<Instr>, Fail>
     Ok(instructions)
 }
 
-fn make_code(alloc: Global) -> Result<Code, Fail>
-    ensures { IfOk result (λ code. AllHaveTargets code.instructions 3 0) }
-{
+fn make_code(alloc: Global) -> Result<Code, Fail> {
     let instructions = instructions(alloc)?;
     let integers = vec![in alloc; 7]?;
     Ok(Code::new(instructions, integers, Vec::new(alloc), None))
@@ -56,13 +52,13 @@ fn run(
     place: u32,
 ) -> Result<Option<(usize, u32)>, Fail>
     requires place { place < length cells.old.cells }
-    requires targets { AllHaveTargets code.now.instructions 3 0 }
 {
     cells.reserve(most_room(code)?)?;
-    let mut x = registers(alloc, 3, place)?;
-    let mut y = registers(alloc, 0, place)?;
+    let widths = widths_of(code);
+    let mut x = registers(alloc, widths.x, place)?;
+    let mut y = registers(alloc, widths.y, place)?;
     let mut work = Work::new(alloc);
-    match run_to_control(cells, &mut x, &mut y, code, 0, &mut work)? {
+    match run_to_transfer(cells, &mut x, &mut y, code, 0, &mut work)? {
         Some(to) => Ok(Some((to, argument(&x, 1)))),
         None => Ok(None),
     }
@@ -92,9 +88,7 @@ fn is_seven(cells: &Cells, place: usize) -> bool {
 }
 
 // Whether the code leads to its last instruction, and q is called with X - 7 then.
-fn calls(alloc: Global, cells: &mut Cells, code: &Code, place: usize) -> Result<bool, Fail>
-    requires { AllHaveTargets code.now.instructions 3 0 }
-{
+fn calls(alloc: Global, cells: &mut Cells, code: &Code, place: usize) -> Result<bool, Fail> {
     if place >= cells.len() {
         return Ok(false);
     }

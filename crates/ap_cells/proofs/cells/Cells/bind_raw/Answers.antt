@@ -1,0 +1,46 @@
+use Rattle.std.proofs.Common.{◌+◌, [], ◌∷◌, ◌++◌, length, set, sym, ap, ◌∙◌, subst, arith, length-set}
+use Rattle.ap_cells.specs.Trees.{trees, frees}
+use Rattle.ap_cells.specs.Store.{Store, IsStore}
+use Rattle.ap_cells.proofs.Stores.{Keeps-bind, bound_is}
+use Rattle.ap_cells.proofs.cells.Cells.bind_raw.Goals as goal
+
+pub push_reserved-requires : goal.push_reserved-requires
+push_reserved-requires c =
+    let t : IsStore c.args.self.now.cells c.args.self.now.trail = subst (λ (v : Store). IsStore v.cells v.trail) c.self.view_is c.self.invariant.store in
+    let v = ap (λ (v : Store). length v.cells) c.self.view_is in
+    let w = ap (λ (v : Store). length v.trail) c.self.view_is in
+    let b = bound_is c.args.self.now.cells c.args.self.now.trail c.args.place c.args.cell t c.requires.inside c.requires.within c.requires.bound c.requires.unbound c.requires.absent in
+    let r = b.room in
+    omega arith
+
+pub invariant_of-self : goal.invariant_of-self
+invariant_of-self c =
+    let t : IsStore c.args.self.now.cells c.args.self.now.trail = subst (λ (v : Store). IsStore v.cells v.trail) c.self.view_is c.self.invariant.store in
+    let b = bound_is c.args.self.now.cells c.args.self.now.trail c.args.place c.args.cell t c.requires.inside c.requires.within c.requires.bound c.requires.unbound c.requires.absent in
+    let s = subst (λ (v : Store). IsStore (set v.cells c.args.place c.args.cell) (v.trail ++ c.args.place ∷ [])) (sym c.self.view_is) b.store in
+    record {
+      store = rw c.push_reserved.ensures.items s;
+      used = omega (arith, length-set c.self.inside.cells.items c.args.place c.args.cell);
+      room = c.self.invariant.room;
+      trail_room = omega arith;
+      few = omega arith;
+    }
+
+pub returns-clause-trees : goal.returns-clause-trees
+returns-clause-trees c =
+    let t : IsStore c.args.self.now.cells c.args.self.now.trail = subst (λ (v : Store). IsStore v.cells v.trail) c.self.view_is c.self.invariant.store in
+    let b = bound_is c.args.self.now.cells c.args.self.now.trail c.args.place c.args.cell t c.requires.inside c.requires.within c.requires.bound c.requires.unbound c.requires.absent in
+    ap (λ (v : Store). trees (set v.cells c.args.place c.args.cell)) c.self.view_is ∙ b.trees_new
+
+pub returns-clause-keeps : goal.returns-clause-keeps
+returns-clause-keeps c =
+    let t : IsStore c.args.self.now.cells c.args.self.now.trail = subst (λ (v : Store). IsStore v.cells v.trail) c.self.view_is c.self.invariant.store in
+    let b = bound_is c.args.self.now.cells c.args.self.now.trail c.args.place c.args.cell t c.requires.inside c.requires.within c.requires.bound c.requires.unbound c.requires.absent in
+    Keeps-bind c.args.self.now _ c.args.place c.args.cell b.free (ap (λ (v : Store). set v.cells c.args.place c.args.cell) c.self.view_is)
+    (c.push_reserved.ensures.items ∙ ap (λ (v : Store). v.trail ++ c.args.place ∷ []) c.self.view_is)
+
+pub returns-clause-fewer : goal.returns-clause-fewer
+returns-clause-fewer c =
+    let t : IsStore c.args.self.now.cells c.args.self.now.trail = subst (λ (v : Store). IsStore v.cells v.trail) c.self.view_is c.self.invariant.store in
+    let b = bound_is c.args.self.now.cells c.args.self.now.trail c.args.place c.args.cell t c.requires.inside c.requires.within c.requires.bound c.requires.unbound c.requires.absent in
+    ap (λ (v : Store). frees (set v.cells c.args.place c.args.cell) + 1) c.self.view_is ∙ b.fewer
