@@ -75,10 +75,8 @@ pub fn fill_registers(registers: &mut [u32], places: &[u32])
     ensures held { (w : ℕ) → length places.now ≤ length registers.old → held registers.new w ≡ held places.now w }
     ensures len { length registers.new ≡ length registers.old }
 {
-    for i in 0..registers.len() {
-        registers[i] = match places.get(i) {
-            Some(place) => *place,
-            None => 0,
-        };
-    }
+    let count = places.len().min(registers.len());
+    let (first, others) = registers.split_at_mut(count);
+    first.copy_from_slice(&places[..count]);
+    others.fill(0);
 }

@@ -1,5 +1,5 @@
 -- The states that are left where a search ends.
-use Rattle.std.proofs.Common.{ℕ, ◌<◌, List, length}
+use Rattle.std.proofs.Common.{◌≡◌, ℕ, ◌+◌, ◌<◌, List, length, ◌∙◌}
 use Rattle.std.specs.List.{AllByRecursion}
 use Rattle.ap_term.specs.Search.{State}
 use Rattle.ap_instr.specs.Code.{Compiled}
@@ -18,3 +18,11 @@ states-left code n old new inside Failed h ss held = none-left code new.machine 
 states-left code n old new inside Spent h ss held = goals-left code new.machine h.0 ss held
 states-left code n old new inside More h ss held = goals-left code new.machine h.0 ss held
 states-left code n old new inside Stopped h ss held = tt
+
+-- a search that ends with its last turn
+pub ends-later : (code : Compiled) (left inferences : ℕ) (old middle new : Paused) → middle.spent + left ≡ old.spent + inferences → (end : Turn) → Ends code left middle new end → Ends code inferences old new end
+ends-later code left inferences old middle new e Answer h = h
+ends-later code left inferences old middle new e Failed h = h
+ends-later code left inferences old middle new e Spent h = h
+ends-later code left inferences old middle new e More h = (h.0, h.1, h.2 ∙ e)
+ends-later code left inferences old middle new e Stopped h = tt

@@ -19,14 +19,6 @@ Ends code inferences old new Spent = IsCallDue code new.machine.now × (new.budg
 Ends code inferences old new More = IsCallDue code new.machine.now × (new.spent < new.budget) × (new.spent ≡ old.spent + inferences)
 Ends code inferences old new Stopped = Unit {0}
 
--- the same of a turn, which is never the end because as many calls were made as were asked for
-abbrev pub EndsTurn : Compiled → Paused → Turn → Type 0
-EndsTurn code s Answer = IsAtAnswer s.machine
-EndsTurn code s Failed = IsAtEnd s.machine
-EndsTurn code s Spent = IsCallDue code s.machine.now × (s.budget ≤ s.spent)
-EndsTurn code s More = ⊥
-EndsTurn code s Stopped = Unit {0}
-
 -- why a turn ends where that is due
 abbrev pub IsEndOf : Paused → Due → Turn → Type 0
 IsEndOf s (Call number) end = (end ≡ Spent) × (s.budget ≤ s.spent)

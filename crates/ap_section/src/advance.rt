@@ -10,7 +10,7 @@ ghost use Rattle.ap_standing.specs.Holds.{Holds};
 ghost use Rattle.ap_section.specs.View.{IsFor};
 ghost use Rattle.ap_section.specs.Due.{IsDue, IsTurnDue};
 ghost use Rattle.ap_section.specs.Advanced.{Advanced};
-ghost use Rattle.ap_section.specs.Ends.{IsEndOf, EndsTurn, Ends, AreStates};
+ghost use Rattle.ap_section.specs.Ends.{IsEndOf, Ends, AreStates};
 
 use crate::due::Due;
 use crate::section::Section;
@@ -110,14 +110,19 @@ impl Section {
         }
     }
 
-    /// Goes on to what is due, and makes the call, or tells why not.
-    fn turn<H: Hook>(&mut self, code: &Code, hook: &mut H) -> Result<Option<Turn>, NoMemory>
+    /// Goes on to what is due, and makes the call, or tells why not. So many calls may be made.
+    fn turn<H: Hook>(
+        &mut self,
+        code: &Code,
+        left: u64,
+        hook: &mut H,
+    ) -> Result<Option<Turn>, NoMemory>
         requires { IsFor code.now self.old }
         ensures advanced { Advanced code.now self.old self.new }
         ensures within { self.new.spent ≤ max self.old.budget self.old.spent }
-        ensures made { IfOk result (λ found. IfNone found (self.new.spent ≡ self.old.spent + 1)) }
-        ensures one { self.new.spent ≤ self.old.spent + 1 }
-        ensures end { IfOk result (λ found. IfSome found (λ end. (self.new.spent ≡ self.old.spent) × EndsTurn code.now self.new end)) }
+        ensures made { IfOk result (λ found. IfNone found ((self.new.spent ≡ self.old.spent + 1) × (0 < left))) }
+        ensures few { self.new.spent ≤ self.old.spent + left }
+        ensures end { IfOk result (λ found. IfSome found (λ end. Ends code.now left self.old self.new end)) }
         ensures stopped { result ≡ Ok (Some Turn.Stopped) → H.asked hook.new }
         ensures asked { H.asked hook.old → H.asked hook.new }
     {
@@ -125,26 +130,14 @@ impl Section {
         if let Some(end) = self.end_at(due) {
             return Ok(Some(end));
         }
+        if left == 0 {
+            return Ok(Some(Turn::More));
+        }
         if hook.poll() {
             return Ok(Some(Turn::Stopped));
         }
         self.make(code, due)?;
         Ok(None)
-    }
-
-    /// Goes on to what is due, behind the last call that was asked for.
-    fn come_to_rest(&mut self, code: &Code) -> Result<Turn, NoMemory>
-        requires { IsFor code.now self.old }
-        ensures advanced { Advanced code.now self.old self.new }
-        ensures spent { self.new.spent ≡ self.old.spent }
-        ensures end { IfOk result (λ turn. Ends code.now 0 self.old self.new turn) }
-        ensures asked { result ≡ Ok Turn.Stopped → ⊥ }
-    {
-        let due = self.find_due(code)?;
-        match self.end_at(due) {
-            Some(end) => Ok(end),
-            None => Ok(Turn::More),
-        }
     }
 
     /// Searches on, without a share.
@@ -162,13 +155,13 @@ impl Section {
         ensures stopped { result ≡ Ok Turn.Stopped → H.asked hook.new }
         ensures asked { H.asked hook.old → H.asked hook.new }
     {
-        for made in 0..inferences {
-            let _ = made;
-            if let Some(end) = self.turn(code, hook)? {
+        let mut left = inferences;
+        'turns: loop {
+            if let Some(end) = self.turn(code, left, hook)? {
                 return Ok(end);
             }
+            left -= 1;
         }
-        self.come_to_rest(code)
     }
 
     /// Searches on. It makes at most so many calls, before each of which it asks the hook, and adds their number to the share.

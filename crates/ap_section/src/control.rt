@@ -1,6 +1,6 @@
 //! Instructions of control, and control that comes back.
 
-ghost use Rattle.std.specs.Prelude.{◌≡◌, ℕ, ◌+◌, ◌<◌, ◌≤◌, List, [], length, drop, slice_get, None, Some, true, false, IfOk, OnErr};
+ghost use Rattle.std.specs.Prelude.{◌≡◌, ℕ, ◌+◌, ◌<◌, ◌≤◌, List, [], length, drop, slice_get, None, Some, true, false, IfOk, IfSome, OnOk, OnErr};
 ghost use Rattle.ap_term.specs.Search.{State};
 ghost use Rattle.ap_cells.specs.Store.{Keeps};
 ghost use Rattle.ap_instr.specs.declared.compiled.Predicate.{Predicate};
@@ -13,7 +13,9 @@ ghost use Rattle.ap_standing.specs.Holds.{Holds};
 ghost use Rattle.ap_standing.specs.Laws.{KeepsStanding};
 ghost use Rattle.ap_section.specs.View.{IsFor};
 ghost use Rattle.ap_section.specs.Choices.{Stays};
+ghost use Rattle.ap_section.specs.Due.{IsDue};
 
+use crate::due::Due;
 use crate::section::{Now, Section};
 use ap_cells::Cells;
 use ap_control::{instruction_at, run_to_transfer, used};
@@ -21,14 +23,17 @@ use ap_instr::{Code, Instr};
 use ap_term::NoMemory;
 use ap_unify::Work;
 
-/// Registers hold place 0.
-fn clear(registers: &mut [u32])
-    ensures cleared { (w : ℕ) → held registers.new w ≡ 0 }
-    ensures len { length registers.new ≡ length registers.old }
+/// Keeps what registers hold, in a vector whose memory is used again.
+fn save(saved: &mut Vec<u32>, registers: &[u32]) -> Result<(), NoMemory>
+    ensures { OnOk result (saved.new.items ≡ registers.now) }
 {
-    for i in 0..registers.len() {
-        registers[i] = 0;
+    if saved.len() == registers.len() {
+        saved.copy_from_slice(registers);
+        return Ok(());
     }
+    saved.clear();
+    saved.extend_from_slice(registers)?;
+    Ok(())
 }
 
 /// The place behind another one, where 32 bits hold it.
@@ -88,19 +93,19 @@ fn run_or_undo(
 }
 
 impl Section {
-    /// Control is at a place in a clause. Without memory nothing changes.
-    pub(crate) fn run(&mut self, code: &Code, at: usize) -> Result<(), NoMemory>
-        requires due { self.old.machine.now ≡ inside at }
+    /// Control is at a place in a clause, and goes on to the next instruction of control, unless what stands between can't be
+    /// taken. Without memory nothing changes.
+    pub(crate) fn run(&mut self, code: &Code, at: usize) -> Result<Option<usize>, NoMemory>
+        requires here { self.old.machine.now ≡ inside at }
         requires is_for { IsFor code.now self.old }
         ensures holds { KeepsStanding code.now self.old.machine self.new.machine }
         ensures stays { Stays self.old self.new }
+        ensures at { IfOk result (λ found. IfSome found (λ to. self.new.machine.now ≡ inside to)) }
         ensures kept { OnErr result (self.new ≡ self.old) }
     {
         self.cells.reserve(self.room)?;
-        self.before_x.clear();
-        self.before_x.extend_from_slice(&self.x)?;
-        self.before_y.clear();
-        self.before_y.extend_from_slice(&self.y)?;
+        save(&mut self.before_x, &self.x)?;
+        save(&mut self.before_y, &self.y)?;
         match run_or_undo(
             &mut self.cells,
             &mut self.x,
@@ -109,26 +114,30 @@ impl Section {
             at,
             &mut self.work,
         ) {
-            Ok(Some(to)) => self.next = Now::Inside(to),
+            Ok(Some(to)) => {
+                self.next = Now::Inside(to);
+                Ok(Some(to))
+            }
             Ok(None) => {
                 self.x.copy_from_slice(&self.before_x);
                 self.y.copy_from_slice(&self.before_y);
                 self.next = Now::Failed;
+                Ok(None)
             }
             Err(error) => {
                 self.x.copy_from_slice(&self.before_x);
                 self.y.copy_from_slice(&self.before_y);
-                return Err(error);
+                Err(error)
             }
         }
-        Ok(())
     }
 
-    /// Control is at an instruction of control. Without memory nothing changes.
-    pub(crate) fn transfer(&mut self, code: &Code, at: usize) -> Result<(), NoMemory>
-        requires due { self.old.machine.now ≡ inside at }
+    /// Control is at an instruction of control, which leads on, or to what is due. Without memory nothing changes.
+    pub(crate) fn transfer(&mut self, code: &Code, at: usize) -> Result<Option<Due>, NoMemory>
+        requires here { self.old.machine.now ≡ inside at }
         ensures holds { KeepsStanding code.now self.old.machine self.new.machine }
         ensures stays { Stays self.old self.new }
+        ensures due { IfOk result (λ found. IfSome found (λ due. IsDue code.now self.new.machine due)) }
         ensures kept { OnErr result (self.new ≡ self.old) }
     {
         match instruction_at(code, at) {
@@ -139,17 +148,18 @@ impl Section {
                         let place = behind(at)?;
                         self.environments.push(place, used(&self.y))?;
                         self.next = Now::Calling(number);
-                    } else {
-                        self.next = Now::Failed;
+                        return Ok(Some(Due::Call(number)));
                     }
+                    self.next = Now::Failed;
                 }
                 Instr::Execute(number) => {
                     if is_known(code, number) {
                         self.next = Now::Calling(number);
-                    } else {
-                        self.next = Now::Failed;
+                        return Ok(Some(Due::Call(number)));
                     }
+                    self.next = Now::Failed;
                 }
+                Instr::Builtin(builtin) => return Ok(Some(Due::Goal(builtin, at))),
                 Instr::Proceed => self.next = Now::Returning,
                 Instr::Jump(_) => self.next = Now::Failed,
                 Instr::Fail => self.next = Now::Failed,
@@ -159,7 +169,7 @@ impl Section {
                 _ => {}
             },
         }
-        Ok(())
+        Ok(None)
     }
 
     /// Control comes back to the innermost return. False where there is none.
@@ -173,7 +183,7 @@ impl Section {
         match self.environments.pop(&mut self.y) {
             Some(place) => {
                 self.cells.is_store();
-                clear(&mut self.x);
+                self.x.fill(0);
                 self.next = Now::Inside(place as usize);
                 true
             }

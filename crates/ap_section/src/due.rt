@@ -1,7 +1,7 @@
 //! Moves that are no calls, up to what is due.
 
 ghost use Rattle.std.specs.Prelude.{◌≡◌, ◌≤◌, ◌<◌, Some, None, true, false, IfOk, IfSome};
-ghost use Rattle.ap_standing.specs.Machine.{inside};
+ghost use Rattle.ap_standing.specs.Machine.{calling, inside};
 ghost use Rattle.ap_standing.specs.Laws.{KeepsStanding};
 ghost use Rattle.ap_section.specs.View.{IsFor};
 ghost use Rattle.ap_section.specs.Choices.{Stays};
@@ -9,7 +9,6 @@ ghost use Rattle.ap_section.specs.Due.{IsDue};
 
 use crate::control::is_known;
 use crate::section::{Now, Section};
-use ap_control::builtin_at;
 use ap_instr::{Builtin, Code};
 use ap_term::NoMemory;
 
@@ -27,17 +26,31 @@ pub(crate) enum Due {
 }
 
 impl Section {
-    /// Control is at a place in a clause where no built-in goal stands.
-    fn go_inside(&mut self, code: &Code, at: usize) -> Result<(), NoMemory>
+    /// A predicate is to be called, which is due if the table has it.
+    fn at_call(&mut self, code: &Code, number: u32) -> Option<Due>
+        requires here { self.old.machine.now ≡ calling number }
+        ensures holds { KeepsStanding code.now self.old.machine self.new.machine }
+        ensures stays { Stays self.old self.new }
+        ensures due { IfSome result (λ due. IsDue code.now self.new.machine due) }
+    {
+        if is_known(code, number) {
+            return Some(Due::Call(number));
+        }
+        self.fail();
+        None
+    }
+
+    /// Control is at a place in a clause, and goes on to an instruction of control.
+    fn go_inside(&mut self, code: &Code, at: usize) -> Result<Option<Due>, NoMemory>
         requires here { self.old.machine.now ≡ inside at }
         requires is_for { IsFor code.now self.old }
         ensures holds { KeepsStanding code.now self.old.machine self.new.machine }
         ensures stays { Stays self.old self.new }
+        ensures due { IfOk result (λ found. IfSome found (λ due. IsDue code.now self.new.machine due)) }
     {
-        self.run(code, at)?;
-        match self.now() {
-            Now::Inside(to) => self.transfer(code, to),
-            _ => Ok(()),
+        match self.run(code, at)? {
+            Some(to) => self.transfer(code, to),
+            None => Ok(None),
         }
     }
 
@@ -49,30 +62,21 @@ impl Section {
         ensures due { IfOk result (λ found. IfSome found (λ due. IsDue code.now self.new.machine due)) }
     {
         match self.now() {
-            Now::Calling(number) => {
-                if is_known(code, number) {
-                    return Ok(Some(Due::Call(number)));
-                }
-                self.redo();
-            }
-            Now::Inside(at) => {
-                if let Some(builtin) = builtin_at(code, at) {
-                    return Ok(Some(Due::Goal(builtin, at)));
-                }
-                self.go_inside(code, at)?;
-            }
+            Now::Calling(number) => Ok(self.at_call(code, number)),
+            Now::Inside(at) => self.go_inside(code, at),
             Now::Returning => {
-                if !self.come_back() {
-                    return Ok(Some(Due::Answer));
+                if self.come_back() {
+                    return Ok(None);
                 }
+                Ok(Some(Due::Answer))
             }
             Now::Failed => {
-                if !self.retry(code)? {
-                    return Ok(Some(Due::Nothing));
+                if self.retry(code)? {
+                    return Ok(None);
                 }
+                Ok(Some(Due::Nothing))
             }
         }
-        Ok(None)
     }
 
     /// Goes on, without a call, to what is due. That it gets there is shown by no measure: a search that made 2^64 moves

@@ -100,6 +100,13 @@ impl Section {
         self.spent >= self.budget
     }
 
+    /// What is being done leads nowhere.
+    pub(crate) fn fail(&mut self)
+        ensures { self.new ≡ record self.old { machine = record self.old.machine { now = failed } } }
+    {
+        self.next = Now::Failed;
+    }
+
     /// Counts a call.
     pub(crate) fn count(&mut self)
         requires { self.old.spent < 2 ^ 64 - 1 }

@@ -14,14 +14,14 @@ invariant_of-self c =
     let e = ap length c.reserve.ensures.cells in
     sane-kept a.cells c.reserve.new.self a.environments a.x.items a.y.items a.x.items a.y.items a.roots.items c.self.invariant (same-store a.cells c.reserve.new.self c.reserve.ensures.cells c.reserve.ensures.trail) (omega (arith, e)) refl refl
 
-pub invariant_of-self-in_err-extend_from_slice : goal.invariant_of-self-in_err-extend_from_slice
-invariant_of-self-in_err-extend_from_slice c =
+pub invariant_of-self-in_err-save : goal.invariant_of-self-in_err-save
+invariant_of-self-in_err-save c =
     let a = c.self.inside in
     let e = ap length c.reserve.ensures.cells in
     sane-kept a.cells c.reserve.new.self a.environments a.x.items a.y.items a.x.items a.y.items a.roots.items c.self.invariant (same-store a.cells c.reserve.new.self c.reserve.ensures.cells c.reserve.ensures.trail) (omega (arith, e)) refl refl
 
-pub invariant_of-self-in_err-extend_from_slice-2 : goal.invariant_of-self-in_err-extend_from_slice-2
-invariant_of-self-in_err-extend_from_slice-2 c =
+pub invariant_of-self-in_err-save-2 : goal.invariant_of-self-in_err-save-2
+invariant_of-self-in_err-save-2 c =
     let a = c.self.inside in
     let e = ap length c.reserve.ensures.cells in
     sane-kept a.cells c.reserve.new.self a.environments a.x.items a.y.items a.x.items a.y.items a.roots.items c.self.invariant (same-store a.cells c.reserve.new.self c.reserve.ensures.cells c.reserve.ensures.trail) (omega (arith, e)) refl refl
@@ -56,7 +56,7 @@ returns-in-Ok-Some-clause-holds c = λ ss h₀.
     let ran = moved-ran c.args.code.now c.args.at a.cells.cells c.reserve.new.self.cells w.cells a.x.items c.deref_mut.result.now a.y.items c.deref_mut-2.result.now x r.x y r.y (Some c.in-Ok-Some.to)
     c.reserve.ensures.cells c.deref_mut.ensures.value c.deref_mut-2.ensures.value ex ey h in
     ran-holds c.args.code.now a.cells w a.environments a.x.items a.y.items x y a.roots.items c.args.at c.self.invariant keeps c.in-Ok-Some.to ran ss
-    (opened c.args.code.now ss c.args.self.now (machine_of a.cells a.environments a.x.items a.y.items a.roots.items a.next) (inside c.args.at) (ap (λ s. s.machine) c.self.view_is) c.requires.due h₀)
+    (opened c.args.code.now ss c.args.self.now (machine_of a.cells a.environments a.x.items a.y.items a.roots.items a.next) (inside c.args.at) (ap (λ s. s.machine) c.self.view_is) c.requires.here h₀)
 
 pub invariant_of-self-in-Ok-None : goal.invariant_of-self-in-Ok-None
 invariant_of-self-in-Ok-None c =
@@ -65,8 +65,8 @@ invariant_of-self-in-Ok-None c =
     let keeps : Keeps a.cells w = Keeps-trans a.cells c.reserve.new.self w (same-store a.cells c.reserve.new.self c.reserve.ensures.cells c.reserve.ensures.trail) c.run_or_undo.ensures.keeps in
     let e = ap length c.reserve.ensures.cells in
     let l = c.run_or_undo.ensures.longer in
-    let ex : c.copy_from_slice.new.self.items ≡ a.x.items = c.copy_from_slice.ensures.items ∙ c.deref-in-Ok-None.ensures.value ∙ c.in_ok-extend_from_slice.ensures.items ∙ ap (λ us. us ++ c.deref.result.now) c.clear.ensures.items ∙ c.deref.ensures.value in
-    let ey : c.copy_from_slice-in-Ok-None.new.self.items ≡ a.y.items = c.copy_from_slice-in-Ok-None.ensures.items ∙ c.deref-in-Ok-None-2.ensures.value ∙ c.in_ok-extend_from_slice-2.ensures.items ∙ ap (λ us. us ++ c.deref-2.result.now) c.clear-2.ensures.items ∙ c.deref-2.ensures.value in
+    let ex : c.copy_from_slice.new.self.items ≡ a.x.items = c.copy_from_slice.ensures.items ∙ c.deref-in-Ok-None.ensures.value ∙ c.in_ok-save.ensures ∙ c.deref.ensures.value in
+    let ey : c.copy_from_slice-in-Ok-None.new.self.items ≡ a.y.items = c.copy_from_slice-in-Ok-None.ensures.items ∙ c.deref-in-Ok-None-2.ensures.value ∙ c.in_ok-save-2.ensures ∙ c.deref-2.ensures.value in
     sane-kept a.cells w a.environments a.x.items a.y.items c.copy_from_slice.new.self.items c.copy_from_slice-in-Ok-None.new.self.items a.roots.items c.self.invariant keeps (omega (arith, e, l)) ex ey
 
 pub returns-in-Ok-None-clause-holds : goal.returns-in-Ok-None-clause-holds
@@ -79,7 +79,7 @@ returns-in-Ok-None-clause-holds c = λ ss h₀.
     let stuck = moved-ran c.args.code.now c.args.at a.cells.cells c.reserve.new.self.cells w.cells a.x.items c.deref_mut.result.now a.y.items c.deref_mut-2.result.now r.x r.x r.y r.y None
     c.reserve.ensures.cells c.deref_mut.ensures.value c.deref_mut-2.ensures.value refl refl h in
     stuck-holds c.args.code.now a.cells w a.environments a.x.items a.y.items c.copy_from_slice.new.self.items c.copy_from_slice-in-Ok-None.new.self.items a.roots.items c.args.at c.self.invariant keeps stuck ss
-    (opened c.args.code.now ss c.args.self.now (machine_of a.cells a.environments a.x.items a.y.items a.roots.items a.next) (inside c.args.at) (ap (λ s. s.machine) c.self.view_is) c.requires.due h₀)
+    (opened c.args.code.now ss c.args.self.now (machine_of a.cells a.environments a.x.items a.y.items a.roots.items a.next) (inside c.args.at) (ap (λ s. s.machine) c.self.view_is) c.requires.here h₀)
 
 pub invariant_of-self-in-Err : goal.invariant_of-self-in-Err
 invariant_of-self-in-Err c =
@@ -88,8 +88,8 @@ invariant_of-self-in-Err c =
     let keeps : Keeps a.cells w = Keeps-trans a.cells c.reserve.new.self w (same-store a.cells c.reserve.new.self c.reserve.ensures.cells c.reserve.ensures.trail) c.run_or_undo.ensures.keeps in
     let e = ap length c.reserve.ensures.cells in
     let l = c.run_or_undo.ensures.longer in
-    let ex : c.copy_from_slice-in-Err.new.self.items ≡ a.x.items = c.copy_from_slice-in-Err.ensures.items ∙ c.deref-in-Err.ensures.value ∙ c.in_ok-extend_from_slice.ensures.items ∙ ap (λ us. us ++ c.deref.result.now) c.clear.ensures.items ∙ c.deref.ensures.value in
-    let ey : c.copy_from_slice-in-Err-2.new.self.items ≡ a.y.items = c.copy_from_slice-in-Err-2.ensures.items ∙ c.deref-in-Err-2.ensures.value ∙ c.in_ok-extend_from_slice-2.ensures.items ∙ ap (λ us. us ++ c.deref-2.result.now) c.clear-2.ensures.items ∙ c.deref-2.ensures.value in
+    let ex : c.copy_from_slice-in-Err.new.self.items ≡ a.x.items = c.copy_from_slice-in-Err.ensures.items ∙ c.deref-in-Err.ensures.value ∙ c.in_ok-save.ensures ∙ c.deref.ensures.value in
+    let ey : c.copy_from_slice-in-Err-2.new.self.items ≡ a.y.items = c.copy_from_slice-in-Err-2.ensures.items ∙ c.deref-in-Err-2.ensures.value ∙ c.in_ok-save-2.ensures ∙ c.deref-2.ensures.value in
     sane-kept a.cells w a.environments a.x.items a.y.items c.copy_from_slice-in-Err.new.self.items c.copy_from_slice-in-Err-2.new.self.items a.roots.items c.self.invariant keeps (omega (arith, e, l)) ex ey
 
 pub returns-in-Err-clause-kept : goal.returns-in-Err-clause-kept
@@ -97,8 +97,8 @@ returns-in-Err-clause-kept c =
     let a = c.self.inside in
     let w = c.run_or_undo.new.cells in
     let keeps : Keeps a.cells w = Keeps-trans a.cells c.reserve.new.self w (same-store a.cells c.reserve.new.self c.reserve.ensures.cells c.reserve.ensures.trail) c.run_or_undo.ensures.keeps in
-    let ex : c.copy_from_slice-in-Err.new.self.items ≡ a.x.items = c.copy_from_slice-in-Err.ensures.items ∙ c.deref-in-Err.ensures.value ∙ c.in_ok-extend_from_slice.ensures.items ∙ ap (λ us. us ++ c.deref.result.now) c.clear.ensures.items ∙ c.deref.ensures.value in
-    let ey : c.copy_from_slice-in-Err-2.new.self.items ≡ a.y.items = c.copy_from_slice-in-Err-2.ensures.items ∙ c.deref-in-Err-2.ensures.value ∙ c.in_ok-extend_from_slice-2.ensures.items ∙ ap (λ us. us ++ c.deref-2.result.now) c.clear-2.ensures.items ∙ c.deref-2.ensures.value in
+    let ex : c.copy_from_slice-in-Err.new.self.items ≡ a.x.items = c.copy_from_slice-in-Err.ensures.items ∙ c.deref-in-Err.ensures.value ∙ c.in_ok-save.ensures ∙ c.deref.ensures.value in
+    let ey : c.copy_from_slice-in-Err-2.new.self.items ≡ a.y.items = c.copy_from_slice-in-Err-2.ensures.items ∙ c.deref-in-Err-2.ensures.value ∙ c.in_ok-save-2.ensures ∙ c.deref-2.ensures.value in
     ap (λ m. record { machine = m; spent = a.spent; budget = a.budget; room = a.room })
     (machine-same a.cells w a.environments a.x.items a.y.items c.copy_from_slice-in-Err.new.self.items c.copy_from_slice-in-Err-2.new.self.items a.roots.items a.next c.self.invariant keeps (c.in-Err.ensures.err ∙ c.reserve.ensures.cells) ex ey)
     ∙ c.self.view_is
@@ -108,7 +108,7 @@ returns-in-Err-clause-holds c = λ ss h.
     let a = c.self.inside in
     let w = c.run_or_undo.new.cells in
     let keeps : Keeps a.cells w = Keeps-trans a.cells c.reserve.new.self w (same-store a.cells c.reserve.new.self c.reserve.ensures.cells c.reserve.ensures.trail) c.run_or_undo.ensures.keeps in
-    let ex : c.copy_from_slice-in-Err.new.self.items ≡ a.x.items = c.copy_from_slice-in-Err.ensures.items ∙ c.deref-in-Err.ensures.value ∙ c.in_ok-extend_from_slice.ensures.items ∙ ap (λ us. us ++ c.deref.result.now) c.clear.ensures.items ∙ c.deref.ensures.value in
-    let ey : c.copy_from_slice-in-Err-2.new.self.items ≡ a.y.items = c.copy_from_slice-in-Err-2.ensures.items ∙ c.deref-in-Err-2.ensures.value ∙ c.in_ok-extend_from_slice-2.ensures.items ∙ ap (λ us. us ++ c.deref-2.result.now) c.clear-2.ensures.items ∙ c.deref-2.ensures.value in
+    let ex : c.copy_from_slice-in-Err.new.self.items ≡ a.x.items = c.copy_from_slice-in-Err.ensures.items ∙ c.deref-in-Err.ensures.value ∙ c.in_ok-save.ensures ∙ c.deref.ensures.value in
+    let ey : c.copy_from_slice-in-Err-2.new.self.items ≡ a.y.items = c.copy_from_slice-in-Err-2.ensures.items ∙ c.deref-in-Err-2.ensures.value ∙ c.in_ok-save-2.ensures ∙ c.deref-2.ensures.value in
     subst (λ q. Holds c.args.code.now q ss)
     (sym (machine-same a.cells w a.environments a.x.items a.y.items c.copy_from_slice-in-Err.new.self.items c.copy_from_slice-in-Err-2.new.self.items a.roots.items a.next c.self.invariant keeps (c.in-Err.ensures.err ∙ c.reserve.ensures.cells) ex ey ∙ ap (λ s. s.machine) c.self.view_is)) h

@@ -19,3 +19,6 @@ pub returns-clause-advanced : goal.returns-clause-advanced
 returns-clause-advanced g c =
     Advanced-then c.args.code.now c.args.self.now c.find_due.new.self c.make.new.self
     (settled c.args.code.now c.args.self.now c.find_due.new.self c.find_due.ensures.holds c.find_due.ensures.stays) c.make.ensures.advanced
+
+pub returns-then-left-eq0-clause-advanced : goal.returns-then-left-eq0-clause-advanced
+returns-then-left-eq0-clause-advanced g c = settled c.args.code.now c.args.self.now c.find_due.new.self c.find_due.ensures.holds c.find_due.ensures.stays
