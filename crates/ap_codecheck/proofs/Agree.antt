@@ -16,7 +16,7 @@ use Rattle.ap_codecheck.specs.Shape.{Shape, unset, is_set, write, with_target, p
 use Rattle.ap_codecheck.specs.Paths.{Leads, Reaches}
 use Rattle.ap_codecheck.specs.Rules.{arity_in, ArgumentsSet, ReadsSet, IsSound}
 use Rattle.ap_codecheck.specs.Laws.{Agree, Ignores, UnsetLaw}
-use Rattle.ap_codecheck.proofs.Tried.{drop_at}
+use Rattle.ap_index.proofs.Keyed.{drop_at}
 use Rattle.ap_codecheck.proofs.Stands.{stands, reaches-next}
 
 chosen : (b : Bool) (p q : Bool) (t u m n : Tree) → t ≡ u → (q ≡ true → m ≡ n) → (if b then p else q) ≡ true → (if b then t else m) ≡ (if b then u else n)

@@ -8,6 +8,7 @@ use Rattle.ap_instr.specs.declared.instruction.Instr.TheVariants.{Fail, Try, Ret
 use Rattle.ap_instr.specs.declared.compiled.Predicate.{Predicate}
 use Rattle.ap_instr.specs.Code.{Compiled}
 use Rattle.ap_instr.specs.StandsFor.{tried, alternatives, clause_places}
+use Rattle.ap_index.proofs.Keyed.{drop_at}
 use Rattle.ap_codecheck.specs.declared.rule.Rule.{Rule}
 use Rattle.ap_codecheck.specs.declared.rule.Rule.TheVariants.{Operand, Target, Unset, Environment, Argument, End, Called}
 use Rattle.ap_codecheck.specs.declared.rule.CodeErr.{CodeErr}
@@ -16,13 +17,6 @@ use Rattle.ap_codecheck.specs.Shape.{Shape, entry}
 use Rattle.ap_codecheck.specs.Paths.{IsPlaceOf, Begins, Reaches, Awaits}
 use Rattle.ap_codecheck.specs.Rules.{At, IsAlternative, IsSound}
 use Rattle.ap_codecheck.specs.Judged.{IsFine, IsFineFrom, FailsFrom, AreFine, AreAwaited, ArePathsFine, others, KeepsBelow, BreaksIn, KeepsAll, KeepsAllAt, Breaks}
-
-pub drop_at : {A : Type 0} (xs : List A) (n : ℕ) (x : A) → slice_get xs n ≡ Some x → drop n xs ≡ x ∷ drop (n + 1) xs
-drop_at [] n x e = cc
-drop_at (y ∷ ys) zero x e = cc
-drop_at {A} (y ∷ ys) (suc n) x e =
-    let more : suc n + 1 ≡ suc (n + 1) = omega arith in
-    rw more (drop_at ys n x e)
 
 lt-or-eq : (k n : ℕ) → k < n + 1 → (k < n) ⊎ (k ≡ n)
 lt-or-eq k n h =

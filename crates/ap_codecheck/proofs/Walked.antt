@@ -15,7 +15,8 @@ use Rattle.ap_codecheck.specs.Judged.{KeepsWith, KeepsBelow, IsFineFrom, IsJudge
 use Rattle.ap_codecheck.specs.Walk.{is_last, is_inner, Walks, IsLaid}
 use Rattle.ap_codecheck.specs.Laws.{LaidLaw}
 use Rattle.ap_codecheck.proofs.Ways.{fine-end, fine-next}
-use Rattle.ap_codecheck.proofs.Tried.{drop_at, keeps-all, sound-all}
+use Rattle.ap_index.proofs.Keyed.{drop_at}
+use Rattle.ap_codecheck.proofs.Tried.{keeps-all, sound-all}
 
 first_held : {A : Type 0} (xs : List A) (n : ℕ) (x : A) (ys : List A) → drop n xs ≡ x ∷ ys → slice_get xs n ≡ Some x
 first_held [] zero x ys e = cc

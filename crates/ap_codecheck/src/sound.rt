@@ -1,6 +1,7 @@
 //! Code that keeps every rule.
 
 ghost use Rattle.std.specs.Prelude.{◌≡◌, ℕ, ◌<◌, Some, IsSome, IfOk, OnOk, IfErr, IfSome, length, slice_get};
+ghost use Rattle.ap_index.specs.Index.{LeavesOthers};
 ghost use Rattle.ap_codecheck.specs.Rules.{IsSound};
 ghost use Rattle.ap_codecheck.specs.Judged.{KeepsAll, KeepsAllAt, BreaksIn, Breaks};
 
@@ -8,25 +9,28 @@ use crate::operands::check_operands;
 use crate::paths::check_paths;
 use crate::rule::{CodeErr, Rule};
 use crate::shape::Shape;
+use ap_index::{Index, Key, index_of};
 use ap_instr::{Code, Predicate};
 use std::alloc::Global;
 use std::marker::Model;
 
-/// Code that keeps every rule at every place.
+/// Code that keeps every rule at every place, with an index of it.
 #[derive(Drop)]
 pub struct Sound {
     code: Code,
+    index: Index,
 }
 
 impl Model for Sound {
     ghost use Rattle.ap_instr.specs.Code.{Compiled};
     ghost use Rattle.ap_codecheck.specs.Rules.{IsSound};
+    ghost use Rattle.ap_index.specs.Index.{IsIndexOf};
 
     ghost Value = { Compiled };
 
     ghost view = { λ a. a.code };
 
-    ghost invariant = { λ a. IsSound a.code };
+    ghost invariant = { λ a. IsSound a.code × IsIndexOf a.code a.index };
 }
 
 fn check_query(code: &Code) -> Result<(), CodeErr>
@@ -80,7 +84,8 @@ pub fn check(alloc: Global, code: Code) -> Result<Sound, CodeErr>
 {
     check_query(&code)?;
     check_predicates(alloc, &code)?;
-    Ok(Sound { code })
+    let index = index_of(alloc, &code)?;
+    Ok(Sound { code, index })
 }
 
 impl Sound {
@@ -90,6 +95,13 @@ impl Sound {
         ensures sound { IsSound self.now }
     {
         &self.code
+    }
+
+    /// From a place among choices the next place for a first argument: the clauses that are left out ask for another one.
+    pub fn next(&self, key: Key, from: usize) -> usize
+        ensures { LeavesOthers self.now key from result }
+    {
+        self.index.next(key, from)
     }
 
     /// The number of the query's predicate.

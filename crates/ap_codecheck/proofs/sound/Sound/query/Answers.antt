@@ -7,4 +7,4 @@ use Rattle.ap_codecheck.proofs.sound.Sound.query.Goals as goal
 pub returns-clause-known : goal.returns-clause-known
 returns-clause-known c =
     let P : Compiled → Type 0 = λ code. IsSound code in
-    query-known c.args.self.now c.in-Some.number (subst P c.self.view_is c.self.invariant) (ap (λ code. code.query) (sym c.self.view_is) ∙ sym c.in-Some.ensures)
+    query-known c.args.self.now c.in-Some.number (subst P c.self.view_is c.self.invariant.0) (ap (λ code. code.query) (sym c.self.view_is) ∙ sym c.in-Some.ensures)

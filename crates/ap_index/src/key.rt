@@ -1,0 +1,92 @@
+//! What a clause asks of its first argument.
+
+ghost use Rattle.std.specs.Prelude.{◌≡◌, slice_get, None, IfSome};
+ghost use Rattle.ap_index.specs.Keys.{leaves_first, asked_key, integer_key, key_at, IsKeyed};
+
+use ap_instr::{Code, Instr};
+
+/// A first argument that isn't a variable: an atom, an integer, or a structure's name with the number of its arguments.
+#[derive(Clone, Copy, PartialEq, Eq, Hash)]
+pub enum Key {
+    Atom(u32),
+    Integer(i64),
+    Structure(u32, u8),
+}
+
+/// The instruction at a place.
+fn instruction_at(code: &Code, at: usize) -> Option<Instr>
+    ensures { result ≡ slice_get code.now.instructions at }
+{
+    code.instructions().get(at).copied()
+}
+
+/// An integer of the code's table.
+fn integer_at(code: &Code, index: u32) -> Option<i64>
+    ensures { result ≡ slice_get code.now.integers index }
+{
+    code.integers().get(index as usize).copied()
+}
+
+/// An integer of the code's table, as a key.
+fn integer_key(code: &Code, index: u32) -> Option<Key>
+    ensures { result ≡ integer_key (slice_get code.now.integers index) }
+{
+    match integer_at(code, index) {
+        Some(value) => Some(Key::Integer(value)),
+        None => None,
+    }
+}
+
+/// Whether an instruction asks nothing of the first argument, and leaves it where it is.
+fn leaves_first(instr: &Instr) -> bool
+    ensures { result ≡ leaves_first instr.now }
+{
+    match *instr {
+        Instr::GetConstant(_, a) => a != 1,
+        Instr::GetInteger(_, a) => a != 1,
+        Instr::Allocate(_) => true,
+        _ => false,
+    }
+}
+
+/// What an instruction asks of the first argument.
+fn asked_key(code: &Code, instr: &Instr) -> Option<Key>
+    ensures { result ≡ asked_key code.now instr.now }
+{
+    match *instr {
+        Instr::GetConstant(name, a) if a == 1 => Some(Key::Atom(name.number())),
+        Instr::GetInteger(index, a) if a == 1 => integer_key(code, index),
+        Instr::GetStructure(name, count, a) if a == 1 => {
+            Some(Key::Structure(name.number(), count))
+        }
+        _ => None,
+    }
+}
+
+/// What the clause at a place asks of the first argument.
+fn key_at(code: &Code, at: usize) -> Option<Key>
+    ensures { result ≡ key_at code.now at }
+{
+    for place in at..code.instructions().len() {
+        let Some(instr) = instruction_at(code, place) else {
+            return None;
+        };
+        if !leaves_first(&instr) {
+            return asked_key(code, &instr);
+        }
+    }
+    None
+}
+
+/// What the clause asks for that a choice at a place names, other than the last one.
+pub(crate) fn choice_key(code: &Code, at: usize) -> Option<Key>
+    ensures { IfSome result (λ key. IsKeyed code.now at key) }
+{
+    match instruction_at(code, at) {
+        None => None,
+        Some(instr) => match instr {
+            Instr::Retry(clause) => key_at(code, clause as usize),
+            _ => None,
+        },
+    }
+}
