@@ -1,8 +1,10 @@
-//! Evaluation by a list of the operations that wait for an operand.
+//! Evaluation: by calls as far as operations are not nested deeply, and by a list of the operations that wait for an
+//! operand below that.
 
-ghost use Rattle.std.specs.Prelude.{◌≡◌, ℕ, ◌+◌, ◌*◌, ◌<◌, ◌≤◌, List, [], Option, Some, length, IfOk, OnOk};
+ghost use Rattle.std.specs.Prelude.{◌≡◌, ℕ, ◌+◌, ◌*◌, ◌<◌, ◌≤◌, ◌==◌, if◌then◌else◌, List, [], Option, Some, None, length, IfOk, OnOk};
 ghost use Rattle.ap_term.specs.Tree.{Tree, node};
-ghost use Rattle.ap_term.specs.Arithmetic.{eval, compare_values};
+ghost use Rattle.ap_term.specs.Arithmetic.{eval, compare_values, negated, operation_named, value_of};
+ghost use Rattle.ap_term.specs.declared.fixed.TheConstants.{MINUS};
 ghost use Rattle.ap_cells.specs.Trees.{tree_at, trees, span};
 ghost use Rattle.ap_cells.specs.Walks.{Each, weight_all};
 ghost use Rattle.ap_arith.specs.Valued.{IsFrame, IsTurn, framed, valued, turned, weight_turn, weight_frame, weight_frames};
@@ -30,6 +32,9 @@ pub enum Turn {
     Stop,
 }
 
+/// How deeply operations may be nested that are evaluated by calls, without the list.
+const LEVELS: u32 = 8;
+
 /// The list of an evaluation, whose memory is kept for the next one.
 #[derive(Drop)]
 pub struct Pending {
@@ -50,8 +55,14 @@ pub fn eval(cells: &Cells, place: usize, pending: &mut Pending) -> Result<Option
     requires { place < length cells.now.cells }
     ensures { IfOk result (λ value. value ≡ eval (tree_at (trees cells.now.cells) place)) }
 {
-    pending.frames.clear();
-    run(cells, place, &mut pending.frames)
+    match operand(cells, place, LEVELS) {
+        Turn::Close(value) => Ok(Some(value)),
+        Turn::Stop => Ok(None),
+        Turn::Open(deep) => {
+            pending.frames.clear();
+            run(cells, deep, &mut pending.frames)
+        }
+    }
 }
 
 /// Whether two places' expressions have values that compare so.
@@ -72,6 +83,82 @@ pub fn test(
         return Ok(false);
     };
     Ok(compares(op, x, y))
+}
+
+/// The value of a place's expression, or the place itself where more operations are nested there than `levels`.
+#[inline(always)]
+#[cycle(nested)]
+fn operand(cells: &Cells, place: usize, levels: u32) -> Turn
+    requires { place < length cells.now.cells }
+    ensures value { turned (trees cells.now.cells) result ≡ eval (tree_at (trees cells.now.cells) place) }
+    ensures inside { IsTurn (length cells.now.cells) result }
+{
+    match cells.top(place) {
+        Top::Int(z) => Turn::Close(z),
+        Top::Free(_) => Turn::Stop,
+        Top::Atom(_) => Turn::Stop,
+        Top::Node(name, first, count) => {
+            if levels == 0 {
+                return Turn::Open(place);
+            }
+            operation(cells, place, name, first, count, levels - 1)
+        }
+    }
+}
+
+/// The value of a place's operation on the operands from `first` on, or the place itself.
+#[cycle(nested)]
+fn operation(cells: &Cells, place: usize, name: Atom, first: usize, count: u32, levels: u32) -> Turn
+    requires place { place < length cells.now.cells }
+    requires operands { first + count ≤ length cells.now.cells }
+    requires tree { tree_at (trees cells.now.cells) place ≡ node name (span (trees cells.now.cells) first count) }
+    ensures value { turned (trees cells.now.cells) result ≡ eval (tree_at (trees cells.now.cells) place) }
+    ensures inside { IsTurn (length cells.now.cells) result }
+{
+    let places = cells.len();
+    prove!(place < places);
+    match count {
+        1 => negative(place, name, operand(cells, first, levels)),
+        2 => {
+            let left = operand(cells, first, levels);
+            let right = operand(cells, first + 1, levels);
+            combined(place, name, left, right)
+        }
+        _ => Turn::Stop,
+    }
+}
+
+/// The value of a place's operation on one operand, or the place where the operand's value isn't known.
+#[inline(always)]
+fn negative(place: usize, name: Atom, operand: Turn) -> Turn
+    ensures value { (ts : List Tree) → eval (tree_at ts place) ≡ (if name == MINUS then negated (turned ts operand) else None) → turned ts result ≡ eval (tree_at ts place) }
+    ensures inside { (n : ℕ) → place < n → IsTurn n result }
+{
+    if name.number() != fixed::MINUS {
+        return Turn::Stop;
+    }
+    let Turn::Close(value) = operand else {
+        return Turn::Open(place);
+    };
+    closed(value.checked_neg())
+}
+
+/// The value of a place's operation on two operands, or the place where an operand's value isn't known.
+#[inline(always)]
+fn combined(place: usize, name: Atom, left: Turn, right: Turn) -> Turn
+    ensures value { (ts : List Tree) → eval (tree_at ts place) ≡ value_of (operation_named name) (turned ts left) (turned ts right) → turned ts result ≡ eval (tree_at ts place) }
+    ensures inside { (n : ℕ) → place < n → IsTurn n result }
+{
+    let Turn::Close(x) = left else {
+        return Turn::Open(place);
+    };
+    let Turn::Close(y) = right else {
+        return Turn::Open(place);
+    };
+    let Some(operation) = Operation::named(name) else {
+        return Turn::Stop;
+    };
+    closed(applied(operation, x, y))
 }
 
 fn run(cells: &Cells, place: usize, frames: &mut Vec<Frame>) -> Result<Option<i64>, NoMemory>
@@ -154,6 +241,7 @@ fn close(frame: Frame, value: i64, frames: &mut Vec<Frame>) -> Result<Turn, NoMe
     }
 }
 
+#[inline(always)]
 fn closed(value: Option<i64>) -> Turn
     ensures value { (ts : List Tree) → turned ts result ≡ value }
     ensures less { (ts : List Tree) → weight_turn ts result ≤ 1 }

@@ -1,10 +1,12 @@
 -- Lists of places that are still to be walked over.
-use Rattle.std.proofs.Common.{◌≡◌, ℕ, zero, suc, ◌+◌, ◌-◌, ◌*◌, ◌<◌, ◌≤◌, List, [], ◌∷◌, ◌++◌, sym, ap, ◌∙◌, arith, append_assoc, append-nil}
+use Rattle.std.proofs.Common.{◌≡◌, ℕ, zero, suc, ◌+◌, ◌-◌, ◌*◌, ◌<◌, ◌≤◌, Bool, true, false, ◌||◌, nat_eq, List, [], ◌∷◌, ◌++◌, refl, sym, ap, ◌∙◌, arith, append_assoc, append-nil}
 use Rattle.std.specs.Prelude.{Option}
 use Rattle.ap_term.specs.Tree.{Tree, var, int, atom, node, more}
+use Rattle.ap_term.specs.Vars.{occurs, occurs_all}
+use Rattle.ap_term.proofs.Solutions.{same_var}
 use Rattle.ap_cells.specs.Trees.{tree_at, span}
 use Rattle.ap_cells.specs.declared.walk.Range.{Range}
-use Rattle.ap_cells.specs.Walks.{Each, leaves, leaves_all, left, before, weight, weight_all, weight_in}
+use Rattle.ap_cells.specs.Walks.{Each, leaves, leaves_all, left, before, weight, weight_all, weight_in, weight_some, stands}
 
 pub Each-push : {X : Type 0} (P : X → Type 0) (xs : List X) (x : X) → Each P xs → P x → Each P (xs ++ x ∷ [])
 Each-push P [] x e p = (p, tt)
@@ -53,3 +55,44 @@ weight-turn ts old popped rest new r h e f g =
 -- an empty range taken off
 pub left-empty : (ts : List Tree) (old popped : List Range) (r : Range) → r.count ≡ 0 → old ≡ popped ++ r ∷ [] → left ts popped ≡ left ts old
 left-empty ts old popped r z e = sym (ap (left ts) e ∙ left-push ts popped r ∙ ap (λ n. leaves_all (span ts r.first n) ++ left ts popped) z)
+
+or_swap : (a b c : Bool) → (a || (b || c)) ≡ (b || (a || c))
+or_swap true true c = refl
+or_swap true false c = refl
+or_swap false b c = refl
+
+or_moved : (a b c : Bool) → ((a || b) || c) ≡ (b || (a || c))
+or_moved true true c = refl
+or_moved true false c = refl
+or_moved false b c = refl
+
+pub stands-push : (x : ℕ) (ts : List Tree) (rs : List Range) (r : Range) → stands x ts (rs ++ r ∷ []) ≡ (occurs_all x (span ts r.first r.count) || stands x ts rs)
+stands-push x ts [] r = refl
+stands-push x ts (q ∷ rs) r =
+    ap (λ b. occurs_all x (span ts q.first q.count) || b) (stands-push x ts rs r) ∙ or_swap (occurs_all x (span ts q.first q.count)) (occurs_all x (span ts r.first r.count)) (stands x ts rs)
+
+-- the first place's term is another variable, an integer or an atom, which is passed over
+pub stands-passed : (x : ℕ) (ts : List Tree) (p n : ℕ) (t : Tree) (rest : Bool) → 0 < n → tree_at ts p ≡ t → occurs x t ≡ false
+    → (occurs_all x (span ts p n) || rest) ≡ (occurs_all x (span ts (p + 1) (n - 1)) || rest)
+stands-passed x ts p n t rest h e f =
+    ap (λ us. occurs_all x us || rest) (span-first ts p n h) ∙ ap (λ u. (occurs x u || occurs_all x (span ts (p + 1) (n - 1))) || rest) e
+    ∙ ap (λ b. (b || occurs_all x (span ts (p + 1) (n - 1))) || rest) f
+
+-- the first place's term is a compound term, which is held from then on, and what was held is on the list
+pub stands-held : (x : ℕ) (ts : List Tree) (p n a q m : ℕ) (held old new : Bool) → 0 < n → tree_at ts p ≡ node a (span ts q m) → new ≡ (held || old)
+    → (occurs_all x (span ts p n) || (held || old)) ≡ (occurs_all x (span ts (p + 1) (n - 1)) || (occurs_all x (span ts q m) || new))
+stands-held x ts p n a q m held old new h e f =
+    ap (λ us. occurs_all x us || (held || old)) (span-first ts p n h) ∙ ap (λ u. (occurs x u || occurs_all x (span ts (p + 1) (n - 1))) || (held || old)) e
+    ∙ or_moved (occurs_all x (span ts q m)) (occurs_all x (span ts (p + 1) (n - 1))) (held || old)
+    ∙ ap (λ b. occurs_all x (span ts (p + 1) (n - 1)) || (occurs_all x (span ts q m) || b)) (sym f)
+
+pub other_var : (x y : ℕ) → (y ≡ x → ⊥) → occurs x (var y) ≡ false
+other_var x y h = go (nat_eq x y) refl
+  where
+    go : (b : Bool) → nat_eq x y ≡ b → nat_eq x y ≡ false
+    go true e = absurd (h (sym (same_var x y e)))
+    go false e = e
+
+pub weight_some-is : (n w : ℕ) → 0 < n → weight_some n w ≡ 2 * w + 1
+weight_some-is zero w h = absurd (omega arith)
+weight_some-is (suc n) w h = refl

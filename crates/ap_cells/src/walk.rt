@@ -1,9 +1,10 @@
 //! A walk over the variables of a term, from left to right, by a list of places that is kept for the next walk.
 
-ghost use Rattle.std.specs.Prelude.{◌≡◌, ℕ, ◌+◌, ◌-◌, ◌*◌, ◌^◌, ◌<◌, ◌≤◌, List, [], ◌∷◌, ◌++◌, length, IfOk, OnOk};
+ghost use Rattle.std.specs.Prelude.{◌≡◌, ℕ, ◌+◌, ◌-◌, ◌*◌, ◌^◌, ◌<◌, ◌≤◌, ◌||◌, List, [], ◌∷◌, ◌++◌, length, IfOk, OnOk};
 ghost use Rattle.ap_term.specs.Tree.{Tree};
+ghost use Rattle.ap_term.specs.Vars.{occurs, occurs_all};
 ghost use Rattle.ap_cells.specs.Trees.{tree_at, trees, span};
-ghost use Rattle.ap_cells.specs.Walks.{AreRanges, IsRange, IsNext, leaves, leaves_all, left, before, weight, weight_all, weight_in};
+ghost use Rattle.ap_cells.specs.Walks.{AreRanges, IsRange, IsNext, leaves, leaves_all, left, before, weight, weight_all, weight_in, weight_held, stands};
 
 use crate::cells::Cells;
 use crate::top::Top;
@@ -17,6 +18,9 @@ pub struct Range {
     pub first: usize,
     pub count: u32,
 }
+
+/// No places.
+const NOTHING: Range = Range { first: 0, count: 0 };
 
 /// What is left of a walk: the last range comes first.
 #[derive(Drop)]
@@ -67,6 +71,86 @@ impl Walk {
     {
         next_of(cells, &mut self.ranges)
     }
+
+    /// Whether the variable x stands in the term of a place. What was left of a walk is given up.
+    pub fn finds(&mut self, cells: &Cells, x: usize, place: usize) -> Result<bool, NoMemory>
+        requires { place < length cells.now.cells }
+        ensures { IfOk result (λ b. b ≡ occurs x (tree_at (trees cells.now.cells) place)) }
+    {
+        self.ranges.clear();
+        found(cells, x, place, &mut self.ranges)
+    }
+}
+
+/// Looks for a variable, not from left to right: of the compound terms among places that lie together the last one isn't
+/// put on the list, but held until those places are done. So a chain, whichever argument it goes by, puts nothing there.
+fn found(cells: &Cells, x: usize, place: usize, ranges: &mut Vec<Range>) -> Result<bool, NoMemory>
+    requires inside { place < length cells.now.cells }
+    requires empty { ranges.old.items ≡ [] }
+    ensures { IfOk result (λ b. b ≡ occurs x (tree_at (trees cells.now.cells) place)) }
+{
+    let places = cells.len();
+    prove!(places <= 4_294_967_295);
+    let mut run = Range {
+        first: place,
+        count: 1,
+    };
+    let mut held = NOTHING;
+    loop {
+        if run.count == 0 {
+            if held.count == 0 {
+                match ranges.pop() {
+                    Some(next) => run = next,
+                    None => return Ok(false),
+                }
+            } else {
+                run = held;
+                held = NOTHING;
+            }
+        } else {
+            match cells.top(run.first) {
+                Top::Free(variable) => {
+                    if variable == x {
+                        return Ok(true);
+                    }
+                    run = behind(run);
+                }
+                Top::Node(_, first, count) => {
+                    put(held, ranges)?;
+                    held = Range { first, count };
+                    run = behind(run);
+                }
+                Top::Int(_) => run = behind(run),
+                Top::Atom(_) => run = behind(run),
+            }
+        }
+    }
+}
+
+/// The places after the first.
+#[inline(always)]
+fn behind(range: Range) -> Range
+    requires some { 0 < range.count }
+    requires fits { range.first < 2 ^ 63 }
+    ensures { result ≡ record { first = range.first + 1; count = range.count - 1 } }
+{
+    Range {
+        first: range.first + 1,
+        count: range.count - 1,
+    }
+}
+
+/// Puts places on the list, if there are any.
+#[inline(always)]
+fn put(range: Range, ranges: &mut Vec<Range>) -> Result<(), NoMemory>
+    ensures stands { OnOk result ((x : ℕ) (ts : List Tree) → stands x ts ranges.new.items ≡ (occurs_all x (span ts range.first range.count) || stands x ts ranges.old.items)) }
+    ensures less { OnOk result ((ts : List Tree) → weight_in ts ranges.new.items ≤ weight_in ts ranges.old.items + weight_held ts range) }
+    ensures ranges { OnOk result ((n : ℕ) → IsRange n range → AreRanges n ranges.old.items → AreRanges n ranges.new.items) }
+{
+    if range.count > 0 {
+        ranges.push(range)?;
+    }
+    Ok(())
 }
 
 fn next_of(cells: &Cells, ranges: &mut Vec<Range>) -> Result<Option<usize>, NoMemory>

@@ -13,13 +13,7 @@ pub fn occurs(cells: &Cells, x: usize, place: usize, walk: &mut Walk) -> Result<
     requires { place < length cells.now.cells }
     ensures { IfOk result (λ b. b ≡ occurs x (tree_at (trees cells.now.cells) place)) }
 {
-    walk.start(cells, place)?;
-    while let Some(variable) = walk.next(cells)? {
-        if variable == x {
-            return Ok(true);
-        }
-    }
-    Ok(false)
+    walk.finds(cells, x, place)
 }
 
 /// The same, without a walk where the term is a number or an atom.
