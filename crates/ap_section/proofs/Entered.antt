@@ -1,6 +1,7 @@
 -- A call, and the clause that is taken next.
-use Rattle.std.proofs.Common.{◌≡◌, ℕ, ◌+◌, ◌<◌, ◌≤◌, List, [], ◌∷◌, ◌++◌, length, take, map, Option, Some, None, slice_get, refl, ap, sym, ◌∙◌, subst, arith}
+use Rattle.std.proofs.Common.{◌≡◌, ℕ, ◌+◌, ◌*◌, ◌<◌, ◌≤◌, List, [], ◌∷◌, ◌++◌, length, take, map, Option, Some, None, slice_get, refl, ap, ap₂, sym, ◌∙◌, subst, arith}
 use Rattle.std.proofs.lemmas.List.{get_or-take}
+use Rattle.std.proofs.Math.Nat.{mul-le-mul_left}
 use Rattle.std.specs.List.{AllByRecursion}
 use Rattle.ap_term.specs.Tree.{Trees}
 use Rattle.ap_term.specs.Goals.{Program}
@@ -27,7 +28,8 @@ use Rattle.ap_section.proofs.Solving.{IsTurn-from}
 use Rattle.ap_resolution.specs.Instances.{Inst}
 use Rattle.ap_control.specs.declared.alternatives.Alternative.{Alternative}
 use Rattle.ap_control.specs.Heads.{IsShut, PassesOver}
-use Rattle.ap_section.specs.Choices.{Stays, AtNewest, Returned, LeavesOut, places_of, points_left, alternatives}
+use Rattle.ap_section.specs.Choices.{Stays, AtNewest, Returned, LeavesOut, places_of, points_left}
+use Rattle.ap_section.specs.Lasting.{moves_to_end, moves_of_points, moves_left}
 use Rattle.ap_section.proofs.Alternatives.{Returned-trans}
 
 -- what is left depends on the call's own arguments alone
@@ -214,14 +216,23 @@ module _ (code : Compiled) (s t u n r : Paused) (q : Point) (qs : List Point) (i
       subst (λ (w : Paused). KeepsStanding code s.machine w.machine) (sym is-whole)
       (retaken code s u back due q qs is t first second (places_of code found) left-out (points_left found q qs) (keep u.machine.roots found) place ep)
 
-  fewer : (found : Option Alternative) → length (places_of code found) ≤ length (places_from code q.behind) → alternatives code (points_left found q qs) < alternatives code (q ∷ qs)
-  fewer None l = omega arith
-  fewer (Some a) l = omega arith
+  fewer : (found : Option Alternative) → length (places_of code found) ≤ length (places_from code q.behind)
+      → 2 * length q.returns + 2 + moves_of_points code (points_left found q qs) < moves_of_points code (q ∷ qs)
+  fewer None l = omega (arith, mul-le-mul_left (2 * length q.returns + 3) l)
+  fewer (Some a) l = omega (arith, mul-le-mul_left (2 * length q.returns + 3) l)
 
-  pub retried-fewer : alternatives code r.machine.points < alternatives code s.machine.points
+  moves : moves_left code s.machine ≡ moves_of_points code (q ∷ qs)
+  moves = let e : moves_left code s.machine ≡ 0 + moves_of_points code (q ∷ qs) = ap₂ (λ now ps. moves_to_end now (length s.machine.returns) + moves_of_points code ps) due is in omega arith
+
+  pub retried-fewer : moves_left code r.machine < moves_left code s.machine
+  unfolding back at
   retried-fewer =
-      subst (λ (w : Paused). alternatives code w.machine.points < alternatives code s.machine.points) (sym is-whole)
-      (subst (λ ps. alternatives code (points_left found q qs) < alternatives code ps) (sym is) (fewer found left-out.fewer))
+      let n : ℕ = moves_of_points code (points_left found q qs) in
+      let f : 2 * length q.returns + 2 + n < moves_left code s.machine = subst (λ m. 2 * length q.returns + 2 + n < m) (sym moves) (fewer found left-out.fewer) in
+      let g : 2 * length u.machine.returns + 2 + n < moves_left code s.machine =
+      subst (λ ws. 2 * length ws + 2 + n < moves_left code s.machine) (sym (back.at.returns ∙ ap (λ (p : Point). p.returns) (same code s u back due q qs is))) f
+      in
+      subst (λ (w : Paused). moves_left code w.machine < moves_left code s.machine) (sym is-whole) g
 
   pub retried-stays : Stays s r
   retried-stays =

@@ -18,6 +18,7 @@ use Rattle.ap_control.proofs.Marks.{mark-whole}
 use Rattle.ap_section.specs.declared.section.Now.{Now as Kind}
 use Rattle.ap_section.specs.View.{Paused, point_of, now_of, machine_of}
 use Rattle.ap_section.specs.Sane.{AreShort, AreMoments, Sane}
+use Rattle.ap_section.specs.Lasting.{SameRest}
 use Rattle.ap_section.proofs.Kept.{HoldPlaces-more, AreWithin-more, inside-more, AreMoments-now, points-keep, HasBottom-keeps}
 
 -- registers that were written back
@@ -74,6 +75,13 @@ machine-same v w k x y x' y' roots next s keeps ec ex ey =
     ∙ ap (λ qs. machine v.cells x' y' k.returns roots qs (now_of next)) (points-keep v w (length x) (length y) roots (length v.cells) (length v.trail) k.moments keeps s.moments)
     ∙ ap (λ us. machine v.cells us y' k.returns roots (map (point_of v) k.moments) (now_of next)) ex
     ∙ ap (λ us. machine v.cells x us k.returns roots (map (point_of v) k.moments) (now_of next)) ey
+
+-- returns and choice points are what they were
+pub rest-same : (v w : Store) (k : Kept) (x y x' y' roots : List ℕ) (next next' : Kind) (m : Machine) → machine_of v k x y roots next ≡ m → Sane v k x y roots → Keeps v w → SameRest m (machine_of w k x' y' roots next')
+rest-same v w k x y x' y' roots next next' m e s keeps = record {
+  returns = ap (λ (q : Machine). q.returns) e;
+  points = points-keep v w (length x) (length y) roots (length v.cells) (length v.trail) k.moments keeps s.moments ∙ ap (λ (q : Machine). q.points) e;
+}
 
 -- a run, with what it began with and what it left in other words
 pub moved-ran : (code : Compiled) (at : ℕ) (cs cs' ds : List Raw) (x x₁ y y₁ x' r y' t : List ℕ) (o : Option ℕ) → cs' ≡ cs → x₁ ≡ x → y₁ ≡ y → x' ≡ r → y' ≡ t

@@ -1,10 +1,10 @@
 -- What a section's moves keep.
-use Rattle.std.specs.Prelude.{◌≡◌, ℕ, ◌+◌, ◌≤◌, List, [], ◌∷◌, length, Option, None, Some}
+use Rattle.std.specs.Prelude.{◌≡◌, ℕ, ◌≤◌, List, [], ◌∷◌, length, Option, None, Some}
 use Rattle.ap_term.specs.Search.{State}
 use Rattle.ap_instr.specs.Code.{Compiled}
 use Rattle.ap_control.specs.declared.alternatives.Alternative.{Alternative}
 use Rattle.ap_steps.specs.Moves.{held}
-use Rattle.ap_standing.specs.Machine.{Point, Machine, places_from, places}
+use Rattle.ap_standing.specs.Machine.{Point, Machine, places_from}
 use Rattle.ap_standing.specs.Holds.{HoldsRest}
 use Rattle.ap_section.specs.View.{Paused}
 
@@ -42,11 +42,6 @@ places_of code (Some a) = a.place ∷ places_from code a.behind
 pub record LeavesOut (code : Compiled) (m : Machine) (ls rest : List ℕ) : Type 0 where
   pub fewer : length rest ≤ length ls
   pub keeps : (q : Point) (qs : List Point) → m.points ≡ q ∷ qs → (ss : List State) → HoldsRest code m.roots q ls qs ss → HoldsRest code m.roots q rest qs ss
-
--- how many clauses the choice points keep
-abbrev pub alternatives : Compiled → List Point → ℕ
-alternatives code [] = 0
-alternatives code (q ∷ qs) = length (places code q) + alternatives code qs
 
 -- the choice points where of the newest one an alternative, and those behind it, are left
 abbrev pub points_left : Option Alternative → Point → List Point → List Point

@@ -13,7 +13,8 @@ ghost use Rattle.ap_standing.specs.Machine.{Point, calling, inside, failed, plac
 ghost use Rattle.ap_standing.specs.Laws.{IsTurn, KeepsStanding};
 ghost use Rattle.ap_control.specs.Heads.{PassesOver};
 ghost use Rattle.ap_section.specs.View.{IsFor};
-ghost use Rattle.ap_section.specs.Choices.{Stays, AtNewest, Returned, LeavesOut, places_of, points_left, alternatives};
+ghost use Rattle.ap_section.specs.Choices.{Stays, AtNewest, Returned, LeavesOut, places_of, points_left};
+ghost use Rattle.ap_section.specs.Lasting.{moves_left};
 ghost use Rattle.ap_section.specs.Back.{CanGoBack, WentBack};
 
 use crate::section::{Now, Section};
@@ -232,7 +233,7 @@ impl Section {
         requires is_for { IsFor code.now self.old }
         ensures holds { KeepsStanding code.now self.old.machine self.new.machine }
         ensures ended { result ≡ Ok false → (self.new ≡ self.old) × (self.old.machine.points ≡ []) }
-        ensures fewer { result ≡ Ok true → alternatives code.now self.new.machine.points < alternatives code.now self.old.machine.points }
+        ensures fewer { result ≡ Ok true → moves_left code.now self.new.machine < moves_left code.now self.old.machine }
         ensures still { OnErr result (self.new.machine.now ≡ failed) }
         ensures stays { Stays self.old self.new }
     {

@@ -1,18 +1,19 @@
 //! Instructions of control, and control that comes back.
 
-ghost use Rattle.std.specs.Prelude.{◌≡◌, ℕ, ◌+◌, ◌<◌, ◌≤◌, List, [], length, drop, slice_get, None, Some, true, false, IfOk, IfSome, OnOk, OnErr};
+ghost use Rattle.std.specs.Prelude.{◌≡◌, ℕ, ◌+◌, ◌<◌, ◌≤◌, List, [], length, drop, slice_get, None, Some, true, false, IfOk, IfSome, IfNone, MatchOption, OnOk, OnErr};
 ghost use Rattle.ap_term.specs.Search.{State};
 ghost use Rattle.ap_cells.specs.Store.{Keeps};
 ghost use Rattle.ap_instr.specs.declared.compiled.Predicate.{Predicate};
 ghost use Rattle.ap_instr.specs.Code.{Compiled};
 ghost use Rattle.ap_steps.specs.Moves.{held, HoldPlaces};
 ghost use Rattle.ap_steps.specs.Ways.{AllHaveTargets, room};
-ghost use Rattle.ap_control.specs.Runs.{RanOrStuck};
-ghost use Rattle.ap_standing.specs.Machine.{inside, returning};
+ghost use Rattle.ap_control.specs.Runs.{RanOrStuck, IsTransferAt};
+ghost use Rattle.ap_standing.specs.Machine.{inside, returning, failed};
 ghost use Rattle.ap_standing.specs.Holds.{Holds};
 ghost use Rattle.ap_standing.specs.Laws.{KeepsStanding};
 ghost use Rattle.ap_section.specs.View.{IsFor};
 ghost use Rattle.ap_section.specs.Choices.{Stays};
+ghost use Rattle.ap_section.specs.Lasting.{moves_left, SameRest};
 ghost use Rattle.ap_section.specs.Due.{IsDue};
 
 use crate::due::Due;
@@ -71,6 +72,7 @@ fn run_or_undo(
     requires holds_x { HoldPlaces (length cells.old.cells) x.old }
     requires holds_y { HoldPlaces (length cells.old.cells) y.old }
     ensures ran { IfOk result (λ to. RanOrStuck code.now at cells.old.cells x.old y.old to cells.new.cells x.new y.new) }
+    ensures transfer { IfOk result (λ to. IfSome to (λ place. IsTransferAt code.now place)) }
     ensures longer { length cells.old.cells ≤ length cells.new.cells }
     ensures err { OnErr result (cells.new.cells ≡ cells.old.cells) }
     ensures x_len { length x.new ≡ length x.old }
@@ -100,7 +102,8 @@ impl Section {
         requires is_for { IsFor code.now self.old }
         ensures holds { KeepsStanding code.now self.old.machine self.new.machine }
         ensures stays { Stays self.old self.new }
-        ensures at { IfOk result (λ found. IfSome found (λ to. self.new.machine.now ≡ inside to)) }
+        ensures rest { IfOk result (λ found. SameRest self.old.machine self.new.machine) }
+        ensures at { IfOk result (λ found. MatchOption found (self.new.machine.now ≡ failed) (λ to. (self.new.machine.now ≡ inside to) × IsTransferAt code.now to)) }
         ensures kept { OnErr result (self.new ≡ self.old) }
     {
         self.cells.reserve(self.room)?;
@@ -135,8 +138,10 @@ impl Section {
     /// Control is at an instruction of control, which leads on, or to what is due. Without memory nothing changes.
     pub(crate) fn transfer(&mut self, code: &Code, at: usize) -> Result<Option<Due>, NoMemory>
         requires here { self.old.machine.now ≡ inside at }
+        requires leads { IsTransferAt code.now at }
         ensures holds { KeepsStanding code.now self.old.machine self.new.machine }
         ensures stays { Stays self.old self.new }
+        ensures fewer { IfOk result (λ found. IfNone found (moves_left code.now self.new.machine < moves_left code.now self.old.machine)) }
         ensures due { IfOk result (λ found. IfSome found (λ due. IsDue code.now self.new.machine due)) }
         ensures kept { OnErr result (self.new ≡ self.old) }
     {
@@ -166,7 +171,7 @@ impl Section {
                 Instr::Try(_) => self.next = Now::Failed,
                 Instr::Retry(_) => self.next = Now::Failed,
                 Instr::Trust(_) => self.next = Now::Failed,
-                _ => {}
+                _ => unreachable!(),
             },
         }
         Ok(None)
@@ -178,6 +183,7 @@ impl Section {
         ensures holds { (code : Compiled) (ss : List State) → Holds code self.old.machine ss → Holds code self.new.machine ss }
         ensures stays { Stays self.old self.new }
         ensures ended { result ≡ false → self.new ≡ self.old }
+        ensures fewer { result ≡ true → (code : Compiled) → moves_left code self.new.machine < moves_left code self.old.machine }
         ensures no_return { result ≡ false → self.old.machine.returns ≡ [] }
     {
         match self.environments.pop(&mut self.y) {

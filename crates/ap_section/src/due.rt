@@ -1,10 +1,11 @@
 //! Moves that are no calls, up to what is due.
 
-ghost use Rattle.std.specs.Prelude.{◌≡◌, ◌≤◌, ◌<◌, Some, None, true, false, IfOk, IfSome};
+ghost use Rattle.std.specs.Prelude.{◌≡◌, ◌≤◌, ◌<◌, Some, None, true, false, IfOk, IfSome, IfNone};
 ghost use Rattle.ap_standing.specs.Machine.{calling, inside};
 ghost use Rattle.ap_standing.specs.Laws.{KeepsStanding};
 ghost use Rattle.ap_section.specs.View.{IsFor};
 ghost use Rattle.ap_section.specs.Choices.{Stays};
+ghost use Rattle.ap_section.specs.Lasting.{moves_left};
 ghost use Rattle.ap_section.specs.Due.{IsDue};
 
 use crate::control::is_known;
@@ -31,6 +32,7 @@ impl Section {
         requires here { self.old.machine.now ≡ calling number }
         ensures holds { KeepsStanding code.now self.old.machine self.new.machine }
         ensures stays { Stays self.old self.new }
+        ensures fewer { IfNone result (moves_left code.now self.new.machine < moves_left code.now self.old.machine) }
         ensures due { IfSome result (λ due. IsDue code.now self.new.machine due) }
     {
         if is_known(code, number) {
@@ -46,6 +48,7 @@ impl Section {
         requires is_for { IsFor code.now self.old }
         ensures holds { KeepsStanding code.now self.old.machine self.new.machine }
         ensures stays { Stays self.old self.new }
+        ensures fewer { IfOk result (λ found. IfNone found (moves_left code.now self.new.machine < moves_left code.now self.old.machine)) }
         ensures due { IfOk result (λ found. IfSome found (λ due. IsDue code.now self.new.machine due)) }
     {
         match self.run(code, at)? {
@@ -59,6 +62,7 @@ impl Section {
         requires { IsFor code.now self.old }
         ensures holds { KeepsStanding code.now self.old.machine self.new.machine }
         ensures stays { Stays self.old self.new }
+        ensures fewer { IfOk result (λ found. IfNone found (moves_left code.now self.new.machine < moves_left code.now self.old.machine)) }
         ensures due { IfOk result (λ found. IfSome found (λ due. IsDue code.now self.new.machine due)) }
     {
         match self.now() {
@@ -79,19 +83,17 @@ impl Section {
         }
     }
 
-    /// Goes on, without a call, to what is due. That it gets there is shown by no measure: a search that made 2^64 moves
-    /// without a call would be told to lack memory.
+    /// Goes on, without a call, to what is due.
     pub(crate) fn find_due(&mut self, code: &Code) -> Result<Due, NoMemory>
         requires { IsFor code.now self.old }
         ensures holds { KeepsStanding code.now self.old.machine self.new.machine }
         ensures stays { Stays self.old self.new }
         ensures due { IfOk result (λ due. IsDue code.now self.new.machine due) }
     {
-        for _move in 0..u64::MAX {
+        'moves: loop {
             if let Some(due) = self.go_on(code)? {
                 return Ok(due);
             }
         }
-        Err(NoMemory)
     }
 }

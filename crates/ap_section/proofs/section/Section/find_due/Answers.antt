@@ -1,26 +1,35 @@
+use Rattle.std.proofs.Common.{◌<◌, subst}
+use Rattle.std.specs.Prelude.{IfNone}
+use Rattle.ap_section.specs.Lasting.{moves_left}
 use Rattle.ap_section.proofs.Progress.{Stays-refl, Stays-trans, still-for}
 use Rattle.ap_section.proofs.section.Section.find_due.Goals as goal
 
-pub loop-move-init : goal.loop-move-init
-loop-move-init c = record { holds = λ ss h. h; stays = Stays-refl c.args.self.now }
+pub moves-init : goal.moves-init
+moves-init c = record { holds = λ ss h. h; stays = Stays-refl c.args.self.now }
 
 pub go_on-requires : goal.go_on-requires
-go_on-requires c = still-for c.args.code.now c.args.self.now c.loop-move.self c.requires c.loop-move.invariant.stays
+go_on-requires c = still-for c.args.code.now c.args.self.now c.moves.self c.requires c.moves.invariant.stays
 
 pub returns-in_err-due-clause-holds : goal.returns-in_err-due-clause-holds
-returns-in_err-due-clause-holds c = λ ss h. c.go_on.ensures.holds ss (c.loop-move.invariant.holds ss h)
+returns-in_err-due-clause-holds c = λ ss h. c.go_on.ensures.holds ss (c.moves.invariant.holds ss h)
 
 pub returns-in_err-due-clause-stays : goal.returns-in_err-due-clause-stays
-returns-in_err-due-clause-stays c = Stays-trans c.args.self.now c.loop-move.self c.go_on.new.self c.loop-move.invariant.stays c.go_on.ensures.stays
+returns-in_err-due-clause-stays c = Stays-trans c.args.self.now c.moves.self c.go_on.new.self c.moves.invariant.stays c.go_on.ensures.stays
 
 pub returns-in-Some-clause-holds : goal.returns-in-Some-clause-holds
-returns-in-Some-clause-holds c = λ ss h. c.go_on.ensures.holds ss (c.loop-move.invariant.holds ss h)
+returns-in-Some-clause-holds c = λ ss h. c.go_on.ensures.holds ss (c.moves.invariant.holds ss h)
 
 pub returns-in-Some-clause-stays : goal.returns-in-Some-clause-stays
-returns-in-Some-clause-stays c = Stays-trans c.args.self.now c.loop-move.self c.go_on.new.self c.loop-move.invariant.stays c.go_on.ensures.stays
+returns-in-Some-clause-stays c = Stays-trans c.args.self.now c.moves.self c.go_on.new.self c.moves.invariant.stays c.go_on.ensures.stays
 
-pub loop-move-preserved : goal.loop-move-preserved
-loop-move-preserved c = record {
-  holds = λ ss h. c.go_on.ensures.holds ss (c.loop-move.invariant.holds ss h);
-  stays = Stays-trans c.args.self.now c.loop-move.self c.go_on.new.self c.loop-move.invariant.stays c.go_on.ensures.stays;
+pub moves-preserved : goal.moves-preserved
+moves-preserved c = record {
+  holds = λ ss h. c.go_on.ensures.holds ss (c.moves.invariant.holds ss h);
+  stays = Stays-trans c.args.self.now c.moves.self c.go_on.new.self c.moves.invariant.stays c.go_on.ensures.stays;
 }
+
+pub moves-smaller : goal.moves-smaller
+moves-smaller c =
+    let P : Type 0 = moves_left c.args.code.now c.go_on.new.self.machine < moves_left c.args.code.now c.moves.self.machine in
+    let fewer : P = subst (λ found. IfNone found P) c.in_default.is c.in_ok-due.ensures.fewer in
+    fewer

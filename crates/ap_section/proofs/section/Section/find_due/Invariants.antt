@@ -1,9 +1,13 @@
 use Rattle.ap_standing.specs.Laws.{KeepsStanding}
 use Rattle.ap_section.specs.Choices.{Stays}
+use Rattle.ap_section.specs.Lasting.{moves_left}
 use Rattle.ap_section.proofs.section.Section.find_due.Given as goal
 
-abbrev pub invariant-loop-move : goal.invariant-loop-move
-invariant-loop-move l = record {
+abbrev pub decreases-moves : goal.decreases-moves
+decreases-moves l = moves_left l.code l.self.machine
+
+abbrev pub invariant-moves : goal.invariant-moves
+invariant-moves l = record {
   holds : KeepsStanding l.code l.fn.self.machine l.self.machine;
   stays : Stays l.fn.self l.self;
 }

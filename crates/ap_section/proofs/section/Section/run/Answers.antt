@@ -4,8 +4,9 @@ use Rattle.ap_standing.specs.Machine.{inside}
 use Rattle.ap_standing.specs.Holds.{Holds}
 use Rattle.ap_control.specs.Runs.{RanOrStuck}
 use Rattle.ap_control.proofs.Marks.{Keeps-trans}
+use Rattle.ap_section.specs.declared.section.Now.TheVariants.{Inside, Failed}
 use Rattle.ap_section.specs.View.{machine_of}
-use Rattle.ap_section.proofs.Ran.{written, same-store, sane-ran, sane-kept, machine-same, moved-ran, opened, ran-holds, stuck-holds}
+use Rattle.ap_section.proofs.Ran.{written, same-store, sane-ran, sane-kept, machine-same, rest-same, moved-ran, opened, ran-holds, stuck-holds}
 use Rattle.ap_section.proofs.section.Section.run.Goals as goal
 
 pub invariant_of-self : goal.invariant_of-self
@@ -112,3 +113,15 @@ returns-in-Err-clause-holds c = λ ss h.
     let ey : c.copy_from_slice-in-Err-2.new.self.items ≡ a.y.items = c.copy_from_slice-in-Err-2.ensures.items ∙ c.deref-in-Err-2.ensures.value ∙ c.in_ok-save-2.ensures ∙ c.deref-2.ensures.value in
     subst (λ q. Holds c.args.code.now q ss)
     (sym (machine-same a.cells w a.environments a.x.items a.y.items c.copy_from_slice-in-Err.new.self.items c.copy_from_slice-in-Err-2.new.self.items a.roots.items a.next c.self.invariant keeps (c.in-Err.ensures.err ∙ c.reserve.ensures.cells) ex ey ∙ ap (λ s. s.machine) c.self.view_is)) h
+
+pub returns-in-Ok-Some-clause-rest : goal.returns-in-Ok-Some-clause-rest
+returns-in-Ok-Some-clause-rest c =
+    let a = c.self.inside in
+    let keeps : Keeps a.cells c.run_or_undo.new.cells = Keeps-trans a.cells c.reserve.new.self c.run_or_undo.new.cells (same-store a.cells c.reserve.new.self c.reserve.ensures.cells c.reserve.ensures.trail) c.run_or_undo.ensures.keeps in
+    rest-same a.cells c.run_or_undo.new.cells a.environments a.x.items a.y.items _ _ a.roots.items a.next (Inside c.in-Ok-Some.to) c.args.self.now.machine (ap (λ s. s.machine) c.self.view_is) c.self.invariant keeps
+
+pub returns-in-Ok-None-clause-rest : goal.returns-in-Ok-None-clause-rest
+returns-in-Ok-None-clause-rest c =
+    let a = c.self.inside in
+    let keeps : Keeps a.cells c.run_or_undo.new.cells = Keeps-trans a.cells c.reserve.new.self c.run_or_undo.new.cells (same-store a.cells c.reserve.new.self c.reserve.ensures.cells c.reserve.ensures.trail) c.run_or_undo.ensures.keeps in
+    rest-same a.cells c.run_or_undo.new.cells a.environments a.x.items a.y.items _ _ a.roots.items a.next Failed c.args.self.now.machine (ap (λ s. s.machine) c.self.view_is) c.self.invariant keeps
