@@ -132,8 +132,7 @@ fn are_apart(cells: &Cells, x: usize, first: usize, count: u32) -> bool
     requires { first + count ≤ length cells.now.cells }
     ensures { result ≡ true → occurs_all x (span (trees cells.now.cells) first count) ≡ false }
 {
-    let places = cells.len();
-    prove!(first <= places);
+    let _places = cells.len();
     for i in 0..count {
         if !is_apart(cells, x, first + i as usize) {
             return false;

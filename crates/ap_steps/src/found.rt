@@ -27,8 +27,7 @@ fn match_variable(cells: &Cells, x: &mut [u32], y: &mut [u32], v: Slot, place: u
     ensures x_len { length x.new ≡ length x.old }
     ensures y_len { length y.new ≡ length y.old }
 {
-    let places = cells.len();
-    prove!(place < places);
+    let _places = cells.len();
     write(x, y, v, place as u32);
 }
 
@@ -155,8 +154,7 @@ pub fn match_arguments(
 {
     let instructions = code.instructions().len();
     prove!(at <= instructions);
-    let places = cells.len();
-    prove!(first <= places);
+    let _places = cells.len();
     for i in 0..count {
         match instruction_at(code, at + i) {
             Some(instr) => {
