@@ -18,3 +18,4 @@ pub mod MovedPaces
 pub mod Walking
 pub mod JoinedReads
 pub mod JoinedPaces
+pub mod Turns

@@ -13,7 +13,7 @@ use Rattle.ap_term.specs.WellFormed.{callable, all_callable}
 use Rattle.ap_instr.specs.declared.instruction.Slot.TheVariants.{X, Y}
 use Rattle.ap_instr.specs.Step.{Step, get_variable, get_value, get_structure, put_variable, put_value, put_structure, unify_variable, unify_value, call, execute, builtin, proceed}
 use Rattle.ap_instr.specs.Runs.{arguments, IsOpen, AsksOpenly}
-use Rattle.ap_codegen.specs.Permanent.{name, is_builtin, is_builtin_key, see, fills, see_built, see_nested, build, nested, puts, goal_code, is_last_call, asking, body_code, see_all, see_taken, takes, get, opens, gets, clause_code}
+use Rattle.ap_codegen.specs.Permanent.{name, is_builtin, is_builtin_key, see, inner, place, fills, see_built, see_nested, build, nested, puts, goal_code, is_last_call, asking, body_code, see_all, see_taken, takes, get, opens, gets, clause_code}
 use Rattle.ap_codegen.specs.CodeOf.{calls_apart}
 use Rattle.ap_codegen.proofs.Registers.{both_true}
 use Rattle.ap_codegen.proofs.PermanentReads.{body-each}
@@ -50,56 +50,57 @@ quiet_apart (i ∷ us) bs q o = quiet_apart us bs q o
 
 -- ---- what is quiet
 
-quiet_fills : (ts : Trees) (seen : List ℕ) (m : ℕ) → Quiet (fills ts seen m)
-quiet_fills none seen m = refl
-quiet_fills (more (var v) ts) seen m = go (has seen v) (quiet_fills ts (see (var v) seen) (m + 1))
+quiet_fills : (ts : Trees) (seen : List ℕ) (b m : ℕ) → Quiet (fills ts seen b m)
+quiet_fills none seen b m = refl
+quiet_fills (more (var v) ts) seen b m = go (has seen v) (quiet_fills ts (see (var v) seen) b m)
   where
-    go : (b : Bool) → Quiet (fills ts (see (var v) seen) (m + 1)) → Quiet ((if b then unify_value (Y v) else unify_variable (Y v)) ∷ fills ts (see (var v) seen) (m + 1))
+    go : (d : Bool) → Quiet (fills ts (see (var v) seen) b m) → Quiet ((if d then unify_value (Y v) else unify_variable (Y v)) ∷ fills ts (see (var v) seen) b m)
     go true q = q
     go false q = q
-quiet_fills (more (int z) ts) seen m = quiet_fills ts seen (m + 1)
-quiet_fills (more (atom a) ts) seen m = quiet_fills ts seen (m + 1)
-quiet_fills (more (node a us) ts) seen m = quiet_fills ts seen (m + 1)
+quiet_fills (more (int z) ts) seen b m = quiet_fills ts seen b m
+quiet_fills (more (atom a) ts) seen b m = quiet_fills ts seen b m
+quiet_fills (more (node a us) ts) seen b m = quiet_fills ts seen b m
 
 mutual
-  quiet_build : (t : Tree) (a : ℕ) (seen : List ℕ) (m : ℕ) → Quiet (build t a seen m)
-  quiet_build (var v) a seen m = go (has seen v)
+  quiet_build : (t : Tree) (a : ℕ) (seen : List ℕ) (b m : ℕ) → Quiet (build t a seen b m)
+  quiet_build (var v) a seen b m = go (has seen v)
     where
-      go : (b : Bool) → Quiet (if b then put_value (Y v) a ∷ [] else put_variable (Y v) a ∷ [])
+      go : (d : Bool) → Quiet (if d then put_value (Y v) a ∷ [] else put_variable (Y v) a ∷ [])
       go true = refl
       go false = refl
-  quiet_build (int z) a seen m = refl
-  quiet_build (atom c) a seen m = refl
-  quiet_build (node f ts) a seen m =
+  quiet_build (int z) a seen b m = refl
+  quiet_build (atom c) a seen b m = refl
+  quiet_build (node f ts) a seen b m =
       let seen1 : List ℕ = see_nested ts seen in
-      quiet_both (nested ts seen m) (put_structure f (count_trees ts) a ∷ fills ts seen1 m) (quiet_nested ts seen m) (quiet_fills ts seen1 m)
+      quiet_both (nested ts a seen b m) (put_structure f (count_trees ts) a ∷ fills ts seen1 b m) (quiet_nested ts a seen b m) (quiet_fills ts seen1 b m)
 
-  quiet_nested : (ts : Trees) (seen : List ℕ) (m : ℕ) → Quiet (nested ts seen m)
-  quiet_nested none seen m = refl
-  quiet_nested (more (var v) ts) seen m = quiet_nested ts seen (m + 1)
-  quiet_nested (more (int z) ts) seen m = quiet_nested ts seen (m + 1)
-  quiet_nested (more (atom a) ts) seen m = quiet_nested ts seen (m + 1)
-  quiet_nested (more (node a us) ts) seen m =
-      let seen1 : List ℕ = see_built (node a us) seen in
-      quiet_both (build (node a us) m seen (m + 1 + count_trees ts)) (nested ts seen1 (m + 1)) (quiet_build (node a us) m seen (m + 1 + count_trees ts)) (quiet_nested ts seen1 (m + 1))
+  quiet_nested : (ts : Trees) (a : ℕ) (seen : List ℕ) (b m : ℕ) → Quiet (nested ts a seen b m)
+  quiet_nested none a seen b m = refl
+  quiet_nested (more (var v) ts) a seen b m = quiet_nested ts a seen b m
+  quiet_nested (more (int z) ts) a seen b m = quiet_nested ts a seen b m
+  quiet_nested (more (atom c) ts) a seen b m = quiet_nested ts a seen b m
+  quiet_nested (more (node g us) ts) a seen b m =
+      let p : ℕ = place (inner ts) b m in
+      let seen1 : List ℕ = see_nested ts seen in
+      quiet_both (nested ts a seen b m) (build (node g us) p seen1 a (m + inner ts)) (quiet_nested ts a seen b m) (quiet_build (node g us) p seen1 a (m + inner ts))
 
 quiet_puts : (ts : Trees) (a : ℕ) (seen : List ℕ) (m : ℕ) → Quiet (puts ts a seen m)
 quiet_puts none a seen m = refl
-quiet_puts (more t ts) a seen m = quiet_both (build t a seen m) (puts ts (a + 1) (see_built t seen) m) (quiet_build t a seen m) (quiet_puts ts (a + 1) (see_built t seen) m)
+quiet_puts (more t ts) a seen m = quiet_both (build t a seen m (m + 1)) (puts ts (a + 1) (see_built t seen) m) (quiet_build t a seen m (m + 1)) (quiet_puts ts (a + 1) (see_built t seen) m)
 
 quiet_goal : (g : Tree) (seen : List ℕ) → Quiet (goal_code g seen)
 quiet_goal g seen = quiet_puts (arguments g) 1 seen (count_trees (arguments g) + 1)
 
 quiet_takes : (ts : Trees) (seen : List ℕ) (m : ℕ) → Quiet (takes ts seen m)
 quiet_takes none seen m = refl
-quiet_takes (more (var v) ts) seen m = go (has seen v) (quiet_takes ts (see (var v) seen) (m + 1))
+quiet_takes (more (var v) ts) seen m = go (has seen v) (quiet_takes ts (see (var v) seen) m)
   where
-    go : (b : Bool) → Quiet (takes ts (see (var v) seen) (m + 1)) → Quiet ((if b then unify_value (Y v) else unify_variable (Y v)) ∷ takes ts (see (var v) seen) (m + 1))
+    go : (b : Bool) → Quiet (takes ts (see (var v) seen) m) → Quiet ((if b then unify_value (Y v) else unify_variable (Y v)) ∷ takes ts (see (var v) seen) m)
     go true q = q
     go false q = q
-quiet_takes (more (int z) ts) seen m = quiet_takes ts seen (m + 1)
-quiet_takes (more (atom a) ts) seen m = quiet_takes ts seen (m + 1)
-quiet_takes (more (node a us) ts) seen m = quiet_takes ts seen (m + 1)
+quiet_takes (more (int z) ts) seen m = quiet_takes ts seen m
+quiet_takes (more (atom a) ts) seen m = quiet_takes ts seen m
+quiet_takes (more (node a us) ts) seen m = quiet_takes ts seen m
 
 mutual
   quiet_get : (t : Tree) (a : ℕ) (seen : List ℕ) (m : ℕ) → Quiet (get t a seen m)
@@ -114,12 +115,13 @@ mutual
 
   quiet_opens : (ts : Trees) (seen : List ℕ) (m : ℕ) → Quiet (opens ts seen m)
   quiet_opens none seen m = refl
-  quiet_opens (more (var v) ts) seen m = quiet_opens ts seen (m + 1)
-  quiet_opens (more (int z) ts) seen m = quiet_opens ts seen (m + 1)
-  quiet_opens (more (atom a) ts) seen m = quiet_opens ts seen (m + 1)
+  quiet_opens (more (var v) ts) seen m = quiet_opens ts seen m
+  quiet_opens (more (int z) ts) seen m = quiet_opens ts seen m
+  quiet_opens (more (atom a) ts) seen m = quiet_opens ts seen m
   quiet_opens (more (node a us) ts) seen m =
+      let p : ℕ = m + inner ts in
       let seen1 : List ℕ = see_taken (node a us) seen in
-      quiet_both (get (node a us) m seen (m + 1 + count_trees ts)) (opens ts seen1 (m + 1)) (quiet_get (node a us) m seen (m + 1 + count_trees ts)) (quiet_opens ts seen1 (m + 1))
+      quiet_both (get (node a us) p seen p) (opens ts seen1 m) (quiet_get (node a us) p seen p) (quiet_opens ts seen1 m)
 
 quiet_gets : (ts : Trees) (a : ℕ) (seen : List ℕ) (m : ℕ) → Quiet (gets ts a seen m)
 quiet_gets none a seen m = refl

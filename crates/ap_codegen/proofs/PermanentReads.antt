@@ -13,49 +13,75 @@ use Rattle.ap_laws.specs.Plain.{plain_goals}
 use Rattle.ap_instr.specs.declared.instruction.Slot.TheVariants.{X, Y}
 use Rattle.ap_instr.specs.Step.{Step, get_variable, get_value, get_structure, put_variable, put_value, put_structure, unify_variable, unify_value, call, execute, builtin}
 use Rattle.ap_instr.specs.Runs.{Runs, Reads, set, spread, lost, applied, arguments}
-use Rattle.ap_codegen.specs.Permanent.{name, is_builtin, see, see_all, fills, see_built, see_nested, build, nested, puts, see_puts, goal_code, is_last_call, asking, body_code, see_taken, see_opened, takes, get, opens, gets, clause_code}
+use Rattle.ap_codegen.specs.Permanent.{name, is_builtin, see, see_all, inner, place, fills, see_built, see_nested, build, nested, puts, see_puts, goal_code, is_last_call, asking, body_code, see_taken, see_opened, takes, get, opens, gets, clause_code}
 use Rattle.ap_codegen.proofs.Registers.{both_true, set_here, has_more, has_first}
 
 or_cases : (a b : Bool) → (a || b) ≡ true → (a ≡ true) ⊎ (b ≡ true)
 or_cases true b h = inl refl
 or_cases false b h = inr h
 
--- the same below m, but for one number
-abbrev But : ℕ → ℕ → (ℕ → Tree) → (ℕ → Tree) → Type 0
-But a m x x' = (w : ℕ) → w < m → w ≢ a → x' w ≡ x w
+-- the same below m, but for two numbers
+abbrev But : ℕ → ℕ → ℕ → (ℕ → Tree) → (ℕ → Tree) → Type 0
+But a b m x x' = (w : ℕ) → w < m → w ≢ a → w ≢ b → x' w ≡ x w
 
 abbrev Same : ℕ → (ℕ → Tree) → (ℕ → Tree) → Type 0
 Same m x x' = (w : ℕ) → w < m → x' w ≡ x w
 
-set_other : {A : Type 0} (r : ℕ → A) (v w : ℕ) (t : A) → w < v → set r v t w ≡ r w
-set_other r v w t l = go (w == v) refl
-  where
-    go : (b : Bool) → (w == v) ≡ b → (if b then t else r w) ≡ r w
-    go true e = absurd (let k : w ≡ v = (Decides-eqb w v).0 e in omega arith)
-    go false e = refl
+abbrev Above : ℕ → (ℕ → Tree) → (ℕ → Tree) → Type 0
+Above k x x' = (w : ℕ) → k ≤ w → x' w ≡ x w
 
-set_above : {A : Type 0} (r : ℕ → A) (v w : ℕ) (t : A) → v < w → set r v t w ≡ r w
-set_above r v w t l = go (w == v) refl
-  where
-    go : (b : Bool) → (w == v) ≡ b → (if b then t else r w) ≡ r w
-    go true e = absurd (let k : w ≡ v = (Decides-eqb w v).0 e in omega arith)
-    go false e = refl
+-- ---- where structures stand
 
--- the trees of the temporaries from m on that hold structures are those of the arguments
-abbrev Temps : Trees → ℕ → (ℕ → Tree) → (ℕ → Tree) → Type 0
-Temps none m x y = Unit {0}
-Temps (more (var v) ts) m x y = Temps ts (m + 1) x y
-Temps (more (int z) ts) m x y = Temps ts (m + 1) x y
-Temps (more (atom a) ts) m x y = Temps ts (m + 1) x y
-Temps (more (node a us) ts) m x y = (x m ≡ instance y (node a us)) × Temps ts (m + 1) x y
+pub place_below : (k b m : ℕ) → b < m → place k b m < m + k
+place_below zero b m l = omega arith
+place_below (suc k) b m l = omega arith
+
+place_within : (k j b m : ℕ) → b < m → k < j → place k b m < m + j
+place_within k j b m l i = let d = place_below k b m l in omega arith
+
+pub place_apart : (k a b m : ℕ) → a ≢ b → a < m → place k b m ≢ a
+place_apart zero a b m n l e = n (sym e)
+place_apart (suc k) a b m n l e = omega arith
+
+place_other : (k b m w : ℕ) → w < m → w ≢ b → w ≢ place k b m
+place_other zero b m w l n e = n e
+place_other (suc k) b m w l n e = omega arith
+
+-- each has a place of its own
+place_new : (k j b m : ℕ) → b < m → k < j → place k b m ≢ place j b m
+place_new k zero b m l i e = omega arith
+place_new k (suc j) b m l i e = let d = place_below k b m l in omega arith
+
+-- the trees in the places of arguments that are structures are those of the arguments
+abbrev Temps : Trees → ℕ → ℕ → (ℕ → Tree) → (ℕ → Tree) → Type 0
+Temps none b m x y = Unit {0}
+Temps (more (var v) ts) b m x y = Temps ts b m x y
+Temps (more (int z) ts) b m x y = Temps ts b m x y
+Temps (more (atom a) ts) b m x y = Temps ts b m x y
+Temps (more (node a us) ts) b m x y = (x (place (inner ts) b m) ≡ instance y (node a us)) × Temps ts b m x y
 
 -- what is set elsewhere does not change them
-Temps-same : (ts : Trees) (m : ℕ) (x x' y : ℕ → Tree) → ((w : ℕ) → m ≤ w → w < m + count_trees ts → x' w ≡ x w) → Temps ts m x y → Temps ts m x' y
-Temps-same none m x x' y h t = tt
-Temps-same (more (var v) ts) m x x' y h t = Temps-same ts (m + 1) x x' y (λ w i j. h w (omega arith) (omega arith)) t
-Temps-same (more (int v) ts) m x x' y h t = Temps-same ts (m + 1) x x' y (λ w i j. h w (omega arith) (omega arith)) t
-Temps-same (more (atom v) ts) m x x' y h t = Temps-same ts (m + 1) x x' y (λ w i j. h w (omega arith) (omega arith)) t
-Temps-same (more (node a us) ts) m x x' y h t = (h m (omega arith) (omega arith) ∙ t.0, Temps-same ts (m + 1) x x' y (λ w i j. h w (omega arith) (omega arith)) t.1)
+Temps-same : (ts : Trees) (b m : ℕ) (x x' y : ℕ → Tree) → ((k : ℕ) → k < inner ts → x' (place k b m) ≡ x (place k b m)) → Temps ts b m x y → Temps ts b m x' y
+Temps-same none b m x x' y h t = tt
+Temps-same (more (var v) ts) b m x x' y h t = Temps-same ts b m x x' y h t
+Temps-same (more (int v) ts) b m x x' y h t = Temps-same ts b m x x' y h t
+Temps-same (more (atom v) ts) b m x x' y h t = Temps-same ts b m x x' y h t
+Temps-same (more (node a us) ts) b m x x' y h t = (h (inner ts) (omega arith) ∙ t.0, Temps-same ts b m x x' y (λ k i. h k (omega arith)) t.1)
+
+-- the trees that were taken into the temporaries from m on
+abbrev Taken : Trees → ℕ → (ℕ → Tree) → (ℕ → Tree) → Type 0
+Taken none m x y = Unit {0}
+Taken (more (var v) ts) m x y = Taken ts m x y
+Taken (more (int z) ts) m x y = Taken ts m x y
+Taken (more (atom a) ts) m x y = Taken ts m x y
+Taken (more (node a us) ts) m x y = (x (m + inner ts) ≡ instance y (node a us)) × Taken ts m x y
+
+Taken-same : (ts : Trees) (m : ℕ) (x x' y : ℕ → Tree) → ((w : ℕ) → w < m + inner ts → x' w ≡ x w) → Taken ts m x y → Taken ts m x' y
+Taken-same none m x x' y h t = tt
+Taken-same (more (var v) ts) m x x' y h t = Taken-same ts m x x' y h t
+Taken-same (more (int v) ts) m x x' y h t = Taken-same ts m x x' y h t
+Taken-same (more (atom v) ts) m x x' y h t = Taken-same ts m x x' y h t
+Taken-same (more (node a us) ts) m x x' y h t = (h (m + inner ts) (omega arith) ∙ t.0, Taken-same ts m x x' y (λ w i. h w (omega arith)) t.1)
 
 set_but : (x : ℕ → Tree) (a w : ℕ) (t : Tree) → w ≢ a → set x a t w ≡ x w
 set_but x a w t n = go (w == a) refl
@@ -140,7 +166,7 @@ mutual
   see_nested-grows (more (var v) ts) seen w h = see_nested-grows ts seen w h
   see_nested-grows (more (int z) ts) seen w h = see_nested-grows ts seen w h
   see_nested-grows (more (atom a) ts) seen w h = see_nested-grows ts seen w h
-  see_nested-grows (more (node a us) ts) seen w h = see_nested-grows ts (see_built (node a us) seen) w (see_built-grows (node a us) seen w h)
+  see_nested-grows (more (node a us) ts) seen w h = see_built-grows (node a us) (see_nested ts seen) w (see_nested-grows ts seen w h)
 
 see_puts-grows : (ts : Trees) (seen : List ℕ) (w : ℕ) → has seen w ≡ true → has (see_puts ts seen) w ≡ true
 see_puts-grows none seen w h = h
@@ -185,8 +211,8 @@ mutual
   is_seen w (more (atom a) ts) o = is_seen w ts o
   is_seen w (more (node a us) ts) o =
       elim (or_cases (occurs_all w us) (occurs_all w ts) o) [
-        | inl p ↦ inr (λ s. see_nested-grows ts (see_built (node a us) s) w (see_built-has w (node a us) s p))
-        | inr p ↦ elim (is_seen w ts p) [ inl k ↦ inl k | inr k ↦ inr (λ s. k (see_built (node a us) s)) ]
+        | inl p ↦ inr (λ s. see_built-has w (node a us) (see_nested ts s) p)
+        | inr p ↦ elim (is_seen w ts p) [ inl k ↦ inl k | inr k ↦ inr (λ s. see_built-grows (node a us) (see_nested ts s) w (k s)) ]
       ]
 
 see_puts-has : (w : ℕ) (ts : Trees) (seen : List ℕ) → occurs_all w ts ≡ true → has (see_puts ts seen) w ≡ true
@@ -246,25 +272,25 @@ goal_sees (node a ts) seen w c h = elim (add_all_vars-has w ts seen h) [ inl p �
 
 -- ---- the arguments of structures
 
-module _ (bs : Trees) (rest : List Step) (x : ℕ → Tree) where
+module _ (bs : Trees) (rest : List Step) (x : ℕ → Tree) (b m : ℕ) where
   -- the arguments of a structure are what they are to be, whatever the variables seen are later on
-  abbrev FillsOnly : Trees → Trees → List ℕ → ℕ → (ℕ → Tree) → Type 0
-  FillsOnly ts us seen m y =
-      (y' : ℕ → Tree) × AgreeOn seen y y' × ((h : ℕ → Tree) → AgreeOn (see_all ts seen) y' h → Temps ts m x h → us ≡ instance_all h ts) × Runs rest none x y' bs
+  abbrev FillsOnly : Trees → Trees → List ℕ → (ℕ → Tree) → Type 0
+  FillsOnly ts us seen y =
+      (y' : ℕ → Tree) × AgreeOn seen y y' × ((h : ℕ → Tree) → AgreeOn (see_all ts seen) y' h → Temps ts b m x h → us ≡ instance_all h ts) × Runs rest none x y' bs
 
-  fills-only : (ts us : Trees) (seen : List ℕ) (m : ℕ) (y : ℕ → Tree) → count_trees us ≡ count_trees ts → Runs (fills ts seen m ++ rest) us x y bs → FillsOnly ts us seen m y
-  fills-only none none seen m y c r = (y, λ w o. refl, λ h a t. refl, r)
-  fills-only none (more u us) seen m y c r = absurd (omega arith)
-  fills-only (more (var v) ts) none seen m y c r = absurd (omega arith)
-  fills-only (more (int v) ts) none seen m y c r = absurd (omega arith)
-  fills-only (more (atom v) ts) none seen m y c r = absurd (omega arith)
-  fills-only (more (node a vs) ts) none seen m y c r = absurd (omega arith)
-  fills-only (more (var v) ts) (more u us) seen m y c r = go (λ seen y r. fills-only ts us seen (m + 1) y (omega arith) r) (has seen v) refl r
+  fills-only : (ts us : Trees) (seen : List ℕ) (y : ℕ → Tree) → count_trees us ≡ count_trees ts → Runs (fills ts seen b m ++ rest) us x y bs → FillsOnly ts us seen y
+  fills-only none none seen y c r = (y, λ w o. refl, λ h a t. refl, r)
+  fills-only none (more u us) seen y c r = absurd (omega arith)
+  fills-only (more (var v) ts) none seen y c r = absurd (omega arith)
+  fills-only (more (int v) ts) none seen y c r = absurd (omega arith)
+  fills-only (more (atom v) ts) none seen y c r = absurd (omega arith)
+  fills-only (more (node a vs) ts) none seen y c r = absurd (omega arith)
+  fills-only (more (var v) ts) (more u us) seen y c r = go (λ seen y r. fills-only ts us seen y (omega arith) r) (has seen v) refl r
     where
-      go : ((seen : List ℕ) (y : ℕ → Tree) → Runs (fills ts seen (m + 1) ++ rest) us x y bs → FillsOnly ts us seen (m + 1) y)
-          → (b : Bool) → has seen v ≡ b → Runs ((if b then unify_value (Y v) else unify_variable (Y v)) ∷ (fills ts (if b then seen else seen ++ v ∷ []) (m + 1) ++ rest)) (more u us) x y bs
+      go : ((seen : List ℕ) (y : ℕ → Tree) → Runs (fills ts seen b m ++ rest) us x y bs → FillsOnly ts us seen y)
+          → (d : Bool) → has seen v ≡ d → Runs ((if d then unify_value (Y v) else unify_variable (Y v)) ∷ (fills ts (if d then seen else seen ++ v ∷ []) b m ++ rest)) (more u us) x y bs
           → (y' : ℕ → Tree) × AgreeOn seen y y'
-          × ((h : ℕ → Tree) → AgreeOn (see_all ts (if b then seen else seen ++ v ∷ [])) y' h → Temps ts (m + 1) x h → more u us ≡ more (h v) (instance_all h ts)) × Runs rest none x y' bs
+          × ((h : ℕ → Tree) → AgreeOn (see_all ts (if d then seen else seen ++ v ∷ [])) y' h → Temps ts b m x h → more u us ≡ more (h v) (instance_all h ts)) × Runs rest none x y' bs
       go ih true e r =
           let k = ih seen y r.1 in
           (k.0, k.1, λ h a t. ap (λ q. more q us) (sym r.0 ∙ k.1 v e ∙ a v (see_all-grows ts seen v e)) ∙ ap (more (h v)) (k.2 h a t), k.3)
@@ -276,118 +302,132 @@ module _ (bs : Trees) (rest : List Step) (x : ℕ → Tree) where
                 ap (λ q. more q us) (sym (set_here y v u) ∙ k.1 v (has_first seen v) ∙ a v (see_all-grows ts (seen ++ v ∷ []) v (has_first seen v))) ∙ ap (more (h v)) (k.2 h a t),
             k.3,
           )
-  fills-only (more (int z) ts) (more u us) seen m y c r =
-      let k = fills-only ts us seen (m + 1) y (omega arith) r.1 in (k.0, k.1, λ h a t. ap (λ q. more q us) r.0 ∙ ap (more (int z)) (k.2 h a t), k.3)
-  fills-only (more (atom a) ts) (more u us) seen m y c r =
-      let k = fills-only ts us seen (m + 1) y (omega arith) r.1 in (k.0, k.1, λ h g t. ap (λ q. more q us) r.0 ∙ ap (more (atom a)) (k.2 h g t), k.3)
-  fills-only (more (node a vs) ts) (more u us) seen m y c r =
-      let k = fills-only ts us seen (m + 1) y (omega arith) r.1 in
+  fills-only (more (int z) ts) (more u us) seen y c r =
+      let k = fills-only ts us seen y (omega arith) r.1 in (k.0, k.1, λ h a t. ap (λ q. more q us) r.0 ∙ ap (more (int z)) (k.2 h a t), k.3)
+  fills-only (more (atom a) ts) (more u us) seen y c r =
+      let k = fills-only ts us seen y (omega arith) r.1 in (k.0, k.1, λ h g t. ap (λ q. more q us) r.0 ∙ ap (more (atom a)) (k.2 h g t), k.3)
+  fills-only (more (node a vs) ts) (more u us) seen y c r =
+      let k = fills-only ts us seen y (omega arith) r.1 in
       (k.0, k.1, λ h g t. ap (λ q. more q us) (sym r.0 ∙ t.0) ∙ ap (more (instance h (node a vs))) (k.2 h g t.1), k.3)
 
-  fills-each : (h : ℕ → Tree) (ts : Trees) (seen : List ℕ) (m : ℕ) (y : ℕ → Tree) → AgreeOn seen y h → Temps ts m x h
-      → ((y' : ℕ → Tree) → AgreeOn (see_all ts seen) y' h → Runs rest none x y' bs) → Runs (fills ts seen m ++ rest) (instance_all h ts) x y bs
-  fills-each h none seen m y a t r = r y a
-  fills-each h (more (var v) ts) seen m y a t r = go (λ seen y a r. fills-each h ts seen (m + 1) y a t r) (has seen v) refl r
+  fills-each : (h : ℕ → Tree) (ts : Trees) (seen : List ℕ) (y : ℕ → Tree) → AgreeOn seen y h → Temps ts b m x h
+      → ((y' : ℕ → Tree) → AgreeOn (see_all ts seen) y' h → Runs rest none x y' bs) → Runs (fills ts seen b m ++ rest) (instance_all h ts) x y bs
+  fills-each h none seen y a t r = r y a
+  fills-each h (more (var v) ts) seen y a t r = go (λ seen y a r. fills-each h ts seen y a t r) (has seen v) refl r
     where
-      go : ((seen : List ℕ) (y : ℕ → Tree) → AgreeOn seen y h → ((y' : ℕ → Tree) → AgreeOn (see_all ts seen) y' h → Runs rest none x y' bs) → Runs (fills ts seen (m + 1) ++ rest) (instance_all h ts) x y bs)
-          → (b : Bool) → has seen v ≡ b → ((y' : ℕ → Tree) → AgreeOn (see_all ts (if b then seen else seen ++ v ∷ [])) y' h → Runs rest none x y' bs)
-          → Runs ((if b then unify_value (Y v) else unify_variable (Y v)) ∷ (fills ts (if b then seen else seen ++ v ∷ []) (m + 1) ++ rest)) (more (h v) (instance_all h ts)) x y bs
+      go : ((seen : List ℕ) (y : ℕ → Tree) → AgreeOn seen y h → ((y' : ℕ → Tree) → AgreeOn (see_all ts seen) y' h → Runs rest none x y' bs) → Runs (fills ts seen b m ++ rest) (instance_all h ts) x y bs)
+          → (d : Bool) → has seen v ≡ d → ((y' : ℕ → Tree) → AgreeOn (see_all ts (if d then seen else seen ++ v ∷ [])) y' h → Runs rest none x y' bs)
+          → Runs ((if d then unify_value (Y v) else unify_variable (Y v)) ∷ (fills ts (if d then seen else seen ++ v ∷ []) b m ++ rest)) (more (h v) (instance_all h ts)) x y bs
       go ih true e r = (a v e, ih seen y a r)
       go ih false e r = ih (seen ++ v ∷ []) (set y v (h v)) (push_agrees seen y h v a) r
-  fills-each h (more (int z) ts) seen m y a t r = (refl, fills-each h ts seen (m + 1) y a t r)
-  fills-each h (more (atom c) ts) seen m y a t r = (refl, fills-each h ts seen (m + 1) y a t r)
-  fills-each h (more (node c us) ts) seen m y a t r = (t.0, fills-each h ts seen (m + 1) y a t.1 r)
+  fills-each h (more (int z) ts) seen y a t r = (refl, fills-each h ts seen y a t r)
+  fills-each h (more (atom c) ts) seen y a t r = (refl, fills-each h ts seen y a t r)
+  fills-each h (more (node c us) ts) seen y a t r = (t.0, fills-each h ts seen y a t.1 r)
 
 -- ---- terms that are built
 
 module _ (bs : Trees) where
   mutual
-    build-only : (t : Tree) (a : ℕ) (seen : List ℕ) (m : ℕ) (rest : List Step) (x y : ℕ → Tree) → a < m → Runs (build t a seen m ++ rest) none x y bs
-        → (x' : ℕ → Tree) × (y' : ℕ → Tree) × AgreeOn seen y y' × ((h : ℕ → Tree) → AgreeOn (see_built t seen) y' h → x' a ≡ instance h t) × But a m x x' × Runs rest none x' y' bs
-    build-only (var v) a seen m rest x y l r = go (has seen v) refl r
+    build-only : (t : Tree) (a : ℕ) (seen : List ℕ) (b m : ℕ) (rest : List Step) (x y : ℕ → Tree) → a ≢ b → a < m → b < m → Runs (build t a seen b m ++ rest) none x y bs
+        → (x' : ℕ → Tree) × (y' : ℕ → Tree) × AgreeOn seen y y' × ((h : ℕ → Tree) → AgreeOn (see_built t seen) y' h → x' a ≡ instance h t) × But a b m x x' × Runs rest none x' y' bs
+    build-only (var v) a seen b m rest x y n l j r = go (has seen v) refl r
       where
-        go : (b : Bool) → has seen v ≡ b → Runs ((if b then put_value (Y v) a ∷ [] else put_variable (Y v) a ∷ []) ++ rest) none x y bs
-            → (x' : ℕ → Tree) × (y' : ℕ → Tree) × AgreeOn seen y y' × ((h : ℕ → Tree) → AgreeOn (if b then seen else seen ++ v ∷ []) y' h → x' a ≡ h v) × But a m x x' × Runs rest none x' y' bs
-        go true e r = (set x a (y v), y, λ w o. refl, λ h g. set_here x a (y v) ∙ g v e, λ w i n. set_but x a w (y v) n, r)
+        go : (d : Bool) → has seen v ≡ d → Runs ((if d then put_value (Y v) a ∷ [] else put_variable (Y v) a ∷ []) ++ rest) none x y bs
+            → (x' : ℕ → Tree) × (y' : ℕ → Tree) × AgreeOn seen y y' × ((h : ℕ → Tree) → AgreeOn (if d then seen else seen ++ v ∷ []) y' h → x' a ≡ h v) × But a b m x x' × Runs rest none x' y' bs
+        go true e r = (set x a (y v), y, λ w o. refl, λ h g. set_here x a (y v) ∙ g v e, λ w i n k. set_but x a w (y v) n, r)
         go false e r = (
           set x a r.0,
           set y v r.0,
           set_agrees seen y v r.0 e,
           λ h g. set_here x a r.0 ∙ sym (set_here y v r.0) ∙ g v (has_first seen v),
-          λ w i n. set_but x a w r.0 n,
+          λ w i n k. set_but x a w r.0 n,
           r.1,
         )
-    build-only (int z) a seen m rest x y l r = (set x a (int z), y, λ w o. refl, λ h g. set_here x a (int z), λ w i n. set_but x a w (int z) n, r)
-    build-only (atom c) a seen m rest x y l r = (set x a (atom c), y, λ w o. refl, λ h g. set_here x a (atom c), λ w i n. set_but x a w (atom c) n, r)
-    build-only (node f ts) a seen m rest x y l r =
+    build-only (int z) a seen b m rest x y n l j r = (set x a (int z), y, λ w o. refl, λ h g. set_here x a (int z), λ w i n k. set_but x a w (int z) n, r)
+    build-only (atom c) a seen b m rest x y n l j r = (set x a (atom c), y, λ w o. refl, λ h g. set_here x a (atom c), λ w i n k. set_but x a w (atom c) n, r)
+    build-only (node f ts) a seen b m rest x y n l j r =
         let seen1 : List ℕ = see_nested ts seen in
-        let n = nested-only ts seen m (put_structure f (count_trees ts) a ∷ (fills ts seen1 m ++ rest)) x y (reassoc (nested ts seen m) (put_structure f (count_trees ts) a ∷ fills ts seen1 m) rest none x y bs r) in
-        let s = n.5 in
-        let x' : ℕ → Tree = set n.0 a (node f s.0) in
-        let e = fills-only bs rest x' ts s.0 seen1 m n.1 s.1 s.2 in (
+        let d =
+        nested-only ts a seen b m (put_structure f (count_trees ts) a ∷ (fills ts seen1 b m ++ rest)) x y n l j
+        (reassoc (nested ts a seen b m) (put_structure f (count_trees ts) a ∷ fills ts seen1 b m) rest none x y bs r) in
+        let s = d.5 in
+        let x' : ℕ → Tree = set d.0 a (node f s.0) in
+        let e = fills-only bs rest x' b m ts s.0 seen1 d.1 s.1 s.2 in (
           x',
           e.0,
-          λ w o. n.3 w o ∙ e.1 w (see_nested-grows ts seen w o),
+          λ w o. d.3 w o ∙ e.1 w (see_nested-grows ts seen w o),
           λ h g.
-              set_here n.0 a (node f s.0)
-              ∙ ap (node f) (e.2 h g (Temps-same ts m n.0 x' h (λ w i j. set_above n.0 a w (node f s.0) (omega arith)) (n.4 h (λ w o. e.1 w o ∙ g w (see_all-grows ts seen1 w o))))),
-          λ w i k. set_but n.0 a w (node f s.0) k ∙ n.2 w i,
+              set_here d.0 a (node f s.0)
+              ∙ ap (node f) (e.2 h g (Temps-same ts b m d.0 x' h (λ k i. set_but d.0 a (place k b m) (node f s.0) (place_apart k a b m n l)) (d.4 h (λ w o. e.1 w o ∙ g w (see_all-grows ts seen1 w o))))),
+          λ w i p q. set_but d.0 a w (node f s.0) p ∙ d.2 w i p q,
           e.3,
         )
 
-    nested-only : (ts : Trees) (seen : List ℕ) (m : ℕ) (rest : List Step) (x y : ℕ → Tree) → Runs (nested ts seen m ++ rest) none x y bs
-        → (x' : ℕ → Tree) × (y' : ℕ → Tree) × Same m x x' × AgreeOn seen y y' × ((h : ℕ → Tree) → AgreeOn (see_nested ts seen) y' h → Temps ts m x' h) × Runs rest none x' y' bs
-    nested-only none seen m rest x y r = (x, y, λ w i. refl, λ w o. refl, λ h g. tt, r)
-    nested-only (more (var v) ts) seen m rest x y r = let n = nested-only ts seen (m + 1) rest x y r in (n.0, n.1, λ w i. n.2 w (omega arith), n.3, n.4, n.5)
-    nested-only (more (int v) ts) seen m rest x y r = let n = nested-only ts seen (m + 1) rest x y r in (n.0, n.1, λ w i. n.2 w (omega arith), n.3, n.4, n.5)
-    nested-only (more (atom v) ts) seen m rest x y r = let n = nested-only ts seen (m + 1) rest x y r in (n.0, n.1, λ w i. n.2 w (omega arith), n.3, n.4, n.5)
-    nested-only (more (node f us) ts) seen m rest x y r =
-        let seen1 : List ℕ = see_built (node f us) seen in
-        let b = build-only (node f us) m seen (m + 1 + count_trees ts) (nested ts seen1 (m + 1) ++ rest) x y (omega arith) (reassoc (build (node f us) m seen (m + 1 + count_trees ts)) (nested ts seen1 (m + 1)) rest none x y bs r) in
-        let n = nested-only ts seen1 (m + 1) rest b.0 b.1 b.5 in (
-          n.0,
-          n.1,
-          λ w i. n.2 w (omega arith) ∙ b.4 w (omega arith) (omega arith),
-          λ w o. b.2 w o ∙ n.3 w (see_built-grows (node f us) seen w o),
-          λ h g. (n.2 m (omega arith) ∙ b.3 h (λ w o. n.3 w o ∙ g w (see_nested-grows ts seen1 w o)), n.4 h g),
-          n.5,
+    nested-only : (ts : Trees) (a : ℕ) (seen : List ℕ) (b m : ℕ) (rest : List Step) (x y : ℕ → Tree) → a ≢ b → a < m → b < m → Runs (nested ts a seen b m ++ rest) none x y bs
+        → (x' : ℕ → Tree) × (y' : ℕ → Tree) × But a b m x x' × AgreeOn seen y y' × ((h : ℕ → Tree) → AgreeOn (see_nested ts seen) y' h → Temps ts b m x' h) × Runs rest none x' y' bs
+    nested-only none a seen b m rest x y n l j r = (x, y, λ w i p q. refl, λ w o. refl, λ h g. tt, r)
+    nested-only (more (var v) ts) a seen b m rest x y n l j r = nested-only ts a seen b m rest x y n l j r
+    nested-only (more (int v) ts) a seen b m rest x y n l j r = nested-only ts a seen b m rest x y n l j r
+    nested-only (more (atom v) ts) a seen b m rest x y n l j r = nested-only ts a seen b m rest x y n l j r
+    nested-only (more (node f us) ts) a seen b m rest x y n l j r =
+        let p : ℕ = place (inner ts) b m in
+        let end : ℕ = m + inner ts in
+        let seen1 : List ℕ = see_nested ts seen in
+        let part : List Step = build (node f us) p seen1 a end in
+        let d = nested-only ts a seen b m (part ++ rest) x y n l j (reassoc (nested ts a seen b m) part rest none x y bs r) in
+        let e = build-only (node f us) p seen1 a end rest d.0 d.1 (place_apart (inner ts) a b m n l) (place_below (inner ts) b m j) (omega arith) d.5 in (
+          e.0,
+          e.1,
+          λ w i o q. e.4 w (omega arith) (place_other (inner ts) b m w i q) o ∙ d.2 w i o q,
+          λ w o. d.3 w o ∙ e.2 w (see_nested-grows ts seen w o),
+          λ h g. (
+            e.3 h g,
+            Temps-same ts b m d.0 e.0 h (λ k i. e.4 (place k b m) (place_within k (inner ts) b m j i) (place_new k (inner ts) b m j i) (place_apart k a b m n l))
+                (d.4 h (λ w o. e.2 w o ∙ g w (see_built-grows (node f us) seen1 w o))),
+          ),
+          e.5,
         )
 
   module _ (h : ℕ → Tree) where
     mutual
-      build-each : (t : Tree) (a : ℕ) (seen : List ℕ) (m : ℕ) (rest : List Step) (x y : ℕ → Tree) → a < m → AgreeOn seen y h
-          → ((x' y' : ℕ → Tree) → x' a ≡ instance h t → But a m x x' → AgreeOn (see_built t seen) y' h → Runs rest none x' y' bs) → Runs (build t a seen m ++ rest) none x y bs
-      build-each (var v) a seen m rest x y l g r = go (has seen v) refl r
+      build-each : (t : Tree) (a : ℕ) (seen : List ℕ) (b m : ℕ) (rest : List Step) (x y : ℕ → Tree) → a ≢ b → a < m → b < m → AgreeOn seen y h
+          → ((x' y' : ℕ → Tree) → x' a ≡ instance h t → But a b m x x' → AgreeOn (see_built t seen) y' h → Runs rest none x' y' bs) → Runs (build t a seen b m ++ rest) none x y bs
+      build-each (var v) a seen b m rest x y n l j g r = go (has seen v) refl r
         where
-          go : (b : Bool) → has seen v ≡ b → ((x' y' : ℕ → Tree) → x' a ≡ h v → But a m x x' → AgreeOn (if b then seen else seen ++ v ∷ []) y' h → Runs rest none x' y' bs)
-              → Runs ((if b then put_value (Y v) a ∷ [] else put_variable (Y v) a ∷ []) ++ rest) none x y bs
-          go true e r = r (set x a (y v)) y (set_here x a (y v) ∙ g v e) (λ w i n. set_but x a w (y v) n) g
-          go false e r = (h v, r (set x a (h v)) (set y v (h v)) (set_here x a (h v)) (λ w i n. set_but x a w (h v) n) (push_agrees seen y h v g))
-      build-each (int z) a seen m rest x y l g r = r (set x a (int z)) y (set_here x a (int z)) (λ w i n. set_but x a w (int z) n) g
-      build-each (atom c) a seen m rest x y l g r = r (set x a (atom c)) y (set_here x a (atom c)) (λ w i n. set_but x a w (atom c) n) g
-      build-each (node f ts) a seen m rest x y l g r =
+          go : (d : Bool) → has seen v ≡ d → ((x' y' : ℕ → Tree) → x' a ≡ h v → But a b m x x' → AgreeOn (if d then seen else seen ++ v ∷ []) y' h → Runs rest none x' y' bs)
+              → Runs ((if d then put_value (Y v) a ∷ [] else put_variable (Y v) a ∷ []) ++ rest) none x y bs
+          go true e r = r (set x a (y v)) y (set_here x a (y v) ∙ g v e) (λ w i n k. set_but x a w (y v) n) g
+          go false e r = (h v, r (set x a (h v)) (set y v (h v)) (set_here x a (h v)) (λ w i n k. set_but x a w (h v) n) (push_agrees seen y h v g))
+      build-each (int z) a seen b m rest x y n l j g r = r (set x a (int z)) y (set_here x a (int z)) (λ w i n k. set_but x a w (int z) n) g
+      build-each (atom c) a seen b m rest x y n l j g r = r (set x a (atom c)) y (set_here x a (atom c)) (λ w i n k. set_but x a w (atom c) n) g
+      build-each (node f ts) a seen b m rest x y n l j g r =
           let seen1 : List ℕ = see_nested ts seen in
-          reassoc_back (nested ts seen m) (put_structure f (count_trees ts) a ∷ fills ts seen1 m) rest none x y bs
-          (nested-each ts seen m (put_structure f (count_trees ts) a ∷ (fills ts seen1 m ++ rest)) x y g (λ x1 y1 same temps g1.
+          reassoc_back (nested ts a seen b m) (put_structure f (count_trees ts) a ∷ fills ts seen1 b m) rest none x y bs
+          (nested-each ts a seen b m (put_structure f (count_trees ts) a ∷ (fills ts seen1 b m ++ rest)) x y n l j g (λ x1 y1 same temps g1.
           let t : Tree = node f (instance_all h ts) in
           let x' : ℕ → Tree = set x1 a t in (
             instance_all h ts,
             count-instance h ts,
-            fills-each bs rest x' h ts seen1 m y1 g1 (Temps-same ts m x1 x' h (λ w i j. set_above x1 a w t (omega arith)) temps)
-                (λ y' g'. r x' y' (set_here x1 a t) (λ w i n. set_but x1 a w t n ∙ same w i) g'),
+            fills-each bs rest x' b m h ts seen1 y1 g1 (Temps-same ts b m x1 x' h (λ k i. set_but x1 a (place k b m) t (place_apart k a b m n l)) temps)
+                (λ y' g'. r x' y' (set_here x1 a t) (λ w i p q. set_but x1 a w t p ∙ same w i p q) g'),
           )))
 
-      nested-each : (ts : Trees) (seen : List ℕ) (m : ℕ) (rest : List Step) (x y : ℕ → Tree) → AgreeOn seen y h
-          → ((x' y' : ℕ → Tree) → Same m x x' → Temps ts m x' h → AgreeOn (see_nested ts seen) y' h → Runs rest none x' y' bs) → Runs (nested ts seen m ++ rest) none x y bs
-      nested-each none seen m rest x y g r = r x y (λ w i. refl) tt g
-      nested-each (more (var v) ts) seen m rest x y g r = nested-each ts seen (m + 1) rest x y g (λ x' y' s t g'. r x' y' (λ w i. s w (omega arith)) t g')
-      nested-each (more (int v) ts) seen m rest x y g r = nested-each ts seen (m + 1) rest x y g (λ x' y' s t g'. r x' y' (λ w i. s w (omega arith)) t g')
-      nested-each (more (atom v) ts) seen m rest x y g r = nested-each ts seen (m + 1) rest x y g (λ x' y' s t g'. r x' y' (λ w i. s w (omega arith)) t g')
-      nested-each (more (node f us) ts) seen m rest x y g r =
-          let seen1 : List ℕ = see_built (node f us) seen in
-          reassoc_back (build (node f us) m seen (m + 1 + count_trees ts)) (nested ts seen1 (m + 1)) rest none x y bs
-          (build-each (node f us) m seen (m + 1 + count_trees ts) (nested ts seen1 (m + 1) ++ rest) x y (omega arith) g (λ x1 y1 e b g1.
-          nested-each ts seen1 (m + 1) rest x1 y1 g1 (λ x' y' s t g'. r x' y' (λ w i. s w (omega arith) ∙ b w (omega arith) (omega arith)) (s m (omega arith) ∙ e, t) g')))
+      nested-each : (ts : Trees) (a : ℕ) (seen : List ℕ) (b m : ℕ) (rest : List Step) (x y : ℕ → Tree) → a ≢ b → a < m → b < m → AgreeOn seen y h
+          → ((x' y' : ℕ → Tree) → But a b m x x' → Temps ts b m x' h → AgreeOn (see_nested ts seen) y' h → Runs rest none x' y' bs) → Runs (nested ts a seen b m ++ rest) none x y bs
+      nested-each none a seen b m rest x y n l j g r = r x y (λ w i p q. refl) tt g
+      nested-each (more (var v) ts) a seen b m rest x y n l j g r = nested-each ts a seen b m rest x y n l j g r
+      nested-each (more (int v) ts) a seen b m rest x y n l j g r = nested-each ts a seen b m rest x y n l j g r
+      nested-each (more (atom v) ts) a seen b m rest x y n l j g r = nested-each ts a seen b m rest x y n l j g r
+      nested-each (more (node f us) ts) a seen b m rest x y n l j g r =
+          let p : ℕ = place (inner ts) b m in
+          let end : ℕ = m + inner ts in
+          let seen1 : List ℕ = see_nested ts seen in
+          let part : List Step = build (node f us) p seen1 a end in
+          reassoc_back (nested ts a seen b m) part rest none x y bs
+          (nested-each ts a seen b m (part ++ rest) x y n l j g (λ x1 y1 same temps g1.
+          build-each (node f us) p seen1 a end rest x1 y1 (place_apart (inner ts) a b m n l) (place_below (inner ts) b m j) (omega arith) g1 (λ x' y' e c g'.
+          r x' y' (λ w i o q. c w (omega arith) (place_other (inner ts) b m w i q) o ∙ same w i o q)
+          (e, Temps-same ts b m x1 x' h (λ k i. c (place k b m) (place_within k (inner ts) b m j i) (place_new k (inner ts) b m j i) (place_apart k a b m n l)) temps) g')))
 
 -- ---- the arguments of a goal
 
@@ -397,12 +437,12 @@ module _ (bs : Trees) where
   puts-only none a seen m rest x y l r = (x, y, λ w i. refl, λ w o. refl, λ h g. refl, r)
   puts-only (more t ts) a seen m rest x y l r =
       let seen1 : List ℕ = see_built t seen in
-      let b = build-only bs t a seen m (puts ts (a + 1) seen1 m ++ rest) x y (omega arith) (reassoc (build t a seen m) (puts ts (a + 1) seen1 m) rest none x y bs r) in
+      let b = build-only bs t a seen m (m + 1) (puts ts (a + 1) seen1 m ++ rest) x y (omega arith) (omega arith) (omega arith) (reassoc (build t a seen m (m + 1)) (puts ts (a + 1) seen1 m) rest none x y bs r) in
       let p = puts-only ts (a + 1) seen1 m rest b.0 b.1 (omega arith) b.5 in
       let e : count_trees ts + 1 ≡ suc (count_trees ts) = omega arith in (
         p.0,
         p.1,
-        λ w i. p.2 w (omega arith) ∙ b.4 w (omega arith) (omega arith),
+        λ w i. p.2 w (omega arith) ∙ b.4 w (omega arith) (omega arith) (omega arith),
         λ w o. b.2 w o ∙ p.3 w (see_built-grows t seen w o),
         λ h g.
             ap (spread p.0 a) e
@@ -416,11 +456,11 @@ module _ (bs : Trees) where
   puts-each h none a seen m rest x y l g r = r x y (λ w i. refl) refl g
   puts-each h (more t ts) a seen m rest x y l g r =
       let seen1 : List ℕ = see_built t seen in
-      reassoc_back (build t a seen m) (puts ts (a + 1) seen1 m) rest none x y bs
-      (build-each bs h t a seen m (puts ts (a + 1) seen1 m ++ rest) x y (omega arith) g (λ x1 y1 e b g1.
+      reassoc_back (build t a seen m (m + 1)) (puts ts (a + 1) seen1 m) rest none x y bs
+      (build-each bs h t a seen m (m + 1) (puts ts (a + 1) seen1 m ++ rest) x y (omega arith) (omega arith) (omega arith) g (λ x1 y1 e b g1.
       puts-each h ts (a + 1) seen1 m rest x1 y1 (omega arith) g1 (λ x' y' s p g'.
       let k : count_trees ts + 1 ≡ suc (count_trees ts) = omega arith in
-      r x' y' (λ w i. s w (omega arith) ∙ b w (omega arith) (omega arith))
+      r x' y' (λ w i. s w (omega arith) ∙ b w (omega arith) (omega arith) (omega arith))
       (ap (spread x' a) k ∙ ap (λ u. more u (spread x' (a + 1) (count_trees ts))) (s a (omega arith) ∙ e) ∙ ap (more (instance h t)) p) g')))
 
 -- ---- goals and bodies
@@ -515,111 +555,119 @@ module _ (bs : Trees) (rest : List Step) where
   -- what was taken of a structure is what it is to be, where the temporaries are
   abbrev TakesOnly : Trees → Trees → List ℕ → ℕ → (ℕ → Tree) → (ℕ → Tree) → Type 0
   TakesOnly ts us seen m x y =
-      (x' : ℕ → Tree) × (y' : ℕ → Tree) × Same m x x' × AgreeOn seen y y' × ((h : ℕ → Tree) → AgreeOn (see_all ts seen) y' h → Temps ts m x' h → us ≡ instance_all h ts) × Runs rest none x' y' bs
+      (x' : ℕ → Tree) × (y' : ℕ → Tree) × Same m x x' × Above (m + inner ts) x x' × AgreeOn seen y y'
+      × ((h : ℕ → Tree) → AgreeOn (see_all ts seen) y' h → Taken ts m x' h → us ≡ instance_all h ts) × Runs rest none x' y' bs
 
   takes-only : (ts us : Trees) (seen : List ℕ) (m : ℕ) (x y : ℕ → Tree) → count_trees us ≡ count_trees ts → Runs (takes ts seen m ++ rest) us x y bs → TakesOnly ts us seen m x y
-  takes-only none none seen m x y c r = (x, y, λ w i. refl, λ w o. refl, λ h a t. refl, r)
+  takes-only none none seen m x y c r = (x, y, λ w i. refl, λ w i. refl, λ w o. refl, λ h a t. refl, r)
   takes-only none (more u us) seen m x y c r = absurd (omega arith)
   takes-only (more (var v) ts) none seen m x y c r = absurd (omega arith)
   takes-only (more (int v) ts) none seen m x y c r = absurd (omega arith)
   takes-only (more (atom v) ts) none seen m x y c r = absurd (omega arith)
   takes-only (more (node a vs) ts) none seen m x y c r = absurd (omega arith)
-  takes-only (more (var v) ts) (more u us) seen m x y c r = go (λ seen y r. takes-only ts us seen (m + 1) x y (omega arith) r) (has seen v) refl r
+  takes-only (more (var v) ts) (more u us) seen m x y c r = go (λ seen y r. takes-only ts us seen m x y (omega arith) r) (has seen v) refl r
     where
-      go : ((seen : List ℕ) (y : ℕ → Tree) → Runs (takes ts seen (m + 1) ++ rest) us x y bs → TakesOnly ts us seen (m + 1) x y)
-          → (b : Bool) → has seen v ≡ b → Runs ((if b then unify_value (Y v) else unify_variable (Y v)) ∷ (takes ts (if b then seen else seen ++ v ∷ []) (m + 1) ++ rest)) (more u us) x y bs
-          → (x' : ℕ → Tree) × (y' : ℕ → Tree) × Same m x x' × AgreeOn seen y y'
-          × ((h : ℕ → Tree) → AgreeOn (see_all ts (if b then seen else seen ++ v ∷ [])) y' h → Temps ts (m + 1) x' h → more u us ≡ more (h v) (instance_all h ts)) × Runs rest none x' y' bs
+      go : ((seen : List ℕ) (y : ℕ → Tree) → Runs (takes ts seen m ++ rest) us x y bs → TakesOnly ts us seen m x y)
+          → (b : Bool) → has seen v ≡ b → Runs ((if b then unify_value (Y v) else unify_variable (Y v)) ∷ (takes ts (if b then seen else seen ++ v ∷ []) m ++ rest)) (more u us) x y bs
+          → (x' : ℕ → Tree) × (y' : ℕ → Tree) × Same m x x' × Above (m + inner ts) x x' × AgreeOn seen y y'
+          × ((h : ℕ → Tree) → AgreeOn (see_all ts (if b then seen else seen ++ v ∷ [])) y' h → Taken ts m x' h → more u us ≡ more (h v) (instance_all h ts)) × Runs rest none x' y' bs
       go ih true e r =
           let k = ih seen y r.1 in (
             k.0,
             k.1,
-            λ w i. k.2 w (omega arith),
+            k.2,
             k.3,
-            λ h a t. ap (λ q. more q us) (sym r.0 ∙ k.3 v e ∙ a v (see_all-grows ts seen v e)) ∙ ap (more (h v)) (k.4 h a t),
-            k.5,
+            k.4,
+            λ h a t. ap (λ q. more q us) (sym r.0 ∙ k.4 v e ∙ a v (see_all-grows ts seen v e)) ∙ ap (more (h v)) (k.5 h a t),
+            k.6,
           )
       go ih false e r =
           let k = ih (seen ++ v ∷ []) (set y v u) r in (
             k.0,
             k.1,
-            λ w i. k.2 w (omega arith),
-            λ w o. set_agrees seen y v u e w o ∙ k.3 w (has_more seen v w o),
+            k.2,
+            k.3,
+            λ w o. set_agrees seen y v u e w o ∙ k.4 w (has_more seen v w o),
             λ h a t.
-                ap (λ q. more q us) (sym (set_here y v u) ∙ k.3 v (has_first seen v) ∙ a v (see_all-grows ts (seen ++ v ∷ []) v (has_first seen v))) ∙ ap (more (h v)) (k.4 h a t),
-            k.5,
+                ap (λ q. more q us) (sym (set_here y v u) ∙ k.4 v (has_first seen v) ∙ a v (see_all-grows ts (seen ++ v ∷ []) v (has_first seen v))) ∙ ap (more (h v)) (k.5 h a t),
+            k.6,
           )
   takes-only (more (int z) ts) (more u us) seen m x y c r =
-      let k = takes-only ts us seen (m + 1) x y (omega arith) r.1 in (k.0, k.1, λ w i. k.2 w (omega arith), k.3, λ h a t. ap (λ q. more q us) r.0 ∙ ap (more (int z)) (k.4 h a t), k.5)
+      let k = takes-only ts us seen m x y (omega arith) r.1 in (k.0, k.1, k.2, k.3, k.4, λ h a t. ap (λ q. more q us) r.0 ∙ ap (more (int z)) (k.5 h a t), k.6)
   takes-only (more (atom a) ts) (more u us) seen m x y c r =
-      let k = takes-only ts us seen (m + 1) x y (omega arith) r.1 in (k.0, k.1, λ w i. k.2 w (omega arith), k.3, λ h g t. ap (λ q. more q us) r.0 ∙ ap (more (atom a)) (k.4 h g t), k.5)
+      let k = takes-only ts us seen m x y (omega arith) r.1 in (k.0, k.1, k.2, k.3, k.4, λ h g t. ap (λ q. more q us) r.0 ∙ ap (more (atom a)) (k.5 h g t), k.6)
   takes-only (more (node a vs) ts) (more u us) seen m x y c r =
-      let k = takes-only ts us seen (m + 1) (set x m u) y (omega arith) r in (
+      let p : ℕ = m + inner ts in
+      let k = takes-only ts us seen m (set x p u) y (omega arith) r in (
         k.0,
         k.1,
-        λ w i. k.2 w (omega arith) ∙ set_other x m w u i,
-        k.3,
-        λ h g t. ap (λ q. more q us) (sym (k.2 m (omega arith) ∙ set_here x m u) ∙ t.0) ∙ ap (more (instance h (node a vs))) (k.4 h g t.1),
-        k.5,
+        λ w i. k.2 w i ∙ set_but x p w u (omega arith),
+        λ w i. k.3 w (omega arith) ∙ set_but x p w u (omega arith),
+        k.4,
+        λ h g t. ap (λ q. more q us) (sym (k.3 p (omega arith) ∙ set_here x p u) ∙ t.0) ∙ ap (more (instance h (node a vs))) (k.5 h g t.1),
+        k.6,
       )
 
   takes-each : (h : ℕ → Tree) (ts : Trees) (seen : List ℕ) (m : ℕ) (x y : ℕ → Tree) → AgreeOn seen y h
-      → ((x' y' : ℕ → Tree) → Same m x x' → Temps ts m x' h → AgreeOn (see_all ts seen) y' h → Runs rest none x' y' bs) → Runs (takes ts seen m ++ rest) (instance_all h ts) x y bs
-  takes-each h none seen m x y a r = r x y (λ w i. refl) tt a
-  takes-each h (more (var v) ts) seen m x y a r = go (λ seen y a r. takes-each h ts seen (m + 1) x y a r) (has seen v) refl (λ x' y' s t a. r x' y' (λ w i. s w (omega arith)) t a)
+      → ((x' y' : ℕ → Tree) → Same m x x' → Above (m + inner ts) x x' → Taken ts m x' h → AgreeOn (see_all ts seen) y' h → Runs rest none x' y' bs) → Runs (takes ts seen m ++ rest) (instance_all h ts) x y bs
+  takes-each h none seen m x y a r = r x y (λ w i. refl) (λ w i. refl) tt a
+  takes-each h (more (var v) ts) seen m x y a r = go (λ seen y a r. takes-each h ts seen m x y a r) (has seen v) refl r
     where
-      go : ((seen : List ℕ) (y : ℕ → Tree) → AgreeOn seen y h → ((x' y' : ℕ → Tree) → Same (m + 1) x x' → Temps ts (m + 1) x' h → AgreeOn (see_all ts seen) y' h → Runs rest none x' y' bs)
-          → Runs (takes ts seen (m + 1) ++ rest) (instance_all h ts) x y bs)
+      go : ((seen : List ℕ) (y : ℕ → Tree) → AgreeOn seen y h
+          → ((x' y' : ℕ → Tree) → Same m x x' → Above (m + inner ts) x x' → Taken ts m x' h → AgreeOn (see_all ts seen) y' h → Runs rest none x' y' bs) → Runs (takes ts seen m ++ rest) (instance_all h ts) x y bs)
           → (b : Bool) → has seen v ≡ b
-          → ((x' y' : ℕ → Tree) → Same (m + 1) x x' → Temps ts (m + 1) x' h → AgreeOn (see_all ts (if b then seen else seen ++ v ∷ [])) y' h → Runs rest none x' y' bs)
-          → Runs ((if b then unify_value (Y v) else unify_variable (Y v)) ∷ (takes ts (if b then seen else seen ++ v ∷ []) (m + 1) ++ rest)) (more (h v) (instance_all h ts)) x y bs
+          → ((x' y' : ℕ → Tree) → Same m x x' → Above (m + inner ts) x x' → Taken ts m x' h → AgreeOn (see_all ts (if b then seen else seen ++ v ∷ [])) y' h → Runs rest none x' y' bs)
+          → Runs ((if b then unify_value (Y v) else unify_variable (Y v)) ∷ (takes ts (if b then seen else seen ++ v ∷ []) m ++ rest)) (more (h v) (instance_all h ts)) x y bs
       go ih true e r = (a v e, ih seen y a r)
       go ih false e r = ih (seen ++ v ∷ []) (set y v (h v)) (push_agrees seen y h v a) r
-  takes-each h (more (int z) ts) seen m x y a r = (refl, takes-each h ts seen (m + 1) x y a (λ x' y' s t a. r x' y' (λ w i. s w (omega arith)) t a))
-  takes-each h (more (atom c) ts) seen m x y a r = (refl, takes-each h ts seen (m + 1) x y a (λ x' y' s t a. r x' y' (λ w i. s w (omega arith)) t a))
+  takes-each h (more (int z) ts) seen m x y a r = (refl, takes-each h ts seen m x y a r)
+  takes-each h (more (atom c) ts) seen m x y a r = (refl, takes-each h ts seen m x y a r)
   takes-each h (more (node c us) ts) seen m x y a r =
+      let p : ℕ = m + inner ts in
       let u : Tree = instance h (node c us) in
-      takes-each h ts seen (m + 1) (set x m u) y a (λ x' y' s t a. r x' y' (λ w i. s w (omega arith) ∙ set_other x m w u i) (s m (omega arith) ∙ set_here x m u, t) a)
+      takes-each h ts seen m (set x p u) y a (λ x' y' s b t a.
+      r x' y' (λ w i. s w i ∙ set_but x p w u (omega arith)) (λ w i. b w (omega arith) ∙ set_but x p w u (omega arith)) (b p (omega arith) ∙ set_here x p u, t) a)
 
 module _ (bs : Trees) where
   mutual
-    get-only : (t : Tree) (a : ℕ) (seen : List ℕ) (m : ℕ) (rest : List Step) (x y : ℕ → Tree) → a < m → Runs (get t a seen m ++ rest) none x y bs
+    get-only : (t : Tree) (a : ℕ) (seen : List ℕ) (m : ℕ) (rest : List Step) (x y : ℕ → Tree) → Runs (get t a seen m ++ rest) none x y bs
         → (x' : ℕ → Tree) × (y' : ℕ → Tree) × Same m x x' × AgreeOn seen y y' × ((h : ℕ → Tree) → AgreeOn (see_taken t seen) y' h → x a ≡ instance h t) × Runs rest none x' y' bs
-    get-only (var v) a seen m rest x y l r = go (has seen v) refl r
+    get-only (var v) a seen m rest x y r = go (has seen v) refl r
       where
         go : (b : Bool) → has seen v ≡ b → Runs ((if b then get_value (Y v) a ∷ [] else get_variable (Y v) a ∷ []) ++ rest) none x y bs
             → (x' : ℕ → Tree) × (y' : ℕ → Tree) × Same m x x' × AgreeOn seen y y' × ((h : ℕ → Tree) → AgreeOn (if b then seen else seen ++ v ∷ []) y' h → x a ≡ h v) × Runs rest none x' y' bs
         go true e r = (x, y, λ w i. refl, λ w o. refl, λ h g. sym r.0 ∙ g v e, r.1)
         go false e r = (x, set y v (x a), λ w i. refl, set_agrees seen y v (x a) e, λ h g. sym (set_here y v (x a)) ∙ g v (has_first seen v), r)
-    get-only (int z) a seen m rest x y l r = (x, y, λ w i. refl, λ w o. refl, λ h g. r.0, r.1)
-    get-only (atom c) a seen m rest x y l r = (x, y, λ w i. refl, λ w o. refl, λ h g. r.0, r.1)
-    get-only (node f ts) a seen m rest x y l r =
+    get-only (int z) a seen m rest x y r = (x, y, λ w i. refl, λ w o. refl, λ h g. r.0, r.1)
+    get-only (atom c) a seen m rest x y r = (x, y, λ w i. refl, λ w o. refl, λ h g. r.0, r.1)
+    get-only (node f ts) a seen m rest x y r =
         let seen1 : List ℕ = see_all ts seen in
         let k = takes-only bs (opens ts seen1 m ++ rest) ts r.0 seen m x y r.1 (reassoc (takes ts seen m) (opens ts seen1 m) rest r.0 x y bs r.3) in
-        let n = opens-only ts seen1 m rest k.0 k.1 k.5 in (
+        let n = opens-only ts seen1 m rest k.0 k.1 k.6 in (
           n.0,
           n.1,
           λ w i. n.2 w i ∙ k.2 w i,
-          λ w o. k.3 w o ∙ n.3 w (see_all-grows ts seen w o),
-          λ h g. r.2 ∙ ap (node f) (k.4 h (λ w o. n.3 w o ∙ g w (see_opened-grows ts seen1 w o)) (n.4 h g)),
+          λ w o. k.4 w o ∙ n.3 w (see_all-grows ts seen w o),
+          λ h g. r.2 ∙ ap (node f) (k.5 h (λ w o. n.3 w o ∙ g w (see_opened-grows ts seen1 w o)) (n.4 h g)),
           n.5,
         )
 
     opens-only : (ts : Trees) (seen : List ℕ) (m : ℕ) (rest : List Step) (x y : ℕ → Tree) → Runs (opens ts seen m ++ rest) none x y bs
-        → (x' : ℕ → Tree) × (y' : ℕ → Tree) × Same m x x' × AgreeOn seen y y' × ((h : ℕ → Tree) → AgreeOn (see_opened ts seen) y' h → Temps ts m x h) × Runs rest none x' y' bs
+        → (x' : ℕ → Tree) × (y' : ℕ → Tree) × Same m x x' × AgreeOn seen y y' × ((h : ℕ → Tree) → AgreeOn (see_opened ts seen) y' h → Taken ts m x h) × Runs rest none x' y' bs
     opens-only none seen m rest x y r = (x, y, λ w i. refl, λ w o. refl, λ h g. tt, r)
-    opens-only (more (var v) ts) seen m rest x y r = let n = opens-only ts seen (m + 1) rest x y r in (n.0, n.1, λ w i. n.2 w (omega arith), n.3, n.4, n.5)
-    opens-only (more (int v) ts) seen m rest x y r = let n = opens-only ts seen (m + 1) rest x y r in (n.0, n.1, λ w i. n.2 w (omega arith), n.3, n.4, n.5)
-    opens-only (more (atom v) ts) seen m rest x y r = let n = opens-only ts seen (m + 1) rest x y r in (n.0, n.1, λ w i. n.2 w (omega arith), n.3, n.4, n.5)
+    opens-only (more (var v) ts) seen m rest x y r = opens-only ts seen m rest x y r
+    opens-only (more (int v) ts) seen m rest x y r = opens-only ts seen m rest x y r
+    opens-only (more (atom v) ts) seen m rest x y r = opens-only ts seen m rest x y r
     opens-only (more (node f us) ts) seen m rest x y r =
+        let p : ℕ = m + inner ts in
         let seen1 : List ℕ = see_taken (node f us) seen in
-        let g = get-only (node f us) m seen (m + 1 + count_trees ts) (opens ts seen1 (m + 1) ++ rest) x y (omega arith) (reassoc (get (node f us) m seen (m + 1 + count_trees ts)) (opens ts seen1 (m + 1)) rest none x y bs r) in
-        let n = opens-only ts seen1 (m + 1) rest g.0 g.1 g.5 in (
+        let g = get-only (node f us) p seen p (opens ts seen1 m ++ rest) x y (reassoc (get (node f us) p seen p) (opens ts seen1 m) rest none x y bs r) in
+        let n = opens-only ts seen1 m rest g.0 g.1 g.5 in (
           n.0,
           n.1,
-          λ w i. n.2 w (omega arith) ∙ g.2 w (omega arith),
+          λ w i. n.2 w i ∙ g.2 w (omega arith),
           λ w o. g.3 w o ∙ n.3 w (see_taken-grows (node f us) seen w o),
-          λ h k. (g.4 h (λ w o. n.3 w o ∙ k w (see_opened-grows ts seen1 w o)), Temps-same ts (m + 1) g.0 x h (λ w i j. sym (g.2 w (omega arith))) (n.4 h k)),
+          λ h k. (g.4 h (λ w o. n.3 w o ∙ k w (see_opened-grows ts seen1 w o)), Taken-same ts m g.0 x h (λ w i. sym (g.2 w i)) (n.4 h k)),
           n.5,
         )
 
@@ -627,7 +675,7 @@ module _ (bs : Trees) where
       → (x' : ℕ → Tree) × (y' : ℕ → Tree) × Same m x x' × AgreeOn seen y y' × (spread x a (count_trees ts) ≡ instance_all y' ts) × Runs rest none x' y' bs
   gets-only none a seen m rest x y l r = (x, y, λ w i. refl, λ w o. refl, refl, r)
   gets-only (more t ts) a seen m rest x y l r =
-      let g = get-only t a seen m (gets ts (a + 1) (add_vars t seen) m ++ rest) x y (omega arith) (reassoc (get t a seen m) (gets ts (a + 1) (add_vars t seen) m) rest none x y bs r) in
+      let g = get-only t a seen m (gets ts (a + 1) (add_vars t seen) m ++ rest) x y (reassoc (get t a seen m) (gets ts (a + 1) (add_vars t seen) m) rest none x y bs r) in
       let k = gets-only ts (a + 1) (add_vars t seen) m rest g.0 g.1 (omega arith) g.5 in
       let e : count_trees ts + 1 ≡ suc (count_trees ts) = omega arith in (
         k.0,
@@ -646,37 +694,38 @@ module _ (bs : Trees) where
 
   module _ (h : ℕ → Tree) where
     mutual
-      get-each : (t : Tree) (a : ℕ) (seen : List ℕ) (m : ℕ) (rest : List Step) (x y : ℕ → Tree) → a < m → AgreeOn seen y h → x a ≡ instance h t
+      get-each : (t : Tree) (a : ℕ) (seen : List ℕ) (m : ℕ) (rest : List Step) (x y : ℕ → Tree) → AgreeOn seen y h → x a ≡ instance h t
           → ((x' y' : ℕ → Tree) → Same m x x' → AgreeOn (see_taken t seen) y' h → Runs rest none x' y' bs) → Runs (get t a seen m ++ rest) none x y bs
-      get-each (var v) a seen m rest x y l ag e r = go (has seen v) refl r
+      get-each (var v) a seen m rest x y ag e r = go (has seen v) refl r
         where
           go : (b : Bool) → has seen v ≡ b → ((x' y' : ℕ → Tree) → Same m x x' → AgreeOn (if b then seen else seen ++ v ∷ []) y' h → Runs rest none x' y' bs)
               → Runs ((if b then get_value (Y v) a ∷ [] else get_variable (Y v) a ∷ []) ++ rest) none x y bs
           go true k r = (ag v k ∙ sym e, r x y (λ w i. refl) ag)
           go false k r = r x (set y v (x a)) (λ w i. refl) (subst (λ t. AgreeOn (seen ++ v ∷ []) (set y v t) h) (sym e) (push_agrees seen y h v ag))
-      get-each (int z) a seen m rest x y l ag e r = (e, r x y (λ w i. refl) ag)
-      get-each (atom c) a seen m rest x y l ag e r = (e, r x y (λ w i. refl) ag)
-      get-each (node f ts) a seen m rest x y l ag e r =
+      get-each (int z) a seen m rest x y ag e r = (e, r x y (λ w i. refl) ag)
+      get-each (atom c) a seen m rest x y ag e r = (e, r x y (λ w i. refl) ag)
+      get-each (node f ts) a seen m rest x y ag e r =
           let seen1 : List ℕ = see_all ts seen in (
             instance_all h ts,
             count-instance h ts,
             e,
             reassoc_back (takes ts seen m) (opens ts seen1 m) rest (instance_all h ts) x y bs
-                (takes-each bs (opens ts seen1 m ++ rest) h ts seen m x y ag (λ x1 y1 s1 t1 a1. opens-each ts seen1 m rest x1 y1 a1 t1 (λ x' y' s a. r x' y' (λ w i. s w i ∙ s1 w i) a))),
+                (takes-each bs (opens ts seen1 m ++ rest) h ts seen m x y ag (λ x1 y1 s1 b1 t1 a1. opens-each ts seen1 m rest x1 y1 a1 t1 (λ x' y' s a. r x' y' (λ w i. s w i ∙ s1 w i) a))),
           )
 
-      opens-each : (ts : Trees) (seen : List ℕ) (m : ℕ) (rest : List Step) (x y : ℕ → Tree) → AgreeOn seen y h → Temps ts m x h
+      opens-each : (ts : Trees) (seen : List ℕ) (m : ℕ) (rest : List Step) (x y : ℕ → Tree) → AgreeOn seen y h → Taken ts m x h
           → ((x' y' : ℕ → Tree) → Same m x x' → AgreeOn (see_opened ts seen) y' h → Runs rest none x' y' bs) → Runs (opens ts seen m ++ rest) none x y bs
       opens-each none seen m rest x y a t r = r x y (λ w i. refl) a
-      opens-each (more (var v) ts) seen m rest x y a t r = opens-each ts seen (m + 1) rest x y a t (λ x' y' s a. r x' y' (λ w i. s w (omega arith)) a)
-      opens-each (more (int v) ts) seen m rest x y a t r = opens-each ts seen (m + 1) rest x y a t (λ x' y' s a. r x' y' (λ w i. s w (omega arith)) a)
-      opens-each (more (atom v) ts) seen m rest x y a t r = opens-each ts seen (m + 1) rest x y a t (λ x' y' s a. r x' y' (λ w i. s w (omega arith)) a)
+      opens-each (more (var v) ts) seen m rest x y a t r = opens-each ts seen m rest x y a t r
+      opens-each (more (int v) ts) seen m rest x y a t r = opens-each ts seen m rest x y a t r
+      opens-each (more (atom v) ts) seen m rest x y a t r = opens-each ts seen m rest x y a t r
       opens-each (more (node f us) ts) seen m rest x y a t r =
+          let p : ℕ = m + inner ts in
           let seen1 : List ℕ = see_taken (node f us) seen in
-          reassoc_back (get (node f us) m seen (m + 1 + count_trees ts)) (opens ts seen1 (m + 1)) rest none x y bs
-          (get-each (node f us) m seen (m + 1 + count_trees ts) (opens ts seen1 (m + 1) ++ rest) x y (omega arith) a t.0 (λ x1 y1 s1 a1.
-          opens-each ts seen1 (m + 1) rest x1 y1 a1 (Temps-same ts (m + 1) x x1 h (λ w i j. s1 w (omega arith)) t.1)
-          (λ x' y' s a. r x' y' (λ w i. s w (omega arith) ∙ s1 w (omega arith)) a)))
+          reassoc_back (get (node f us) p seen p) (opens ts seen1 m) rest none x y bs
+          (get-each (node f us) p seen p (opens ts seen1 m ++ rest) x y a t.0 (λ x1 y1 s1 a1.
+          opens-each ts seen1 m rest x1 y1 a1 (Taken-same ts m x x1 h (λ w i. s1 w i) t.1) (λ x' y' s a.
+          r x' y' (λ w i. s w i ∙ s1 w (omega arith)) a)))
 
     gets-each : (ts : Trees) (a : ℕ) (seen : List ℕ) (m : ℕ) (rest : List Step) (x y : ℕ → Tree) → a + count_trees ts ≤ m → AgreeOn seen y h → spread x a (count_trees ts) ≡ instance_all h ts
         → ((x' y' : ℕ → Tree) → AgreeOn (add_all_vars ts seen) y' h → Runs rest none x' y' bs) → Runs (gets ts a seen m ++ rest) none x y bs
@@ -685,7 +734,7 @@ module _ (bs : Trees) where
         let k : suc (count_trees ts) ≡ count_trees ts + 1 = omega arith in
         let d : more (x a) (spread x (a + 1) (count_trees ts)) ≡ more (instance h t) (instance_all h ts) = ap (spread x a) k ∙ e in
         reassoc_back (get t a seen m) (gets ts (a + 1) (add_vars t seen) m) rest none x y bs
-        (get-each t a seen m (gets ts (a + 1) (add_vars t seen) m ++ rest) x y (omega arith) ag (cc) (λ x1 y1 s1 a1.
+        (get-each t a seen m (gets ts (a + 1) (add_vars t seen) m ++ rest) x y ag (cc) (λ x1 y1 s1 a1.
         gets-each ts (a + 1) (add_vars t seen) m rest x1 y1 (omega arith) (λ w o. a1 w (taken_sees t seen w o)) (spread_under x1 x (a + 1) (count_trees ts) (λ w i. s1 w (omega arith)) ∙ cc) r))
       where
         spread_under : (x x' : ℕ → Tree) (p n : ℕ) → ((w : ℕ) → w < p + n → x w ≡ x' w) → spread x p n ≡ spread x' p n

@@ -3,6 +3,7 @@ pub mod Follow
 pub mod Laws
 pub mod Emitted
 pub mod Permanent
+pub mod Waiting
 pub mod Assembled
 pub mod Temporary
 pub mod CodeOf

@@ -42,11 +42,11 @@ fn goals_of<'a>(alloc: Global, body: &'a Body) -> Result<Vec<&'a Term>, NoMemory
 }
 
 /// A goal with others behind it, or a built-in one.
-fn ask(code: &mut Vec<Step>, t: &Term, seen: &mut Vec<u64>) -> Result<(), NoMemory>
+fn ask(alloc: Global, code: &mut Vec<Step>, t: &Term, seen: &mut Vec<u64>) -> Result<(), NoMemory>
     ensures code { OnOk result (steps_of code.new.items ≡ steps_of code.old.items ++ (goal_code (tree_of t.now) seen.old.items ++ asking (tree_of t.now) ∷ [])) }
     ensures seen { OnOk result (seen.new.items ≡ add_vars (tree_of t.now) seen.old.items) }
 {
-    let (p, n) = goal(code, t, seen)?;
+    let (p, n) = goal(alloc, code, t, seen)?;
     match builtin_of(t) {
         Some(builtin) => add(code, Step::Builtin(builtin)),
         None => add(code, Step::Call(p, n)),
@@ -54,10 +54,15 @@ fn ask(code: &mut Vec<Step>, t: &Term, seen: &mut Vec<u64>) -> Result<(), NoMemo
 }
 
 /// The last goal, a call.
-fn ask_last(code: &mut Vec<Step>, t: &Term, seen: &mut Vec<u64>) -> Result<(), NoMemory>
+fn ask_last(
+    alloc: Global,
+    code: &mut Vec<Step>,
+    t: &Term,
+    seen: &mut Vec<u64>,
+) -> Result<(), NoMemory>
     ensures { OnOk result (steps_of code.new.items ≡ steps_of code.old.items ++ (goal_code (tree_of t.now) seen.old.items ++ execute (name (tree_of t.now)) (count_trees (arguments (tree_of t.now))) ∷ [])) }
 {
-    let (p, n) = goal(code, t, seen)?;
+    let (p, n) = goal(alloc, code, t, seen)?;
     add(code, Step::Execute(p, n))
 }
 
@@ -68,28 +73,33 @@ fn is_last_call(t: &Term, left: usize) -> bool
 }
 
 /// The goals of a body, one after another.
-fn body(code: &mut Vec<Step>, goals: &[&Term], seen: &mut Vec<u64>) -> Result<(), NoMemory>
+fn body(
+    alloc: Global,
+    code: &mut Vec<Step>,
+    goals: &[&Term],
+    seen: &mut Vec<u64>,
+) -> Result<(), NoMemory>
     ensures { OnOk result (steps_of code.new.items ≡ steps_of code.old.items ++ body_code (trees_of (map (λ t. t.now) goals.now)) seen.old.items) }
 {
     let mut left = goals.len();
     for t in goals {
         left -= 1;
         if is_last_call(t, left) {
-            return ask_last(code, t, seen);
+            return ask_last(alloc, code, t, seen);
         }
-        ask(code, t, seen)?;
+        ask(alloc, code, t, seen)?;
     }
     add(code, Step::Proceed)
 }
 
-fn head(code: &mut Vec<Step>, t: &Term, seen: &mut Vec<u64>) -> Result<(), NoMemory>
+fn head(alloc: Global, code: &mut Vec<Step>, t: &Term, seen: &mut Vec<u64>) -> Result<(), NoMemory>
     ensures code { OnOk result (steps_of code.new.items ≡ steps_of code.old.items ++ gets (arguments (tree_of t.now)) 1 seen.old.items (count_trees (arguments (tree_of t.now)) + 1)) }
     ensures seen { OnOk result (seen.new.items ≡ add_all_vars (arguments (tree_of t.now)) seen.old.items) }
 {
     match t {
         Term::Node(_, args) => {
             let m = above(1, args.len())?;
-            gets(code, args, seen, m)
+            gets(alloc, code, args, seen, m)
         }
         Term::Var(_) | Term::Int(_) | Term::Atom(_) => Ok(()),
     }
@@ -103,7 +113,7 @@ pub fn permanent_code(alloc: Global, clause: &Clause) -> Result<Vec<Step>, NoMem
     let goals = goals_of(alloc, clause.body())?;
     let mut code = Vec::new(alloc);
     let mut seen = Vec::new(alloc);
-    head(&mut code, clause.head(), &mut seen)?;
-    body(&mut code, goals.as_slice(), &mut seen)?;
+    head(alloc, &mut code, clause.head(), &mut seen)?;
+    body(alloc, &mut code, goals.as_slice(), &mut seen)?;
     Ok(code)
 }

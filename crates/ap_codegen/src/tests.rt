@@ -1,5 +1,6 @@
 // The listing of a small program, written by hand from the rules of the code: a structure's arguments are unified one by
-// one, a goal's arguments are put, the last goal is executed. Where nothing is called but the last goal, a variable stands in the
+// one, a goal's arguments are put, the last goal is executed. A structure inside another one has a temporary while it waits: in a
+// head the last one is taken apart first, in a body it is built first. Where nothing is called but the last goal, a variable stands in the
 // argument register that it comes from or goes to, if nothing else needs that meanwhile, and else behind the arguments.
 use crate::compile;
 use ap_certify::plain;
@@ -10,6 +11,7 @@ use std::process::Abort;
 use std::test::Fail;
 
 /// p(1).  q(X) :- p(X), r(X).  app([], L, L).  app([H|T], L, [H|R]) :- app(T, L, R).
+/// f(g(h(X), Y), [a, b|Z]).  s(X) :- p(g(h(X), [a, b])).
 const LISTED: &str = "p/1:
   get_integer 1 A1
   proceed
@@ -34,6 +36,33 @@ app/3:
   unify_value X4
   unify_variable X3
   execute app/3
+f/2:
+  get_structure g/2 A1
+  unify_variable X3
+  unify_variable X5
+  get_structure h/1 A3
+  unify_variable X4
+  get_list A2
+  unify_constant a
+  unify_variable X3
+  get_list A3
+  unify_constant b
+  unify_variable X6
+  proceed
+s/1:
+  get_variable X4 A1
+  put_list A1
+  unify_constant b
+  unify_constant []
+  put_list A2
+  unify_constant a
+  unify_value X1
+  put_structure h/1 A3
+  unify_value X4
+  put_structure g/2 A1
+  unify_value X3
+  unify_value X2
+  execute p/1
 ";
 
 #[derive(Drop)]
@@ -42,6 +71,12 @@ struct Names {
     q: Atom,
     r: Atom,
     app: Atom,
+    f: Atom,
+    g: Atom,
+    h: Atom,
+    s: Atom,
+    a: Atom,
+    b: Atom,
     nil: Atom,
     cell: Atom,
 }
@@ -52,6 +87,12 @@ fn make_names(alloc: Global, atoms: &mut Atoms) -> Result<Names, Fail> {
         q: atoms.intern(alloc, "q")?,
         r: atoms.intern(alloc, "r")?,
         app: atoms.intern(alloc, "app")?,
+        f: atoms.intern(alloc, "f")?,
+        g: atoms.intern(alloc, "g")?,
+        h: atoms.intern(alloc, "h")?,
+        s: atoms.intern(alloc, "s")?,
+        a: atoms.intern(alloc, "a")?,
+        b: atoms.intern(alloc, "b")?,
         nil: atoms.intern(alloc, "[]")?,
         cell: atoms.intern(alloc, ".")?,
     })
@@ -67,9 +108,19 @@ fn three(alloc: Global, name: Atom, t: Term, u: Term, v: Term) -> Result<Term, F
     Ok(Term::Node(name, args))
 }
 
-fn pair(alloc: Global, name: Atom, x: u64, y: u64) -> Result<Term, Fail> {
-    let args = Args::from_vec(vec![in alloc; Term::Var(x), Term::Var(y)]?);
+fn two(alloc: Global, name: Atom, t: Term, u: Term) -> Result<Term, Fail> {
+    let args = Args::from_vec(vec![in alloc; t, u]?);
     Ok(Term::Node(name, args))
+}
+
+fn pair(alloc: Global, name: Atom, x: u64, y: u64) -> Result<Term, Fail> {
+    two(alloc, name, Term::Var(x), Term::Var(y))
+}
+
+/// [a, b|T]
+fn a_and_b(alloc: Global, n: &Names, rest: Term) -> Result<Term, Fail> {
+    let behind = two(alloc, n.cell, Term::Atom(n.b), rest)?;
+    two(alloc, n.cell, Term::Atom(n.a), behind)
 }
 
 fn rule(
@@ -110,6 +161,19 @@ fn add_append(rt: &impl Abort, alloc: Global, n: &Names, out: &mut Program) -> R
     Ok(())
 }
 
+fn add_nested(rt: &impl Abort, alloc: Global, n: &Names, out: &mut Program) -> Result<(), Fail> {
+    let inner = one(alloc, n.h, Term::Var(1))?;
+    let first = two(alloc, n.g, inner, Term::Var(2))?;
+    let head = two(alloc, n.f, first, a_and_b(alloc, n, Term::Var(3))?)?;
+    out.push(rule(rt, alloc, head, Vec::new(alloc), 3)?)?;
+    let inner = one(alloc, n.h, Term::Var(1))?;
+    let whole = two(alloc, n.g, inner, a_and_b(alloc, n, Term::Atom(n.nil))?)?;
+    let goal = one(alloc, n.p, whole)?;
+    let head = one(alloc, n.s, Term::Var(1))?;
+    out.push(rule(rt, alloc, head, vec![in alloc; goal]?, 1)?)?;
+    Ok(())
+}
+
 /// The query `true`.
 fn query(rt: &impl Abort, alloc: Global) -> Result<Query, Fail> {
     let head = Term::Atom(Atom::at(fixed::QUERY));
@@ -128,6 +192,7 @@ fn lists_a_small_program(rt: HostRuntime) -> Result<(), Fail> {
     let mut program = Program::new(alloc);
     add_plain(&rt, alloc, &names, &mut program)?;
     add_append(&rt, alloc, &names, &mut program)?;
+    add_nested(&rt, alloc, &names, &mut program)?;
     let certified = plain(alloc, &program)?;
     let query = query(&rt, alloc)?;
     let code = compile(alloc, &certified, &query)?;
