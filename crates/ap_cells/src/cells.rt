@@ -229,6 +229,7 @@ impl Cells {
     }
 
     /// The cell at a place, as it is kept.
+    #[inline]
     pub fn raw_at(&self, place: usize) -> Raw
         requires { place < length self.now.cells }
         ensures cell { (d : Raw) → result ≡ slice_index_or self.now.cells place d }
@@ -250,6 +251,7 @@ impl Cells {
     }
 
     /// The place at the end of the chain from a place.
+    #[inline]
     pub fn deref(&self, place: usize) -> usize
         requires { place < length self.now.cells }
         ensures place { result < length self.now.cells }

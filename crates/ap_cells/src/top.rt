@@ -19,6 +19,7 @@ pub enum Top {
 
 impl Cells {
     /// The outermost part of a place's term.
+    #[inline]
     pub fn top(&self, place: usize) -> Top
         requires { place < length self.now.cells }
         ensures tree { tree_at (trees self.now.cells) place ≡ topped (trees self.now.cells) result }
