@@ -6,7 +6,7 @@ use Rattle.ap_term.specs.Vars.{occurs, occurs_all}
 use Rattle.ap_term.proofs.Solutions.{same_var}
 use Rattle.ap_cells.specs.Trees.{tree_at, span}
 use Rattle.ap_cells.specs.declared.walk.Range.{Range}
-use Rattle.ap_cells.specs.Walks.{Each, leaves, leaves_all, left, before, weight, weight_all, weight_in, weight_some, stands}
+use Rattle.ap_cells.specs.Walks.{Each, leaves, leaves_all, left, weight, weight_all, weight_in, weight_some, stands}
 
 pub Each-push : {X : Type 0} (P : X → Type 0) (xs : List X) (x : X) → Each P xs → P x → Each P (xs ++ x ∷ [])
 Each-push P [] x e p = (p, tt)
@@ -36,25 +36,12 @@ pub span-first : (ts : List Tree) (p n : ℕ) → 0 < n → span ts p n ≡ more
 span-first ts p zero h = absurd (omega arith)
 span-first ts p (suc n) h = let e : n ≡ suc n - 1 = omega arith in ap (λ m. more (tree_at ts p) (span ts (p + 1) m)) e
 
--- a range taken off, its other places left, and its first place looked at
-pub left-turn : (ts : List Tree) (old popped rest new : List Range) (r : Range) (o : Option ℕ) → 0 < r.count → old ≡ popped ++ r ∷ []
-    → left ts rest ≡ leaves_all (span ts (r.first + 1) (r.count - 1)) ++ left ts popped → before o (left ts new) ≡ leaves (tree_at ts r.first) ++ left ts rest
-    → before o (left ts new) ≡ left ts old
-left-turn ts old popped rest new r o h e f g =
-    g ∙ ap (λ xs. leaves (tree_at ts r.first) ++ xs) f ∙ sym (append_assoc (leaves (tree_at ts r.first)) (leaves_all (span ts (r.first + 1) (r.count - 1))) (left ts popped))
-    ∙ ap (λ us. leaves_all us ++ left ts popped) (sym (span-first ts r.first r.count h)) ∙ sym (left-push ts popped r) ∙ ap (left ts) (sym e)
-
-pub weight-turn : (ts : List Tree) (old popped rest new : List Range) (r : Range) → 0 < r.count → old ≡ popped ++ r ∷ []
-    → weight_in ts rest ≤ weight_in ts popped + (2 * weight_all (span ts (r.first + 1) (r.count - 1)) + 1) → weight_in ts new < weight_in ts rest + 2 * weight (tree_at ts r.first)
-    → weight_in ts new < weight_in ts old
-weight-turn ts old popped rest new r h e f g =
-    let w = ap (weight_in ts) e ∙ weight_in-push ts popped r in
-    let v = ap weight_all (span-first ts r.first r.count h) in
-    omega arith
-
--- an empty range taken off
-pub left-empty : (ts : List Tree) (old popped : List Range) (r : Range) → r.count ≡ 0 → old ≡ popped ++ r ∷ [] → left ts popped ≡ left ts old
-left-empty ts old popped r z e = sym (ap (left ts) e ∙ left-push ts popped r ∙ ap (λ n. leaves_all (span ts r.first n) ++ left ts popped) z)
+-- what stands before others in the term of the first place
+pub left-first : (ts : List Tree) (p n : ℕ) (t : Tree) (others left : List ℕ) → 0 < n → tree_at ts p ≡ t → left ≡ leaves_all (span ts (p + 1) (n - 1)) ++ others
+    → leaves t ++ left ≡ leaves_all (span ts p n) ++ others
+left-first ts p n t others left h e f =
+    let rest = leaves_all (span ts (p + 1) (n - 1)) in
+    ap (λ xs. leaves t ++ xs) f ∙ sym (append_assoc (leaves t) rest others) ∙ ap (λ u. (leaves u ++ rest) ++ others) (sym e) ∙ ap (λ us. leaves_all us ++ others) (sym (span-first ts p n h))
 
 or_swap : (a b c : Bool) → (a || (b || c)) ≡ (b || (a || c))
 or_swap true true c = refl

@@ -34,11 +34,6 @@ abbrev pub left : List Tree → List Range → List ℕ
 left ts [] = []
 left ts (r ∷ rs) = left ts rs ++ leaves_all (span ts r.first r.count)
 
--- a variable, where there is one, before others
-abbrev pub before : Option ℕ → List ℕ → List ℕ
-before None xs = xs
-before (Some x) xs = x ∷ xs
-
 -- the next of the variables xs, and those behind it; None where there is none
 abbrev pub IsNext : List ℕ → Option ℕ → List ℕ → Type 0
 IsNext xs None ys = xs ≡ []

@@ -4,7 +4,7 @@ ghost use Rattle.std.specs.Prelude.{◌≡◌, ℕ, ◌+◌, ◌-◌, ◌*◌, �
 ghost use Rattle.ap_term.specs.Tree.{Tree};
 ghost use Rattle.ap_term.specs.Vars.{occurs, occurs_all};
 ghost use Rattle.ap_cells.specs.Trees.{tree_at, trees, span};
-ghost use Rattle.ap_cells.specs.Walks.{AreRanges, IsRange, IsNext, leaves, leaves_all, left, before, weight, weight_all, weight_in, weight_held, stands};
+ghost use Rattle.ap_cells.specs.Walks.{AreRanges, IsRange, IsNext, leaves, leaves_all, left, weight, weight_all, weight_in, weight_held, stands};
 
 use crate::cells::Cells;
 use crate::top::Top;
@@ -153,6 +153,7 @@ fn put(range: Range, ranges: &mut Vec<Range>) -> Result<(), NoMemory>
     Ok(())
 }
 
+/// The run of places that is gone through isn't on the list: constants are passed over there, and the last argument goes on.
 fn next_of(cells: &Cells, ranges: &mut Vec<Range>) -> Result<Option<usize>, NoMemory>
     requires { AreRanges (length cells.now.cells) ranges.old.items }
     ensures next { IfOk result (λ found. IsNext (left (trees cells.now.cells) ranges.old.items) found (left (trees cells.now.cells) ranges.new.items)) }
@@ -160,18 +161,32 @@ fn next_of(cells: &Cells, ranges: &mut Vec<Range>) -> Result<Option<usize>, NoMe
 {
     let places = cells.len();
     prove!(places <= 4_294_967_295);
-    while let Some(range) = ranges.pop() {
-        if range.count > 0 {
-            leave(range, ranges)?;
-            if let Some(variable) = look(cells, range.first, ranges)? {
-                return Ok(Some(variable));
+    let mut run = NOTHING;
+    loop {
+        if run.count == 0 {
+            match ranges.pop() {
+                Some(next) => run = next,
+                None => return Ok(None),
+            }
+        } else {
+            match cells.top(run.first) {
+                Top::Free(variable) => {
+                    leave(run, ranges)?;
+                    return Ok(Some(variable));
+                }
+                Top::Node(_, first, count) => {
+                    leave(run, ranges)?;
+                    run = Range { first, count };
+                }
+                Top::Int(_) => run = behind(run),
+                Top::Atom(_) => run = behind(run),
             }
         }
     }
-    Ok(None)
 }
 
 /// Leaves the places after the first to be walked over.
+#[inline(always)]
 fn leave(range: Range, ranges: &mut Vec<Range>) -> Result<(), NoMemory>
     requires some { 0 < range.count }
     requires fits { range.first < 2 ^ 63 }
@@ -186,22 +201,4 @@ fn leave(range: Range, ranges: &mut Vec<Range>) -> Result<(), NoMemory>
         })?;
     }
     Ok(())
-}
-
-/// Looks at a place: it is a variable, or its arguments are left to be walked over.
-fn look(cells: &Cells, place: usize, ranges: &mut Vec<Range>) -> Result<Option<usize>, NoMemory>
-    requires { place < length cells.now.cells }
-    ensures left { IfOk result (λ found. before found (left (trees cells.now.cells) ranges.new.items) ≡ leaves (tree_at (trees cells.now.cells) place) ++ left (trees cells.now.cells) ranges.old.items) }
-    ensures less { OnOk result (weight_in (trees cells.now.cells) ranges.new.items < weight_in (trees cells.now.cells) ranges.old.items + 2 * weight (tree_at (trees cells.now.cells) place)) }
-    ensures ranges { OnOk result (AreRanges (length cells.now.cells) ranges.old.items → AreRanges (length cells.now.cells) ranges.new.items) }
-{
-    match cells.top(place) {
-        Top::Free(variable) => Ok(Some(variable)),
-        Top::Node(_, first, count) => {
-            ranges.push(Range { first, count })?;
-            Ok(None)
-        }
-        Top::Int(_) => Ok(None),
-        Top::Atom(_) => Ok(None),
-    }
 }

@@ -50,6 +50,7 @@ enum Sides {
     Args(u32, u32, u32),
 }
 
+#[inline(always)]
 fn compared(left: Raw, right: Raw) -> Sides
     requires { IsEnd left × IsEnd right }
     ensures { Fits left right result }
@@ -99,6 +100,7 @@ fn compared(left: Raw, right: Raw) -> Sides
 }
 
 /// Makes an unbound place equal to a term that is no variable; false where it stands in it.
+#[inline(always)]
 fn bind(cells: &mut Cells, x: usize, to: usize, walk: &mut Walk) -> Result<bool, NoMemory>
     requires inside { (x < length cells.old.cells) × (to < length cells.old.cells) }
     requires unbound { tree_at (trees cells.old.cells) x ≡ var x }
@@ -123,6 +125,7 @@ enum Outcome {
     Args(Run),
 }
 
+#[inline(always)]
 fn outcome_of(bound: bool) -> Outcome
     ensures { result ≡ outcome_of bound }
 {
@@ -178,6 +181,7 @@ fn solve(cells: &mut Cells, left: usize, right: usize, walk: &mut Walk) -> Resul
 }
 
 /// The pairs after the first.
+#[inline(always)]
 fn behind(run: Run) -> Run
     requires some { 0 < run.count }
     requires fits { (run.left + run.count ≤ 4294967295) × (run.right + run.count ≤ 4294967295) }
@@ -191,6 +195,7 @@ fn behind(run: Run) -> Run
 }
 
 /// Leaves the pairs after the first to be made equal.
+#[inline(always)]
 fn leave(run: Run, runs: &mut Vec<Run>) -> Result<(), NoMemory>
     requires some { 0 < run.count }
     requires fits { (run.left + run.count ≤ 4294967295) × (run.right + run.count ≤ 4294967295) }
