@@ -9,6 +9,7 @@ ghost use Rattle.ap_section.specs.Due.{IsDue};
 
 use crate::control::is_known;
 use crate::section::{Now, Section};
+use ap_codecheck::Sound;
 use ap_control::builtin_at;
 use ap_instr::{Builtin, Code};
 use ap_term::NoMemory;
@@ -42,12 +43,13 @@ impl Section {
     }
 
     /// One move that is no call, or what is due.
-    fn go_on(&mut self, code: &Code) -> Result<Option<Due>, NoMemory>
-        requires { IsFor code.now self.old }
-        ensures holds { KeepsStanding code.now self.old.machine self.new.machine }
+    fn go_on(&mut self, sound: &Sound) -> Result<Option<Due>, NoMemory>
+        requires { IsFor sound.now self.old }
+        ensures holds { KeepsStanding sound.now self.old.machine self.new.machine }
         ensures stays { Stays self.old self.new }
-        ensures due { IfOk result (λ found. IfSome found (λ due. IsDue code.now self.new.machine due)) }
+        ensures due { IfOk result (λ found. IfSome found (λ due. IsDue sound.now self.new.machine due)) }
     {
+        let code = sound.code();
         match self.now() {
             Now::Calling(number) => {
                 if is_known(code, number) {
@@ -67,7 +69,7 @@ impl Section {
                 }
             }
             Now::Failed => {
-                if !self.retry(code)? {
+                if !self.retry(sound)? {
                     return Ok(Some(Due::Nothing));
                 }
             }
@@ -77,14 +79,14 @@ impl Section {
 
     /// Goes on, without a call, to what is due. That it gets there is shown by no measure: a search that made 2^64 moves
     /// without a call would be told to lack memory.
-    pub(crate) fn find_due(&mut self, code: &Code) -> Result<Due, NoMemory>
-        requires { IsFor code.now self.old }
-        ensures holds { KeepsStanding code.now self.old.machine self.new.machine }
+    pub(crate) fn find_due(&mut self, sound: &Sound) -> Result<Due, NoMemory>
+        requires { IsFor sound.now self.old }
+        ensures holds { KeepsStanding sound.now self.old.machine self.new.machine }
         ensures stays { Stays self.old self.new }
-        ensures due { IfOk result (λ due. IsDue code.now self.new.machine due) }
+        ensures due { IfOk result (λ due. IsDue sound.now self.new.machine due) }
     {
         for _move in 0..u64::MAX {
-            if let Some(due) = self.go_on(code)? {
+            if let Some(due) = self.go_on(sound)? {
                 return Ok(due);
             }
         }

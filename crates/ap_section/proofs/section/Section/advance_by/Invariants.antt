@@ -4,7 +4,7 @@ use Rattle.ap_section.proofs.section.Section.advance_by.Given as goal
 
 abbrev pub invariant-loop-made : goal.invariant-loop-made
 invariant-loop-made g l = record {
-  advanced : Advanced l.code l.fn.self l.self;
+  advanced : Advanced l.sound l.fn.self l.self;
   made : l.self.spent ≡ l.fn.self.spent + l.made;
   within : l.self.spent ≤ max l.fn.self.budget l.fn.self.spent;
   asked : g.H.Hook.asked l.fn.hook → g.H.Hook.asked l.hook;

@@ -5,7 +5,7 @@ pub loop-move-init : goal.loop-move-init
 loop-move-init c = record { holds = λ ss h. h; stays = Stays-refl c.args.self.now }
 
 pub go_on-requires : goal.go_on-requires
-go_on-requires c = still-for c.args.code.now c.args.self.now c.loop-move.self c.requires c.loop-move.invariant.stays
+go_on-requires c = still-for c.args.sound.now c.args.self.now c.loop-move.self c.requires c.loop-move.invariant.stays
 
 pub returns-in_err-due-clause-holds : goal.returns-in_err-due-clause-holds
 returns-in_err-due-clause-holds c = λ ss h. c.go_on.ensures.holds ss (c.loop-move.invariant.holds ss h)

@@ -4,6 +4,6 @@ use Rattle.ap_section.proofs.section.Section.find_due.Given as goal
 
 abbrev pub invariant-loop-move : goal.invariant-loop-move
 invariant-loop-move l = record {
-  holds : KeepsStanding l.code l.fn.self.machine l.self.machine;
+  holds : KeepsStanding l.sound l.fn.self.machine l.self.machine;
   stays : Stays l.fn.self l.self;
 }
