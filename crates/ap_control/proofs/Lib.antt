@@ -5,3 +5,4 @@ pub mod Marks
 pub mod Compared
 pub mod Ran
 pub mod Passed
+pub mod Keys

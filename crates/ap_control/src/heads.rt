@@ -1,7 +1,7 @@
-//! Clauses whose heads can't be taken, told by the constants and the first structure there: nothing is bound for that, and
-//! nothing undone.
+//! Clauses whose heads can't be taken, told by the constants and the first structure there, and in long rows by the index of
+//! the first argument: nothing is bound for that, and nothing undone.
 
-ghost use Rattle.std.specs.Prelude.{◌≡◌, ℕ, ◌+◌, ◌<◌, List, [], ◌∷◌, length, slice_get, true, None, IfSome};
+ghost use Rattle.std.specs.Prelude.{◌≡◌, ℕ, ◌+◌, ◌<◌, List, [], ◌∷◌, length, slice_get, true, None, Some, IfSome};
 ghost use Rattle.ap_term.specs.Tree.{Tree, Trees, atom, int, node, count_trees};
 ghost use Rattle.ap_instr.specs.StandsFor.{clause_places};
 ghost use Rattle.ap_match.specs.Fits.{Fits};
@@ -9,10 +9,12 @@ ghost use Rattle.ap_steps.specs.Moves.{held, HoldPlaces, IsStuck};
 ghost use Rattle.ap_steps.specs.Ways.{steps_from};
 ghost use Rattle.ap_standing.specs.Machine.{places_from};
 ghost use Rattle.ap_cells.specs.declared.cells.Raw.{Raw};
-ghost use Rattle.ap_control.specs.Heads.{PassesOver, only_asks};
+ghost use Rattle.ap_control.specs.Heads.{PassesOver, IsKeyOf, only_asks};
 
 use crate::alternatives::{Alternative, first, following, instruction_at};
 use ap_cells::{Cells, Top};
+use ap_codecheck::Sound;
+use ap_index::{FEW, Key};
 use ap_instr::{Code, Instr, Predicate};
 use ap_steps::registers::place_in;
 use ap_term::Atom;
@@ -138,17 +140,70 @@ pub fn fails_at_once(cells: &Cells, x: &[u32], code: &Code, at: usize) -> bool
     false
 }
 
-/// The first choice, from one on, whose clause doesn't fail at once.
-pub fn pass_over(cells: &Cells, x: &[u32], code: &Code, behind: Option<usize>) -> Option<usize>
-    requires { HoldPlaces (length cells.now.cells) x.now }
-    ensures { PassesOver code.now cells.now.cells (held x.now) (places_from code.now behind) (places_from code.now result) }
+/// What is looked up of an atom, an integer or a structure at a place; none of an unbound variable.
+fn key_of(cells: &Cells, place: usize) -> Option<Key>
+    requires { place < length cells.now.cells }
+    ensures { IfSome result (λ key. (k : ℕ → Tree) → Fits cells.now.cells k → IsKeyOf key (k place)) }
 {
-    let mut rest = behind;
+    match cells.top(place) {
+        Top::Free(_) => None,
+        Top::Atom(name) => Some(Key::Atom(name.number())),
+        Top::Int(value) => Some(Key::Integer(value)),
+        Top::Node(name, _, count) => {
+            if count > 255 {
+                return None;
+            }
+            Some(Key::Structure(name.number(), count as u8))
+        }
+    }
+}
+
+/// Whether many choices stand in a row from a place on, by what stands at the last of so many.
+fn are_many(code: &Code, at: usize) -> bool {
+    match instruction_at(code, at.saturating_add(FEW - 1)) {
+        Some(Instr::Retry(_)) => true,
+        Some(Instr::Trust(_)) => true,
+        _ => false,
+    }
+}
+
+/// From a place among choices the next place for the first argument, by the index, where many choices stand in a row.
+fn choice_for(cells: &Cells, x: &[u32], sound: &Sound, at: usize) -> usize
+    requires { HoldPlaces (length cells.now.cells) x.now }
+    ensures { PassesOver sound.now cells.now.cells (held x.now) (places_from sound.now (Some at)) (places_from sound.now (Some result)) }
+{
+    if !are_many(sound.code(), at) {
+        return at;
+    }
+    match key_of(cells, place_in(x, 1)) {
+        Some(key) => sound.next(key, at),
+        None => at,
+    }
+}
+
+/// From a choice the next one for the first argument.
+fn next_choice(cells: &Cells, x: &[u32], sound: &Sound, behind: Option<usize>) -> Option<usize>
+    requires { HoldPlaces (length cells.now.cells) x.now }
+    ensures { PassesOver sound.now cells.now.cells (held x.now) (places_from sound.now behind) (places_from sound.now result) }
+{
+    match behind {
+        None => None,
+        Some(at) => Some(choice_for(cells, x, sound, at)),
+    }
+}
+
+/// The first choice, from one on, whose clause doesn't fail at once.
+pub fn pass_over(cells: &Cells, x: &[u32], sound: &Sound, behind: Option<usize>) -> Option<usize>
+    requires { HoldPlaces (length cells.now.cells) x.now }
+    ensures { PassesOver sound.now cells.now.cells (held x.now) (places_from sound.now behind) (places_from sound.now result) }
+{
+    let code = sound.code();
+    let mut rest = next_choice(cells, x, sound, behind);
     while let Some(found) = following(code, rest) {
         if !fails_at_once(cells, x, code, found.place as usize) {
             return rest;
         }
-        rest = found.behind;
+        rest = next_choice(cells, x, sound, found.behind);
     }
     None
 }
@@ -157,19 +212,20 @@ pub fn pass_over(cells: &Cells, x: &[u32], code: &Code, behind: Option<usize>) -
 pub fn first_possible(
     cells: &Cells,
     x: &[u32],
-    code: &Code,
+    sound: &Sound,
     predicate: &Predicate,
 ) -> Option<Alternative>
     requires { HoldPlaces (length cells.now.cells) x.now }
-    ensures none { result ≡ None → PassesOver code.now cells.now.cells (held x.now) (clause_places code.now predicate.now) [] }
-    ensures some { IfSome result (λ a. PassesOver code.now cells.now.cells (held x.now) (clause_places code.now predicate.now) (a.place ∷ places_from code.now a.behind)) }
+    ensures none { result ≡ None → PassesOver sound.now cells.now.cells (held x.now) (clause_places sound.now predicate.now) [] }
+    ensures some { IfSome result (λ a. PassesOver sound.now cells.now.cells (held x.now) (clause_places sound.now predicate.now) (a.place ∷ places_from sound.now a.behind)) }
 {
+    let code = sound.code();
     let Some(found) = first(code, predicate) else {
         return None;
     };
     if !fails_at_once(cells, x, code, found.place as usize) {
         return Some(found);
     }
-    let rest = pass_over(cells, x, code, found.behind);
+    let rest = pass_over(cells, x, sound, found.behind);
     following(code, rest)
 }

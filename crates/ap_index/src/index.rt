@@ -12,7 +12,7 @@ use std::alloc::Global;
 use std::collections::HashMap;
 
 /// Fewer choices in a row than this are gone over one by one.
-const FEW: usize = 8;
+pub const FEW: usize = 8;
 
 /// Choices in a row, each of a clause with a key: the first one of each key, and the place behind the last one.
 #[derive(Drop)]

@@ -8,5 +8,5 @@
 mod index;
 mod key;
 
-pub use index::{Index, index_of};
+pub use index::{FEW, Index, index_of};
 pub use key::Key;

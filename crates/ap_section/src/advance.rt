@@ -48,15 +48,15 @@ pub trait Hook {
 
 impl Section {
     /// Makes a call of a predicate, and counts it.
-    fn make_call(&mut self, code: &Code, number: u32) -> Result<(), NoMemory>
-        requires is_for { IsFor code.now self.old }
-        requires due { (self.old.machine.now ≡ calling number) × ((q : Predicate) × (slice_get code.now.predicates number ≡ Some q)) }
+    fn make_call(&mut self, sound: &Sound, number: u32) -> Result<(), NoMemory>
+        requires is_for { IsFor sound.now self.old }
+        requires due { (self.old.machine.now ≡ calling number) × ((q : Predicate) × (slice_get sound.now.predicates number ≡ Some q)) }
         requires fits { self.old.spent < 2 ^ 64 - 1 }
-        ensures advanced { Advanced code.now self.old self.new }
+        ensures advanced { Advanced sound.now self.old self.new }
         ensures counted { IfOk result (λ _. self.new.spent ≡ self.old.spent + 1) }
         ensures err { OnErr result (self.new ≡ self.old) }
     {
-        self.enter(code, number)?;
+        self.enter(sound, number)?;
         self.count();
         Ok(())
     }
@@ -76,18 +76,18 @@ impl Section {
     }
 
     /// Makes the call that is due.
-    fn make(&mut self, code: &Code, due: Due) -> Result<(), NoMemory>
-        requires is_for { IsFor code.now self.old }
-        requires due { IsDue code.now self.old.machine due }
+    fn make(&mut self, sound: &Sound, due: Due) -> Result<(), NoMemory>
+        requires is_for { IsFor sound.now self.old }
+        requires due { IsDue sound.now self.old.machine due }
         requires turn { IsTurnDue due }
         requires fits { self.old.spent < 2 ^ 64 - 1 }
-        ensures advanced { Advanced code.now self.old self.new }
+        ensures advanced { Advanced sound.now self.old self.new }
         ensures counted { IfOk result (λ _. self.new.spent ≡ self.old.spent + 1) }
         ensures err { OnErr result (self.new ≡ self.old) }
     {
         match due {
-            Due::Call(number) => self.make_call(code, number),
-            Due::Goal(builtin, at) => self.make_goal(code, builtin, at),
+            Due::Call(number) => self.make_call(sound, number),
+            Due::Goal(builtin, at) => self.make_goal(sound.code(), builtin, at),
             Due::Answer => Ok(()),
             Due::Nothing => Ok(()),
         }
@@ -113,20 +113,20 @@ impl Section {
     /// Goes on to what is due, and makes the call, or tells why not. So many calls may be made.
     fn turn<H: Hook>(
         &mut self,
-        code: &Code,
+        sound: &Sound,
         left: u64,
         hook: &mut H,
     ) -> Result<Option<Turn>, NoMemory>
-        requires { IsFor code.now self.old }
-        ensures advanced { Advanced code.now self.old self.new }
+        requires { IsFor sound.now self.old }
+        ensures advanced { Advanced sound.now self.old self.new }
         ensures within { self.new.spent ≤ max self.old.budget self.old.spent }
         ensures made { IfOk result (λ found. IfNone found ((self.new.spent ≡ self.old.spent + 1) × (0 < left))) }
         ensures few { self.new.spent ≤ self.old.spent + left }
-        ensures end { IfOk result (λ found. IfSome found (λ end. Ends code.now left self.old self.new end)) }
+        ensures end { IfOk result (λ found. IfSome found (λ end. Ends sound.now left self.old self.new end)) }
         ensures stopped { result ≡ Ok (Some Turn.Stopped) → H.asked hook.new }
         ensures asked { H.asked hook.old → H.asked hook.new }
     {
-        let due = self.find_due(code)?;
+        let due = self.find_due(sound)?;
         if let Some(end) = self.end_at(due) {
             return Ok(Some(end));
         }
@@ -136,28 +136,28 @@ impl Section {
         if hook.poll() {
             return Ok(Some(Turn::Stopped));
         }
-        self.make(code, due)?;
+        self.make(sound, due)?;
         Ok(None)
     }
 
     /// Searches on, without a share.
     fn advance_by<H: Hook>(
         &mut self,
-        code: &Code,
+        sound: &Sound,
         inferences: u64,
         hook: &mut H,
     ) -> Result<Turn, NoMemory>
-        requires { IsFor code.now self.old }
-        ensures advanced { Advanced code.now self.old self.new }
+        requires { IsFor sound.now self.old }
+        ensures advanced { Advanced sound.now self.old self.new }
         ensures within { self.new.spent ≤ max self.old.budget self.old.spent }
         ensures few { self.new.spent ≤ self.old.spent + inferences }
-        ensures end { IfOk result (λ turn. Ends code.now inferences self.old self.new turn) }
+        ensures end { IfOk result (λ turn. Ends sound.now inferences self.old self.new turn) }
         ensures stopped { result ≡ Ok Turn.Stopped → H.asked hook.new }
         ensures asked { H.asked hook.old → H.asked hook.new }
     {
         let mut left = inferences;
         'turns: loop {
-            if let Some(end) = self.turn(code, left, hook)? {
+            if let Some(end) = self.turn(sound, left, hook)? {
                 return Ok(end);
             }
             left -= 1;
@@ -186,7 +186,7 @@ impl Section {
         ensures asked { H.asked hook.old → H.asked hook.new }
     {
         let before = self.spent();
-        let turn = self.advance_by(sound.code(), inferences, hook);
+        let turn = self.advance_by(sound, inferences, hook);
         share.add(self.spent() - before);
         self.roots_are_cells();
         turn

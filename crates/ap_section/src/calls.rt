@@ -19,6 +19,7 @@ ghost use Rattle.ap_section.specs.Back.{CanGoBack, WentBack};
 
 use crate::section::{Now, Section};
 use ap_cells::{CellMark, Cells};
+use ap_codecheck::Sound;
 use ap_control::{Alternative, first_possible, following, pass_over, run_to_transfer};
 use ap_environments::{Choice, Environments};
 use ap_instr::{Code, Predicate};
@@ -80,38 +81,38 @@ fn run_and_go_back(
 
 impl Section {
     /// The first clause of a predicate that doesn't fail at once on the argument registers.
-    fn first_clause(&self, code: &Code, predicate: &Predicate) -> Option<Alternative>
-        ensures none { result ≡ None → PassesOver code.now self.now.machine.cells (held self.now.machine.x) (clause_places code.now predicate.now) [] }
-        ensures some { IfSome result (λ a. PassesOver code.now self.now.machine.cells (held self.now.machine.x) (clause_places code.now predicate.now) (a.place ∷ places_from code.now a.behind)) }
+    fn first_clause(&self, sound: &Sound, predicate: &Predicate) -> Option<Alternative>
+        ensures none { result ≡ None → PassesOver sound.now self.now.machine.cells (held self.now.machine.x) (clause_places sound.now predicate.now) [] }
+        ensures some { IfSome result (λ a. PassesOver sound.now self.now.machine.cells (held self.now.machine.x) (clause_places sound.now predicate.now) (a.place ∷ places_from sound.now a.behind)) }
     {
-        first_possible(&self.cells, &self.x, code, predicate)
+        first_possible(&self.cells, &self.x, sound, predicate)
     }
 
     /// The first choice, from one on, whose clause doesn't fail at once on the argument registers.
-    fn choice_from(&self, code: &Code, behind: Option<usize>) -> Option<usize>
-        ensures { PassesOver code.now self.now.machine.cells (held self.now.machine.x) (places_from code.now behind) (places_from code.now result) }
+    fn choice_from(&self, sound: &Sound, behind: Option<usize>) -> Option<usize>
+        ensures { PassesOver sound.now self.now.machine.cells (held self.now.machine.x) (places_from sound.now behind) (places_from sound.now result) }
     {
-        pass_over(&self.cells, &self.x, code, behind)
+        pass_over(&self.cells, &self.x, sound, behind)
     }
 
     /// Enters a predicate of the table, which is a turn. Clauses that fail at once are passed over; where two others or more
     /// are left, a choice point keeps them, and where one is, control goes right inside it. Without memory nothing changes.
-    pub(crate) fn enter(&mut self, code: &Code, number: u32) -> Result<(), NoMemory>
+    pub(crate) fn enter(&mut self, sound: &Sound, number: u32) -> Result<(), NoMemory>
         requires due { self.old.machine.now ≡ calling number }
-        requires is_for { IsFor code.now self.old }
-        ensures turn { OnOk result ((p : Program) (q : PredicateOf) → slice_get code.now.predicates number ≡ Some q → IsProgram p → StandsFor code.now p → IsTurn code.now p self.old.machine self.new.machine) }
+        requires is_for { IsFor sound.now self.old }
+        ensures turn { OnOk result ((p : Program) (q : PredicateOf) → slice_get sound.now.predicates number ≡ Some q → IsProgram p → StandsFor sound.now p → IsTurn sound.now p self.old.machine self.new.machine) }
         ensures kept { OnErr result (self.new ≡ self.old) }
         ensures stays { Stays self.old self.new }
     {
-        let Some(predicate) = predicate_at(code, number) else {
+        let Some(predicate) = predicate_at(sound.code(), number) else {
             self.next = Now::Failed;
             return Ok(());
         };
-        let Some(alternative) = self.first_clause(code, &predicate) else {
+        let Some(alternative) = self.first_clause(sound, &predicate) else {
             self.next = Now::Failed;
             return Ok(());
         };
-        match self.choice_from(code, alternative.behind) {
+        match self.choice_from(sound, alternative.behind) {
             None => self.next = Now::Inside(alternative.place as usize),
             Some(_) => {
                 self.cells.is_store();
@@ -174,20 +175,21 @@ impl Section {
     /// The first clause behind a choice whose head unifies with the call of the newest choice point.
     fn next_match(
         &mut self,
-        code: &Code,
+        sound: &Sound,
         behind: Option<usize>,
     ) -> Result<Option<Alternative>, NoMemory>
-        requires is_for { IsFor code.now self.old }
+        requires is_for { IsFor sound.now self.old }
         requires at { AtNewest self.old.machine }
-        ensures left { IfOk result (λ found. LeavesOut code.now self.old.machine (places_from code.now behind) (places_of code.now found)) }
+        ensures left { IfOk result (λ found. LeavesOut sound.now self.old.machine (places_from sound.now behind) (places_of sound.now found)) }
         ensures back { Returned self.old self.new }
     {
-        let mut rest = self.choice_from(code, behind);
+        let code = sound.code();
+        let mut rest = self.choice_from(sound, behind);
         while let Some(found) = following(code, rest) {
             if self.try_clause(code, found.place)? {
                 return Ok(Some(found));
             }
-            rest = self.choice_from(code, found.behind);
+            rest = self.choice_from(sound, found.behind);
         }
         Ok(None)
     }
@@ -228,12 +230,12 @@ impl Section {
 
     /// Takes the next clause of the newest choice point, which stays only where the head of another one unifies. False
     /// where there is no choice point. Without memory the section is at the newest choice point, with all its clauses left.
-    pub(crate) fn retry(&mut self, code: &Code) -> Result<bool, NoMemory>
+    pub(crate) fn retry(&mut self, sound: &Sound) -> Result<bool, NoMemory>
         requires due { self.old.machine.now ≡ failed }
-        requires is_for { IsFor code.now self.old }
-        ensures holds { KeepsStanding code.now self.old.machine self.new.machine }
+        requires is_for { IsFor sound.now self.old }
+        ensures holds { KeepsStanding sound.now self.old.machine self.new.machine }
         ensures ended { result ≡ Ok false → (self.new ≡ self.old) × (self.old.machine.points ≡ []) }
-        ensures fewer { result ≡ Ok true → moves_left code.now self.new.machine < moves_left code.now self.old.machine }
+        ensures fewer { result ≡ Ok true → moves_left sound.now self.new.machine < moves_left sound.now self.old.machine }
         ensures still { OnErr result (self.new.machine.now ≡ failed) }
         ensures stays { Stays self.old self.new }
     {
@@ -241,7 +243,7 @@ impl Section {
             return Ok(false);
         };
         self.go_back();
-        let found = self.next_match(code, choice.behind)?;
+        let found = self.next_match(sound, choice.behind)?;
         self.leave(found);
         self.resume(choice.place as usize);
         Ok(true)

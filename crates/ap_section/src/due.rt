@@ -10,6 +10,7 @@ ghost use Rattle.ap_section.specs.Due.{IsDue};
 
 use crate::control::is_known;
 use crate::section::{Now, Section};
+use ap_codecheck::Sound;
 use ap_instr::{Builtin, Code};
 use ap_term::NoMemory;
 
@@ -58,13 +59,14 @@ impl Section {
     }
 
     /// One move that is no call, or what is due.
-    fn go_on(&mut self, code: &Code) -> Result<Option<Due>, NoMemory>
-        requires { IsFor code.now self.old }
-        ensures holds { KeepsStanding code.now self.old.machine self.new.machine }
+    fn go_on(&mut self, sound: &Sound) -> Result<Option<Due>, NoMemory>
+        requires { IsFor sound.now self.old }
+        ensures holds { KeepsStanding sound.now self.old.machine self.new.machine }
         ensures stays { Stays self.old self.new }
-        ensures fewer { IfOk result (λ found. IfNone found (moves_left code.now self.new.machine < moves_left code.now self.old.machine)) }
-        ensures due { IfOk result (λ found. IfSome found (λ due. IsDue code.now self.new.machine due)) }
+        ensures fewer { IfOk result (λ found. IfNone found (moves_left sound.now self.new.machine < moves_left sound.now self.old.machine)) }
+        ensures due { IfOk result (λ found. IfSome found (λ due. IsDue sound.now self.new.machine due)) }
     {
+        let code = sound.code();
         match self.now() {
             Now::Calling(number) => Ok(self.at_call(code, number)),
             Now::Inside(at) => self.go_inside(code, at),
@@ -75,7 +77,7 @@ impl Section {
                 Ok(Some(Due::Answer))
             }
             Now::Failed => {
-                if self.retry(code)? {
+                if self.retry(sound)? {
                     return Ok(None);
                 }
                 Ok(Some(Due::Nothing))
@@ -84,14 +86,14 @@ impl Section {
     }
 
     /// Goes on, without a call, to what is due.
-    pub(crate) fn find_due(&mut self, code: &Code) -> Result<Due, NoMemory>
-        requires { IsFor code.now self.old }
-        ensures holds { KeepsStanding code.now self.old.machine self.new.machine }
+    pub(crate) fn find_due(&mut self, sound: &Sound) -> Result<Due, NoMemory>
+        requires { IsFor sound.now self.old }
+        ensures holds { KeepsStanding sound.now self.old.machine self.new.machine }
         ensures stays { Stays self.old self.new }
-        ensures due { IfOk result (λ due. IsDue code.now self.new.machine due) }
+        ensures due { IfOk result (λ due. IsDue sound.now self.new.machine due) }
     {
         'moves: loop {
-            if let Some(due) = self.go_on(code)? {
+            if let Some(due) = self.go_on(sound)? {
                 return Ok(due);
             }
         }

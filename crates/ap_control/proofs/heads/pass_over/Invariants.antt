@@ -5,7 +5,7 @@ use Rattle.ap_control.specs.Heads.{PassesOver}
 use Rattle.ap_control.proofs.heads.pass_over.Given as goal
 
 abbrev pub decreases-loop-found : goal.decreases-loop-found
-decreases-loop-found l = length (places_from l.code l.rest)
+decreases-loop-found l = length (places_from l.sound l.rest)
 
 abbrev pub invariant-loop-found : goal.invariant-loop-found
-invariant-loop-found l = PassesOver l.code l.cells.cells (held l.x) (places_from l.code l.initial.rest) (places_from l.code l.rest)
+invariant-loop-found l = PassesOver l.sound l.cells.cells (held l.x) (places_from l.sound l.fn.behind) (places_from l.sound l.rest)

@@ -7,7 +7,7 @@ decreases-turns g l = l.left
 
 abbrev pub invariant-turns : goal.invariant-turns
 invariant-turns g l = record {
-  advanced : Advanced l.code l.fn.self l.self;
+  advanced : Advanced l.sound l.fn.self l.self;
   made : l.self.spent + l.left ≡ l.fn.self.spent + l.inferences;
   within : l.self.spent ≤ max l.fn.self.budget l.fn.self.spent;
   asked : g.H.Hook.asked l.fn.hook → g.H.Hook.asked l.hook;

@@ -8,7 +8,7 @@ pub moves-init : goal.moves-init
 moves-init c = record { holds = λ ss h. h; stays = Stays-refl c.args.self.now }
 
 pub go_on-requires : goal.go_on-requires
-go_on-requires c = still-for c.args.code.now c.args.self.now c.moves.self c.requires c.moves.invariant.stays
+go_on-requires c = still-for c.args.sound.now c.args.self.now c.moves.self c.requires c.moves.invariant.stays
 
 pub returns-in_err-due-clause-holds : goal.returns-in_err-due-clause-holds
 returns-in_err-due-clause-holds c = λ ss h. c.go_on.ensures.holds ss (c.moves.invariant.holds ss h)
@@ -30,6 +30,6 @@ moves-preserved c = record {
 
 pub moves-smaller : goal.moves-smaller
 moves-smaller c =
-    let P : Type 0 = moves_left c.args.code.now c.go_on.new.self.machine < moves_left c.args.code.now c.moves.self.machine in
+    let P : Type 0 = moves_left c.args.sound.now c.go_on.new.self.machine < moves_left c.args.sound.now c.moves.self.machine in
     let fewer : P = subst (λ found. IfNone found P) c.in_default.is c.in_ok-due.ensures.fewer in
     fewer

@@ -4,10 +4,10 @@ use Rattle.ap_section.specs.Lasting.{moves_left}
 use Rattle.ap_section.proofs.section.Section.find_due.Given as goal
 
 abbrev pub decreases-moves : goal.decreases-moves
-decreases-moves l = moves_left l.code l.self.machine
+decreases-moves l = moves_left l.sound l.self.machine
 
 abbrev pub invariant-moves : goal.invariant-moves
 invariant-moves l = record {
-  holds : KeepsStanding l.code l.fn.self.machine l.self.machine;
+  holds : KeepsStanding l.sound l.fn.self.machine l.self.machine;
   stays : Stays l.fn.self l.self;
 }

@@ -5,9 +5,9 @@ use Rattle.ap_section.proofs.Progress.{unchanged, counted}
 use Rattle.ap_section.proofs.section.Section.make_call.Goals as goal
 
 pub returns-in_err-enter-clause-advanced : goal.returns-in_err-enter-clause-advanced
-returns-in_err-enter-clause-advanced c = unchanged c.args.code.now c.args.self.now c.enter.new.self c.in_err-enter.ensures.kept
+returns-in_err-enter-clause-advanced c = unchanged c.args.sound.now c.args.self.now c.enter.new.self c.in_err-enter.ensures.kept
 
 pub returns-clause-advanced : goal.returns-clause-advanced
 returns-clause-advanced c =
-    let P : Paused → Type 0 = λ s. Advanced c.args.code.now c.args.self.now s in
-    subst P (sym c.count.ensures) (counted c.args.code.now c.args.self.now c.enter.new.self (λ p good stands. c.in_ok-enter.ensures.turn p c.requires.due.1.0 c.requires.due.1.1 good stands) c.enter.ensures.stays)
+    let P : Paused → Type 0 = λ s. Advanced c.args.sound.now c.args.self.now s in
+    subst P (sym c.count.ensures) (counted c.args.sound.now c.args.self.now c.enter.new.self (λ p good stands. c.in_ok-enter.ensures.turn p c.requires.due.1.0 c.requires.due.1.1 good stands) c.enter.ensures.stays)

@@ -4,7 +4,7 @@ use Rattle.ap_section.specs.Choices.{Returned, LeavesOut}
 use Rattle.ap_section.proofs.section.Section.next_match.Given as goal
 
 abbrev pub decreases-loop-found : goal.decreases-loop-found
-decreases-loop-found l = length (places_from l.code l.rest)
+decreases-loop-found l = length (places_from l.sound l.rest)
 
 abbrev pub invariant-loop-found : goal.invariant-loop-found
-invariant-loop-found l = record { back : Returned l.fn.self l.self; left : LeavesOut l.code l.fn.self.machine (places_from l.code l.fn.behind) (places_from l.code l.rest) }
+invariant-loop-found l = record { back : Returned l.fn.self l.self; left : LeavesOut l.sound l.fn.self.machine (places_from l.sound l.fn.behind) (places_from l.sound l.rest) }

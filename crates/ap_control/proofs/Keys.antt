@@ -1,0 +1,78 @@
+-- Clauses that ask for another first argument than the one that is there.
+use Rattle.std.proofs.Common.{◌≡◌, ℕ, ℤ, Bool, true, false, not, ◌==◌, ◌&&◌, List, [], ◌∷◌, Option, Some, None, drop, slice_get, refl, ap, sym, ◌∙◌, subst, eq-eqb}
+use Rattle.std.specs.Prelude.{if◌then◌else◌}
+use Rattle.std.specs.List.{AllByRecursion}
+use Rattle.std.proofs.lemmas.Bool.{eqb-true, and_from}
+use Rattle.std.proofs.lemmas.Bool.Decides.{Decides-int_eq}
+use Rattle.ap_term.specs.Tree.{Tree, Trees, atom, int, node, count_trees}
+use Rattle.ap_cells.specs.declared.cells.Raw.{Raw}
+use Rattle.ap_instr.specs.declared.instruction.Instr.{Instr}
+use Rattle.ap_instr.specs.declared.instruction.Instr.TheVariants.{GetConstant, GetInteger, GetStructure, Allocate}
+use Rattle.ap_instr.specs.Code.{Compiled}
+use Rattle.ap_instr.specs.Step.{Step, with_integer, get_constant, get_structure, steps_of}
+use Rattle.ap_index.specs.declared.key.Key.{Key}
+use Rattle.ap_index.specs.declared.key.Key.TheVariants.{Atom, Integer, Structure}
+use Rattle.ap_index.specs.Keys.{same_key, integer_key, first_key}
+use Rattle.ap_index.specs.Index.{AsksOther, LeavesOthers}
+use Rattle.ap_match.specs.Fits.{Fits}
+use Rattle.ap_steps.specs.Moves.{Asked}
+use Rattle.ap_standing.specs.Machine.{places_from}
+use Rattle.ap_control.specs.Heads.{IsShut, PassesOver, IsKeyOf}
+
+-- a tree has one key
+clash : (a b : Key) (t : Tree) → same_key a b ≡ false → IsKeyOf a t → IsKeyOf b t → ⊥
+clash (Atom a) (Atom b) t d h g = let e : a ≡ b = cc in let y : (a == b) ≡ true = eq-eqb a b e in cc
+clash (Integer a) (Integer b) t d h g = let e : a ≡ b = cc in let y = (Decides-int_eq a b).1 e in cc
+clash (Structure f n) (Structure g m) t d h k =
+    let i : node f h.0 ≡ node g k.0 = sym h.2 ∙ k.2 in
+    let p : f ≡ g = cc in
+    let q : h.0 ≡ k.0 = cc in
+    let r : n ≡ m = sym h.1 ∙ ap count_trees q ∙ k.1 in
+    let y : ((f == g) && (n == m)) ≡ true = and_from (f == g) (n == m) (eq-eqb f g p) (eq-eqb n m r) in
+    cc
+clash (Atom a) (Integer b) t d h g = let z : ⊥ = cc in z
+clash (Atom a) (Structure g m) t d h k = let e = sym h ∙ k.2 in let z : ⊥ = cc in z
+clash (Integer a) (Atom b) t d h g = let z : ⊥ = cc in z
+clash (Integer a) (Structure g m) t d h k = let e = sym h ∙ k.2 in let z : ⊥ = cc in z
+clash (Structure f n) (Atom b) t d h k = let e = sym k ∙ h.2 in let z : ⊥ = cc in z
+clash (Structure f n) (Integer b) t d h k = let e = sym k ∙ h.2 in let z : ⊥ = cc in z
+
+module _ (code : Compiled) (cs : List Raw) (x y : ℕ → ℕ) (key : Key) (held : (k : ℕ → Tree) → Fits cs k → IsKeyOf key (k (x 1))) where
+  -- what is asked of the first argument isn't what it is
+  module _ (asked : Key) (other : same_key asked key ≡ false) (k : ℕ → Tree) (fits : Fits cs k) where
+    other-one : (own : Key) (a : ℕ) → (a == 1) ≡ true → Some own ≡ Some asked → IsKeyOf own (k (x a)) → ⊥
+    other-one own a one e h =
+        let same : own ≡ asked = cc in
+        clash asked key (k (x 1)) other (subst (λ n. IsKeyOf asked (k (x n))) (eqb-true a 1 one) (subst (λ o. IsKeyOf o (k (x a))) same h)) (held k fits)
+
+  module _ (asked : Key) (other : same_key asked key ≡ false) (k : ℕ → Tree) (bs : Trees) where
+    constant : (c a : ℕ) (rest : Option Key) (js : List Step) (b : Bool) → (a == 1) ≡ b → (if not b then rest else (if b then Some (Atom c) else None)) ≡ Some asked
+        → Asked cs x y (get_constant (atom c) a ∷ js) k bs → (rest ≡ Some asked → Asked cs x y js k bs → ⊥) → ⊥
+    constant c a rest js true one e h more = other-one asked other k h.0 (Atom c) a one e h.1.0
+    constant c a rest js false one e h more = more e (h.0, h.1.1)
+
+    listed : (o : Option ℤ) (a : ℕ) (rest : Option Key) (js : List Step) (b : Bool) → (a == 1) ≡ b → (if not b then rest else (if b then integer_key o else None)) ≡ Some asked
+        → Asked cs x y (with_integer o (λ t. get_constant t a) ∷ js) k bs → (rest ≡ Some asked → Asked cs x y js k bs → ⊥) → ⊥
+    listed None a rest js b one e h more = h.1
+    listed (Some z) a rest js true one e h more = other-one asked other k h.0 (Integer z) a one e h.1.0
+    listed (Some z) a rest js false one e h more = more e (h.0, h.1.1)
+
+    structure : (f n a : ℕ) (js : List Step) (b : Bool) → (a == 1) ≡ b → (if b then Some (Structure f n) else None) ≡ Some asked → Asked cs x y (get_structure f n a ∷ js) k bs → ⊥
+    structure f n a js true one e h = other-one asked other k h.0 (Structure f n) a one e (h.1.0, h.1.1, h.1.2)
+    structure f n a js false one e h = let z : ⊥ = cc in z
+
+    none-asked : (is : List Instr) → first_key code is ≡ Some asked → Asked cs x y (steps_of code is) k bs → ⊥
+    none-asked [] e h = h.1
+    none-asked (GetConstant c a ∷ is) e h = constant c a (first_key code is) (steps_of code is) (a == 1) refl e h (none-asked is)
+    none-asked (GetInteger i a ∷ is) e h = listed (slice_get code.integers i) a (first_key code is) (steps_of code is) (a == 1) refl e h (none-asked is)
+    none-asked (GetStructure f n a ∷ is) e h = structure f n a (steps_of code is) (a == 1) refl e h
+    none-asked (Allocate n ∷ is) e h = none-asked is e h
+    none-asked (i ∷ is) e h = let z : ⊥ = cc in z
+
+module _ (code : Compiled) (cs : List Raw) (x : ℕ → ℕ) (key : Key) (held : (k : ℕ → Tree) → Fits cs k → IsKeyOf key (k (x 1))) where
+  shut : (ls : List ℕ) → AllByRecursion (AsksOther code key) ls → AllByRecursion (IsShut code cs x) ls
+  shut [] h = tt
+  shut (l ∷ ls) h = (λ y k bs. none-asked code cs x y key held h.0.asked h.0.other k bs (drop l code.instructions) h.0.asks, shut ls h.1)
+
+  pub passes-others : (from to : ℕ) → LeavesOthers code key from to → PassesOver code cs x (places_from code (Some from)) (places_from code (Some to))
+  passes-others from to h = record { passed = h.passed; are = h.are; shut = shut h.passed h.others }
