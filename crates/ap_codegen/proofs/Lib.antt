@@ -8,13 +8,13 @@ pub mod Framing
 pub mod BodyTurns
 pub mod Placed
 pub mod Laying
-pub mod Moved
 pub mod Growing
 pub mod Making
 pub mod AskedClause
 pub mod BuiltinGoals
 pub mod Pacing
-pub mod MovedPaces
 pub mod Walking
-pub mod JoinedReads
-pub mod JoinedPaces
+pub mod RelocatedReads
+pub mod RelocatedPaces
+pub mod RelocatedOpen
+pub mod RelocatedCode
