@@ -10,8 +10,8 @@ use Rattle.ap_term.specs.Vars.{has, add_vars, add_all_vars}
 use Rattle.ap_term.specs.Substitution.{instance_all}
 use Rattle.ap_term.specs.Builtins.{relation_named}
 use Rattle.ap_term.specs.WellFormed.{callable, all_callable}
-use Rattle.ap_instr.specs.declared.instruction.Slot.TheVariants.{X, Y}
-use Rattle.ap_instr.specs.Step.{Step, get_variable, get_value, get_structure, put_variable, put_value, put_structure, unify_variable, unify_value, call, execute, builtin, proceed}
+use Rattle.ap_instr.specs.declared.instruction.Slot.TheVariants.{Y}
+use Rattle.ap_instr.specs.Step.{Step, get_variable, get_value, put_variable, put_value, put_structure, unify_variable, unify_value, call, execute, builtin, proceed}
 use Rattle.ap_instr.specs.Runs.{arguments, IsOpen, AsksOpenly}
 use Rattle.ap_codegen.specs.Permanent.{name, is_builtin, is_builtin_key, see, inner, place, fills, see_built, see_nested, build, nested, puts, goal_code, is_last_call, asking, body_code, see_all, see_taken, takes, get, opens, gets, clause_code}
 use Rattle.ap_codegen.specs.CodeOf.{calls_apart}

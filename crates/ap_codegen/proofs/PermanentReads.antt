@@ -10,8 +10,8 @@ use Rattle.ap_term.specs.WellFormed.{callable, all_callable}
 use Rattle.ap_term.proofs.Solutions.{instance_agree, instance_all_agree, or_left, or_right, same_var, same_test}
 use Rattle.ap_term.proofs.Solvable.{has-add_vars, has-add_all_vars}
 use Rattle.ap_laws.specs.Plain.{plain_goals}
-use Rattle.ap_instr.specs.declared.instruction.Slot.TheVariants.{X, Y}
-use Rattle.ap_instr.specs.Step.{Step, get_variable, get_value, get_structure, put_variable, put_value, put_structure, unify_variable, unify_value, call, execute, builtin}
+use Rattle.ap_instr.specs.declared.instruction.Slot.TheVariants.{Y}
+use Rattle.ap_instr.specs.Step.{Step, get_variable, get_value, put_variable, put_value, put_structure, unify_variable, unify_value, call, execute, builtin}
 use Rattle.ap_instr.specs.Runs.{Runs, Reads, set, spread, lost, applied, arguments}
 use Rattle.ap_codegen.specs.Permanent.{name, is_builtin, see, see_all, inner, place, fills, see_built, see_nested, build, nested, puts, see_puts, goal_code, is_last_call, asking, body_code, see_taken, see_opened, takes, get, opens, gets, clause_code}
 use Rattle.ap_codegen.proofs.Registers.{both_true, set_here, has_more, has_first}

@@ -8,6 +8,6 @@ pub mod Assembled
 pub mod Temporary
 pub mod CodeOf
 pub mod Framed
-pub mod Joined
+pub mod Relocated
 pub mod Paces
 pub mod Index

@@ -1,19 +1,18 @@
-//! A clause that calls nothing but its last goal has its variables in X registers and no environment.
+//! The code of a clause, inside of an environment or outside.
 
-ghost use Rattle.std.specs.Prelude.{◌≡◌, [], ◌∷◌, ◌++◌, map, IfOk, OnOk};
-ghost use Rattle.ap_instr.specs.declared.instruction.Slot.{Slot};
+ghost use Rattle.std.specs.Prelude.{◌≡◌, ℕ, [], ◌∷◌, ◌++◌, IfOk, IfSome, OnOk, MatchOption};
 ghost use Rattle.ap_term.specs.Tree.{count_trees};
 ghost use Rattle.ap_instr.specs.Builtin.{builtin_arity};
 ghost use Rattle.ap_instr.specs.Runs.{arguments};
 ghost use Rattle.ap_codegen.specs.Emitted.{step_of, steps_of};
-ghost use Rattle.ap_codegen.specs.Temporary.{moved_slot, moved, fits_slot, fits, ends, all_fit};
+ghost use Rattle.ap_codegen.specs.Temporary.{ends};
 ghost use Rattle.ap_codegen.specs.CodeOf.{IsCodeOf};
 ghost use Rattle.ap_codegen.specs.Framed.{leaving};
-ghost use Rattle.ap_codegen.specs.Paces.{ArePaced};
+ghost use Rattle.ap_codegen.specs.Paces.{Paces, ArePaced, inside};
 
 use crate::bodies::permanent_code;
-use crate::joining::join;
-use crate::permanent::above;
+use crate::choosing::choose;
+use crate::relocating::tested;
 use crate::steps::Step;
 use ap_instr::{Builtin, Slot};
 use ap_term::{Clause, NoMemory};
@@ -57,43 +56,6 @@ fn greatest(step: Step) -> u32 {
     }
 }
 
-fn fits_slot(v: Slot, k: u32) -> bool
-    ensures { result ≡ fits_slot k v }
-{
-    match v {
-        Slot::X(n) => n <= k,
-        Slot::Y(n) => 1 <= n,
-    }
-}
-
-/// Whether a step uses X registers up to k alone, and loses none.
-fn fits(step: Step, k: u32) -> bool
-    ensures { result ≡ fits k (step_of step) }
-{
-    match step {
-        Step::GetVariable(v, a) => fits_slot(v, k) && a <= k,
-        Step::GetValue(v, a) => fits_slot(v, k) && a <= k,
-        Step::PutVariable(v, a, _) => fits_slot(v, k) && a <= k,
-        Step::PutValue(v, a) => fits_slot(v, k) && a <= k,
-        Step::UnifyVariable(v) => fits_slot(v, k),
-        Step::UnifyValue(v) => fits_slot(v, k),
-        Step::GetConstant(_, a) => a <= k,
-        Step::GetInteger(_, a) => a <= k,
-        Step::GetStructure(_, _, a) => a <= k,
-        Step::PutConstant(_, a) => a <= k,
-        Step::PutInteger(_, a) => a <= k,
-        Step::PutStructure(_, _, a) => a <= k,
-        Step::UnifyConstant(_) => true,
-        Step::UnifyInteger(_) => true,
-        Step::Call(_, _) => false,
-        Step::Execute(_, n) => u32::from(n) <= k,
-        Step::Builtin(builtin) => u32::from(arity(builtin)) <= k,
-        Step::Proceed => true,
-        Step::Allocate(_) => true,
-        Step::Deallocate => true,
-    }
-}
-
 /// Whether nothing behind a step runs.
 pub fn ends(step: Step) -> bool
     ensures { result ≡ ends (step_of step) }
@@ -102,44 +64,6 @@ pub fn ends(step: Step) -> bool
         Step::Execute(_, _) => true,
         Step::Proceed => true,
         _ => false,
-    }
-}
-
-fn all_fit(steps: &[Step], k: u32) -> bool
-    ensures { result ≡ all_fit k (steps_of steps.now) }
-{
-    for step in steps {
-        if !fits(*step, k) {
-            return false;
-        }
-        if ends(*step) {
-            return true;
-        }
-    }
-    false
-}
-
-fn moved_slot(v: Slot, k: u32) -> Result<Slot, NoMemory>
-    ensures { IfOk result (λ u. u ≡ moved_slot k v) }
-{
-    match v {
-        Slot::X(n) => Ok(Slot::X(n)),
-        Slot::Y(n) => Ok(Slot::X(above(k, usize::from(n))?)),
-    }
-}
-
-/// A step, its permanent variable behind X k.
-fn moved(step: Step, k: u32) -> Result<Step, NoMemory>
-    ensures { IfOk result (λ s. step_of s ≡ moved k (step_of step)) }
-{
-    match step {
-        Step::GetVariable(v, a) => Ok(Step::GetVariable(moved_slot(v, k)?, a)),
-        Step::GetValue(v, a) => Ok(Step::GetValue(moved_slot(v, k)?, a)),
-        Step::PutVariable(v, a, w) => Ok(Step::PutVariable(moved_slot(v, k)?, a, w)),
-        Step::PutValue(v, a) => Ok(Step::PutValue(moved_slot(v, k)?, a)),
-        Step::UnifyVariable(v) => Ok(Step::UnifyVariable(moved_slot(v, k)?)),
-        Step::UnifyValue(v) => Ok(Step::UnifyValue(moved_slot(v, k)?)),
-        other => Ok(other),
     }
 }
 
@@ -166,16 +90,6 @@ fn framed(alloc: Global, steps: &[Step], vars: u8) -> Result<Vec<Step>, NoMemory
     Ok(out)
 }
 
-fn all_moved(alloc: Global, steps: &[Step], k: u32) -> Result<Vec<Step>, NoMemory>
-    ensures { IfOk result (λ out. steps_of out.items ≡ map (moved k) (steps_of steps.now)) }
-{
-    let mut out = Vec::new(alloc);
-    for step in steps {
-        out.push(moved(*step, k)?)?;
-    }
-    Ok(out)
-}
-
 pub fn greatest_of(steps: &[Step]) -> u32 {
     let mut k = 0;
     for step in steps {
@@ -184,18 +98,38 @@ pub fn greatest_of(steps: &[Step]) -> u32 {
     k
 }
 
-/// The code of a clause: with no environment where it calls nothing but its last goal.
+/// The steps inside an environment for so many variables, or outside of one.
+fn entered(alloc: Global, steps: Vec<Step>, room: Option<u8>) -> Result<Vec<Step>, NoMemory>
+    ensures { IfOk result (λ out. MatchOption room (out.items ≡ steps.items) (λ vars. out.items ≡ Step.Allocate vars ∷ leaving steps.items)) }
+{
+    match room {
+        None => Ok(steps),
+        Some(vars) => framed(alloc, steps.as_slice(), vars),
+    }
+}
+
+/// The steps with variables in better places, if such are found.
+fn relocated(alloc: Global, steps: &[Step]) -> Result<Option<Vec<Step>>, NoMemory>
+    ensures code { IfOk result (λ r. IfSome r (λ out. (c : Clause) (vars arity : ℕ) → Paces (steps_of steps.now) (inside vars arity) → IsCodeOf c (steps_of steps.now) → IsCodeOf c (steps_of out.items))) }
+    ensures paced { IfOk result (λ r. IfSome r (λ out. (vars arity : ℕ) → Paces (steps_of steps.now) (inside vars arity) → ArePaced arity out.items)) }
+{
+    let chosen = choose(alloc, steps)?;
+    let count = greatest_of(steps).min(255) + 1;
+    match tested(alloc, chosen.changes.as_slice(), chosen.room, count)? {
+        None => Ok(None),
+        Some(better) => Ok(Some(entered(alloc, better, chosen.room)?)),
+    }
+}
+
+/// The code of a clause.
 pub fn clause_steps(alloc: Global, clause: &Clause) -> Result<Vec<Step>, NoMemory>
     ensures code { IfOk result (λ code. IsCodeOf clause.now (steps_of code.items)) }
     ensures paced { IfOk result (λ code. ArePaced (count_trees (arguments clause.now.head)) code.items) }
 {
     let steps = permanent_code(alloc, clause)?;
     let own = steps.as_slice();
-    let k = greatest_of(own);
-    if all_fit(own, k) {
-        let moved = all_moved(alloc, own, k)?;
-        let joined = join(alloc, moved)?;
-        return Ok(joined);
+    if let Some(better) = relocated(alloc, own)? {
+        return Ok(better);
     }
     let framed = framed(alloc, own, clause.vars() as u8)?;
     Ok(framed)

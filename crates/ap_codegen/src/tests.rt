@@ -1,7 +1,8 @@
 // The listing of a small program, written by hand from the rules of the code: a structure's arguments are unified one by
 // one, a goal's arguments are put, the last goal is executed. A structure inside another one has a temporary while it waits: in a
-// head the last one is taken apart first, in a body it is built first. Where nothing is called but the last goal, a variable stands in the
-// argument register that it comes from or goes to, if nothing else needs that meanwhile, and else behind the arguments.
+// head the last one is taken apart first, in a body it is built first. A variable that outlives a call stands in the environment;
+// any other one in the argument register that it comes from or goes to, if nothing else needs that meanwhile, and else behind the
+// arguments. What stands where it is put already needs no move.
 use crate::compile;
 use ap_certify::plain;
 use ap_instr::listing;
@@ -18,7 +19,6 @@ const LISTED: &str = "p/1:
 q/1:
   allocate 1
   get_variable Y1 A1
-  put_value Y1 A1
   call p/1
   put_value Y1 A1
   deallocate
@@ -198,5 +198,51 @@ fn lists_a_small_program(rt: HostRuntime) -> Result<(), Fail> {
     let code = compile(alloc, &certified, &query)?;
     let text = listing(alloc, &code, &atoms)?;
     assert_eq!(rt; text.as_slice(), LISTED.as_bytes());
+    Ok(())
+}
+
+/// rev([H|T], R) :- rev(T, S), app(S, [H], R). Of the variables only T, the second one, outlives no call.
+const REVERSED: &str = "rev/2:
+  allocate 3
+  get_list A1
+  unify_variable Y1
+  unify_variable X1
+  get_variable Y2 A2
+  put_variable Y3 A2
+  call rev/2
+  put_value Y3 A1
+  put_list A2
+  unify_value Y1
+  unify_constant []
+  put_value Y2 A3
+  deallocate
+  execute app/3
+";
+
+fn reverse(rt: &impl Abort, alloc: Global, n: &Names, rev: Atom) -> Result<Clause, Fail> {
+    let list = pair(alloc, n.cell, 1, 2)?;
+    let head = Term::Node(rev, Args::from_vec(vec![in alloc; list, Term::Var(3)]?));
+    let cells = vec![in alloc; Term::Var(1), Term::Atom(n.nil)]?;
+    let last = Term::Node(n.cell, Args::from_vec(cells));
+    let goals = vec![in alloc;
+        pair(alloc, rev, 2, 4)?,
+        three(alloc, n.app, Term::Var(4), last, Term::Var(3))?,
+    ]?;
+    rule(rt, alloc, head, goals, 4)
+}
+
+#[test]
+fn keeps_few_variables_in_an_environment(rt: HostRuntime) -> Result<(), Fail> {
+    let alloc = rt.alloc();
+    let mut atoms = Atoms::new(alloc)?;
+    let names = make_names(alloc, &mut atoms)?;
+    let rev = atoms.intern(alloc, "rev")?;
+    let mut program = Program::new(alloc);
+    program.push(reverse(&rt, alloc, &names, rev)?)?;
+    let certified = plain(alloc, &program)?;
+    let query = query(&rt, alloc)?;
+    let code = compile(alloc, &certified, &query)?;
+    let text = listing(alloc, &code, &atoms)?;
+    assert_eq!(rt; text.as_slice(), REVERSED.as_bytes());
     Ok(())
 }

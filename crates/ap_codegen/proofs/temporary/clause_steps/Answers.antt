@@ -1,35 +1,21 @@
-use Rattle.std.proofs.Common.{◌≡◌, true, ◌∷◌, map, inl, inr, ap, sym, ◌∙◌, subst}
+use Rattle.std.proofs.Common.{◌≡◌, ◌∷◌, inr, ap, sym, ◌∙◌, subst}
 use Rattle.ap_term.specs.Tree.{count_trees}
 use Rattle.ap_instr.specs.Runs.{arguments}
-use Rattle.ap_codecheck.specs.Shape.{entry}
 use Rattle.ap_codegen.specs.declared.steps.Step.TheVariants.{Allocate}
 use Rattle.ap_codegen.specs.Emitted.{steps_of}
-use Rattle.ap_codegen.specs.Temporary.{moved, all_fit}
 use Rattle.ap_codegen.specs.CodeOf.{IsCodeOf}
 use Rattle.ap_codegen.specs.Framed.{leaving}
-use Rattle.ap_codegen.specs.Paces.{Paces}
-use Rattle.ap_codegen.proofs.Moved.{moved_code}
-use Rattle.ap_codegen.proofs.MovedPaces.{begin_moved}
+use Rattle.ap_codegen.specs.Paces.{Paces, inside}
 use Rattle.ap_codegen.proofs.Framing.{framed_code}
 use Rattle.ap_codegen.proofs.temporary.clause_steps.Goals as goal
 
-pub returns-then-all_fit-clause-code : goal.returns-then-all_fit-clause-code
-returns-then-all_fit-clause-code c =
-    let arity = count_trees (arguments c.args.clause.now.head) in
+pub returns-in-Some-clause-code : goal.returns-in-Some-clause-code
+returns-in-Some-clause-code c =
     let own : steps_of c.as_slice-own.result.now ≡ steps_of c.in_ok-steps.steps.items = ap steps_of c.as_slice-own.ensures.value in
-    let f : all_fit c.greatest_of-k.result (steps_of c.in_ok-steps.steps.items) ≡ true = ap (all_fit c.greatest_of-k.result) (sym own) ∙ sym c.all_fit.ensures ∙ c.if-all_fit.true in
-    let e : steps_of c.in_ok-moved.moved.items ≡ map (moved c.greatest_of-k.result) (steps_of c.in_ok-steps.steps.items) = c.in_ok-moved.ensures ∙ ap (map (moved c.greatest_of-k.result)) own in
-    let code = subst (IsCodeOf c.args.clause.now) (sym e) (moved_code c.greatest_of-k.result (steps_of c.in_ok-steps.steps.items) c.args.clause.now f c.in_ok-steps.ensures.code) in
-    let paced = subst (λ q. Paces q (entry arity)) (sym e) (begin_moved c.greatest_of-k.result c.args.clause.now.vars arity (steps_of c.in_ok-steps.steps.items) f c.in_ok-steps.ensures.paced) in
-    c.in_ok-joined.ensures.code c.args.clause.now arity paced code
-
-pub returns-then-all_fit-clause-paced : goal.returns-then-all_fit-clause-paced
-returns-then-all_fit-clause-paced c =
     let arity = count_trees (arguments c.args.clause.now.head) in
-    let own : steps_of c.as_slice-own.result.now ≡ steps_of c.in_ok-steps.steps.items = ap steps_of c.as_slice-own.ensures.value in
-    let f : all_fit c.greatest_of-k.result (steps_of c.in_ok-steps.steps.items) ≡ true = ap (all_fit c.greatest_of-k.result) (sym own) ∙ sym c.all_fit.ensures ∙ c.if-all_fit.true in
-    let e : steps_of c.in_ok-moved.moved.items ≡ map (moved c.greatest_of-k.result) (steps_of c.in_ok-steps.steps.items) = c.in_ok-moved.ensures ∙ ap (map (moved c.greatest_of-k.result)) own in
-    inl (c.in_ok-joined.ensures.paced arity (subst (λ q. Paces q (entry arity)) (sym e) (begin_moved c.greatest_of-k.result c.args.clause.now.vars arity (steps_of c.in_ok-steps.steps.items) f c.in_ok-steps.ensures.paced)))
+    let better = rw c.in-Some.is at c.in_ok-better.ensures.code in
+    better c.args.clause.now c.args.clause.now.vars arity (subst (λ is. Paces is (inside c.args.clause.now.vars arity)) (sym own) c.in_ok-steps.ensures.paced)
+    (subst (IsCodeOf c.args.clause.now) (sym own) c.in_ok-steps.ensures.code)
 
 pub returns-clause-code : goal.returns-clause-code
 returns-clause-code c =

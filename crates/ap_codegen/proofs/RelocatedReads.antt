@@ -1,0 +1,263 @@
+-- Code whose variables stand in other places asks for the same.
+use Rattle.std.proofs.Common.{◌≡◌, ◌≢◌, ℕ, zero, suc, ◌+◌, ◌<◌, ◌≤◌, nat_le, ◌==◌, Bool, true, false, ◌&&◌, List, [], ◌∷◌, ◌++◌, Option, is_some, ◌⊎◌, inl, inr, refl, ap, sym, ◌∙◌, subst, arith}
+use Rattle.std.proofs.lemmas.Bool.{false≢true}
+use Rattle.std.proofs.lemmas.Bool.Decides.{Decides-eqb, nat_tests}
+use Rattle.ap_term.specs.Tree.{Tree, Trees, node, none, more, count_trees}
+use Rattle.ap_instr.specs.declared.instruction.Slot.{Slot}
+use Rattle.ap_instr.specs.declared.instruction.Slot.TheVariants.{X, Y}
+use Rattle.ap_instr.specs.declared.instruction.Instr.TheVariants.{GetStructure, PutStructure, PutVariable, Call}
+use Rattle.ap_instr.specs.Step.{Step, get_variable, get_value, get_constant, get_structure, put_variable, put_value, put_constant, put_structure, unify_variable, unify_value, unify_constant, call, execute, builtin, proceed, frame, other}
+use Rattle.ap_instr.specs.Runs.{Runs, read, set_x, set_y, set, spread, applied, lost}
+use Rattle.ap_codecheck.specs.Shape.{Shape, write, passed, behind_argument, after}
+use Rattle.ap_codegen.specs.Paces.{Paces}
+use Rattle.ap_codegen.specs.Relocated.{Change, kept, dropped, olds, news, by, Known, former, latter, is_same, all_same, has_room, set_former, set_latter, set_both, behind_call, all_kept}
+use Rattle.ap_codegen.proofs.Registers.{both_true, read_here, read_other, same_slot}
+
+pub above_zero : (n : ℕ) → nat_le 1 n ≡ true → 0 < n
+above_zero n e = grind (arith, nat_tests)
+
+-- nothing is known of an empty list
+by-nothing : (n : ℕ) → by [] n ≡ 0
+by-nothing n = refl
+
+-- the numbers of values are below the next one
+pub record Below (k : Known) : Type 0 where
+  pub formers : (v : Slot) → former k v < k.next
+  pub latters : (u : Slot) → latter k u < k.next
+
+set_below : (v : Slot) (n m : ℕ) (x y : ℕ → ℕ) → n < m → ((w : Slot) → read w x y < m) → (w : Slot) → read w (set_x v n x) (set_y v n y) < m
+set_below v n m x y l h w = elim (same_slot w v) as (λ _. read w (set_x v n x) (set_y v n y) < m) [
+  | inl e ↦ subst (λ i. i < m) (sym (ap (λ w. read w (set_x v n x) (set_y v n y)) e ∙ read_here v n x y)) l
+  | inr d ↦ subst (λ i. i < m) (sym (read_other w v n x y d)) (h w)
+]
+
+pub below_former : (k : Known) (v : Slot) (n : ℕ) → n < k.next → Below k → Below (set_former k v n)
+below_former k v n l b = record { formers = set_below v n k.next k.former_x k.former_y l b.formers; latters = b.latters }
+
+pub below_latter : (k : Known) (u : Slot) (n : ℕ) → n < k.next → Below k → Below (set_latter k u n)
+below_latter k u n l b = record { formers = b.formers; latters = set_below u n k.next k.latter_x k.latter_y l b.latters }
+
+pub below_both : (k : Known) (v u : Slot) → Below k → Below (set_both k v u)
+below_both k v u b = record {
+  formers = set_below v k.next (k.next + 1) k.former_x k.former_y (omega arith) (λ w. let l = b.formers w in omega arith);
+  latters = set_below u k.next (k.next + 1) k.latter_x k.latter_y (omega arith) (λ w. let l = b.latters w in omega arith);
+}
+
+pub below_call : (k : Known) → Below k → Below (behind_call k)
+below_call k b = record { formers = λ v. one k.former_y v b.formers; latters = λ u. two k.latter_y u b.latters }
+  where
+    one : (y : ℕ → ℕ) (v : Slot) → ((w : Slot) → read w k.former_x y < k.next) → read v (by []) y < k.next
+    one y (X n) h = let l = h (X n) in omega arith
+    one y (Y n) h = h (Y n)
+
+    two : (y : ℕ → ℕ) (v : Slot) → ((w : Slot) → read w k.latter_x y < k.next) → read v (by []) y < k.next
+    two y (X n) h = let l = h (X n) in omega arith
+    two y (Y n) h = h (Y n)
+
+-- what both codes hold of one kind, related
+module _ (A : Type 0) (R : A → A → Type 0) where
+  -- places whose values have one number hold related values
+  abbrev pub Held : Known → (ℕ → A) → (ℕ → A) → (ℕ → A) → (ℕ → A) → Type 0
+  Held k x y x' y' = (v u : Slot) → 0 < former k v → former k v ≡ latter k u → R (read v x y) (read u x' y')
+
+  -- a value that another place has, too
+  pub held_former : (k : Known) (v s : Slot) (n : ℕ) (t : A) (x y x' y' : ℕ → A) → n ≡ former k s → t ≡ read s x y → Held k x y x' y' → Held (set_former k v n) (set_x v t x) (set_y v t y) x' y'
+  held_former k v s n t x y x' y' e i h w u p q = elim (same_slot w v) as (λ _. R (read w (set_x v t x) (set_y v t y)) (read u x' y')) [
+    | inl d ↦
+        let j : former (set_former k v n) w ≡ former k s = ap (former (set_former k v n)) d ∙ read_here v n k.former_x k.former_y ∙ e in
+        let z : read w (set_x v t x) (set_y v t y) ≡ read s x y = ap (λ w. read w (set_x v t x) (set_y v t y)) d ∙ read_here v t x y ∙ i in
+        subst (λ z. R z (read u x' y')) (sym z) (h s u (subst (λ m. 0 < m) j p) (sym j ∙ q))
+    | inr d ↦
+        let j : former (set_former k v n) w ≡ former k w = read_other w v n k.former_x k.former_y d in
+        subst (λ z. R z (read u x' y')) (sym (read_other w v t x y d)) (h w u (subst (λ m. 0 < m) j p) (sym j ∙ q))
+  ]
+
+  pub held_latter : (k : Known) (u s : Slot) (n : ℕ) (t : A) (x y x' y' : ℕ → A) → n ≡ latter k s → t ≡ read s x' y' → Held k x y x' y' → Held (set_latter k u n) x y (set_x u t x') (set_y u t y')
+  held_latter k u s n t x y x' y' e i h v w p q = elim (same_slot w u) as (λ _. R (read v x y) (read w (set_x u t x') (set_y u t y'))) [
+    | inl d ↦
+        let j : latter (set_latter k u n) w ≡ latter k s = ap (latter (set_latter k u n)) d ∙ read_here u n k.latter_x k.latter_y ∙ e in
+        let z : read w (set_x u t x') (set_y u t y') ≡ read s x' y' = ap (λ w. read w (set_x u t x') (set_y u t y')) d ∙ read_here u t x' y' ∙ i in
+        subst (λ z. R (read v x y) z) (sym z) (h v s p (q ∙ j))
+    | inr d ↦
+        let j : latter (set_latter k u n) w ≡ latter k w = read_other w u n k.latter_x k.latter_y d in
+        subst (λ z. R (read v x y) z) (sym (read_other w u t x' y' d)) (h v w p (q ∙ j))
+  ]
+
+  -- new related values
+  pub held_both : (k : Known) (v u : Slot) (t t' : A) (x y x' y' : ℕ → A) → Below k → R t t' → Held k x y x' y' → Held (set_both k v u) (set_x v t x) (set_y v t y) (set_x u t' x') (set_y u t' y')
+  held_both k v u t t' x y x' y' b r h w z p q =
+      elim (same_slot w v) as (λ _. R (read w (set_x v t x) (set_y v t y)) (read z (set_x u t' x') (set_y u t' y'))) [
+        | inl d ↦
+            let j : former (set_both k v u) w ≡ k.next = ap (former (set_both k v u)) d ∙ read_here v k.next k.former_x k.former_y in
+            let c : read w (set_x v t x) (set_y v t y) ≡ t = ap (λ w. read w (set_x v t x) (set_y v t y)) d ∙ read_here v t x y in
+            subst (λ c. R c (read z (set_x u t' x') (set_y u t' y'))) (sym c) (first j (same_slot z u))
+        | inr d ↦
+            let j : former (set_both k v u) w ≡ former k w = read_other w v k.next k.former_x k.former_y d in
+            subst (λ c. R c (read z (set_x u t' x') (set_y u t' y'))) (sym (read_other w v t x y d)) (second j (same_slot z u))
+      ]
+    where
+      first : former (set_both k v u) w ≡ k.next → (z ≡ u) ⊎ (z ≢ u) → R t (read z (set_x u t' x') (set_y u t' y'))
+      first j (inl e) = subst (λ c. R t c) (sym (ap (λ z. read z (set_x u t' x') (set_y u t' y')) e ∙ read_here u t' x' y')) r
+      first j (inr e) =
+          let i : latter (set_both k v u) z ≡ latter k z = read_other z u k.next k.latter_x k.latter_y e in
+          let l = b.latters z in
+          let m : latter k z ≡ k.next = sym i ∙ sym q ∙ j in
+          absurd (omega arith)
+
+      second : former (set_both k v u) w ≡ former k w → (z ≡ u) ⊎ (z ≢ u) → R (read w x y) (read z (set_x u t' x') (set_y u t' y'))
+      second j (inl e) =
+          let i : latter (set_both k v u) z ≡ k.next = ap (latter (set_both k v u)) e ∙ read_here u k.next k.latter_x k.latter_y in
+          let l = b.formers w in
+          let m : former k w ≡ k.next = sym j ∙ q ∙ i in
+          absurd (omega arith)
+      second j (inr e) =
+          let i : latter (set_both k v u) z ≡ latter k z = read_other z u k.next k.latter_x k.latter_y e in
+          subst (λ c. R (read w x y) c) (sym (read_other z u t' x' y' e)) (h w z (subst (λ m. 0 < m) j p) (sym j ∙ q ∙ i))
+
+  pub held_call : (k : Known) (x y x' y' z z' : ℕ → A) → Held k x y x' y' → Held (behind_call k) z y z' y'
+  held_call k x y x' y' z z' h (X n) u p q = absurd (omega arith)
+  held_call k x y x' y' z z' h (Y n) (X m) p q = absurd (let i : k.former_y n ≡ 0 = q in omega arith)
+  held_call k x y x' y' z z' h (Y n) (Y m) p q = h (Y n) (Y m) p q
+
+  pub same_held : (k : Known) (v u : Slot) (x y x' y' : ℕ → A) → is_same k v u ≡ true → Held k x y x' y' → R (read v x y) (read u x' y')
+  same_held k v u x y x' y' e h = let b = both_true (nat_le 1 (former k v)) (former k v == latter k u) e in h v u (above_zero (former k v) b.0) ((Decides-eqb (former k v) (latter k u)).0 b.1)
+
+pub one_same : (k : Known) (n a : ℕ) → 0 < a → a ≤ n → all_same k n ≡ true → is_same k (X a) (X a) ≡ true
+one_same k zero a p l e = absurd (omega arith)
+one_same k (suc n) a p l e = let b = both_true (all_same k n) (is_same k (X (suc n)) (X (suc n))) e in go (λ p l i. one_same k n a p l i) (a == suc n) refl b.0 b.1
+  where
+    go : (0 < a → a ≤ n → all_same k n ≡ true → is_same k (X a) (X a) ≡ true) → (c : Bool) → (a == suc n) ≡ c → all_same k n ≡ true → is_same k (X (suc n)) (X (suc n)) ≡ true → is_same k (X a) (X a) ≡ true
+    go ih true q i j = subst (λ a. is_same k (X a) (X a) ≡ true) (sym ((Decides-eqb a (suc n)).0 q)) j
+    go ih false q i j = let d : a ≢ suc n = λ r. false≢true (sym q ∙ (Decides-eqb a (suc n)).1 r) in ih p (omega arith) i
+
+-- the same trees
+abbrev pub Same : Tree → Tree → Type 0
+Same t u = u ≡ t
+
+spread_same : (k : Known) (n p i : ℕ) (x y x' y' : ℕ → Tree) → 0 < p → p + i ≤ n + 1 → all_same k n ≡ true → Held Tree Same k x y x' y' → spread x' p i ≡ spread x p i
+spread_same k n p zero x y x' y' j l e h = refl
+spread_same k n p (suc i) x y x' y' j l e h =
+    ap (λ t. more t (spread x' (p + 1) i)) (same_held Tree Same k (X p) (X p) x y x' y' (one_same k n p j (omega arith) e) h)
+    ∙ ap (more (x p)) (spread_same k n (p + 1) i x y x' y' (omega arith) (omega arith) e h)
+
+behind_pending : (s : Shape) (c : ℕ) → s.pending ≡ c + 1 → (behind_argument s).pending ≡ c
+behind_pending s c e = go (s.pending == 1) refl
+  where
+    go : (b : Bool) → (s.pending == 1) ≡ b → (passed b s).pending ≡ c
+    go true q = let k : s.pending ≡ 1 = (Decides-eqb s.pending 1).0 q in omega arith
+    go false q = omega arith
+
+-- what both codes ask for
+abbrev pub Alike : List Step → List Change → Trees → (ℕ → Tree) → (ℕ → Tree) → (ℕ → Tree) → (ℕ → Tree) → Trees → Type 0
+Alike rest cs ts x y x' y' bs = (Runs (news cs ++ rest) ts x' y' bs → Runs (olds cs ++ rest) ts x y bs) × (Runs (olds cs ++ rest) ts x y bs → Runs (news cs ++ rest) ts x' y' bs)
+
+outside : (c p : ℕ) → p ≡ 0 → p ≡ c + 1 → ⊥
+outside c p e f = omega arith
+
+module _ (room : Option ℕ) where
+  -- the code as it was keeps the rules of code from a shape, with so many arguments of a structure still to come
+  pub alike : (rest : List Step) (cs : List Change) (ts : Trees) (k : Known) (s : Shape) (x y x' y' : ℕ → Tree) (bs : Trees)
+      → all_kept room k cs ≡ true → Paces (olds cs) s → s.pending ≡ count_trees ts → Below k → Held Tree Same k x y x' y' → Alike rest cs ts x y x' y' bs
+  alike rest [] ts k s x y x' y' bs f p c b h = absurd (false≢true f)
+  alike rest (kept (unify_variable v) u a ∷ cs) (more t ts) k s x y x' y' bs f p c b h =
+      let d = both_true (has_room room u) (all_kept room (set_both k v u) cs) f in
+      alike rest cs ts (set_both k v u) (behind_argument (write v s)) (set_x v t x) (set_y v t y) (set_x u t x') (set_y u t y') bs d.1 p.2 (behind_pending (write v s) (count_trees ts) c) (below_both k v u b)
+      (held_both Tree Same k v u t t x y x' y' b refl h)
+  alike rest (kept (unify_value v) u a ∷ cs) (more t ts) k s x y x' y' bs f p c b h =
+      let d = both_true (has_room room u && is_same k v u) (all_kept room k cs) f in
+      let e = same_held Tree Same k v u x y x' y' (both_true (has_room room u) (is_same k v u) d.0).1 h in
+      let q = alike rest cs ts k (behind_argument s) x y x' y' bs d.1 p.3 (behind_pending s (count_trees ts) c) b h in
+      (λ r. (sym e ∙ r.0, q.0 r.1), λ r. (e ∙ r.0, q.1 r.1))
+  alike rest (kept (unify_constant t0) u a ∷ cs) (more t ts) k s x y x' y' bs f p c b h =
+      let q = alike rest cs ts k (behind_argument s) x y x' y' bs f p.1 (behind_pending s (count_trees ts) c) b h in
+      (λ r. (r.0, q.0 r.1), λ r. (r.0, q.1 r.1))
+  alike rest (dropped (get_variable v a) ∷ cs) (more t ts) k s x y x' y' bs f p c b h = absurd (outside (count_trees ts) s.pending p.3 c)
+  alike rest (dropped (put_value v a) ∷ cs) (more t ts) k s x y x' y' bs f p c b h = absurd (outside (count_trees ts) s.pending p.3 c)
+  alike rest (dropped i ∷ cs) (more t ts) k s x y x' y' bs f p c b h = absurd (false≢true f)
+  alike rest (kept i u a ∷ cs) (more t ts) k s x y x' y' bs f p c b h = (λ r. r, λ r. r)
+  alike rest (kept (unify_variable v) u a ∷ cs) none k s x y x' y' bs f p c b h = (λ r. r, λ r. r)
+  alike rest (kept (unify_value v) u a ∷ cs) none k s x y x' y' bs f p c b h = (λ r. r, λ r. r)
+  alike rest (kept (unify_constant t0) u a ∷ cs) none k s x y x' y' bs f p c b h = (λ r. r, λ r. r)
+  alike rest (kept (get_variable v a) u a' ∷ cs) none k s x y x' y' bs f p c b h =
+      let n : ℕ = former k (X a) in
+      let m : ℕ = latter k (X a') in
+      let k1 : Known = set_former k v n in
+      let d = both_true ((has_room room u && nat_le 1 a') && is_same k (X a) (X a')) (all_kept room (set_latter k1 u m) cs) f in
+      let b1 : Below k1 = below_former k v n (b.formers (X a)) b in
+      let h1 : Held Tree Same k1 (set_x v (x a) x) (set_y v (x a) y) x' y' = held_former Tree Same k v (X a) n (x a) x y x' y' refl refl h in
+      alike rest cs none (set_latter k1 u m) (write v s) (set_x v (x a) x) (set_y v (x a) y) (set_x u (x' a') x') (set_y u (x' a') y') bs d.1 p.4 c (below_latter k1 u m (b.latters (X a')) b1)
+      (held_latter Tree Same k1 u (X a') m (x' a') (set_x v (x a) x) (set_y v (x a) y) x' y' refl refl h1)
+  alike rest (kept (get_value v a) u a' ∷ cs) none k s x y x' y' bs f p c b h =
+      let d = both_true ((has_room room u && nat_le 1 a') && (is_same k v u && is_same k (X a) (X a'))) (all_kept room k cs) f in
+      let z = both_true (is_same k v u) (is_same k (X a) (X a')) (both_true (has_room room u && nat_le 1 a') (is_same k v u && is_same k (X a) (X a')) d.0).1 in
+      let e = same_held Tree Same k v u x y x' y' z.0 h in
+      let g = same_held Tree Same k (X a) (X a') x y x' y' z.1 h in
+      let q = alike rest cs none k s x y x' y' bs d.1 p.5 c b h in
+      (λ r. (sym e ∙ r.0 ∙ g, q.0 r.1), λ r. (e ∙ r.0 ∙ sym g, q.1 r.1))
+  alike rest (kept (get_constant t0 a) u a' ∷ cs) none k s x y x' y' bs f p c b h =
+      let d = both_true (nat_le 1 a' && is_same k (X a) (X a')) (all_kept room k cs) f in
+      let g = same_held Tree Same k (X a) (X a') x y x' y' (both_true (nat_le 1 a') (is_same k (X a) (X a')) d.0).1 h in
+      let q = alike rest cs none k s x y x' y' bs d.1 p.3 c b h in
+      (λ r. (sym g ∙ r.0, q.0 r.1), λ r. (g ∙ r.0, q.1 r.1))
+  alike rest (kept (get_structure l n a) u a' ∷ cs) none k s x y x' y' bs f p c b h =
+      let d = both_true (nat_le 1 a' && is_same k (X a) (X a')) (all_kept room k cs) f in
+      let g = same_held Tree Same k (X a) (X a') x y x' y' (both_true (nat_le 1 a') (is_same k (X a) (X a')) d.0).1 h in
+      let q : (ts : Trees) → n ≡ count_trees ts → Alike rest cs ts x y x' y' bs = λ ts m. alike rest cs ts k (after (GetStructure l n a) s) x y x' y' bs d.1 p.3 m b h in
+      (λ r. (r.0, r.1, sym g ∙ r.2, (q r.0 (sym r.1)).0 r.3), λ r. (r.0, r.1, g ∙ r.2, (q r.0 (sym r.1)).1 r.3))
+  alike rest (kept (put_variable v a) u a' ∷ cs) none k s x y x' y' bs f p c b h =
+      let k1 : Known = set_both k v u in
+      let k2 : Known = set_former k1 (X a) k.next in
+      let k3 : Known = set_latter k2 (X a') k.next in
+      let d = both_true (has_room room u && nat_le 1 a') (all_kept room k3 cs) f in
+      let b1 : Below k1 = below_both k v u b in
+      let b2 : Below k2 = below_former k1 (X a) k.next (omega arith) b1 in
+      let b3 : Below k3 = below_latter k2 (X a') k.next (omega arith) b2 in
+      let q : (t : Tree) → Alike rest cs none (set (set_x v t x) a t) (set_y v t y) (set (set_x u t x') a' t) (set_y u t y') bs =
+      λ t. alike rest cs none k3 (after (PutVariable v a) s) (set (set_x v t x) a t) (set_y v t y) (set (set_x u t x') a' t) (set_y u t y') bs d.1 p.3 c b3
+      (held_latter Tree Same k2 (X a') u k.next t (set (set_x v t x) a t) (set_y v t y) (set_x u t x') (set_y u t y') (sym (read_here u k.next k.latter_x k.latter_y)) (sym (read_here u t x' y'))
+      (held_former Tree Same k1 (X a) v k.next t (set_x v t x) (set_y v t y) (set_x u t x') (set_y u t y') (sym (read_here v k.next k.former_x k.former_y)) (sym (read_here v t x y))
+      (held_both Tree Same k v u t t x y x' y' b refl h))) in
+      (λ r. (r.0, (q r.0).0 r.1), λ r. (r.0, (q r.0).1 r.1))
+  alike rest (kept (put_value v a) u a' ∷ cs) none k s x y x' y' bs f p c b h =
+      let n : ℕ = former k v in
+      let m : ℕ = latter k u in
+      let k1 : Known = set_former k (X a) n in
+      let d = both_true ((has_room room u && nat_le 1 a') && is_same k v u) (all_kept room (set_latter k1 (X a') m) cs) f in
+      let b1 : Below k1 = below_former k (X a) n (b.formers v) b in
+      let t : Tree = read v x y in
+      let t' : Tree = read u x' y' in
+      let h1 : Held Tree Same k1 (set x a t) y x' y' = held_former Tree Same k (X a) v n t x y x' y' refl refl h in
+      alike rest cs none (set_latter k1 (X a') m) (write (X a) s) (set x a t) y (set x' a' t') y' bs d.1 p.4 c (below_latter k1 (X a') m (b.latters u) b1)
+      (held_latter Tree Same k1 (X a') u m t' (set x a t) y x' y' refl refl h1)
+  alike rest (kept (put_constant t a) u a' ∷ cs) none k s x y x' y' bs f p c b h =
+      let d = both_true (nat_le 1 a') (all_kept room (set_both k (X a) (X a')) cs) f in
+      alike rest cs none (set_both k (X a) (X a')) (write (X a) s) (set x a t) y (set x' a' t) y' bs d.1 p.2 c (below_both k (X a) (X a') b) (held_both Tree Same k (X a) (X a') t t x y x' y' b refl h)
+  alike rest (kept (put_structure l n a) u a' ∷ cs) none k s x y x' y' bs f p c b h =
+      let d = both_true (nat_le 1 a') (all_kept room (set_both k (X a) (X a')) cs) f in
+      let q : (ts : Trees) → n ≡ count_trees ts → Alike rest cs ts (set x a (node l ts)) y (set x' a' (node l ts)) y' bs =
+      λ ts m. alike rest cs ts (set_both k (X a) (X a')) (after (PutStructure l n a) s) (set x a (node l ts)) y (set x' a' (node l ts)) y' bs d.1 p.2 m (below_both k (X a) (X a') b)
+      (held_both Tree Same k (X a) (X a') (node l ts) (node l ts) x y x' y' b refl h) in
+      (λ r. (r.0, r.1, (q r.0 (sym r.1)).0 r.2), λ r. (r.0, r.1, (q r.0 (sym r.1)).1 r.2))
+  alike rest (kept (call g n) u a ∷ cs) none k s x y x' y' bs f p c b h =
+      let d = both_true (is_some room && all_same k n) (all_kept room (behind_call k) cs) f in
+      let e : spread x' 1 n ≡ spread x 1 n = spread_same k n 1 n x y x' y' (omega arith) (omega arith) (both_true (is_some room) (all_same k n) d.0).1 h in
+      let q : (ds : Trees) → Alike rest cs none lost y lost y' ds = λ ds. alike rest cs none (behind_call k) (after (Call 0) s) lost y lost y' ds d.1 p.3 c (below_call k b) (held_call Tree Same k x y x' y' lost lost h) in
+      (λ r. (r.0, r.1 ∙ ap (λ ts. more (applied g ts) r.0) e, (q r.0).0 r.2), λ r. (r.0, r.1 ∙ ap (λ ts. more (applied g ts) r.0) (sym e), (q r.0).1 r.2))
+  alike rest (kept (execute g n) u a ∷ cs) none k s x y x' y' bs f p c b h =
+      let e : spread x' 1 n ≡ spread x 1 n = spread_same k n 1 n x y x' y' (omega arith) (omega arith) (both_true (all_same k n) true f).0 h in
+      (λ r. r ∙ ap (λ ts. more (applied g ts) none) e, λ r. r ∙ ap (λ ts. more (applied g ts) none) (sym e))
+  alike rest (kept (builtin g n) u a ∷ cs) none k s x y x' y' bs f p c b h =
+      let d = both_true (all_same k n) (all_kept room k cs) f in
+      let e : spread x' 1 n ≡ spread x 1 n = spread_same k n 1 n x y x' y' (omega arith) (omega arith) d.0 h in
+      let q : (ds : Trees) → Alike rest cs none x y x' y' ds = λ ds. alike rest cs none k s x y x' y' ds d.1 p.2 c b h in
+      (λ r. (r.0, r.1 ∙ ap (λ ts. more (applied g ts) r.0) e, (q r.0).0 r.2), λ r. (r.0, r.1 ∙ ap (λ ts. more (applied g ts) r.0) (sym e), (q r.0).1 r.2))
+  alike rest (kept proceed u a ∷ cs) none k s x y x' y' bs f p c b h = (λ r. r, λ r. r)
+  alike rest (kept frame u a ∷ cs) none k s x y x' y' bs f p c b h = absurd (false≢true f)
+  alike rest (kept other u a ∷ cs) none k s x y x' y' bs f p c b h = (λ r. r, λ r. r)
+  alike rest (dropped (get_variable v a) ∷ cs) none k s x y x' y' bs f p c b h =
+      let n : ℕ = former k (X a) in
+      alike rest cs none (set_former k v n) (write v s) (set_x v (x a) x) (set_y v (x a) y) x' y' bs f p.4 c (below_former k v n (b.formers (X a)) b) (held_former Tree Same k v (X a) n (x a) x y x' y' refl refl h)
+  alike rest (dropped (put_value v a) ∷ cs) none k s x y x' y' bs f p c b h =
+      let n : ℕ = former k v in
+      alike rest cs none (set_former k (X a) n) (write (X a) s) (set x a (read v x y)) y x' y' bs f p.4 c (below_former k (X a) n (b.formers v) b) (held_former Tree Same k (X a) v n (read v x y) x y x' y' refl refl h)
+  alike rest (dropped i ∷ cs) none k s x y x' y' bs f p c b h = absurd (false≢true f)
