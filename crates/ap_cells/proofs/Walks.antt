@@ -6,7 +6,7 @@ use Rattle.ap_term.specs.Vars.{occurs, occurs_all}
 use Rattle.ap_term.proofs.Solutions.{same_var}
 use Rattle.ap_cells.specs.Trees.{tree_at, span}
 use Rattle.ap_cells.specs.declared.walk.Range.{Range}
-use Rattle.ap_cells.specs.Walks.{Each, leaves, leaves_all, left, weight, weight_all, weight_in, weight_some, stands}
+use Rattle.ap_cells.specs.Walks.{Each, leaves, leaves_all, left, weight, weight_all, weight_in, stands}
 
 pub Each-push : {X : Type 0} (P : X → Type 0) (xs : List X) (x : X) → Each P xs → P x → Each P (xs ++ x ∷ [])
 Each-push P [] x e p = (p, tt)
@@ -48,10 +48,9 @@ or_swap true true c = refl
 or_swap true false c = refl
 or_swap false b c = refl
 
-or_moved : (a b c : Bool) → ((a || b) || c) ≡ (b || (a || c))
-or_moved true true c = refl
-or_moved true false c = refl
-or_moved false b c = refl
+or_assoc : (a b c : Bool) → ((a || b) || c) ≡ (a || (b || c))
+or_assoc true b c = refl
+or_assoc false b c = refl
 
 pub stands-push : (x : ℕ) (ts : List Tree) (rs : List Range) (r : Range) → stands x ts (rs ++ r ∷ []) ≡ (occurs_all x (span ts r.first r.count) || stands x ts rs)
 stands-push x ts [] r = refl
@@ -65,13 +64,13 @@ stands-passed x ts p n t rest h e f =
     ap (λ us. occurs_all x us || rest) (span-first ts p n h) ∙ ap (λ u. (occurs x u || occurs_all x (span ts (p + 1) (n - 1))) || rest) e
     ∙ ap (λ b. (b || occurs_all x (span ts (p + 1) (n - 1))) || rest) f
 
--- the first place's term is a compound term, which is held from then on, and what was held is on the list
-pub stands-held : (x : ℕ) (ts : List Tree) (p n a q m : ℕ) (held old new : Bool) → 0 < n → tree_at ts p ≡ node a (span ts q m) → new ≡ (held || old)
-    → (occurs_all x (span ts p n) || (held || old)) ≡ (occurs_all x (span ts (p + 1) (n - 1)) || (occurs_all x (span ts q m) || new))
-stands-held x ts p n a q m held old new h e f =
-    ap (λ us. occurs_all x us || (held || old)) (span-first ts p n h) ∙ ap (λ u. (occurs x u || occurs_all x (span ts (p + 1) (n - 1))) || (held || old)) e
-    ∙ or_moved (occurs_all x (span ts q m)) (occurs_all x (span ts (p + 1) (n - 1))) (held || old)
-    ∙ ap (λ b. occurs_all x (span ts (p + 1) (n - 1)) || (occurs_all x (span ts q m) || b)) (sym f)
+-- the first place's term is a compound term, whose arguments are gone through while the places behind it are on the list
+pub stands-opened : (x : ℕ) (ts : List Tree) (p n a q m : ℕ) (old new : Bool) → 0 < n → tree_at ts p ≡ node a (span ts q m) → new ≡ (occurs_all x (span ts (p + 1) (n - 1)) || old)
+    → (occurs_all x (span ts q m) || new) ≡ (occurs_all x (span ts p n) || old)
+stands-opened x ts p n a q m old new h e f =
+    let rest = occurs_all x (span ts (p + 1) (n - 1)) in
+    ap (λ b. occurs_all x (span ts q m) || b) f ∙ sym (or_assoc (occurs_all x (span ts q m)) rest old)
+    ∙ ap (λ u. (occurs x u || rest) || old) (sym e) ∙ ap (λ us. occurs_all x us || old) (sym (span-first ts p n h))
 
 pub other_var : (x y : ℕ) → (y ≡ x → ⊥) → occurs x (var y) ≡ false
 other_var x y h = go (nat_eq x y) refl
@@ -79,7 +78,3 @@ other_var x y h = go (nat_eq x y) refl
     go : (b : Bool) → nat_eq x y ≡ b → nat_eq x y ≡ false
     go true e = absurd (h (sym (same_var x y e)))
     go false e = e
-
-pub weight_some-is : (n w : ℕ) → 0 < n → weight_some n w ≡ 2 * w + 1
-weight_some-is zero w h = absurd (omega arith)
-weight_some-is (suc n) w h = refl

@@ -1,5 +1,5 @@
 -- Places that are still to be walked over, and the variables that stand there.
-use Rattle.std.specs.Prelude.{◌≡◌, ℕ, zero, suc, ◌+◌, ◌*◌, ◌≤◌, Bool, false, ◌||◌, List, [], ◌∷◌, ◌++◌, Option, Some, None}
+use Rattle.std.specs.Prelude.{◌≡◌, ℕ, ◌+◌, ◌*◌, ◌≤◌, Bool, false, ◌||◌, List, [], ◌∷◌, ◌++◌, Option, Some, None}
 use Rattle.ap_term.specs.Tree.{Tree, Trees, var, int, atom, node, none, more}
 use Rattle.ap_term.specs.Vars.{occurs_all}
 use Rattle.ap_cells.specs.Trees.{span}
@@ -60,11 +60,3 @@ weight_in ts (r ∷ rs) = 2 * weight_all (span ts r.first r.count) + 1 + weight_
 abbrev pub stands : ℕ → List Tree → List Range → Bool
 stands x ts [] = false
 stands x ts (r ∷ rs) = occurs_all x (span ts r.first r.count) || stands x ts rs
-
--- turns for places that are held beside a list
-abbrev pub weight_some : ℕ → ℕ → ℕ
-weight_some zero w = 0
-weight_some (suc n) w = 2 * w + 1
-
-abbrev pub weight_held : List Tree → Range → ℕ
-weight_held ts r = weight_some r.count (weight_all (span ts r.first r.count))

@@ -4,7 +4,7 @@ ghost use Rattle.std.specs.Prelude.{◌≡◌, ℕ, ◌+◌, ◌-◌, ◌*◌, �
 ghost use Rattle.ap_term.specs.Tree.{Tree};
 ghost use Rattle.ap_term.specs.Vars.{occurs, occurs_all};
 ghost use Rattle.ap_cells.specs.Trees.{tree_at, trees, span};
-ghost use Rattle.ap_cells.specs.Walks.{AreRanges, IsRange, IsNext, leaves, leaves_all, left, weight, weight_all, weight_in, weight_held, stands};
+ghost use Rattle.ap_cells.specs.Walks.{AreRanges, IsRange, IsNext, leaves, leaves_all, left, weight, weight_all, weight_in, stands};
 
 use crate::cells::Cells;
 use crate::top::Top;
@@ -82,8 +82,7 @@ impl Walk {
     }
 }
 
-/// Looks for a variable, not from left to right: of the compound terms among places that lie together the last one isn't
-/// put on the list, but held until those places are done. So a chain, whichever argument it goes by, puts nothing there.
+/// Looks for a variable, as `next_of` does for the next one.
 fn found(cells: &Cells, x: usize, place: usize, ranges: &mut Vec<Range>) -> Result<bool, NoMemory>
     requires inside { place < length cells.now.cells }
     requires empty { ranges.old.items ≡ [] }
@@ -95,17 +94,11 @@ fn found(cells: &Cells, x: usize, place: usize, ranges: &mut Vec<Range>) -> Resu
         first: place,
         count: 1,
     };
-    let mut held = NOTHING;
     loop {
         if run.count == 0 {
-            if held.count == 0 {
-                match ranges.pop() {
-                    Some(next) => run = next,
-                    None => return Ok(false),
-                }
-            } else {
-                run = held;
-                held = NOTHING;
+            match ranges.pop() {
+                Some(next) => run = next,
+                None => return Ok(false),
             }
         } else {
             match cells.top(run.first) {
@@ -116,9 +109,8 @@ fn found(cells: &Cells, x: usize, place: usize, ranges: &mut Vec<Range>) -> Resu
                     run = behind(run);
                 }
                 Top::Node(_, first, count) => {
-                    put(held, ranges)?;
-                    held = Range { first, count };
-                    run = behind(run);
+                    leave(run, ranges)?;
+                    run = Range { first, count };
                 }
                 Top::Int(_) => run = behind(run),
                 Top::Atom(_) => run = behind(run),
@@ -138,19 +130,6 @@ fn behind(range: Range) -> Range
         first: range.first + 1,
         count: range.count - 1,
     }
-}
-
-/// Puts places on the list, if there are any.
-#[inline(always)]
-fn put(range: Range, ranges: &mut Vec<Range>) -> Result<(), NoMemory>
-    ensures stands { OnOk result ((x : ℕ) (ts : List Tree) → stands x ts ranges.new.items ≡ (occurs_all x (span ts range.first range.count) || stands x ts ranges.old.items)) }
-    ensures less { OnOk result ((ts : List Tree) → weight_in ts ranges.new.items ≤ weight_in ts ranges.old.items + weight_held ts range) }
-    ensures ranges { OnOk result ((n : ℕ) → IsRange n range → AreRanges n ranges.old.items → AreRanges n ranges.new.items) }
-{
-    if range.count > 0 {
-        ranges.push(range)?;
-    }
-    Ok(())
 }
 
 /// The run of places that is gone through isn't on the list: constants are passed over there, and the last argument goes on.
@@ -191,6 +170,7 @@ fn leave(range: Range, ranges: &mut Vec<Range>) -> Result<(), NoMemory>
     requires some { 0 < range.count }
     requires fits { range.first < 2 ^ 63 }
     ensures left { OnOk result ((ts : List Tree) → left ts ranges.new.items ≡ leaves_all (span ts (range.first + 1) (range.count - 1)) ++ left ts ranges.old.items) }
+    ensures stands { OnOk result ((x : ℕ) (ts : List Tree) → stands x ts ranges.new.items ≡ (occurs_all x (span ts (range.first + 1) (range.count - 1)) || stands x ts ranges.old.items)) }
     ensures less { OnOk result ((ts : List Tree) → weight_in ts ranges.new.items ≤ weight_in ts ranges.old.items + (2 * weight_all (span ts (range.first + 1) (range.count - 1)) + 1)) }
     ensures ranges { OnOk result ((n : ℕ) → IsRange n range → AreRanges n ranges.old.items → AreRanges n ranges.new.items) }
 {

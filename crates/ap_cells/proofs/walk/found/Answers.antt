@@ -3,7 +3,7 @@ use Rattle.ap_term.specs.Tree.{var, int, atom}
 use Rattle.ap_term.specs.Vars.{occurs_all}
 use Rattle.ap_cells.specs.Trees.{trees, span}
 use Rattle.ap_cells.specs.Walks.{AreRanges, IsRange, stands, weight_in}
-use Rattle.ap_cells.proofs.Walks.{Each-pop, weight_in-push, stands-push, stands-passed, stands-held, other_var}
+use Rattle.ap_cells.proofs.Walks.{Each-pop, weight_in-push, stands-push, stands-passed, stands-opened, other_var}
 use Rattle.ap_cells.proofs.walk.found.Goals as goal
 
 pub loop-run-smaller-in-Some : goal.loop-run-smaller-in-Some
@@ -18,17 +18,13 @@ loop-run-preserved-in-Some c =
     let n = length c.args.cells.now.cells in
     let x = c.args.x in
     let run = c.loop-run.run in
-    let held = c.loop-run.held in
     let o = c.loop-run.invariant in
     let k = Each-pop (IsRange n) c.pop.new.self.items c.in-Some.next (subst (AreRanges n) c.in-Some.ensures.items o.inside) in
-    let run_done = ap (λ m. occurs_all x (span ts run.first m) || (occurs_all x (span ts held.first held.count) || stands x ts c.loop-run.ranges.items)) c.if-run-eq0.true in
-    let held_done = ap (λ m. occurs_all x (span ts held.first m) || stands x ts c.loop-run.ranges.items) c.if-held-eq0.true in
+    let run_done = ap (λ m. occurs_all x (span ts run.first m) || stands x ts c.loop-run.ranges.items) c.if-run-eq0.true in
     let popped = ap (stands x ts) c.in-Some.ensures.items ∙ stands-push x ts c.pop.new.self.items c.in-Some.next in
-    let rest = ap (λ m. occurs_all x (span ts c.in-Some.next.first c.in-Some.next.count) || (occurs_all x (span ts held.first m) || stands x ts c.pop.new.self.items)) c.if-held-eq0.true in
     record {
-      found = rest ∙ sym (run_done ∙ held_done ∙ popped) ∙ o.found;
+      found = sym popped ∙ sym run_done ∙ o.found;
       run = k.1;
-      held = o.held;
       inside = k.0;
     }
 
@@ -38,16 +34,14 @@ loop-run-preserved-in-Free c =
     let n = length c.args.cells.now.cells in
     let x = c.args.x in
     let run = c.loop-run.run in
-    let held = c.loop-run.held in
     let o = c.loop-run.invariant in
     let l = o.run in
     let some : 0 < run.count = omega arith in
-    let rest = occurs_all x (span ts held.first held.count) || stands x ts c.loop-run.ranges.items in
+    let rest = stands x ts c.loop-run.ranges.items in
     record {
       found = ap (λ r. occurs_all x (span ts r.first r.count) || rest) c.behind-run.ensures
           ∙ sym (stands-passed x ts run.first run.count (var c.in-Free.variable) rest some c.in-Free.ensures.tree (other_var x c.in-Free.variable c.if-variable-x.false)) ∙ o.found;
       run = subst (IsRange n) (sym c.behind-run.ensures) (omega arith);
-      held = o.held;
       inside = o.inside;
     }
 
@@ -57,18 +51,13 @@ loop-run-preserved-in-Node c =
     let n = length c.args.cells.now.cells in
     let x = c.args.x in
     let run = c.loop-run.run in
-    let held = c.loop-run.held in
     let o = c.loop-run.invariant in
-    let l = o.run in
     let some : 0 < run.count = omega arith in
-    let new = stands x ts c.put.new.ranges.items in
     record {
-      found = ap (λ r. occurs_all x (span ts r.first r.count) || (occurs_all x (span ts c.in-Node.first c.in-Node.count) || new)) c.behind-run-in-Node.ensures
-          ∙ sym (stands-held x ts run.first run.count c.in-Node.field-0 c.in-Node.first c.in-Node.count (occurs_all x (span ts held.first held.count)) (stands x ts c.loop-run.ranges.items) new
-          some c.in-Node.ensures.tree (c.in_ok-put-in-Node.ensures.stands x ts)) ∙ o.found;
-      run = subst (IsRange n) (sym c.behind-run-in-Node.ensures) (omega arith);
-      held = c.in-Node.ensures.inside;
-      inside = c.in_ok-put-in-Node.ensures.ranges n o.held o.inside;
+      found = stands-opened x ts run.first run.count c.in-Node.field-0 c.in-Node.first c.in-Node.count (stands x ts c.loop-run.ranges.items) (stands x ts c.leave.new.ranges.items) some c.in-Node.ensures.tree
+          (c.in_ok-leave-in-Node.ensures.stands x ts) ∙ o.found;
+      run = c.in-Node.ensures.inside;
+      inside = c.in_ok-leave-in-Node.ensures.ranges n o.run o.inside;
     }
 
 pub loop-run-preserved-in-Int : goal.loop-run-preserved-in-Int
@@ -77,16 +66,14 @@ loop-run-preserved-in-Int c =
     let n = length c.args.cells.now.cells in
     let x = c.args.x in
     let run = c.loop-run.run in
-    let held = c.loop-run.held in
     let o = c.loop-run.invariant in
     let l = o.run in
     let some : 0 < run.count = omega arith in
-    let rest = occurs_all x (span ts held.first held.count) || stands x ts c.loop-run.ranges.items in
+    let rest = stands x ts c.loop-run.ranges.items in
     record {
       found = ap (λ r. occurs_all x (span ts r.first r.count) || rest) c.behind-run-in-Int.ensures
           ∙ sym (stands-passed x ts run.first run.count (int c.in-Int.field-0) rest some c.in-Int.ensures.tree refl) ∙ o.found;
       run = subst (IsRange n) (sym c.behind-run-in-Int.ensures) (omega arith);
-      held = o.held;
       inside = o.inside;
     }
 
@@ -96,15 +83,13 @@ loop-run-preserved c =
     let n = length c.args.cells.now.cells in
     let x = c.args.x in
     let run = c.loop-run.run in
-    let held = c.loop-run.held in
     let o = c.loop-run.invariant in
     let l = o.run in
     let some : 0 < run.count = omega arith in
-    let rest = occurs_all x (span ts held.first held.count) || stands x ts c.loop-run.ranges.items in
+    let rest = stands x ts c.loop-run.ranges.items in
     record {
       found = ap (λ r. occurs_all x (span ts r.first r.count) || rest) c.behind-run-in-Atom.ensures
           ∙ sym (stands-passed x ts run.first run.count (atom c.in-Atom.field-0) rest some c.in-Atom.ensures.tree refl) ∙ o.found;
       run = subst (IsRange n) (sym c.behind-run-in-Atom.ensures) (omega arith);
-      held = o.held;
       inside = o.inside;
     }
