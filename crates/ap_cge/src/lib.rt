@@ -15,6 +15,3 @@ pub use annotated::{Annotated, hand_written};
 pub use law::printed_again_as_tokens;
 pub use output::{PrintErr, print};
 pub use plain::strip;
-
-#[cfg(test)]
-mod tests;

@@ -23,6 +23,3 @@ pub use limit::{MAX_ARITY, MAX_CLAUSES, MAX_GOALS, MAX_GROUP, MAX_VARIABLES};
 pub use read::{program, query};
 pub use refusal::{Refusal, What};
 pub use source::Source;
-
-#[cfg(test)]
-mod tests;

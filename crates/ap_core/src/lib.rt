@@ -21,6 +21,3 @@ pub use events::{Event, Kind, Path, StepErr};
 pub use laws::{fork_law, reached_law};
 pub use machine::Core;
 pub use tasks::{Alternative, Answer, Busy, Idle, Progress, Round, Slot, Task};
-
-#[cfg(test)]
-mod tests;

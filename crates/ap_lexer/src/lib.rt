@@ -24,6 +24,3 @@ pub use error::{LexErr, NoMemory};
 pub use kind::{LexemeKind, TokenKind};
 pub use law::{lexemes_are_rows, one_cutting, tokens_without_places};
 pub use split::{Token, tokens};
-
-#[cfg(test)]
-mod tests;

@@ -16,6 +16,3 @@ pub use laws::{lifted_call_law, meaning_law};
 pub use lifting::{Lifted, lift_program, lift_question};
 pub use rules::{Rule, is_rule};
 pub use sizes::{Sizes, predicates_of, sizes_of};
-
-#[cfg(test)]
-mod tests;

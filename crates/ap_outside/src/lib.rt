@@ -20,6 +20,3 @@ pub use mem_files::MemFiles;
 pub use mem_sink::{MemSink, Refusal, SteadySink};
 pub use mem_source::{MemSource, SteadySource};
 pub use traits::{Failed, FileErr, Files, Gate, Got, PutErr, Sink, Source, Spot};
-
-#[cfg(test)]
-mod tests;

@@ -7,8 +7,3 @@
 mod law;
 
 pub use law::printed_again_as_program;
-
-#[cfg(test)]
-mod examples;
-#[cfg(test)]
-mod tests;

@@ -26,6 +26,3 @@ pub use operators::{Fixity, OPERATORS, Operator};
 pub use pass::Step;
 pub use word::Word;
 pub use written::{MAX_OPEN, ReadTerm, WrittenTerm, parse, read_term};
-
-#[cfg(test)]
-mod tests;

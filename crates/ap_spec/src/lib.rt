@@ -20,6 +20,3 @@ pub use states::{Behind, State, States, add_calls, children, first_goal};
 pub use substitutions::Subst;
 pub use tuples::Tuples;
 pub use unification::unify;
-
-#[cfg(test)]
-mod tests;

@@ -15,6 +15,3 @@ pub use line::answer_line;
 pub use numbers::Numbers;
 pub use quoted::is_symbols;
 pub use text::{name_of, term_text, write_term};
-
-#[cfg(test)]
-mod tests;

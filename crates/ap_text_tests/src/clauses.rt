@@ -1,10 +1,11 @@
 //! Texts that are refused, with the line and the reason; the limits; texts beside their lifted form.
 
-use crate::{Refusal, What, program, query};
+use crate::reading::{new_atoms, repeated};
+use ap_clause::{Refusal, What, program, query};
 use ap_lexer::pieces;
-use ap_term::{Args, Atoms, Checks, Clause, MAX_ATOMS, Part, Program, Query, Term};
+use ap_spec::identical;
+use ap_term::{Atoms, Clause, MAX_ATOMS, Part, Program, Query, Term};
 use std::alloc::Global;
-use std::process::Abort;
 use std::test::Fail;
 
 fn reason(what: What) -> &'static str {
@@ -17,51 +18,72 @@ fn reason(what: What) -> &'static str {
     }
 }
 
-/// A refusal as it is printed.
-fn shown(alloc: Global, refusal: Refusal, atoms: &Atoms) -> Result<String, Fail> {
-    let text = match refusal {
-        Refusal::BadToken { line } => format!(in alloc; "line {line}: bad token")?,
-        Refusal::NotAClause { line } => format!(in alloc; "line {line}: not a clause")?,
-        Refusal::TooDeep { line } => format!(in alloc; "line {line}: too deep")?,
-        Refusal::TooManyAtoms { line } => format!(in alloc; "line {line}: too many atoms")?,
+/// The line, the cause, and what it names.
+fn parts_of<'a>(refusal: &Refusal, atoms: &'a Atoms) -> (u64, &'a str, &'a str) {
+    match refusal {
+        Refusal::BadToken { line } => (*line, "bad token", ""),
+        Refusal::NotAClause { line } => (*line, "not a clause", ""),
+        Refusal::TooDeep { line } => (*line, "too deep", ""),
+        Refusal::TooManyAtoms { line } => (*line, "too many atoms", ""),
         Refusal::Outside { line, name } => {
-            let name = atoms.get(name).ok_or("no name")?;
-            format!(in alloc; "line {line}: outside {name}")?
+            (*line, "outside ", atoms.get(*name).unwrap_or("nothing"))
         }
-        Refusal::TooLarge { line, what } => {
-            let what = reason(what);
-            format!(in alloc; "line {line}: too large {what}")?
-        }
-        Refusal::NoMemory => String::from_str(alloc, "no memory")?,
-    };
-    Ok(text)
+        Refusal::TooLarge { line, what } => (*line, "too large ", reason(*what)),
+        Refusal::NoMemory => (0, "no memory", ""),
+    }
+}
+
+/// A refusal as it is printed.
+fn shown(alloc: Global, refusal: &Refusal, atoms: &Atoms) -> Result<String, Fail> {
+    let (line, cause, name) = parts_of(refusal, atoms);
+    Ok(format!(in alloc; "line {line}: {cause}{name}")?)
 }
 
 /// What a program's text is answered beside a table of names.
-fn answer_beside(alloc: Global, text: &[u8], atoms: &mut Atoms) -> Result<String, Fail> {
-    let refused = program(alloc, text, atoms).err();
-    match refused {
+fn answer_beside(alloc: Global, text: &str, atoms: &mut Atoms) -> Result<String, Fail> {
+    let refused = program(alloc, text.as_bytes(), atoms).err();
+    match &refused {
         None => Ok(String::from_str(alloc, "a program")?),
         Some(refusal) => shown(alloc, refusal, atoms),
     }
 }
 
-fn answer(alloc: Global, text: &[u8]) -> Result<String, Fail> {
-    let mut atoms = Atoms::new(alloc)?;
-    answer_beside(alloc, text, &mut atoms)
+fn is_answer(alloc: Global, text: &str, wanted: &str) -> Result<bool, Fail> {
+    let mut atoms = new_atoms(alloc)?;
+    Ok(answer_beside(alloc, text, &mut atoms)?.as_str() == wanted)
 }
 
-/// What each piece of a source is answered beside a program.
-fn answer_query(alloc: Global, file: &str, source: &[u8], at: usize) -> Result<String, Fail> {
-    let mut atoms = Atoms::new(alloc)?;
-    let program = program(alloc, file.as_bytes(), &mut atoms)
-        .ok()
-        .ok_or("refused")?;
-    let pieces = pieces(alloc, source).ok().ok_or("no memory")?;
+/// What the piece of a source at that place is answered beside a program.
+fn query_at(
+    alloc: Global,
+    program: &Program,
+    source: &str,
+    at: usize,
+    atoms: &mut Atoms,
+) -> Result<Result<Query, Refusal>, Fail> {
+    let pieces = pieces(alloc, source.as_bytes()).ok().ok_or("no memory")?;
     let piece = pieces.get(at).ok_or("no piece")?;
-    match query(alloc, source, piece, &program, &mut atoms) {
-        Ok(_) => Ok(String::from_str(alloc, "a query")?),
-        Err(refusal) => shown(alloc, refusal, &atoms),
+    Ok(query(alloc, source.as_bytes(), piece, program, atoms))
+}
+
+fn program_of(alloc: Global, text: &str, atoms: &mut Atoms) -> Result<Program, Fail> {
+    let program = program(alloc, text.as_bytes(), atoms).ok();
+    Ok(program.ok_or("refused")?)
+}
+
+fn is_query_answer(
+    alloc: Global,
+    file: &str,
+    source: &str,
+    at: usize,
+    wanted: &str,
+) -> Result<bool, Fail> {
+    let mut atoms = new_atoms(alloc)?;
+    let program = program_of(alloc, file, &mut atoms)?;
+    let refused = query_at(alloc, &program, source, at, &mut atoms)?.err();
+    match &refused {
+        None => Ok(wanted == "a query"),
+        Some(refusal) => Ok(shown(alloc, refusal, &atoms)?.as_str() == wanted),
     }
 }
 
@@ -240,63 +262,63 @@ const QUERIES: [(&str, &str, &str); 17] = [
 ];
 
 /// A text by parts and how often each stands there, and what it is answered.
-const LIMITS: [([(&str, usize); 3], &str); 19] = [
-    ([("p([X1", 1), (",_", 254), ("]).", 1)], "a program"),
+const LIMITS: [(&[(&str, usize)], &str); 19] = [
+    (&[("p([X1", 1), (",_", 254), ("]).", 1)], "a program"),
     (
-        [("p([X1", 1), (",_", 255), ("]).", 1)],
+        &[("p([X1", 1), (",_", 255), ("]).", 1)],
         "line 1: too large variables",
     ),
-    ([("p(a", 1), (",a", 254), (").", 1)], "a program"),
+    (&[("p(a", 1), (",a", 254), (").", 1)], "a program"),
     (
-        [("p(a", 1), (",a", 255), (").", 1)],
+        &[("p(a", 1), (",a", 255), (").", 1)],
         "line 1: too large arity",
     ),
     (
-        [("p :- q(f(a", 1), (",a", 255), (")).", 1)],
+        &[("p :- q(f(a", 1), (",a", 255), (")).", 1)],
         "line 1: too large arity",
     ),
     (
-        [("p(_", 1), (",_", 255), (").", 1)],
+        &[("p(_", 1), (",_", 255), (").", 1)],
         "line 1: too large variables",
     ),
-    ([("p :- a", 1), (",a", 254), (".", 1)], "a program"),
+    (&[("p :- a", 1), (",a", 254), (".", 1)], "a program"),
     (
-        [("p :- a", 1), (",a", 255), (".", 1)],
+        &[("p :- a", 1), (",a", 255), (".", 1)],
         "line 1: too large goals",
     ),
     (
-        [("p :- (b ; a", 1), (",a", 255), (").", 1)],
+        &[("p :- (b ; a", 1), (",a", 255), (").", 1)],
         "line 1: too large goals",
     ),
-    ([("p :- a", 1), ("&a", 31), (".", 1)], "a program"),
+    (&[("p :- a", 1), ("&a", 31), (".", 1)], "a program"),
     (
-        [("p :- a", 1), ("&a", 32), (".", 1)],
+        &[("p :- a", 1), ("&a", 32), (".", 1)],
         "line 1: too large group",
     ),
     (
-        [("p :- a, (b, (a", 1), ("&a", 32), ("))&c.", 1)],
+        &[("p :- a, (b, (a", 1), ("&a", 32), ("))&c.", 1)],
         "line 1: too large group",
     ),
     (
-        [("p :- a", 1), ("&a", 255), (".", 1)],
+        &[("p :- a", 1), ("&a", 255), (".", 1)],
         "line 1: too large goals",
     ),
     (
-        [("p :- a", 1), (",a", 999), (".", 1)],
+        &[("p :- a", 1), (",a", 999), (".", 1)],
         "line 1: too large goals",
     ),
-    ([("p :- a", 1), (",a", 1000), (".", 1)], "line 1: too deep"),
-    ([("p(", 1), ("(", 999), ("a", 1)], "line 1: not a clause"),
-    ([("p(", 1), ("(", 1000), ("a", 1)], "line 1: too deep"),
-    ([("a. ", 65532), ("p :- (a;b).", 1), ("", 0)], "a program"),
+    (&[("p :- a", 1), (",a", 1000), (".", 1)], "line 1: too deep"),
+    (&[("p(", 1), ("(", 999), ("a", 1)], "line 1: not a clause"),
+    (&[("p(", 1), ("(", 1000), ("a", 1)], "line 1: too deep"),
+    (&[("a. ", 65532), ("p :- (a;b).", 1), ("", 0)], "a program"),
     (
-        [("a. ", 65533), ("p :- (a;b).", 1), ("", 0)],
+        &[("a. ", 65533), ("p :- (a;b).", 1), ("", 0)],
         "line 1: too large clauses",
     ),
 ];
 
 /// A program, and the same with its bodies lifted, each in one line.
-const LIFTED: [(&str, &str); 17] = [
+const LIFTED: [(&str, &str); 19] = [
     (
         "p(X) :- ( X = 1 ; X = 2 ).",
         "p(X) :- lift_1(X). lift_1(X) :- X = 1. lift_1(X) :- X = 2.",
@@ -312,6 +334,8 @@ const LIFTED: [(&str, &str); 17] = [
     ("p :- (a & b) & c.", "p :- lift_1 & c. lift_1 :- a & b."),
     ("p :- a & (b & c).", "p :- a & b & c."),
     ("p :- (a, b), c.", "p :- a, b, c."),
+    ("p :- a, (b, c).", "p :- a, b, c."),
+    ("p :- a & (b, c).", "p :- a & lift_1. lift_1 :- b, c."),
     ("p(X) :- ground(X) => a.", "p(X) :- a."),
     ("p :- true => a & b.", "p :- a & b."),
     ("p(X) :- ground(X) => a, b.", "p(X) :- a, b."),
@@ -343,209 +367,168 @@ const LIFTED: [(&str, &str); 17] = [
     ),
 ];
 
-fn same_leaf(a: &Term, b: &Term) -> bool {
-    match (a, b) {
-        (Term::Var(x), Term::Var(y)) => x == y,
-        (Term::Int(x), Term::Int(y)) => x == y,
-        (Term::Atom(x), Term::Atom(y)) => x == y,
-        _ => false,
-    }
-}
-
-/// Whether two heads or goals are the same, whose arguments are variables, integers and atoms.
-fn same(a: &Term, b: &Term) -> bool {
-    let (Term::Node(x, xs), Term::Node(y, ys)) = (a, b) else {
-        return same_leaf(a, b);
-    };
-    if x != y || xs.len() != ys.len() {
-        return false;
-    }
-    for (t, u) in xs.as_slice().iter().zip(ys.as_slice()) {
-        if !same_leaf(t, u) {
+fn same_goals(a: &[Term], b: &[Term]) -> bool {
+    for (t, u) in a.iter().zip(b) {
+        if !identical(t, u) {
             return false;
         }
     }
-    true
-}
-
-fn same_goals(a: &Args, b: &Args) -> bool {
-    if a.len() != b.len() {
-        return false;
-    }
-    for (t, u) in a.as_slice().iter().zip(b.as_slice()) {
-        if !same(t, u) {
-            return false;
-        }
-    }
-    true
-}
-
-fn same_checks(a: &Checks, b: &Checks) -> bool {
-    if a.as_slice().len() != b.as_slice().len() {
-        return false;
-    }
-    for (c, d) in a.as_slice().iter().zip(b.as_slice()) {
-        if c != d {
-            return false;
-        }
-    }
-    true
+    a.len() == b.len()
 }
 
 fn same_part(a: &Part, b: &Part) -> bool {
     match (a, b) {
-        (Part::Call(t), Part::Call(u)) => same(t, u),
+        (Part::Call(t), Part::Call(u)) => identical(t, u),
         (
             Part::Group { checks, calls },
             Part::Group {
                 checks: others,
                 calls: goals,
             },
-        ) => { same_checks(checks, others) && same_goals(calls, goals) }
+        ) => {
+            checks.as_slice() == others.as_slice() && same_goals(calls.as_slice(), goals.as_slice())
+        }
         _ => false,
     }
 }
 
-fn same_clause(a: &Clause, b: &Clause) -> bool {
-    let parts = a.body().as_slice();
-    let others = b.body().as_slice();
-    if !same(a.head(), b.head()) || parts.len() != others.len() || a.line() != b.line() {
-        return false;
-    }
-    for (p, q) in parts.iter().zip(others) {
+fn same_parts(a: &[Part], b: &[Part]) -> bool {
+    for (p, q) in a.iter().zip(b) {
         if !same_part(p, q) {
             return false;
         }
     }
-    true
+    a.len() == b.len()
 }
 
-fn same_program(a: &Program, b: &Program) -> bool {
-    if a.as_slice().len() != b.as_slice().len() {
-        return false;
-    }
-    for (c, d) in a.as_slice().iter().zip(b.as_slice()) {
-        if !same_clause(c, d) {
+fn same_clauses(a: &[Clause], b: &[Clause]) -> bool {
+    for (c, d) in a.iter().zip(b) {
+        if !identical(c.head(), d.head()) || c.line() != d.line() {
+            return false;
+        }
+        if !same_parts(c.body().as_slice(), d.body().as_slice()) {
             return false;
         }
     }
-    true
+    a.len() == b.len()
 }
 
 #[test]
 fn programs_are_answered(rt: HostRuntime) -> Result<(), Fail> {
     for (text, wanted) in &PROGRAMS {
-        let found = answer(rt.alloc(), text.as_bytes())?;
-        assert_eq!(rt; found.as_str(), *wanted);
+        assert!(rt; is_answer(rt.alloc(), text, wanted)?, "{text}");
     }
     Ok(())
+}
+
+/// Whether the name is outside as a goal and as a head.
+fn is_outside(alloc: Global, name: &str) -> Result<bool, Fail> {
+    let wanted = format!(in alloc; "line 1: outside {name}")?;
+    let goal = format!(in alloc; "p :- a, '{name}'(x), nl.")?;
+    let head = format!(in alloc; "'{name}' :- nl.")?;
+    let as_goal = is_answer(alloc, goal.as_str(), wanted.as_str())?;
+    Ok(as_goal && is_answer(alloc, head.as_str(), wanted.as_str())?)
 }
 
 #[test]
 fn refused_names_are_outside(rt: HostRuntime) -> Result<(), Fail> {
     for name in &REFUSED {
-        let wanted = format!(in rt.alloc(); "line 1: outside {name}")?;
-        let goal = format!(in rt.alloc(); "p :- a, '{name}'(x), nl.")?;
-        let head = format!(in rt.alloc(); "'{name}' :- nl.")?;
-        assert_eq!(rt; answer(rt.alloc(), goal.as_bytes())?, wanted);
-        assert_eq!(rt; answer(rt.alloc(), head.as_bytes())?, wanted);
+        assert!(rt; is_outside(rt.alloc(), name)?, "{name}");
     }
     Ok(())
 }
+
+const SOURCE: &str = "?- p(1).\n?- p(.\n?- p(2).\n";
 
 #[test]
 fn queries_are_answered(rt: HostRuntime) -> Result<(), Fail> {
+    let alloc = rt.alloc();
     for (file, source, wanted) in &QUERIES {
-        let found = answer_query(rt.alloc(), file, source.as_bytes(), 0)?;
-        assert_eq!(rt; found.as_str(), *wanted);
+        assert!(rt;
+            is_query_answer(alloc, file, source, 0, wanted)?,
+            "{source}"
+        );
     }
-    let source = b"?- p(1).\n?- p(.\n?- p(2).\n";
-    let second = answer_query(rt.alloc(), "p(1). p(2).", source, 1)?;
-    assert_eq!(rt; second.as_str(), "line 2: not a clause");
+    assert!(rt; is_query_answer(alloc, "p(1). p(2).", SOURCE, 1, "line 2: not a clause")?);
     Ok(())
 }
 
-/// The text of some parts, each so many times.
-fn repeated(alloc: Global, parts: &[(&str, usize)]) -> Result<String, Fail> {
-    let mut text = String::new(alloc);
-    for (part, times) in parts {
-        for _ in 0..*times {
-            text.push_str(part)?;
-        }
-    }
-    Ok(text)
+fn is_limit(alloc: Global, parts: &[(&str, usize)], wanted: &str) -> Result<bool, Fail> {
+    let text = repeated(alloc, parts)?;
+    is_answer(alloc, text.as_str(), wanted)
 }
 
 #[test]
 fn limits_are_exact(rt: HostRuntime) -> Result<(), Fail> {
     for (parts, wanted) in &LIMITS {
-        let text = repeated(rt.alloc(), parts)?;
-        let found = answer(rt.alloc(), text.as_bytes())?;
-        assert_eq!(rt; found.as_str(), *wanted);
+        assert!(rt; is_limit(rt.alloc(), parts, wanted)?, "{wanted}");
     }
     Ok(())
+}
+
+/// Whether two texts are the same program.
+fn are_same(alloc: Global, text: &str, other: &str) -> Result<bool, Fail> {
+    let mut atoms = new_atoms(alloc)?;
+    let found = program_of(alloc, text, &mut atoms)?;
+    let wanted = program_of(alloc, other, &mut atoms)?;
+    Ok(same_clauses(found.as_slice(), wanted.as_slice()))
 }
 
 #[test]
 fn bodies_are_lifted(rt: HostRuntime) -> Result<(), Fail> {
     for (text, lifted) in &LIFTED {
-        let mut atoms = Atoms::new(rt.alloc())?;
-        let found = program(rt.alloc(), text.as_bytes(), &mut atoms);
-        let wanted = program(rt.alloc(), lifted.as_bytes(), &mut atoms);
-        match (&found, &wanted) {
-            (Ok(a), Ok(b)) => assert!(rt; same_program(a, b), "{text}"),
-            _ => assert!(rt; false, "{text}"),
-        }
+        assert!(rt; are_same(rt.alloc(), text, lifted)?, "{text}");
     }
     Ok(())
 }
 
 /// The name and the number of arguments of a head.
-fn head_of<'a>(clause: &Clause, atoms: &'a Atoms) -> Option<(&'a str, usize)> {
+fn head_of<'a>(clause: &Clause, atoms: &'a Atoms) -> (&'a str, usize) {
     match clause.head() {
-        Term::Node(name, args) => Some((atoms.get(*name)?, args.len())),
-        _ => None,
+        Term::Node(name, args) => (atoms.get(*name).unwrap_or(""), args.len()),
+        _ => ("", 0),
     }
 }
 
-fn are_lifted(rt: &impl Abort, query: &Query, atoms: &Atoms, wanted: &[(&str, usize)]) {
-    assert_eq!(rt; query.lifted().len(), wanted.len());
-    for (clause, want) in query.lifted().iter().zip(wanted) {
-        assert_eq!(rt; head_of(clause, atoms), Some(*want));
+/// The heads of what is lifted from a query, and the names of its variables.
+fn lifted(alloc: Global, query: &Query, atoms: &Atoms) -> Result<String, Fail> {
+    let mut text = String::new(alloc);
+    for clause in query.lifted() {
+        let (name, arity) = head_of(clause, atoms);
+        text.push_str(format!(in alloc; "{name}/{arity} ")?.as_str())?;
     }
+    for name in query.names() {
+        text.push_str(name.as_str())?;
+        text.push_str(" ")?;
+    }
+    Ok(text)
 }
 
-fn are_named(rt: &impl Abort, query: &Query, wanted: &[&str]) {
-    assert_eq!(rt; query.names().len(), wanted.len());
-    for (name, want) in query.names().iter().zip(wanted) {
-        assert_eq!(rt; name.as_str(), *want);
-    }
-}
-
-/// The query of a source with one piece.
-fn asked(
-    alloc: Global,
-    source: &[u8],
-    program: &Program,
-    atoms: &mut Atoms,
-) -> Result<Query, Fail> {
-    let pieces = pieces(alloc, source).ok().ok_or("no memory")?;
-    let piece = pieces.first().ok_or("no piece")?;
-    let query = query(alloc, source, piece, program, atoms).ok();
-    Ok(query.ok_or("refused")?)
+fn is_lifted(alloc: Global, file: &str, source: &str, wanted: &str) -> Result<bool, Fail> {
+    let mut atoms = new_atoms(alloc)?;
+    let program = program_of(alloc, file, &mut atoms)?;
+    let query = query_at(alloc, &program, source, 0, &mut atoms)?.ok();
+    let query = query.ok_or("refused")?;
+    Ok(lifted(alloc, &query, &atoms)?.as_str() == wanted)
 }
 
 #[test]
 fn query_goes_on_behind_its_program(rt: HostRuntime) -> Result<(), Fail> {
-    let mut atoms = Atoms::new(rt.alloc())?;
-    let file = b"p :- (a ; b). lift_3.";
-    let program = program(rt.alloc(), file, &mut atoms).ok().ok_or("refused")?;
-    let source = b"?- (lift_4(X, _Y) ; a), (b(X) ; c(_)).";
-    let query = asked(rt.alloc(), source, &program, &mut atoms)?;
-    let wanted = [("lift_2", 3), ("lift_2", 3), ("lift_5", 3), ("lift_5", 3)];
-    are_lifted(&rt, &query, &atoms, &wanted);
-    are_named(&rt, &query, &["X", "_Y", "_"]);
+    let file = "p :- (a ; b). lift_3.";
+    let source = "?- (lift_4(X, _Y) ; a), (b(X) ; c(_)).";
+    let wanted = "lift_2/3 lift_2/3 lift_5/3 lift_5/3 X _Y _ ";
+    assert!(rt; is_lifted(rt.alloc(), file, source, wanted)?);
     Ok(())
+}
+
+/// A table with room for two names.
+fn nearly_full(alloc: Global) -> Result<Atoms, Fail> {
+    let mut atoms = new_atoms(alloc)?;
+    for i in 2..MAX_ATOMS {
+        let name = format!(in alloc; "n{i}")?;
+        atoms.intern(alloc, name.as_str())?;
+    }
+    Ok(atoms)
 }
 
 /// What a table with room for two names answers, each text after the others: a refused text leaves the room as it was.
@@ -561,14 +544,10 @@ const FILLED: [(&str, &str); 7] = [
 
 #[test]
 fn room_for_names_is_exact(rt: HostRuntime) -> Result<(), Fail> {
-    let mut atoms = Atoms::new(rt.alloc())?;
-    for i in 2..MAX_ATOMS {
-        let name = format!(in rt.alloc(); "n{i}")?;
-        atoms.intern(rt.alloc(), name.as_str())?;
-    }
+    let mut atoms = nearly_full(rt.alloc())?;
     for (text, wanted) in &FILLED {
-        let found = answer_beside(rt.alloc(), text.as_bytes(), &mut atoms)?;
-        assert_eq!(rt; found.as_str(), *wanted);
+        let found = answer_beside(rt.alloc(), text, &mut atoms)?;
+        assert!(rt; found.as_str() == *wanted, "{text}");
     }
     Ok(())
 }

@@ -1,26 +1,13 @@
 //! The lines of clauses, and what printing puts where the sink fails.
 
-use crate::{Annotated, PrintErr, hand_written, print, strip};
-use ap_lexer::{pieces, tokens};
+use crate::reading::{new_atoms, read};
+use ap_cge::{Annotated, PrintErr, hand_written, print, strip};
 use ap_outside::{MemSink, Refusal, SteadySink};
-use ap_reader::read_term;
 use ap_term::{
     Args, Atoms, Body, Check, Checks, Clause, Part, Program, Term, copy_term, is_clause,
 };
 use std::alloc::Global;
 use std::test::Fail;
-
-fn read(alloc: Global, text: &str, atoms: &mut Atoms) -> Result<(Term, u64), Fail> {
-    let found = pieces(alloc, text.as_bytes()).ok().ok_or("no memory")?;
-    for piece in &found {
-        let tokens = tokens(alloc, text.as_bytes(), piece)
-            .ok()
-            .ok_or("bad token")?;
-        let read = read_term(alloc, &tokens, atoms).ok().ok_or("no term")?;
-        return Ok((read.term, read.names.len() as u64));
-    }
-    Err(Fail::new("no piece"))
-}
 
 /// The elements of a list, at most 100.
 fn elements<'a>(alloc: Global, t: &'a Term) -> Result<Vec<&'a Term>, Fail> {
@@ -77,20 +64,28 @@ fn part_of(alloc: Global, atoms: &Atoms, t: &Term) -> Result<Part, Fail> {
     }
 }
 
-/// The clause that a list tells: its head, then its parts, `group(Checks, Goals)` for a group.
-fn clause_of(alloc: Global, text: &str, atoms: &mut Atoms) -> Result<Clause, Fail> {
-    let (t, vars) = read(alloc, text, atoms)?;
-    let parts = elements(alloc, &t)?;
-    let (head, rest) = parts.as_slice().split_first().ok_or("no head")?;
+fn body_of(alloc: Global, atoms: &Atoms, parts: &[&Term]) -> Result<Body, Fail> {
     let mut body = Body::new(alloc);
-    for part in rest {
+    for part in parts {
         body.push(part_of(alloc, atoms, part)?)?;
     }
-    let head = copy_term(alloc, head)?;
-    if !is_clause(&head, &body, vars, 1) {
-        return Err(Fail::new("no clause"));
+    Ok(body)
+}
+
+fn checked(head: Term, body: Body, vars: u64) -> Result<Clause, Fail> {
+    if is_clause(&head, &body, vars, 1) {
+        return Ok(Clause::new(head, body, vars, 1));
     }
-    Ok(Clause::new(head, body, vars, 1))
+    Err(Fail::new("no clause"))
+}
+
+/// The clause that a list tells: its head, then its parts, `group(Checks, Goals)` for a group.
+fn clause_of(alloc: Global, text: &str, atoms: &mut Atoms) -> Result<Clause, Fail> {
+    let read = read(alloc, text.as_bytes(), atoms)?.ok().ok_or("no term")?;
+    let parts = elements(alloc, &read.term)?;
+    let (head, rest) = parts.as_slice().split_first().ok_or("no head")?;
+    let body = body_of(alloc, atoms, rest)?;
+    checked(copy_term(alloc, head)?, body, read.names.len() as u64)
 }
 
 fn program_of(alloc: Global, texts: &[&str], atoms: &mut Atoms) -> Result<Program, Fail> {
@@ -152,19 +147,25 @@ const LINES: [(&str, &str); 30] = [
     ("['/*'].", "'/*'.\n"),
 ];
 
+/// Whether the clause that a list tells is printed as one piece, that line.
+fn is_line(alloc: Global, text: &str, line: &str) -> Result<bool, Fail> {
+    let mut atoms = new_atoms(alloc)?;
+    let program = program_of(alloc, &[text], &mut atoms)?;
+    let annotated = hand_written(alloc, &program)?;
+    let mut sink = SteadySink::new(alloc);
+    print(alloc, &annotated, &atoms, &mut sink)
+        .ok()
+        .ok_or("no lines")?;
+    match sink.pieces() {
+        [piece] => Ok(piece.as_slice() == line.as_bytes()),
+        _ => Ok(false),
+    }
+}
+
 #[test]
 fn a_clause_is_a_line(rt: HostRuntime) -> Result<(), Fail> {
-    let alloc = rt.alloc();
-    let mut atoms = Atoms::new(alloc)?;
     for (text, line) in &LINES {
-        let program = program_of(alloc, &[*text], &mut atoms)?;
-        let annotated = hand_written(alloc, &program)?;
-        let mut sink = SteadySink::new(alloc);
-        print(alloc, &annotated, &atoms, &mut sink)
-            .ok()
-            .ok_or(*text)?;
-        assert_eq!(rt; sink.pieces().len(), 1);
-        assert!(rt; sink.pieces()[0].as_slice() == line.as_bytes(), "{text}");
+        assert!(rt; is_line(rt.alloc(), text, line)?, "{text}");
     }
     Ok(())
 }
@@ -177,38 +178,62 @@ const CLAUSES: [&str; 3] = [
 
 const SEQUENCES: [&str; 3] = ["[p(X),a,b(X),c].", "[a].", "[b(X),a,a,c(Y)]."];
 
-fn lines(alloc: Global, program: Program, atoms: &Atoms) -> Result<SteadySink, Fail> {
+/// The lines that are printed of a program.
+pub(crate) fn printed(alloc: Global, annotated: &Annotated, atoms: &Atoms) -> Result<String, Fail> {
     let mut sink = SteadySink::new(alloc);
-    print(alloc, &Annotated::new(program), atoms, &mut sink)
+    print(alloc, annotated, atoms, &mut sink)
         .ok()
         .ok_or("no lines")?;
-    Ok(sink)
+    let mut text = Vec::new(alloc);
+    for line in sink.pieces() {
+        text.extend_from_slice(line.as_slice())?;
+    }
+    Ok(String::from_utf8(text)?)
+}
+
+/// What is printed of the program without groups.
+fn stripped(alloc: Global, texts: &[&str]) -> Result<String, Fail> {
+    let mut atoms = new_atoms(alloc)?;
+    let annotated = Annotated::new(program_of(alloc, texts, &mut atoms)?);
+    let program = strip(alloc, &annotated)?;
+    printed(alloc, &Annotated::new(program), &atoms)
+}
+
+fn printed_texts(alloc: Global, texts: &[&str]) -> Result<String, Fail> {
+    let mut atoms = new_atoms(alloc)?;
+    let annotated = Annotated::new(program_of(alloc, texts, &mut atoms)?);
+    printed(alloc, &annotated, &atoms)
 }
 
 #[test]
 fn goals_of_groups_are_called_one_after_another(rt: HostRuntime) -> Result<(), Fail> {
-    let alloc = rt.alloc();
-    let mut atoms = Atoms::new(alloc)?;
-    let annotated = Annotated::new(program_of(alloc, &CLAUSES, &mut atoms)?);
-    let stripped = lines(alloc, strip(alloc, &annotated)?, &atoms)?;
-    let sequences = program_of(alloc, &SEQUENCES, &mut atoms)?;
-    let wanted = lines(alloc, sequences, &atoms)?;
-    assert!(rt; stripped.pieces() == wanted.pieces());
+    let found = stripped(rt.alloc(), &CLAUSES)?;
+    let wanted = printed_texts(rt.alloc(), &SEQUENCES)?;
+    assert!(rt; found.as_str() == wanted.as_str());
     Ok(())
+}
+
+/// Whether a sink whose second call takes one byte has the first line and that byte.
+fn is_cut_short(alloc: Global) -> Result<bool, Fail> {
+    let mut atoms = new_atoms(alloc)?;
+    let annotated = Annotated::new(program_of(alloc, &CLAUSES, &mut atoms)?);
+    let mut sink = MemSink::new(alloc, &[Refusal { call: 2, takes: 1 }])?;
+    let is_sunk = matches!(
+        print(alloc, &annotated, &atoms, &mut sink),
+        Err(PrintErr::Sunk)
+    );
+    match sink.pieces() {
+        [first, second] => Ok(
+            is_sunk
+                && first.as_slice() == b"p(_1) :- ground(_1) => a & b(_1), c.\n".as_slice()
+                && second.as_slice() == b"a".as_slice(),
+        ),
+        _ => Ok(false),
+    }
 }
 
 #[test]
 fn a_sink_that_fails_has_the_first_lines(rt: HostRuntime) -> Result<(), Fail> {
-    let alloc = rt.alloc();
-    let mut atoms = Atoms::new(alloc)?;
-    let annotated = Annotated::new(program_of(alloc, &CLAUSES, &mut atoms)?);
-    let mut sink = MemSink::new(alloc, &[Refusal { call: 2, takes: 1 }])?;
-    let result = print(alloc, &annotated, &atoms, &mut sink);
-    assert!(rt; matches!(result, Err(PrintErr::Sunk)));
-    assert_eq!(rt; sink.pieces().len(), 2);
-    assert!(rt;
-        sink.pieces()[0].as_slice() == b"p(_1) :- ground(_1) => a & b(_1), c.\n".as_slice()
-    );
-    assert!(rt; sink.pieces()[1].as_slice() == b"a".as_slice());
+    assert!(rt; is_cut_short(rt.alloc())?);
     Ok(())
 }

@@ -1,50 +1,16 @@
 //! Texts beside the same terms in functional notation (ISO 13211-1, section 6.3, narrowed), texts
 //! that are no term, and the limits.
 
-use crate::{ReadErr, ReadTerm, read_term};
-use ap_lexer::{pieces, tokens};
-use ap_term::{Atoms, Term};
+use crate::reading::{new_atoms, read, repeated};
+use ap_reader::ReadErr;
+use ap_spec::identical;
 use std::alloc::Global;
 use std::test::Fail;
 
-/// Whether two terms are the same down to a depth.
-fn same(a: &Term, b: &Term, depth: u32) -> bool {
-    if depth == 0 {
-        return false;
-    }
-    match (a, b) {
-        (Term::Var(x), Term::Var(y)) => x == y,
-        (Term::Int(x), Term::Int(y)) => x == y,
-        (Term::Atom(x), Term::Atom(y)) => x == y,
-        (Term::Node(x, xs), Term::Node(y, ys)) => {
-            if x != y || xs.len() != ys.len() {
-                return false;
-            }
-            for (t, u) in xs.as_slice().iter().zip(ys.as_slice()) {
-                if !same(t, u, depth - 1) {
-                    return false;
-                }
-            }
-            true
-        }
-        _ => false,
-    }
-}
-
-/// What the first piece of a text is read as.
-fn read(alloc: Global, text: &[u8], atoms: &mut Atoms) -> Result<Result<ReadTerm, ReadErr>, Fail> {
-    let pieces = pieces(alloc, text).ok().ok_or("no memory")?;
-    for piece in &pieces {
-        let tokens = tokens(alloc, text, piece).ok().ok_or("bad token")?;
-        return Ok(read_term(alloc, &tokens, atoms));
-    }
-    Ok(Err(ReadErr::NoMemory))
-}
-
-/// Texts, and the same terms in functional notation. All but the last two were read as the same by SWI-Prolog (with
+/// Texts, and the same terms in functional notation. Of these and the next ones all but the last two were read as the same by SWI-Prolog (with
 /// `--traditional`) under this table of operators, and by GNU Prolog 1.4.5 but for `- 1`, which it reads as an integer,
 /// and for integers of more than 61 bits. `bench/reader_compare` tries that again.
-const TERMS: [(&str, &str); 178] = [
+const OPERATIONS: [(&str, &str); 106] = [
     ("-1.", "-1."),
     ("- 1.", "'-'(1)."),
     ("-(1).", "'-'(1)."),
@@ -151,6 +117,10 @@ const TERMS: [(&str, &str); 178] = [
     ("\\+ (a,b).", "'\\\\+'(','(a,b))."),
     ("\\+(a,b).", "'\\\\+'(a,b)."),
     ("a=(\\+b).", "'='(a,'\\\\+'(b))."),
+];
+
+/// Names as functors and alone, lists, quoted names, variables and integers.
+const TERMS: [(&str, &str); 72] = [
     ("=(a).", "'='(a)."),
     ("=(a,b).", "'='(a,b)."),
     ("is(X).", "'is'(X)."),
@@ -357,75 +327,96 @@ const NARROWED: [&str; 37] = [
     "0x1F.",
 ];
 
+/// Whether two texts are read as the same term.
+fn is_same(alloc: Global, text: &str, canonical: &str) -> Result<bool, Fail> {
+    let mut atoms = new_atoms(alloc)?;
+    let found = read(alloc, text.as_bytes(), &mut atoms)?.ok();
+    let wanted = read(alloc, canonical.as_bytes(), &mut atoms)?.ok();
+    match (&found, &wanted) {
+        (Some(found), Some(wanted)) => Ok(identical(&found.term, &wanted.term)),
+        _ => Ok(false),
+    }
+}
+
+/// 0 where a text is read, 1 where it is too deep, 2 where it is no clause, 3 for another cause.
+fn outcome(alloc: Global, text: &str) -> Result<u8, Fail> {
+    let mut atoms = new_atoms(alloc)?;
+    match read(alloc, text.as_bytes(), &mut atoms)? {
+        Ok(_) => Ok(0),
+        Err(ReadErr::TooDeep { .. }) => Ok(1),
+        Err(ReadErr::NotAClause { line: 1 }) => Ok(2),
+        Err(_) => Ok(3),
+    }
+}
+
 #[test]
 fn reads_terms_as_in_functional_notation(rt: HostRuntime) -> Result<(), Fail> {
-    let alloc = rt.alloc();
-    let mut atoms = Atoms::new(alloc)?;
     for (text, canonical) in &TERMS {
-        let found = read(alloc, text.as_bytes(), &mut atoms)?.ok().ok_or(*text)?;
-        let wanted = read(alloc, canonical.as_bytes(), &mut atoms)?
-            .ok()
-            .ok_or(*canonical)?;
-        assert!(rt; same(&found.term, &wanted.term, 20), "{text}");
-    }
-    for text in OTHERS.iter().chain(&NARROWED) {
-        let found = read(alloc, text.as_bytes(), &mut atoms)?;
-        let refused = matches!(found, Err(ReadErr::NotAClause { line: 1 }));
-        assert!(rt; refused, "{text}");
+        assert!(rt; is_same(rt.alloc(), text, canonical)?, "{text}");
     }
     Ok(())
 }
 
-/// 0 where a text is read, 1 where it is too deep, 2 for another cause.
-fn outcome(alloc: Global, parts: [(&str, usize); 3]) -> Result<u8, Fail> {
-    let mut text = String::new(alloc);
-    for (part, times) in &parts {
-        for _ in 0..*times {
-            text.push_str(part)?;
-        }
+#[test]
+fn reads_operations_as_in_functional_notation(rt: HostRuntime) -> Result<(), Fail> {
+    for (text, canonical) in &OPERATIONS {
+        assert!(rt; is_same(rt.alloc(), text, canonical)?, "{text}");
     }
+    Ok(())
+}
+
+#[test]
+fn other_texts_are_no_terms(rt: HostRuntime) -> Result<(), Fail> {
+    for text in &OTHERS {
+        assert!(rt; outcome(rt.alloc(), text)? == 2, "{text}");
+    }
+    for text in &NARROWED {
+        assert!(rt; outcome(rt.alloc(), text)? == 2, "{text}");
+    }
+    Ok(())
+}
+
+/// The parts of a text, each so many times, and its outcome.
+const LIMITS: [([(&str, usize); 3], u8); 27] = [
+    ([("(", 1000), ("a", 1), (")", 1000)], 0),
+    ([("(", 1001), ("a", 1), (")", 1001)], 1),
+    ([("(", 1001), ("a", 1), ("", 0)], 1),
+    ([(")", 1001), ("a", 1), ("", 0)], 2),
+    ([("f(", 1000), ("a", 1), (")", 1000)], 0),
+    ([("- ", 1000), ("a", 1), ("", 0)], 0),
+    ([("- ", 1001), ("a", 1), ("", 0)], 1),
+    ([("- ", 100000), ("a", 1), ("", 0)], 1),
+    ([("- ", 100000), ("", 0), ("", 0)], 2),
+    ([("1-", 1000), ("a", 1), ("", 0)], 0),
+    ([("1-", 1001), ("a", 1), ("", 0)], 1),
+    ([("1-", 100000), ("a", 1), ("", 0)], 1),
+    ([("[f(", 1), ("a,", 5000), ("a)]", 1)], 0),
+    ([("[a", 1), (",a", 999999), ("]", 1)], 0),
+    ([("[a", 1), (",a", 1000), ("|T]", 1)], 0),
+    ([("[", 1000), ("a", 1), ("]", 1000)], 0),
+    ([("[", 1001), ("a", 1), ("]", 1001)], 1),
+    ([("[(", 500), ("a", 1), (")]", 500)], 0),
+    ([("([", 501), ("a", 1), ("])", 501)], 1),
+    ([("- ", 999), ("[a]", 1), ("", 0)], 0),
+    ([("- ", 1000), ("[]", 1), ("", 0)], 0),
+    ([("- ", 1000), ("[a]", 1), ("", 0)], 1),
+    ([("1 - ", 1000), ("- a", 1), ("", 0)], 0),
+    ([("a,", 1000), ("a", 1), ("", 0)], 0),
+    ([("a,", 1001), ("a", 1), ("", 0)], 1),
+    ([("a&", 1001), ("a", 1), ("", 0)], 1),
+    ([("(", 100000), ("a", 1), (")", 100000)], 1),
+];
+
+fn outcome_of(alloc: Global, parts: &[(&str, usize)]) -> Result<u8, Fail> {
+    let mut text = repeated(alloc, parts)?;
     text.push_str(" .")?;
-    let mut atoms = Atoms::new(alloc)?;
-    match read(alloc, text.as_bytes(), &mut atoms)? {
-        Ok(_) => Ok(0),
-        Err(ReadErr::TooDeep { .. }) => Ok(1),
-        Err(_) => Ok(2),
-    }
+    outcome(alloc, text.as_str())
 }
 
 #[test]
 fn limits_are_exact(rt: HostRuntime) -> Result<(), Fail> {
-    let rows = [
-        ([("(", 1000), ("a", 1), (")", 1000)], 0),
-        ([("(", 1001), ("a", 1), (")", 1001)], 1),
-        ([("(", 1001), ("a", 1), ("", 0)], 1),
-        ([(")", 1001), ("a", 1), ("", 0)], 2),
-        ([("f(", 1000), ("a", 1), (")", 1000)], 0),
-        ([("- ", 1000), ("a", 1), ("", 0)], 0),
-        ([("- ", 1001), ("a", 1), ("", 0)], 1),
-        ([("- ", 100000), ("a", 1), ("", 0)], 1),
-        ([("- ", 100000), ("", 0), ("", 0)], 2),
-        ([("1-", 1000), ("a", 1), ("", 0)], 0),
-        ([("1-", 1001), ("a", 1), ("", 0)], 1),
-        ([("1-", 100000), ("a", 1), ("", 0)], 1),
-        ([("[f(", 1), ("a,", 5000), ("a)]", 1)], 0),
-        ([("[a", 1), (",a", 999999), ("]", 1)], 0),
-        ([("[a", 1), (",a", 1000), ("|T]", 1)], 0),
-        ([("[", 1000), ("a", 1), ("]", 1000)], 0),
-        ([("[", 1001), ("a", 1), ("]", 1001)], 1),
-        ([("[(", 500), ("a", 1), (")]", 500)], 0),
-        ([("([", 501), ("a", 1), ("])", 501)], 1),
-        ([("- ", 999), ("[a]", 1), ("", 0)], 0),
-        ([("- ", 1000), ("[]", 1), ("", 0)], 0),
-        ([("- ", 1000), ("[a]", 1), ("", 0)], 1),
-        ([("1 - ", 1000), ("- a", 1), ("", 0)], 0),
-        ([("a,", 1000), ("a", 1), ("", 0)], 0),
-        ([("a,", 1001), ("a", 1), ("", 0)], 1),
-        ([("a&", 1001), ("a", 1), ("", 0)], 1),
-        ([("(", 100000), ("a", 1), (")", 100000)], 1),
-    ];
-    for (parts, wanted) in &rows {
-        assert_eq!(rt; outcome(rt.alloc(), *parts)?, *wanted);
+    for (parts, wanted) in &LIMITS {
+        assert!(rt; outcome_of(rt.alloc(), parts)? == *wanted, "{wanted}");
     }
     Ok(())
 }
