@@ -7,6 +7,8 @@
 #[cfg(test)]
 mod building;
 #[cfg(test)]
-mod tests;
+mod calls;
 #[cfg(test)]
-mod trial;
+mod marks;
+#[cfg(test)]
+mod tests;

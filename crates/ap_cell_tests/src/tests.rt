@@ -1,15 +1,18 @@
 //! What no clause says: that calls answer where memory is ample, and that deep terms need no deep recursion. The answers
 //! are compared with those that the definitions' own functions give, and with answers known by hand.
 
-use crate::building::Step;
-use crate::trial::Trial;
+use crate::building::{Step, deep, put, term};
+use crate::calls::{
+    are_identical, are_independent, has_value, is_ground, is_unified, may_be_unified, parcel_of,
+    term_at, value,
+};
 use Step::{A, I, N, V};
-use ap_cells::Cell;
-use ap_copy::Roots;
+use ap_cells::{Cell, Cells};
+use ap_copy::{Roots, copy_in};
 use ap_spec::{Subst, identical};
-use ap_term::{Args, Atom, Op, Term, fixed, instance, vars};
+use ap_term::{Args, Atom, Term, fixed, instance, vars};
+use ap_unify::Work;
 use std::alloc::Global;
-use std::process::Abort;
 use std::test::Fail;
 
 /// Names of functors and constants, behind the fixed names.
@@ -33,10 +36,10 @@ fn same_up_to_names(alloc: Global, t: &Term, u: &Term) -> Result<bool, Fail> {
 }
 
 /// The terms of two places, as the arguments of one.
-fn terms(alloc: Global, trial: &Trial, a: usize, b: usize) -> Result<Term, Fail> {
+fn terms(alloc: Global, cells: &Cells, a: usize, b: usize) -> Result<Term, Fail> {
     let mut args = Args::new(alloc);
-    args.push(trial.term_at(alloc, a)?)?;
-    args.push(trial.term_at(alloc, b)?)?;
+    args.push(term_at(alloc, cells, a)?)?;
+    args.push(term_at(alloc, cells, b)?)?;
     Ok(Term::Node(Atom::at(F), args))
 }
 
@@ -45,75 +48,96 @@ fn sent<T: Send>(value: T) -> T {
     value
 }
 
-/// Compares the checks and the value with what the terms have.
-fn checks(
-    rt: &impl Abort,
-    alloc: Global,
-    trial: &mut Trial,
-    a: usize,
-    b: usize,
-) -> Result<(), Fail> {
-    let t = trial.term_at(alloc, a)?;
-    let xs = vars(alloc, &t)?;
-    let u = trial.term_at(alloc, b)?;
-    let ys = vars(alloc, &u)?;
-    assert_eq!(rt; trial.identical(a, b)?, identical(&t, &u));
-    assert_eq!(rt; trial.ground(a)?, xs.is_empty());
-    assert_eq!(rt; trial.indep(a, b)?, !xs.iter().any(|x| ys.contains(x)));
-    assert_eq!(rt; trial.eval(a)?, ap_spec::eval(&t));
-    Ok(())
+/// Whether terms share no variable.
+fn are_apart(alloc: Global, t: &Term, u: &Term) -> Result<bool, Fail> {
+    let xs = vars(alloc, t)?;
+    for y in &vars(alloc, u)? {
+        if xs.contains(y) {
+            return Ok(false);
+        }
+    }
+    Ok(true)
 }
 
-/// Copies two places' terms into another store.
-fn copies(
-    rt: &impl Abort,
-    alloc: Global,
-    trial: &mut Trial,
-    a: usize,
-    b: usize,
-) -> Result<(), Fail> {
-    let parcel = sent(trial.copy_out(alloc, a, b)?);
-    let mut other = Trial::new(alloc);
-    other.put(alloc, &[V(0)])?;
-    let Roots { first, count } = other.copy_in(&parcel)?;
-    assert_eq!(rt; count, 2);
+/// Whether the checks on one place, and its value, are what its term has.
+fn is_alike(alloc: Global, cells: &Cells, a: usize) -> Result<bool, Fail> {
+    let t = term_at(alloc, cells, a)?;
+    let has_none = vars(alloc, &t)?.is_empty();
+    Ok(is_ground(alloc, cells, a)? == has_none && value(alloc, cells, a)? == ap_spec::eval(&t))
+}
+
+/// Whether the checks on two places are what their terms have.
+fn are_alike(alloc: Global, cells: &Cells, a: usize, b: usize) -> Result<bool, Fail> {
+    let t = term_at(alloc, cells, a)?;
+    let u = term_at(alloc, cells, b)?;
+    let is_same = are_identical(alloc, cells, a, b)?;
+    let is_apart = are_independent(alloc, cells, a, b)?;
+    Ok(is_same == identical(&t, &u) && is_apart == are_apart(alloc, &t, &u)?)
+}
+
+/// Whether two places' terms are the same, up to names, when they are copied into another store.
+fn are_copied(alloc: Global, cells: &Cells, a: usize, b: usize) -> Result<bool, Fail> {
+    let parcel = sent(parcel_of(alloc, cells, a, b)?);
+    let mut other = Cells::new(alloc);
+    put(&mut other, Cell::Free)?;
+    let Roots { first, count } = copy_in(&mut other, &parcel)?;
     let copied = terms(alloc, &other, first, first.saturating_add(1))?;
-    let whole = terms(alloc, trial, a, b)?;
-    assert!(rt; same_up_to_names(alloc, &whole, &copied)?);
-    Ok(())
+    let whole = terms(alloc, cells, a, b)?;
+    Ok(count == 2 && same_up_to_names(alloc, &whole, &copied)?)
 }
 
-/// Unifies two places' terms, and takes that back; then unifies them for good.
-fn unifiers(
-    rt: &impl Abort,
+/// Whether two places' terms are those that the unifier makes of both, once they are unified.
+fn is_solved(
     alloc: Global,
-    trial: &mut Trial,
+    cells: &mut Cells,
     a: usize,
     b: usize,
+    solution: &Subst,
 ) -> Result<bool, Fail> {
-    let whole = terms(alloc, trial, a, b)?;
-    let solution = ap_spec::unify(alloc, &trial.term_at(alloc, a)?, &trial.term_at(alloc, b)?)?;
-    let found = trial.unifies(a, b)?;
-    assert_eq!(rt; found, solution.is_some());
-    let after = terms(alloc, trial, a, b)?;
-    assert!(rt; identical(&whole, &after));
-    if let Some(solution) = solution {
-        trial.unify(a, b)?;
-        let bound = terms(alloc, trial, a, b)?;
-        let wanted = instance(alloc, &solution, &whole)?;
-        assert!(rt; same_up_to_names(alloc, &bound, &wanted)?);
+    let wanted = instance(alloc, solution, &terms(alloc, cells, a, b)?)?;
+    let found = is_unified(cells, a, b, &mut Work::new(alloc))?;
+    let bound = terms(alloc, cells, a, b)?;
+    Ok(found && same_up_to_names(alloc, &bound, &wanted)?)
+}
+
+/// Whether two places' terms unify, and are then as they were.
+fn is_taken_back(alloc: Global, cells: &mut Cells, a: usize, b: usize) -> Result<bool, Fail> {
+    let whole = terms(alloc, cells, a, b)?;
+    let found = may_be_unified(cells, a, b, &mut Work::new(alloc))?;
+    let after = terms(alloc, cells, a, b)?;
+    if !identical(&whole, &after) {
+        return Err(Fail::new("bound"));
     }
     Ok(found)
 }
 
-/// Compares each call with the definitions' functions.
-fn compare(rt: &impl Abort, alloc: Global, a: &[Step], b: &[Step]) -> Result<bool, Fail> {
-    let mut trial = Trial::new(alloc);
-    let a = trial.put(alloc, a)?;
-    let b = trial.put(alloc, b)?;
-    checks(rt, alloc, &mut trial, a, b)?;
-    copies(rt, alloc, &mut trial, a, b)?;
-    unifiers(rt, alloc, &mut trial, a, b)
+/// Unifies two places' terms, and takes that back; then unifies them for good. None where the calls don't agree with the
+/// definitions.
+fn unifies(alloc: Global, cells: &mut Cells, a: usize, b: usize) -> Result<Option<bool>, Fail> {
+    let found = is_taken_back(alloc, cells, a, b)?;
+    let (t, u) = (term_at(alloc, cells, a)?, term_at(alloc, cells, b)?);
+    match ap_spec::unify(alloc, &t, &u)? {
+        Some(solution) => {
+            let is_well = found && is_solved(alloc, cells, a, b, &solution)?;
+            Ok(is_well.then_some(true))
+        }
+        None => Ok((!found).then_some(false)),
+    }
+}
+
+/// Whether two terms unify, where each call agrees with the definitions' functions.
+fn compared(alloc: Global, a: &[Step], b: &[Step]) -> Result<Option<bool>, Fail> {
+    let mut cells = Cells::new(alloc);
+    let mut variables = Vec::new(alloc);
+    let a = term(alloc, &mut cells, &mut variables, a)?;
+    let b = term(alloc, &mut cells, &mut variables, b)?;
+    let is_well = is_alike(alloc, &cells, a)?
+        && are_alike(alloc, &cells, a, b)?
+        && are_copied(alloc, &cells, a, b)?;
+    if !is_well {
+        return Ok(None);
+    }
+    unifies(alloc, &mut cells, a, b)
 }
 
 /// Two terms, and whether they unify: `X = f(X)`, `p(A, A)` with the head `p(X, f(X))`, and others.
@@ -145,21 +169,36 @@ const UNIFIED: [(&[Step], &[Step], bool); 10] = [
 #[test]
 fn terms_unify_where_they_should(rt: HostRuntime) -> Result<(), Fail> {
     for (a, b, wanted) in &UNIFIED {
-        assert_eq!(rt; compare(&rt, rt.alloc(), a, b)?, *wanted);
+        assert!(rt; compared(rt.alloc(), a, b)? == Some(*wanted));
     }
     Ok(())
+}
+
+/// The term of steps in a store of its own.
+fn read(alloc: Global, steps: &[Step]) -> Result<Term, Fail> {
+    let mut cells = Cells::new(alloc);
+    let place = term(alloc, &mut cells, &mut Vec::new(alloc), steps)?;
+    Ok(term_at(alloc, &cells, place)?)
+}
+
+/// What the first of two terms is once they are unified.
+fn solved(alloc: Global, a: &[Step], b: &[Step]) -> Result<Term, Fail> {
+    let mut cells = Cells::new(alloc);
+    let mut variables = Vec::new(alloc);
+    let a = term(alloc, &mut cells, &mut variables, a)?;
+    let b = term(alloc, &mut cells, &mut variables, b)?;
+    if !is_unified(&mut cells, a, b, &mut Work::new(alloc))? {
+        return Err(Fail::new("no unifier"));
+    }
+    Ok(term_at(alloc, &cells, a)?)
 }
 
 #[test]
 fn an_answer_shares_its_variable(rt: HostRuntime) -> Result<(), Fail> {
     let alloc = rt.alloc();
-    let mut trial = Trial::new(alloc);
-    let a = trial.put(alloc, &[V(0), V(1), N(F, 2)])?;
-    let b = trial.put(alloc, &[V(2), N(F, 1), V(2), N(F, 2)])?;
-    assert!(rt; trial.unify(a, b)?);
-    let mut other = Trial::new(alloc);
-    let wanted = other.put(alloc, &[V(0), N(F, 1), V(0), N(F, 2)])?;
-    let (found, wanted) = (trial.term_at(alloc, a)?, other.term_at(alloc, wanted)?);
+    let head = [V(2), N(F, 1), V(2), N(F, 2)];
+    let found = solved(alloc, &[V(0), V(1), N(F, 2)], &head)?;
+    let wanted = read(alloc, &[V(0), N(F, 1), V(0), N(F, 2)])?;
     assert!(rt; same_up_to_names(alloc, &found, &wanted)?);
     Ok(())
 }
@@ -174,14 +213,18 @@ const VALUES: [(&[Step], Option<i64>); 6] = [
     (&[I(1), I(2), I(3), N(fixed::PLUS, 3)], None),
 ];
 
+/// Whether an expression has that value.
+fn is_value(alloc: Global, steps: &[Step], wanted: Option<i64>) -> Result<bool, Fail> {
+    let mut cells = Cells::new(alloc);
+    let place = term(alloc, &mut cells, &mut Vec::new(alloc), steps)?;
+    let is_there = has_value(alloc, &cells, place)?;
+    Ok(value(alloc, &cells, place)? == wanted && is_there == wanted.is_some())
+}
+
 #[test]
 fn expressions_have_values_of_64_bits(rt: HostRuntime) -> Result<(), Fail> {
-    let alloc = rt.alloc();
     for (steps, wanted) in &VALUES {
-        let mut trial = Trial::new(alloc);
-        let place = trial.put(alloc, steps)?;
-        assert_eq!(rt; trial.eval(place)?, *wanted);
-        assert_eq!(rt; trial.test(Op::Le, place)?, wanted.is_some());
+        assert!(rt; is_value(rt.alloc(), steps, *wanted)?);
     }
     Ok(())
 }
@@ -223,76 +266,75 @@ fn random_term(alloc: Global, state: &mut u64) -> Result<Vec<Step>, Fail> {
     Ok(steps)
 }
 
-#[test]
-fn random_terms_agree_with_the_definitions(rt: HostRuntime) -> Result<(), Fail> {
-    let alloc = rt.alloc();
+/// How many of so many random pairs unify.
+fn count_unified(alloc: Global, pairs: usize) -> Result<usize, Fail> {
     let mut state: u64 = 1;
-    let mut unified: usize = 0;
-    for _ in 0..1000 {
+    let mut count: usize = 0;
+    for _ in 0..pairs {
         let a = random_term(alloc, &mut state)?;
         let b = random_term(alloc, &mut state)?;
-        if compare(&rt, alloc, a.as_slice(), b.as_slice())? {
-            unified = unified.saturating_add(1);
-        }
+        let found = compared(alloc, a.as_slice(), b.as_slice())?.ok_or("calls that disagree")?;
+        count = count.saturating_add(found as usize);
     }
-    assert!(rt; 50 < unified && unified < 950);
+    Ok(count)
+}
+
+#[test]
+fn random_terms_agree_with_the_definitions(rt: HostRuntime) -> Result<(), Fail> {
+    let unified = count_unified(rt.alloc(), 1000)?;
+    assert!(rt; 50 < unified && unified < 950, "{unified}");
     Ok(())
 }
 
 const DEPTH: usize = 1_000_000;
 
-/// Sums of a great depth: the places of one of numbers, and of one of variables.
-fn put_sums(trial: &mut Trial, is_first: bool) -> Result<(usize, usize), Fail> {
-    let a = trial.put_deep(fixed::PLUS, DEPTH, is_first, Cell::Int(1))?;
-    let b = trial.put_deep(fixed::PLUS, DEPTH, is_first, Cell::Free)?;
-    Ok((a, b))
+/// A sum of a great depth, of ones or of variables.
+fn put_sum(cells: &mut Cells, is_first: bool, leaf: Cell) -> Result<usize, Fail> {
+    Ok(deep(cells, fixed::PLUS, DEPTH, is_first, leaf)?)
 }
 
-fn deep_checks(
-    rt: &impl Abort,
-    alloc: Global,
-    trial: &mut Trial,
-    a: usize,
-    b: usize,
-) -> Result<(), Fail> {
-    assert_eq!(rt; trial.eval(a)?, Some(DEPTH as i64 + 1));
-    assert!(rt; trial.ground(a)?);
-    assert!(rt; trial.indep(a, b)?);
-    assert!(rt; !trial.indep(b, b)?);
-    assert!(rt; trial.identical(b, b)? && !trial.identical(a, b)?);
-    Ok(())
+/// Whether a sum of ones and a sum of variables have what they should.
+fn are_sums(alloc: Global, cells: &Cells, a: usize, b: usize) -> Result<bool, Fail> {
+    Ok(
+        value(alloc, cells, a)? == Some(DEPTH as i64 + 1)
+            && is_ground(alloc, cells, a)?
+            && are_independent(alloc, cells, a, b)?
+            && !are_independent(alloc, cells, b, b)?
+            && are_identical(alloc, cells, b, b)?
+            && !are_identical(alloc, cells, a, b)?,
+    )
 }
 
-fn deep_copies(
-    rt: &impl Abort,
-    alloc: Global,
-    trial: &mut Trial,
-    a: usize,
-    b: usize,
-) -> Result<(), Fail> {
-    let parcel = trial.copy_out(alloc, a, b)?;
-    let roots = trial.copy_in(&parcel)?;
-    assert!(rt; trial.unifies(a, roots.first)?);
-    assert!(rt; trial.unify(a, b)?);
-    assert_eq!(rt; trial.eval(b)?, Some(DEPTH as i64 + 1));
-    Ok(())
+/// Whether a sum of ones is copied, and a sum of variables becomes it.
+fn become_ones(alloc: Global, cells: &mut Cells, a: usize, b: usize) -> Result<bool, Fail> {
+    let mut work = Work::new(alloc);
+    let parcel = parcel_of(alloc, cells, a, b)?;
+    let roots = copy_in(cells, &parcel)?;
+    let is_well = may_be_unified(cells, a, roots.first, &mut work)?
+        && is_unified(cells, a, b, &mut work)?;
+    Ok(is_well && value(alloc, cells, b)? == Some(DEPTH as i64 + 1))
 }
 
-fn deep_terms(rt: &impl Abort, alloc: Global, is_first: bool) -> Result<(), Fail> {
-    let mut trial = Trial::new(alloc);
-    let (a, b) = put_sums(&mut trial, is_first)?;
-    deep_checks(rt, alloc, &mut trial, a, b)?;
-    deep_copies(rt, alloc, &mut trial, a, b)
+/// Whether sums that are deep in their first arguments, or in their last ones, have what they should.
+fn are_deep_sums(alloc: Global, is_first: bool) -> Result<bool, Fail> {
+    let mut cells = Cells::new(alloc);
+    let a = put_sum(&mut cells, is_first, Cell::Int(1))?;
+    let b = put_sum(&mut cells, is_first, Cell::Free)?;
+    Ok(are_sums(alloc, &cells, a, b)? && become_ones(alloc, &mut cells, a, b)?)
+}
+
+/// Whether a term that is deep in its last arguments has no variable, as a tree of its own.
+fn is_deep_term(alloc: Global) -> Result<bool, Fail> {
+    let mut cells = Cells::new(alloc);
+    let place = deep(&mut cells, F, DEPTH, false, Cell::Int(1))?;
+    let t = term_at(alloc, &cells, place)?;
+    Ok(vars(alloc, &t)?.is_empty())
 }
 
 #[test]
 fn deep_terms_need_no_deep_stack(rt: HostRuntime) -> Result<(), Fail> {
-    let alloc = rt.alloc();
-    deep_terms(&rt, alloc, true)?;
-    deep_terms(&rt, alloc, false)?;
-    let mut trial = Trial::new(alloc);
-    let a = trial.put_deep(F, DEPTH, false, Cell::Int(1))?;
-    let t = trial.term_at(alloc, a)?;
-    assert!(rt; vars(alloc, &t)?.is_empty());
+    assert!(rt; are_deep_sums(rt.alloc(), true)?);
+    assert!(rt; are_deep_sums(rt.alloc(), false)?);
+    assert!(rt; is_deep_term(rt.alloc())?);
     Ok(())
 }

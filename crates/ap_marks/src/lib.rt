@@ -8,6 +8,3 @@
 mod marks;
 
 pub use marks::Marks;
-
-#[cfg(test)]
-mod tests;
