@@ -39,9 +39,9 @@ app/3:
 f/2:
   get_structure g/2 A1
   unify_variable X3
-  unify_variable X5
-  get_structure h/1 A3
   unify_variable X4
+  get_structure h/1 A3
+  unify_variable X5
   get_list A2
   unify_constant a
   unify_variable X3
