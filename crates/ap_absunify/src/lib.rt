@@ -16,6 +16,3 @@ pub use equations::after_equal;
 pub use states::{State, ground, made};
 pub use term_sets::{add_var_sets, var_set};
 pub use unifications::{after_unify, is_free};
-
-#[cfg(test)]
-mod tests;

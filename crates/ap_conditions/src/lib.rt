@@ -10,6 +10,3 @@ mod simplifications;
 
 pub use conditions::full;
 pub use simplifications::{Simplified, gives, simplify};
-
-#[cfg(test)]
-mod tests;

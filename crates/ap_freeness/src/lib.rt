@@ -7,6 +7,3 @@ mod free;
 pub mod laws;
 
 pub use free::Free;
-
-#[cfg(test)]
-mod tests;

@@ -21,6 +21,3 @@ pub use returns::after_call;
 pub use slots::{Given, Slot, after_goal, call_at, is_builtin, is_covered, pattern_at, success_at};
 pub use tables::{Predicate, Row, Table};
 pub use unknown::{any_pattern, anything, arity, is_analysed};
-
-#[cfg(test)]
-mod tests;

@@ -12,6 +12,3 @@ mod var_set;
 pub use sets::Sets;
 pub use share::Share;
 pub use var_set::VarSet;
-
-#[cfg(test)]
-mod tests;

@@ -6,7 +6,6 @@ use ap_sharing::{Sets, Share, VarSet};
 use ap_spec::unify;
 use ap_term::{Args, Atom, Body, Term, fixed, instance, is_clause, vars};
 use std::alloc::Global;
-use std::process::Abort;
 use std::test::Fail;
 
 /// The first variable of the clause, and that of its instances.
@@ -147,35 +146,55 @@ fn unified(alloc: Global, equation: &Term, instances: &Term) -> Result<Option<Te
     }
 }
 
+/// What an equation of the clause makes of the instances, where it has a unifier.
+fn met(alloc: Global, equation: &Term, instances: &Term) -> Result<Option<Term>, Fail> {
+    let at_run = unify(alloc, &own(alloc)?, instances)?.ok_or("no instances")?;
+    unified(alloc, &instance(alloc, &at_run, equation)?, instances)
+}
+
+/// The state after an equation.
+fn after(alloc: Global, s: State, equation: &Term) -> Result<State, Fail> {
+    if !is_clause(equation, &Body::new(alloc), 255, 1) {
+        return Err(Fail::new("no equation"));
+    }
+    Ok(after_builtin(alloc, s, equation)?)
+}
+
 /// One equation. None where it has no unifier; else whether the state before doesn't cover what comes after.
-fn tried(rt: &impl Abort, alloc: Global, dice: &mut u64) -> Result<Option<bool>, Fail> {
+fn tried(alloc: Global, dice: &mut u64) -> Result<Option<bool>, Fail> {
     let instances = compound(alloc, dice, TUPLE, RUN, COUNT)?;
     let equation = compound(alloc, dice, fixed::UNIFY, OWN, 2)?;
-    assert!(rt; is_clause(&equation, &Body::new(alloc), 255, 1));
     let before = covering(alloc, dice, &instances)?;
-    assert!(rt; covers(alloc, &before, &instances)?);
-    let at_run = unify(alloc, &own(alloc)?, &instances)?.ok_or("no instances")?;
-    let at_run = instance(alloc, &at_run, &equation)?;
-    let Some(instances) = unified(alloc, &at_run, &instances)? else {
+    if !covers(alloc, &before, &instances)? {
+        return Err(Fail::new("not covered"));
+    }
+    let Some(instances) = met(alloc, &equation, &instances)? else {
         return Ok(None);
     };
     let is_new = !covers(alloc, &before, &instances)?;
-    let after = after_builtin(alloc, before, &equation)?;
-    assert!(rt; covers(alloc, &after, &instances)?);
+    if !covers(alloc, &after(alloc, before, &equation)?, &instances)? {
+        return Err(Fail::new("not covered behind"));
+    }
     Ok(Some(is_new))
 }
 
-#[test]
-fn states_cover_what_unification_makes(rt: HostRuntime) -> Result<(), Fail> {
+/// How many of so many equations have a unifier, and how many of these aren't covered before.
+fn count_tried(alloc: Global, equations: usize) -> Result<(usize, usize), Fail> {
     let mut dice: u64 = 1;
     let mut unified: usize = 0;
     let mut changed: usize = 0;
-    for _ in 0..2000 {
-        if let Some(is_new) = tried(&rt, rt.alloc(), &mut dice)? {
+    for _ in 0..equations {
+        if let Some(is_new) = tried(alloc, &mut dice)? {
             unified = unified.saturating_add(1);
             changed = changed.saturating_add(is_new as usize);
         }
     }
+    Ok((unified, changed))
+}
+
+#[test]
+fn states_cover_what_unification_makes(rt: HostRuntime) -> Result<(), Fail> {
+    let (unified, changed) = count_tried(rt.alloc(), 2000)?;
     assert!(rt; unified > 1000 && changed > 300, "{unified}, {changed}");
     Ok(())
 }
