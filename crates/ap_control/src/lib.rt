@@ -14,7 +14,7 @@ mod widths;
 pub use alternatives::{Alternative, first, following, instruction_at};
 pub use heads::{fails_at_once, first_possible, pass_over};
 pub use relations::solve;
-pub use runs::{builtin_at, run_to_transfer, used};
+pub use runs::{run_to_transfer, used};
 pub use widths::{Widths, widths_of};
 
 #[cfg(test)]

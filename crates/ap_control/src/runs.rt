@@ -5,13 +5,10 @@ ghost use Rattle.ap_cells.specs.Store.{Keeps};
 ghost use Rattle.ap_steps.specs.Moves.{held, HoldPlaces};
 ghost use Rattle.ap_steps.specs.Ways.{AllHaveTargets, room};
 ghost use Rattle.ap_control.specs.Runs.{RanOrStuck, IsTransferAt};
-ghost use Rattle.ap_instr.specs.declared.builtins.Builtin.{Builtin as BuiltinOf};
-ghost use Rattle.ap_instr.specs.declared.instruction.Instr.{Instr as InstrOf};
-ghost use Rattle.ap_instr.specs.declared.instruction.Instr.TheVariants.{Builtin as builtin_instr};
 
 use crate::alternatives::instruction_at;
 use ap_cells::Cells;
-use ap_instr::{Builtin, Code, Instr};
+use ap_instr::Code;
 use ap_steps::run::{Outcome, step};
 use ap_term::NoMemory;
 use ap_unify::Work;
@@ -26,17 +23,6 @@ pub fn used(registers: &[u32]) -> &[u32]
         count -= 1;
     }
     &registers[..count]
-}
-
-/// The built-in goal that stands at a place.
-pub fn builtin_at(code: &Code, at: usize) -> Option<Builtin>
-    ensures some { IfSome result (λ b. slice_get code.now.instructions at ≡ Some (builtin_instr b)) }
-    ensures none { result ≡ None → (b : BuiltinOf) → slice_get code.now.instructions at ≡ Some (builtin_instr b) → ⊥ }
-{
-    match instruction_at(code, at) {
-        Some(Instr::Builtin(builtin)) => Some(builtin),
-        _ => None,
-    }
 }
 
 /// Takes the instructions from a place on up to the next one that leads elsewhere than to the one behind it.

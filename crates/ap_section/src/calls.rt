@@ -20,9 +20,9 @@ ghost use Rattle.ap_section.specs.Back.{CanGoBack, WentBack};
 use crate::section::{Now, Section};
 use ap_cells::{CellMark, Cells};
 use ap_codecheck::Sound;
-use ap_control::{Alternative, first_possible, following, pass_over, run_to_transfer};
+use ap_control::{Alternative, first_possible, following, instruction_at, pass_over, run_to_transfer};
 use ap_environments::{Choice, Environments};
-use ap_instr::{Code, Predicate};
+use ap_instr::{Code, Instr, Predicate};
 use ap_term::NoMemory;
 use ap_unify::Work;
 
@@ -77,6 +77,39 @@ fn run_and_go_back(
         Ok(None) => Ok(false),
         Err(error) => Err(error),
     }
+}
+
+/// Whether an instruction of a head leaves its arguments as they are, whatever these are.
+fn takes_any(instr: &Instr) -> bool {
+    match *instr {
+        Instr::GetVariable(_, _) => true,
+        Instr::Allocate(_) => true,
+        _ => false,
+    }
+}
+
+/// Whether an instruction wants something of an argument.
+fn wants_some(instr: &Instr) -> bool {
+    match *instr {
+        Instr::GetValue(_, _) => true,
+        Instr::GetConstant(_, _) => true,
+        Instr::GetInteger(_, _) => true,
+        Instr::GetStructure(_, _, _) => true,
+        _ => false,
+    }
+}
+
+/// Whether the head of the clause at a place asks for anything, so that it is worth a try. Nothing is promised of that: a
+/// clause that isn't tried is one that stays.
+fn asks_something(code: &Code, at: usize) -> bool {
+    for place in at..code.instructions().len() {
+        match instruction_at(code, place) {
+            Some(instr) if takes_any(&instr) => {}
+            Some(instr) => return wants_some(&instr),
+            None => return false,
+        }
+    }
+    false
 }
 
 impl Section {
@@ -153,13 +186,17 @@ impl Section {
         );
     }
 
-    /// Whether a clause's head unifies with the call of the newest choice point, where the section stands.
+    /// Whether a clause's head unifies with the call of the newest choice point, where the section stands. A head of different
+    /// variables isn't run for that.
     fn try_clause(&mut self, code: &Code, place: u32) -> Result<bool, NoMemory>
         requires is_for { IsFor code.now self.old }
         requires at { AtNewest self.old.machine }
         ensures stuck { IfOk result (λ b. b ≡ false → IsStuck self.old.machine.cells (held self.old.machine.x) (held self.old.machine.y) (steps_from code.now place)) }
         ensures back { Returned self.old self.new }
     {
+        if !asks_something(code, place as usize) {
+            return Ok(true);
+        }
         self.cells.reserve(self.room)?;
         run_and_go_back(
             &mut self.cells,
