@@ -4,6 +4,7 @@
 ghost use Rattle.std.specs.Prelude.{◌≡◌, ℕ, ◌+◌, ◌<◌, List, [], ◌∷◌, length, slice_get, true, None, Some, IfSome};
 ghost use Rattle.ap_term.specs.Tree.{Tree, Trees, atom, int, node, count_trees};
 ghost use Rattle.ap_instr.specs.StandsFor.{clause_places};
+ghost use Rattle.ap_instr.specs.Step.{Step, step_of};
 ghost use Rattle.ap_match.specs.Fits.{Fits};
 ghost use Rattle.ap_steps.specs.Moves.{held, HoldPlaces, IsStuck};
 ghost use Rattle.ap_steps.specs.Ways.{steps_from};
@@ -81,25 +82,24 @@ fn is_other_listed(cells: &Cells, place: usize, code: &Code, index: u32) -> bool
     }
 }
 
-/// Whether the instruction at a place can't be taken, whatever comes behind it.
-fn fails_at(cells: &Cells, x: &[u32], code: &Code, at: usize) -> bool
+/// Whether an instruction can't be taken, whatever comes behind it.
+#[inline(always)]
+fn fails(cells: &Cells, x: &[u32], code: &Code, instr: Instr) -> bool
     requires { HoldPlaces (length cells.now.cells) x.now }
-    ensures { result ≡ true → (y : ℕ → ℕ) → IsStuck cells.now.cells (held x.now) y (steps_from code.now at) }
+    ensures { result ≡ true → (y : ℕ → ℕ) (is : List Step) → IsStuck cells.now.cells (held x.now) y (step_of code.now instr ∷ is) }
 {
-    match instruction_at(code, at) {
-        None => false,
-        Some(instr) => match instr {
-            Instr::GetConstant(name, a) => is_other_atom(cells, place_in(x, a), name),
-            Instr::GetInteger(index, a) => is_other_listed(cells, place_in(x, a), code, index),
-            Instr::GetStructure(name, count, a) => {
-                is_other_structure(cells, place_in(x, a), name, count)
-            }
-            _ => false,
-        },
+    match instr {
+        Instr::GetConstant(name, a) => is_other_atom(cells, place_in(x, a), name),
+        Instr::GetInteger(index, a) => is_other_listed(cells, place_in(x, a), code, index),
+        Instr::GetStructure(name, count, a) => {
+            is_other_structure(cells, place_in(x, a), name, count)
+        }
+        _ => false,
     }
 }
 
 /// Whether an instruction only asks: for a constant in an argument register, or for nothing.
+#[inline(always)]
 fn only_asks(instr: &Instr) -> bool
     ensures { result ≡ only_asks instr.now }
 {
@@ -112,17 +112,6 @@ fn only_asks(instr: &Instr) -> bool
     }
 }
 
-/// Whether the instruction at a place leaves all as it is, so that a clause is shut where what comes behind it is.
-fn leaves_all(code: &Code, at: usize) -> bool
-    requires { at < length code.now.instructions }
-    ensures { result ≡ true → (cs : List Raw) (x y : ℕ → ℕ) → IsStuck cs x y (steps_from code.now (at + 1)) → IsStuck cs x y (steps_from code.now at) }
-{
-    match instruction_at(code, at) {
-        None => false,
-        Some(instr) => only_asks(&instr),
-    }
-}
-
 /// Whether the clause at a place can't be entered, by the constants and the first structure of its head alone. False says
 /// nothing.
 pub fn fails_at_once(cells: &Cells, x: &[u32], code: &Code, at: usize) -> bool
@@ -130,10 +119,13 @@ pub fn fails_at_once(cells: &Cells, x: &[u32], code: &Code, at: usize) -> bool
     ensures { result ≡ true → (y : ℕ → ℕ) → IsStuck cells.now.cells (held x.now) y (steps_from code.now at) }
 {
     for place in at..code.instructions().len() {
-        if fails_at(cells, x, code, place) {
+        let Some(instr) = instruction_at(code, place) else {
+            return false;
+        };
+        if fails(cells, x, code, instr) {
             return true;
         }
-        if !leaves_all(code, place) {
+        if !only_asks(&instr) {
             return false;
         }
     }
@@ -182,6 +174,7 @@ fn choice_for(cells: &Cells, x: &[u32], sound: &Sound, at: usize) -> usize
 }
 
 /// From a choice the next one for the first argument.
+#[inline]
 fn next_choice(cells: &Cells, x: &[u32], sound: &Sound, behind: Option<usize>) -> Option<usize>
     requires { HoldPlaces (length cells.now.cells) x.now }
     ensures { PassesOver sound.now cells.now.cells (held x.now) (places_from sound.now behind) (places_from sound.now result) }

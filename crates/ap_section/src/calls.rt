@@ -18,11 +18,14 @@ ghost use Rattle.ap_section.specs.Lasting.{moves_left};
 ghost use Rattle.ap_section.specs.Back.{CanGoBack, WentBack};
 
 use crate::section::{Now, Section};
-use ap_cells::{CellMark, Cells};
+use ap_cells::{CellMark, Cells, Top};
 use ap_codecheck::Sound;
-use ap_control::{Alternative, first_possible, following, instruction_at, pass_over, run_to_transfer};
+use ap_control::{
+    Alternative, first_possible, following, instruction_at, pass_over, run_to_transfer,
+};
 use ap_environments::{Choice, Environments};
 use ap_instr::{Code, Instr, Predicate};
+use ap_steps::registers::place_in;
 use ap_term::NoMemory;
 use ap_unify::Work;
 
@@ -79,34 +82,64 @@ fn run_and_go_back(
     }
 }
 
-/// Whether an instruction of a head leaves its arguments as they are, whatever these are.
-fn takes_any(instr: &Instr) -> bool {
-    match *instr {
-        Instr::GetVariable(_, _) => true,
-        Instr::Allocate(_) => true,
-        _ => false,
+/// What an instruction of a head asks, on registers on which it doesn't fail at once.
+#[derive(Clone, Copy)]
+enum Want {
+    /// Nothing: it is taken as it stands.
+    Nothing,
+    /// An unbound variable is to be bound.
+    Binding,
+    /// Anything else.
+    More,
+    /// It is none of a head's.
+    End,
+}
+
+/// What an instruction asks that wants a constant at a place.
+fn wanted_at(cells: &Cells, place: usize) -> Want
+    requires { place < length cells.now.cells }
+{
+    match cells.top(place) {
+        Top::Free(_) => Want::Binding,
+        _ => Want::Nothing,
     }
 }
 
-/// Whether an instruction wants something of an argument.
-fn wants_some(instr: &Instr) -> bool {
-    match *instr {
-        Instr::GetValue(_, _) => true,
-        Instr::GetConstant(_, _) => true,
-        Instr::GetInteger(_, _) => true,
-        Instr::GetStructure(_, _, _) => true,
-        _ => false,
+/// What an instruction asks.
+fn wanted(cells: &Cells, x: &[u32], instr: Instr) -> Want
+    requires { HoldPlaces (length cells.now.cells) x.now }
+{
+    match instr {
+        Instr::GetVariable(_, _) => Want::Nothing,
+        Instr::Allocate(_) => Want::Nothing,
+        Instr::GetConstant(_, a) => wanted_at(cells, place_in(x, a)),
+        Instr::GetInteger(_, a) => wanted_at(cells, place_in(x, a)),
+        Instr::GetValue(_, _) => Want::More,
+        Instr::GetStructure(_, _, _) => Want::More,
+        _ => Want::End,
     }
 }
 
-/// Whether the head of the clause at a place asks for anything, so that it is worth a try. Nothing is promised of that: a
-/// clause that isn't tried is one that stays.
-fn asks_something(code: &Code, at: usize) -> bool {
+/// Whether a clause that doesn't fail at once may fail further on in its head, which is then worth a try: it wants more than
+/// constants of which one at most is bound to a variable. Nothing is promised of that: a clause that isn't tried is one that stays.
+fn may_fail(cells: &Cells, x: &[u32], code: &Code, at: usize) -> bool
+    requires { HoldPlaces (length cells.now.cells) x.now }
+{
+    let mut binds = false;
     for place in at..code.instructions().len() {
-        match instruction_at(code, place) {
-            Some(instr) if takes_any(&instr) => {}
-            Some(instr) => return wants_some(&instr),
-            None => return false,
+        let Some(instr) = instruction_at(code, place) else {
+            return false;
+        };
+        match wanted(cells, x, instr) {
+            Want::Nothing => {}
+            Want::Binding => {
+                if binds {
+                    return true;
+                }
+                binds = true;
+            }
+            Want::More => return true,
+            Want::End => return false,
         }
     }
     false
@@ -186,15 +219,15 @@ impl Section {
         );
     }
 
-    /// Whether a clause's head unifies with the call of the newest choice point, where the section stands. A head of different
-    /// variables isn't run for that.
+    /// Whether a clause's head unifies with the call of the newest choice point, where the section stands. A head that
+    /// surely does isn't run for that.
     fn try_clause(&mut self, code: &Code, place: u32) -> Result<bool, NoMemory>
         requires is_for { IsFor code.now self.old }
         requires at { AtNewest self.old.machine }
         ensures stuck { IfOk result (λ b. b ≡ false → IsStuck self.old.machine.cells (held self.old.machine.x) (held self.old.machine.y) (steps_from code.now place)) }
         ensures back { Returned self.old self.new }
     {
-        if !asks_something(code, place as usize) {
+        if !may_fail(&self.cells, &self.x, code, place as usize) {
             return Ok(true);
         }
         self.cells.reserve(self.room)?;
