@@ -1,13 +1,15 @@
 -- Which clauses are left for a key.
-use Rattle.std.proofs.Common.{◌≡◌, ℕ, ◌+◌, Bool, true, false, cond, ◌==◌, Option, Some, [], ◌∷◌, refl, ap, sym, ◌∙◌, subst}
+use Rattle.std.proofs.Common.{◌≡◌, ℕ, zero, suc, ◌+◌, Bool, true, false, List, [], ◌∷◌, ◌++◌, length, slice_get, Some, refl, ap, ◌∙◌}
 use Rattle.std.specs.Prelude.{if◌then◌else◌}
-use Rattle.std.proofs.lemmas.Bool.{eqb-true}
 use Rattle.ap_instr.specs.declared.instruction.Instr.TheVariants.{Retry}
 use Rattle.ap_instr.specs.Code.{Compiled}
 use Rattle.ap_instr.specs.StandsFor.{tried}
 use Rattle.ap_index.specs.declared.key.Key.{Key}
 use Rattle.ap_index.specs.Keys.{same_key, IsKeyed}
-use Rattle.ap_index.specs.Index.{LeavesOthers}
+use Rattle.ap_index.specs.declared.index.Segment.{Segment}
+use Rattle.ap_index.specs.declared.index.Entry.{Entry}
+use Rattle.ap_index.specs.declared.index.Entry.TheVariants.{Nothing, Row, Behind}
+use Rattle.ap_index.specs.Index.{LeavesOthers, IsEntryOf}
 use Rattle.ap_index.proofs.Keyed.{drop_at}
 
 pub leaves-all : (code : Compiled) (key : Key) (at : ℕ) → LeavesOthers code key at at
@@ -26,11 +28,18 @@ pub leaves-next : (code : Compiled) (key asked : Key) (at next : ℕ) → IsKeye
 leaves-next code key asked at next k h true e = leaves-all code key at
 leaves-next code key asked at next k h false e = leaves-one code key asked at next k e h
 
--- what holds of each entry of a map holds of each when one more that has it is put in
-pub holds-put : {X : Type 0} (P : ℕ → X → Type 0) (old new : ℕ → Option X) (at : ℕ) (x : X) → ((q : ℕ) (y : X) → old q ≡ Some y → P q y) → P at x
-    → ((q : ℕ) → new q ≡ cond (at == q) (Some x) (old q)) → (q : ℕ) (y : X) → new q ≡ Some y → P q y
-holds-put {X} P old new at x h p u q y e = go (at == q) refl (sym (u q) ∙ e)
-  where
-    go : (b : Bool) → (at == q) ≡ b → cond b (Some x) (old q) ≡ Some y → P q y
-    go true t k = let same : x ≡ y = cc in subst (λ n. P n y) (eqb-true at q t) (subst (P at) same p)
-    go false t k = h q y k
+-- what a list has at a place it has there with more behind it
+has-more : {X : Type 0} (xs ys : List X) (n : ℕ) (x : X) → slice_get xs n ≡ Some x → slice_get (xs ++ ys) n ≡ Some x
+has-more [] ys n x e = absurd (let z : ⊥ = cc in z)
+has-more (y ∷ xs) ys zero x e = e
+has-more (y ∷ xs) ys (suc n) x e = has-more xs ys n x e
+
+pub last-is : {X : Type 0} (xs : List X) (x : X) → slice_get (xs ++ x ∷ []) (length xs) ≡ Some x
+last-is [] x = refl
+last-is (y ∷ xs) x = last-is xs x
+
+-- an entry stays right with more rows
+pub entry-more : (code : Compiled) (ss ts : List Segment) (from : ℕ) (e : Entry) → IsEntryOf code ss from e → IsEntryOf code (ss ++ ts) from e
+entry-more code ss ts from Nothing h = h
+entry-more code ss ts from (Row n) h = (h.0, has-more ss ts n h.0 h.1, h.2)
+entry-more code ss ts from (Behind l) h = h

@@ -1,5 +1,5 @@
 -- What an index says of code.
-use Rattle.std.specs.Prelude.{◌≡◌, ℕ, false, nat_eq, List, ◌++◌, drop, unwrap_or, Some}
+use Rattle.std.specs.Prelude.{◌≡◌, ℕ, false, List, ◌++◌, drop, slice_get, get_or, unwrap_or, Some}
 use Rattle.std.specs.List.{AllByRecursion}
 use Rattle.std.specs.HashMap.{get}
 use Rattle.ap_instr.specs.Code.{Compiled}
@@ -7,6 +7,8 @@ use Rattle.ap_instr.specs.StandsFor.{tried}
 use Rattle.ap_index.specs.declared.key.Key.{Key}
 use Rattle.ap_index.specs.declared.index.Link.{Link}
 use Rattle.ap_index.specs.declared.index.Segment.{Segment}
+use Rattle.ap_index.specs.declared.index.Entry.{Entry}
+use Rattle.ap_index.specs.declared.index.Entry.TheVariants.{Nothing, Row, Behind}
 use Rattle.ap_index.specs.declared.index.Index.{Index}
 use Rattle.ap_index.specs.Keys.{same_key, key_at}
 
@@ -33,7 +35,12 @@ IsSegmentOf code from s = (key : Key) → LeavesOthers code key from (first_for 
 abbrev pub IsLinkOf : Compiled → ℕ → Link → Type 0
 IsLinkOf code from l = LeavesOthers code l.key from l.next
 
+-- what an entry for a place says
+abbrev pub IsEntryOf : Compiled → List Segment → ℕ → Entry → Type 0
+IsEntryOf code segments from Nothing = Unit {0}
+IsEntryOf code segments from (Row number) = (s : Segment) × (slice_get segments number ≡ Some s) × IsSegmentOf code from s
+IsEntryOf code segments from (Behind l) = IsLinkOf code from l
+
 -- an index of the code
 pub record IsIndexOf (code : Compiled) (i : Index) : Type 0 where
-  pub segments : (from : ℕ) (s : Segment) → get nat_eq i.segments from ≡ Some s → IsSegmentOf code from s
-  pub links : (from : ℕ) (l : Link) → get nat_eq i.links from ≡ Some l → IsLinkOf code from l
+  pub entries : (from : ℕ) → IsEntryOf code i.segments.items from (get_or i.entries.items from Nothing)

@@ -1,9 +1,11 @@
 //! The index: which choice comes next for a key.
 
-ghost use Rattle.std.specs.Prelude.{◌≡◌, ◌≤◌, IfOk, OnOk, if◌then◌else◌};
+ghost use Rattle.std.specs.Prelude.{◌≡◌, ℕ, ◌≤◌, if◌then◌else◌, get_or, OnOk, IfOk};
 ghost use Rattle.ap_instr.specs.Code.{Compiled};
+ghost use Rattle.ap_index.specs.declared.key.Key.{Key};
+ghost use Rattle.ap_index.specs.declared.index.Entry.TheVariants.{Nothing};
 ghost use Rattle.ap_index.specs.Keys.{same_key};
-ghost use Rattle.ap_index.specs.Index.{first_for, IsSegmentOf, IsLinkOf, IsIndexOf, LeavesOthers};
+ghost use Rattle.ap_index.specs.Index.{LeavesOthers, first_for, IsSegmentOf, IsLinkOf, IsEntryOf, IsIndexOf};
 
 use crate::key::{Key, choice_key};
 use ap_instr::Code;
@@ -28,11 +30,22 @@ pub struct Link {
     next: usize,
 }
 
-/// What comes next for a key, by places: where choices with keys begin, and behind each of these.
+/// What comes next from a place.
+#[derive(Clone, Copy)]
+pub enum Entry {
+    /// Nothing is known.
+    Nothing,
+    /// Choices in a row begin there, those of a number.
+    Row(usize),
+    /// A choice in a row stands before it.
+    Behind(Link),
+}
+
+/// What comes next, by places: where choices with keys begin, and behind each of these.
 #[derive(Drop)]
 pub struct Index {
-    segments: HashMap<usize, Segment>,
-    links: HashMap<usize, Link>,
+    segments: Vec<Segment>,
+    entries: Vec<Entry>,
 }
 
 impl Segment {
@@ -65,26 +78,41 @@ impl Segment {
 }
 
 impl Index {
-    fn new(alloc: Global) -> Index
-        ensures { (code : Compiled) → IsIndexOf code result }
+    /// For so many places.
+    fn new(alloc: Global, places: usize) -> Result<Index, NoMemory>
+        ensures { IfOk result (λ index. (code : Compiled) → IsIndexOf code index) }
     {
-        Index {
-            segments: HashMap::new(alloc),
-            links: HashMap::new(alloc),
+        Ok(Index {
+            segments: Vec::new(alloc),
+            entries: Vec::from_elem(alloc, Entry::Nothing, places)?,
+        })
+    }
+
+    #[inline]
+    fn entry_at(&self, from: usize) -> Entry
+        ensures { result ≡ get_or self.now.entries.items from Nothing }
+    {
+        match self.entries.get(from) {
+            Some(entry) => *entry,
+            None => Entry::Nothing,
         }
     }
 
-    fn add_link(&mut self, from: usize, link: Link) -> Result<(), NoMemory>
-        ensures { OnOk result ((code : Compiled) → IsIndexOf code self.old → IsLinkOf code from link → IsIndexOf code self.new) }
+    /// An entry for a place, if it is one of the code's.
+    fn put(&mut self, from: usize, entry: Entry)
+        ensures { (code : Compiled) → IsIndexOf code self.old → IsEntryOf code self.old.segments.items from entry → IsIndexOf code self.new }
     {
-        self.links.insert(from, link)?;
-        Ok(())
+        if from < self.entries.len() {
+            self.entries[from] = entry;
+        }
     }
 
     fn add_segment(&mut self, from: usize, segment: Segment) -> Result<(), NoMemory>
         ensures { OnOk result ((code : Compiled) → IsIndexOf code self.old → IsSegmentOf code from segment → IsIndexOf code self.new) }
     {
-        self.segments.insert(from, segment)?;
+        let number = self.segments.len();
+        self.segments.push(segment)?;
+        self.put(from, Entry::Row(number));
         Ok(())
     }
 
@@ -103,33 +131,43 @@ impl Index {
                 return Ok(());
             };
             let next = segment.first(key);
-            self.add_link(at + 1, Link { key, next })?;
+            self.put(at + 1, Entry::Behind(Link { key, next }));
             segment.put(key, at)?;
         }
         self.add_segment(start, segment)
     }
 
     /// From a place among choices the next place for a key: clauses that are left out ask for another first argument.
+    #[inline]
     pub fn next(&self, key: Key, from: usize) -> usize
         ensures { (code : Compiled) → IsIndexOf code self.now → LeavesOthers code key from result }
     {
-        if let Some(segment) = self.segments.get(&from) {
-            return segment.first(key);
-        }
-        match self.links.get(&from) {
-            Some(link) if link.key == key => link.next,
-            _ => from,
+        match self.entry_at(from) {
+            Entry::Nothing => from,
+            Entry::Row(number) => match self.segments.get(number) {
+                Some(segment) => segment.first(key),
+                None => from,
+            },
+            Entry::Behind(link) => linked(link, key, from),
         }
     }
+}
+
+/// Behind a choice the next place for a key.
+fn linked(link: Link, key: Key, from: usize) -> usize
+    ensures { (code : Compiled) → IsLinkOf code from link → LeavesOthers code key from result }
+{
+    if link.key == key { link.next } else { from }
 }
 
 /// The index of code. Places outside of long rows of choices aren't in it.
 pub fn index_of(alloc: Global, code: &Code) -> Result<Index, NoMemory>
     ensures { IfOk result (λ index. IsIndexOf code.now index) }
 {
-    let mut index = Index::new(alloc);
+    let places = code.instructions().len();
+    let mut index = Index::new(alloc, places)?;
     let mut start = 0;
-    for at in 0..code.instructions().len() {
+    for at in 0..places {
         if choice_key(code, at).is_none() {
             index.add(alloc, code, start, at)?;
             start = at + 1;

@@ -23,7 +23,7 @@ loop-at-preserved c =
     in
     record {
       order = omega arith;
-      index = c.in_ok-add_link.ensures code c.loop-at.invariant.index (subst (LeavesOthers code c.in-Some.key (at + 1)) (sym c.first-next.ensures) (behind c.in-Some.key));
+      index = c.put.ensures code c.loop-at.invariant.index (subst (LeavesOthers code c.in-Some.key (at + 1)) (sym c.first-next.ensures) (behind c.in-Some.key));
       firsts = λ key.
           subst (LeavesOthers code key at) (sym (c.in_ok-put.ensures key))
           (leaves-next code key c.in-Some.key at (first_for c.loop-at.segment key) c.in-Some.ensures (behind key) (same_key c.in-Some.key key) refl);

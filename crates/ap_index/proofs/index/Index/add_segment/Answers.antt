@@ -1,11 +1,14 @@
-use Rattle.std.proofs.Common.{nat_eq}
-use Rattle.std.specs.HashMap.{get}
-use Rattle.ap_index.specs.Index.{IsSegmentOf}
-use Rattle.ap_index.proofs.Left.{holds-put}
+use Rattle.std.proofs.Common.{◌≡◌, length, arith, [], ◌∷◌, ◌++◌, slice_get, get_or, Some, ap, sym, ◌∙◌, subst}
+use Rattle.ap_index.specs.declared.index.Entry.TheVariants.{Nothing}
+use Rattle.ap_index.specs.Index.{IsEntryOf}
+use Rattle.ap_index.proofs.Left.{entry-more, last-is}
 use Rattle.ap_index.proofs.index.Index.add_segment.Goals as goal
 
 pub returns : goal.returns
-returns c = λ code h s. record {
-  segments = holds-put (IsSegmentOf code) (get nat_eq c.args.self.now.segments) (get nat_eq c.insert.new.self) c.args.from c.args.segment h.segments s c.in_ok-insert.ensures.updates.0;
-  links = h.links;
-}
+returns c = λ code h s.
+    let old = c.args.self.now in
+    let items = c.in_ok-push.ensures.items in
+    let number : c.len-number.result ≡ length old.segments.items = omega (arith, c.len-number.ensures, old.segments.ok.0) in
+    c.put.ensures code
+    (record { entries = λ q. subst (λ ss. IsEntryOf code ss q (get_or old.entries.items q Nothing)) (sym items) (entry-more code old.segments.items (c.args.segment ∷ []) q (get_or old.entries.items q Nothing) (h.entries q)) })
+    (c.args.segment, subst (λ n. slice_get c.push.new.self.items n ≡ Some c.args.segment) (sym number) (subst (λ ss. slice_get ss (length old.segments.items) ≡ Some c.args.segment) (sym items) (last-is old.segments.items c.args.segment)), s)
