@@ -114,6 +114,7 @@ fn only_asks(instr: &Instr) -> bool
 
 /// Whether the clause at a place can't be entered, by the constants and the first structure of its head alone. False says
 /// nothing.
+#[inline(always)]
 pub fn fails_at_once(cells: &Cells, x: &[u32], code: &Code, at: usize) -> bool
     requires { HoldPlaces (length cells.now.cells) x.now }
     ensures { result ≡ true → (y : ℕ → ℕ) → IsStuck cells.now.cells (held x.now) y (steps_from code.now at) }
@@ -151,6 +152,7 @@ fn key_of(cells: &Cells, place: usize) -> Option<Key>
 }
 
 /// Whether many choices stand in a row from a place on, by what stands at the last of so many.
+#[inline(always)]
 fn are_many(code: &Code, at: usize) -> bool {
     match instruction_at(code, at.saturating_add(FEW - 1)) {
         Some(Instr::Retry(_)) => true,
@@ -159,29 +161,27 @@ fn are_many(code: &Code, at: usize) -> bool {
     }
 }
 
-/// From a place among choices the next place for the first argument, by the index, where many choices stand in a row.
-fn choice_for(cells: &Cells, x: &[u32], sound: &Sound, at: usize) -> usize
+/// From a place among choices the next place for the first argument, by the index.
+fn looked_up(cells: &Cells, x: &[u32], sound: &Sound, at: usize) -> usize
     requires { HoldPlaces (length cells.now.cells) x.now }
     ensures { PassesOver sound.now cells.now.cells (held x.now) (places_from sound.now (Some at)) (places_from sound.now (Some result)) }
 {
-    if !are_many(sound.code(), at) {
-        return at;
-    }
     match key_of(cells, place_in(x, 1)) {
         Some(key) => sound.next(key, at),
         None => at,
     }
 }
 
-/// From a choice the next one for the first argument.
-#[inline]
+/// From a choice the next one for the first argument, by the index where many choices stand in a row.
+#[inline(always)]
 fn next_choice(cells: &Cells, x: &[u32], sound: &Sound, behind: Option<usize>) -> Option<usize>
     requires { HoldPlaces (length cells.now.cells) x.now }
     ensures { PassesOver sound.now cells.now.cells (held x.now) (places_from sound.now behind) (places_from sound.now result) }
 {
     match behind {
         None => None,
-        Some(at) => Some(choice_for(cells, x, sound, at)),
+        Some(at) if are_many(sound.code(), at) => Some(looked_up(cells, x, sound, at)),
+        Some(at) => Some(at),
     }
 }
 

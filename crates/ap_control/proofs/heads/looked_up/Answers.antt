@@ -4,7 +4,7 @@ use Rattle.ap_match.specs.Fits.{Fits}
 use Rattle.ap_steps.specs.Moves.{held}
 use Rattle.ap_control.specs.Heads.{IsKeyOf}
 use Rattle.ap_control.proofs.Keys.{passes-others}
-use Rattle.ap_control.proofs.heads.choice_for.Goals as goal
+use Rattle.ap_control.proofs.heads.looked_up.Goals as goal
 
 pub returns-in-Some : goal.returns-in-Some
 returns-in-Some c =
