@@ -1,11 +1,12 @@
 -- Where the instructions of a clause lead.
-use Rattle.std.specs.Prelude.{◌≡◌, ℕ, ◌+◌, ◌<◌, ◌≤◌, Bool, true, false, if◌then◌else◌, List, [], ◌∷◌, length, drop, slice_get, Some}
+use Rattle.std.specs.Prelude.{◌≡◌, ℕ, ◌+◌, ◌<◌, ◌≤◌, Bool, true, false, ◌||◌, if◌then◌else◌, List, [], ◌∷◌, length, drop, slice_get, Some}
 use Rattle.ap_cells.specs.declared.cells.Raw.{Raw}
 use Rattle.ap_cells.specs.Store.{Store}
 use Rattle.ap_instr.specs.declared.instruction.Instr.{Instr}
-use Rattle.ap_instr.specs.declared.instruction.Instr.TheVariants.{GetStructure, PutVariable, PutConstant, PutInteger, PutStructure, Allocate, Deallocate, Call, Execute, Proceed, Builtin, Jump, Fail, Try, Retry, Trust}
+use Rattle.ap_instr.specs.declared.instruction.Instr.TheVariants.{GetValue, GetStructure, PutVariable, PutConstant, PutInteger, PutStructure, Allocate, Deallocate, Call, Execute, Proceed, Builtin, Jump, Fail, Try, Retry, Trust}
 use Rattle.ap_instr.specs.Code.{Compiled}
 use Rattle.ap_instr.specs.Step.{Step, step_of, steps_of}
+use Rattle.ap_steps.specs.declared.room.Room.{Room}
 use Rattle.ap_steps.specs.declared.run.Outcome.{Outcome}
 use Rattle.ap_steps.specs.declared.run.Outcome.TheVariants.{On, Transfer, Stuck}
 use Rattle.ap_steps.specs.Moves.{held, HoldPlaces, HasTargets, Moves, IsStuck}
@@ -48,6 +49,23 @@ cells_of _ = 0
 abbrev pub room : List Instr → ℕ
 room [] = 0
 room (i ∷ is) = if is_transfer i then 0 else cells_of i + room is
+
+-- an instruction that may want memory, since it unifies
+abbrev pub wants_memory : Instr → Bool
+wants_memory (GetValue v a) = true
+wants_memory (GetStructure f n a) = true
+wants_memory _ = false
+
+-- whether one stands before the next transfer of control
+abbrev pub wants : List Instr → Bool
+wants [] = false
+wants (i ∷ is) = if is_transfer i then false else wants_memory i || wants is
+
+-- what runs of the code need: no more cells, and where a place is said to want no memory, none; a place that isn't spoken of
+-- may want some
+pub record IsRoomFor (code : Compiled) (r : Room) : Type 0 where
+  pub cells : (at : ℕ) → room (drop at code.instructions) ≤ r.cells
+  pub wanting : (at : ℕ) → slice_get r.wanting.items at ≡ Some false → wants (drop at code.instructions) ≡ false
 
 -- up to the next instruction of control, the registers that are written are among so many X and Y registers
 abbrev pub AllHaveTargets : List Instr → ℕ → ℕ → Type 0
