@@ -4,7 +4,7 @@ use Rattle.std.proofs.lemmas.List.{take-append-le, take_all}
 use Rattle.std.specs.List.{AllByRecursion}
 use Rattle.ap_instr.specs.Code.{Compiled}
 use Rattle.ap_steps.specs.Moves.{held, IsStuck}
-use Rattle.ap_steps.specs.Ways.{AllHaveTargets, steps_from}
+use Rattle.ap_steps.specs.Ways.{AllHaveTargets, IsRoomFor, steps_from}
 use Rattle.ap_standing.specs.Machine.{Point, Machine}
 use Rattle.ap_standing.specs.Holds.{HoldsRest}
 use Rattle.ap_standing.proofs.Calls.{skipped}
@@ -25,7 +25,7 @@ pub IsFor-stays : (code : Compiled) (s t : Paused) → Stays s t → IsFor code 
 IsFor-stays code s t h f = record {
   targets = λ at. subst (λ n. AllHaveTargets (drop at code.instructions) n (length t.machine.y)) (sym h.x) (subst (λ n. AllHaveTargets (drop at code.instructions) (length s.machine.x) n) (sym h.y) (f.targets at));
   arities = λ n q e. let l : q.arity < length s.machine.x = f.arities n q e in let k = h.x in omega arith;
-  room = λ at. let l = f.room at in let k = h.room in omega arith;
+  room = subst (IsRoomFor code) (sym h.room) f.room;
 }
 
 -- ---- the clauses that are left

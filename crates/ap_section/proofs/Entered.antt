@@ -11,6 +11,7 @@ use Rattle.ap_cells.specs.declared.cells.Raw.{Raw}
 use Rattle.ap_instr.specs.declared.compiled.Predicate.{Predicate}
 use Rattle.ap_instr.specs.Code.{Compiled}
 use Rattle.ap_instr.specs.StandsFor.{StandsFor, clause_places}
+use Rattle.ap_steps.specs.declared.room.Room.{Room}
 use Rattle.ap_steps.specs.Moves.{held}
 use Rattle.ap_steps.specs.Standing.{Return, AtCall}
 use Rattle.ap_standing.specs.Machine.{Point, calling, inside, failed, Machine, standing_at, places_from, places}
@@ -153,7 +154,7 @@ named-anew code roots q qs place behind left h = renamed code roots qs q (record
 
 -- ---- the section behind a call
 
-module _ (v : Store) (k : Kept) (x y roots : List ℕ) (next : Kind) (spent budget room : ℕ) (s : Paused)
+module _ (v : Store) (k : Kept) (x y roots : List ℕ) (next : Kind) (spent budget : ℕ) (room : Room) (s : Paused)
     (view : record { machine = machine_of v k x y roots next; spent = spent; budget = budget; room = room } ≡ s)
     (code : Compiled) (number : ℕ) (due : s.machine.now ≡ calling number) (predicate : Predicate) (found : Some predicate ≡ slice_get code.predicates number)
     (p : Program) (q : Predicate) (known : slice_get code.predicates number ≡ Some q) (good : IsProgram p) (stands : StandsFor code p) where

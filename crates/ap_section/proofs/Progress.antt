@@ -5,7 +5,7 @@ use Rattle.ap_term.specs.WellFormed.{IsProgram}
 use Rattle.ap_term.specs.Search.{State, children}
 use Rattle.ap_instr.specs.Code.{Compiled}
 use Rattle.ap_instr.specs.StandsFor.{StandsFor}
-use Rattle.ap_steps.specs.Ways.{AllHaveTargets, room}
+use Rattle.ap_steps.specs.Ways.{AllHaveTargets, IsRoomFor}
 use Rattle.ap_standing.specs.Holds.{Turned}
 use Rattle.ap_standing.specs.Laws.{KeepsStanding, IsTurn}
 use Rattle.ap_section.specs.View.{Paused, IsFor}
@@ -23,7 +23,7 @@ pub as-wide : (code : Compiled) (old new : Paused) → IsFor code old → length
 as-wide code old new f ex ey er = record {
   targets = λ at. subst (λ n. AllHaveTargets (drop at code.instructions) n (length new.machine.y)) (sym ex) (subst (λ n. AllHaveTargets (drop at code.instructions) (length old.machine.x) n) (sym ey) (f.targets at));
   arities = λ n q e. subst (λ m. q.arity < m) (sym ex) (f.arities n q e);
-  room = λ at. subst (λ n. room (drop at code.instructions) ≤ n) (sym er) (f.room at);
+  room = subst (IsRoomFor code) (sym er) f.room;
 }
 
 pub still-for : (code : Compiled) (s t : Paused) → IsFor code s → Stays s t → IsFor code t

@@ -1,14 +1,15 @@
 -- A section whose instructions were taken, or taken back.
-use Rattle.std.proofs.Common.{◌≡◌, ℕ, ◌≤◌, List, ◌++◌, length, take, drop, map, Option, ap, ap₂, sym, ◌∙◌, subst, arith}
-use Rattle.std.proofs.lemmas.List.{take_all, take-append-le}
+use Rattle.std.proofs.Common.{◌≡◌, ℕ, ◌<◌, ◌≤◌, Bool, true, false, List, ◌++◌, length, take, drop, map, replicate, Option, refl, ap, ap₂, sym, ◌∙◌, subst, arith}
+use Rattle.std.proofs.lemmas.List.{take_all, take-append-le, length-replicate}
 use Rattle.ap_term.specs.Search.{State}
 use Rattle.ap_cells.specs.declared.cells.Raw.{Raw}
 use Rattle.ap_cells.specs.Store.{Store, Keeps, IsTrail, IsMark, freed, undone}
 use Rattle.ap_instr.specs.Code.{Compiled}
 use Rattle.ap_environments.specs.Kept.{Moment, Kept}
+use Rattle.ap_steps.specs.declared.room.Room.{Room}
 use Rattle.ap_steps.specs.Moves.{held, HoldPlaces, IsStuck}
 use Rattle.ap_steps.specs.Standing.{Return}
-use Rattle.ap_steps.specs.Ways.{steps_from}
+use Rattle.ap_steps.specs.Ways.{wants, IsRoomFor, steps_from}
 use Rattle.ap_standing.specs.Machine.{Now, inside, failed, Machine}
 use Rattle.ap_standing.specs.Holds.{Holds}
 use Rattle.ap_standing.specs.Laws.{machine}
@@ -19,6 +20,7 @@ use Rattle.ap_section.specs.declared.section.Now.{Now as Kind}
 use Rattle.ap_section.specs.View.{Paused, point_of, now_of, machine_of}
 use Rattle.ap_section.specs.Sane.{AreShort, AreMoments, Sane}
 use Rattle.ap_section.specs.Lasting.{SameRest}
+use Rattle.ap_section.proofs.Sanity.{held-zeros}
 use Rattle.ap_section.proofs.Kept.{HoldPlaces-more, AreWithin-more, inside-more, AreMoments-now, points-keep, HasBottom-keeps}
 
 -- registers that were written back
@@ -67,6 +69,16 @@ sane-kept v w k x y x' y' roots s keeps l ex ey =
     (subst (HoldPlaces (length w.cells)) (sym ey) (HoldPlaces-more (length v.cells) (length w.cells) y l s.y))
     (ap length ex) (ap length ey)
 
+-- registers that all hold place 0
+pub sane-cleared : (v w : Store) (k : Kept) (x y x' y' roots : List ℕ) (n m : ℕ) → Sane v k x y roots → Keeps v w → length v.cells ≤ length w.cells → x' ≡ replicate n 0 → y' ≡ replicate m 0 → n ≡ length x → m ≡ length y
+    → Sane w k x' y' roots
+sane-cleared v w k x y x' y' roots n m s keeps l ex ey en em =
+    let some : 0 < length v.cells = s.bottom.mark.fewer in
+    sane-ran v w k x y x' y' roots s keeps l
+    (λ u. let z : held x' u ≡ 0 = ap (λ us. held us u) ex ∙ held-zeros n u in omega arith)
+    (λ u. let z : held y' u ≡ 0 = ap (λ us. held us u) ey ∙ held-zeros m u in omega arith)
+    (ap length ex ∙ length-replicate n 0 ∙ en) (ap length ey ∙ length-replicate m 0 ∙ em)
+
 -- nothing was changed but room
 pub machine-same : (v w : Store) (k : Kept) (x y x' y' roots : List ℕ) (next : Kind) → Sane v k x y roots → Keeps v w → w.cells ≡ v.cells → x' ≡ x → y' ≡ y
     → machine_of w k x' y' roots next ≡ machine_of v k x y roots next
@@ -75,6 +87,11 @@ machine-same v w k x y x' y' roots next s keeps ec ex ey =
     ∙ ap (λ qs. machine v.cells x' y' k.returns roots qs (now_of next)) (points-keep v w (length x) (length y) roots (length v.cells) (length v.trail) k.moments keeps s.moments)
     ∙ ap (λ us. machine v.cells us y' k.returns roots (map (point_of v) k.moments) (now_of next)) ex
     ∙ ap (λ us. machine v.cells x us k.returns roots (map (point_of v) k.moments) (now_of next)) ey
+
+-- of a run that wanted memory the table says so
+pub spoken-of : (code : Compiled) (at : ℕ) (r t : Room) (b : Bool) → r ≡ t → IsRoomFor code t → ((c : Compiled) → IsRoomFor c r → b ≡ false → wants (drop at c.instructions) ≡ false) → wants (drop at code.instructions) ≡ true → b ≡ true
+spoken-of code at r t true e is_for h w = refl
+spoken-of code at r t false e is_for h w = let d : wants (drop at code.instructions) ≡ false = h code (subst (IsRoomFor code) (sym e) is_for) refl in cc
 
 -- returns and choice points are what they were
 pub rest-same : (v w : Store) (k : Kept) (x y x' y' roots : List ℕ) (next next' : Kind) (m : Machine) → machine_of v k x y roots next ≡ m → Sane v k x y roots → Keeps v w → SameRest m (machine_of w k x' y' roots next')

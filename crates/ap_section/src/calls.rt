@@ -230,7 +230,7 @@ impl Section {
         if !may_fail(&self.cells, &self.x, code, place as usize) {
             return Ok(true);
         }
-        self.cells.reserve(self.room)?;
+        self.cells.reserve(self.room.cells)?;
         run_and_go_back(
             &mut self.cells,
             &mut self.environments,

@@ -16,6 +16,7 @@ use ap_cells::{CellMark, Cells};
 use ap_checks::Comparison;
 use ap_copy::{Packing, Parcelled, copy_out};
 use ap_environments::Environments;
+use ap_steps::room::Room;
 use ap_term::NoMemory;
 use ap_unify::Work;
 use std::alloc::Global;
@@ -47,7 +48,7 @@ pub struct Section {
     pub(crate) next: Now,
     pub(crate) spent: u64,
     pub(crate) budget: u64,
-    pub(crate) room: usize,
+    pub(crate) room: Room,
     pub(crate) before_x: Vec<u32>,
     pub(crate) before_y: Vec<u32>,
     pub(crate) work: Work,
