@@ -7,3 +7,4 @@ pub mod Entry
 pub mod Finding
 pub mod StructureSteps
 pub mod StructuresTaken
+pub mod NewCells
