@@ -8,3 +8,4 @@ pub mod Finding
 pub mod StructureSteps
 pub mod StructuresTaken
 pub mod MemoryWants
+pub mod NewCells

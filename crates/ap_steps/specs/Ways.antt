@@ -1,9 +1,10 @@
 -- Where the instructions of a clause lead.
-use Rattle.std.specs.Prelude.{◌≡◌, ℕ, ◌+◌, ◌<◌, ◌≤◌, Bool, true, false, ◌||◌, if◌then◌else◌, List, [], ◌∷◌, length, drop, slice_get, Some}
+use Rattle.std.specs.Prelude.{◌≡◌, ℕ, ◌+◌, ◌<◌, ◌≤◌, Bool, true, false, ◌||◌, if◌then◌else◌, List, [], ◌∷◌, length, take, drop, slice_get, Some}
+use Rattle.std.specs.List.{list_any}
 use Rattle.ap_cells.specs.declared.cells.Raw.{Raw}
 use Rattle.ap_cells.specs.Store.{Store}
 use Rattle.ap_instr.specs.declared.instruction.Instr.{Instr}
-use Rattle.ap_instr.specs.declared.instruction.Instr.TheVariants.{GetValue, GetStructure, PutVariable, PutConstant, PutInteger, PutStructure, Allocate, Deallocate, Call, Execute, Proceed, Builtin, Jump, Fail, Try, Retry, Trust}
+use Rattle.ap_instr.specs.declared.instruction.Instr.TheVariants.{GetValue, GetStructure, PutVariable, PutConstant, PutInteger, PutStructure, UnifyValue, Allocate, Deallocate, Call, Execute, Proceed, Builtin, Jump, Fail, Try, Retry, Trust}
 use Rattle.ap_instr.specs.Code.{Compiled}
 use Rattle.ap_instr.specs.Step.{Step, step_of, steps_of}
 use Rattle.ap_steps.specs.declared.room.Room.{Room}
@@ -35,6 +36,15 @@ is_transfer i = is_control i
 -- so many instructions from a place on, none of control
 abbrev pub NoneOfControl : List Instr → ℕ → ℕ → Type 0
 NoneOfControl is at n = (k : ℕ) → k < n → (i : Instr) × (slice_get is (at + k) ≡ Some i) × (is_control i ≡ false)
+
+-- an argument that is what a register holds
+abbrev pub is_value : Instr → Bool
+is_value (UnifyValue v) = true
+is_value _ = false
+
+-- whether one stands among so many instructions from a place on
+abbrev pub has_value : List Instr → ℕ → ℕ → Bool
+has_value is at count = list_any is_value (take count (drop at is))
 
 -- the most cells that an instruction makes; a structure's own is one, and those of its arguments count with it
 abbrev pub cells_of : Instr → ℕ
