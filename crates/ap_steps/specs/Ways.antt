@@ -60,16 +60,16 @@ abbrev pub room : List Instr → ℕ
 room [] = 0
 room (i ∷ is) = if is_transfer i then 0 else cells_of i + room is
 
--- an instruction that may want memory, since it unifies
-abbrev pub wants_memory : Instr → Bool
-wants_memory (GetValue v a) = true
-wants_memory (GetStructure f n a) = true
-wants_memory _ = false
+-- whether an instruction may want memory, by those behind it: where it unifies what a register holds
+abbrev pub wants_memory : Instr → List Instr → Bool
+wants_memory (GetValue v a) is = true
+wants_memory (GetStructure f n a) is = has_value is 0 n
+wants_memory _ is = false
 
--- whether one stands before the next transfer of control
+-- whether one that may stands before the next transfer of control
 abbrev pub wants : List Instr → Bool
 wants [] = false
-wants (i ∷ is) = if is_transfer i then false else wants_memory i || wants is
+wants (i ∷ is) = if is_transfer i then false else wants_memory i is || wants is
 
 -- what runs of the code need: no more cells, and where a place is said to want no memory, none; a place that isn't spoken of
 -- may want some

@@ -96,7 +96,7 @@ pub fn step(
     requires targets { AllHaveTargets (drop at code.now.instructions) (length x.old) (length y.old) }
     requires holds_x { HoldPlaces (length cells.old.cells) x.old }
     requires holds_y { HoldPlaces (length cells.old.cells) y.old }
-    ensures wants { OnErr result (wants_memory instr ≡ true) }
+    ensures wants { OnErr result (wants_memory instr (drop at code.now.instructions) ≡ true) }
     ensures came { IfOk result (λ o. CameTo code.now instr at cells.old x.old y.old o cells.new x.new y.new) }
     ensures x_len { length x.new ≡ length x.old }
     ensures y_len { length y.new ≡ length y.old }

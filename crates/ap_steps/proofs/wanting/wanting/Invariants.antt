@@ -6,7 +6,7 @@ abbrev pub invariant-places : goal.invariant-places
 invariant-places l = record {
   inside : l.place ≤ length l.code.instructions;
   len : length l.table.items ≡ length l.code.instructions;
-  behind : l.behind ≡ wants (drop l.place l.code.instructions);
+  behind : l.wants ≡ wants (drop l.place l.code.instructions);
   each : (at : ℕ) → l.place ≤ at → slice_index_or l.table.items at false ≡ wants (drop at l.code.instructions);
 }
 
