@@ -1,15 +1,14 @@
 -- A section whose instructions were taken, or taken back.
-use Rattle.std.proofs.Common.{◌≡◌, ℕ, ◌<◌, ◌≤◌, Bool, true, false, List, ◌++◌, length, take, drop, map, replicate, Option, refl, ap, ap₂, sym, ◌∙◌, subst, arith}
+use Rattle.std.proofs.Common.{◌≡◌, ℕ, ◌<◌, ◌≤◌, List, ◌++◌, length, take, drop, map, replicate, Option, ap, ap₂, sym, ◌∙◌, subst, arith}
 use Rattle.std.proofs.lemmas.List.{take_all, take-append-le, length-replicate}
 use Rattle.ap_term.specs.Search.{State}
 use Rattle.ap_cells.specs.declared.cells.Raw.{Raw}
 use Rattle.ap_cells.specs.Store.{Store, Keeps, IsTrail, IsMark, freed, undone}
 use Rattle.ap_instr.specs.Code.{Compiled}
 use Rattle.ap_environments.specs.Kept.{Moment, Kept}
-use Rattle.ap_steps.specs.declared.room.Room.{Room}
 use Rattle.ap_steps.specs.Moves.{held, HoldPlaces, IsStuck}
 use Rattle.ap_steps.specs.Standing.{Return}
-use Rattle.ap_steps.specs.Ways.{wants, IsRoomFor, steps_from}
+use Rattle.ap_steps.specs.Ways.{steps_from}
 use Rattle.ap_standing.specs.Machine.{Now, inside, failed, Machine}
 use Rattle.ap_standing.specs.Holds.{Holds}
 use Rattle.ap_standing.specs.Laws.{machine}
@@ -87,11 +86,6 @@ machine-same v w k x y x' y' roots next s keeps ec ex ey =
     ∙ ap (λ qs. machine v.cells x' y' k.returns roots qs (now_of next)) (points-keep v w (length x) (length y) roots (length v.cells) (length v.trail) k.moments keeps s.moments)
     ∙ ap (λ us. machine v.cells us y' k.returns roots (map (point_of v) k.moments) (now_of next)) ex
     ∙ ap (λ us. machine v.cells x us k.returns roots (map (point_of v) k.moments) (now_of next)) ey
-
--- of a run that wanted memory the table says so
-pub spoken-of : (code : Compiled) (at : ℕ) (r t : Room) (b : Bool) → r ≡ t → IsRoomFor code t → ((c : Compiled) → IsRoomFor c r → b ≡ false → wants (drop at c.instructions) ≡ false) → wants (drop at code.instructions) ≡ true → b ≡ true
-spoken-of code at r t true e is_for h w = refl
-spoken-of code at r t false e is_for h w = let d : wants (drop at code.instructions) ≡ false = h code (subst (IsRoomFor code) (sym e) is_for) refl in cc
 
 -- returns and choice points are what they were
 pub rest-same : (v w : Store) (k : Kept) (x y x' y' roots : List ℕ) (next next' : Kind) (m : Machine) → machine_of v k x y roots next ≡ m → Sane v k x y roots → Keeps v w → SameRest m (machine_of w k x' y' roots next')

@@ -1,5 +1,5 @@
 -- Where the instructions of a clause lead.
-use Rattle.std.specs.Prelude.{◌≡◌, ℕ, ◌+◌, ◌<◌, ◌≤◌, Bool, true, false, ◌||◌, if◌then◌else◌, List, [], ◌∷◌, length, take, drop, slice_get, Some}
+use Rattle.std.specs.Prelude.{◌≡◌, ℕ, ◌+◌, ◌<◌, ◌≤◌, Bool, true, false, ◌||◌, if◌then◌else◌, List, [], ◌∷◌, length, take, drop, slice_get, slice_index_or, Some}
 use Rattle.std.specs.List.{list_any}
 use Rattle.ap_cells.specs.declared.cells.Raw.{Raw}
 use Rattle.ap_cells.specs.Store.{Store}
@@ -71,11 +71,10 @@ abbrev pub wants : List Instr → Bool
 wants [] = false
 wants (i ∷ is) = if is_transfer i then false else wants_memory i is || wants is
 
--- what runs of the code need: no more cells, and where a place is said to want no memory, none; a place that isn't spoken of
--- may want some
+-- what runs of the code need: at most so many cells, and memory just where the table says so
 pub record IsRoomFor (code : Compiled) (r : Room) : Type 0 where
   pub cells : (at : ℕ) → room (drop at code.instructions) ≤ r.cells
-  pub wanting : (at : ℕ) → slice_get r.wanting.items at ≡ Some false → wants (drop at code.instructions) ≡ false
+  pub wanting : (at : ℕ) → slice_index_or r.wanting.items at false ≡ wants (drop at code.instructions)
 
 -- up to the next instruction of control, the registers that are written are among so many X and Y registers
 abbrev pub AllHaveTargets : List Instr → ℕ → ℕ → Type 0

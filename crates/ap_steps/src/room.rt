@@ -1,6 +1,6 @@
 //! What runs of instructions need: the cells that they make at most, and whether they may want memory.
 
-ghost use Rattle.std.specs.Prelude.{◌≡◌, ℕ, ◌+◌, ◌≤◌, length, drop, slice_get, false, if◌then◌else◌, Some, IfOk};
+ghost use Rattle.std.specs.Prelude.{◌≡◌, ℕ, ◌+◌, ◌≤◌, length, drop, if◌then◌else◌, IfOk};
 ghost use Rattle.ap_instr.specs.Code.{Compiled};
 ghost use Rattle.ap_steps.specs.Ways.{is_transfer, cells_of, room, wants, IsRoomFor};
 
@@ -103,11 +103,11 @@ impl Room {
     /// Whether the run from a place on may want memory.
     #[inline]
     pub fn may_want(&self, at: usize) -> bool
-        ensures { (code : Compiled) → IsRoomFor code self.now → result ≡ false → wants (drop at code.instructions) ≡ false }
+        ensures { (code : Compiled) → IsRoomFor code self.now → result ≡ wants (drop at code.instructions) }
     {
         match self.wanting.get(at) {
             Some(wants) => *wants,
-            None => true,
+            None => false,
         }
     }
 }
