@@ -1,9 +1,8 @@
 -- The instructions from a place of code on.
-use Rattle.std.proofs.Common.{◌≡◌, ℕ, zero, suc, ◌+◌, ◌-◌, ◌<◌, ◌≤◌, ◌||◌, true, false, if◌then◌else◌, List, [], ◌∷◌, length, take, drop, min, get_or, slice_get, Some, None, refl, ap, ◌∙◌, subst, arith}
-use Rattle.std.proofs.Math.Bool.{or-false}
+use Rattle.std.proofs.Common.{◌≡◌, ℕ, zero, suc, ◌+◌, ◌-◌, ◌<◌, ◌≤◌, true, false, if◌then◌else◌, List, [], ◌∷◌, length, take, drop, min, get_or, slice_get, Some, None, refl, ap, ◌∙◌, subst, arith}
 use Rattle.std.proofs.Math.Nat.{le-min}
 use Rattle.std.proofs.lemmas.List.{get_or-drop, get_or-take, length-drop, length-take}
-use Rattle.std.proofs.lemmas.List.Folds.{list_any_more, list_any_at}
+use Rattle.std.proofs.lemmas.List.Folds.{list_any_kept, list_any_at}
 use Rattle.std.proofs.lemmas.Option.{slice_get_within, get_or_from_slice_get}
 use borrow.Author.Count.{below_more}
 use Rattle.ap_instr.specs.declared.instruction.Instr.{Instr}
@@ -66,16 +65,16 @@ none-room is at (suc n) none =
 
 -- ---- what registers hold among so many instructions
 
+-- one more instruction
+pub value-kept : (is : List Instr) (at n : ℕ) → has_value is at n ≡ true → has_value is at (n + 1) ≡ true
+value-kept is at n h = list_any_kept is_value (drop at is) n h
+
 module _ (is : List Instr) (at n : ℕ) (i : Instr) (here : slice_get is (at + n) ≡ Some i) where
   behind : n < length (drop at is)
   behind = let l : at + n < length is = slice_get_within is (at + n) i here in let q : length (drop at is) ≡ length is - at = length-drop at is in omega arith
 
   found : get_or (drop at is) n i ≡ i
   found = get_or-drop at is n i ∙ get_or_from_slice_get is (at + n) i i here
-
-  -- one more instruction, which is none
-  pub value-kept : is_value i ≡ false → has_value is at (n + 1) ≡ has_value is at n
-  value-kept plain = list_any_more is_value (drop at is) n i behind ∙ ap (λ j. has_value is at n || is_value j) found ∙ ap (λ b. has_value is at n || b) plain ∙ or-false (has_value is at n)
 
   pub value-among : (count : ℕ) → n < count → is_value i ≡ true → has_value is at count ≡ true
   value-among count less value =

@@ -2,9 +2,10 @@
 
 ghost use Rattle.std.specs.Prelude.{◌≡◌, ℕ, ◌+◌, ◌<◌, ◌≤◌, List, length, drop, slice_get, true, false};
 ghost use Rattle.ap_term.specs.Tree.{Tree, atom, int};
+ghost use Rattle.ap_term.specs.Vars.{occurs};
 ghost use Rattle.ap_cells.specs.Raws.{raw_of};
 ghost use Rattle.ap_cells.specs.Store.{Keeps};
-ghost use Rattle.ap_cells.specs.Trees.{Within};
+ghost use Rattle.ap_cells.specs.Trees.{Within, tree_at, trees};
 ghost use Rattle.ap_instr.specs.Step.{unify_variable, unify_value, unify_constant, with_integer, step_of};
 ghost use Rattle.ap_instr.specs.Runs.{read};
 ghost use Rattle.ap_match.specs.Fits.{cell_tree};
@@ -14,7 +15,7 @@ ghost use Rattle.ap_steps.specs.Ways.{is_control, is_value, has_value, NoneOfCon
 
 use crate::registers::{read, write};
 use crate::tables::{instruction_at, integer_at};
-use ap_cells::{Cell, Cells};
+use ap_cells::{Cell, Cells, Raw};
 use ap_instr::{Code, Instr, Slot};
 use ap_match::{push_new, push_value};
 use ap_term::Atom;
@@ -25,7 +26,7 @@ pub enum Parts {
     /// Constants and first occurrences of variables alone. No older variable stands there, so a structure of them needs no
     /// occurs check.
     Fresh,
-    /// What a register holds, too.
+    /// What a register holds, too, where that isn't a constant.
     Values,
     /// They can't be built, whatever comes behind them.
     Stuck,
@@ -52,23 +53,40 @@ pub fn build_variable(cells: &mut Cells, x: &mut [u32], y: &mut [u32], v: Slot)
     write(x, y, v, place as u32);
 }
 
-/// `unify_value V`: the argument is the register's term. False where the register holds `whole`, the place of the structure
+/// Whether a place has the cell of a constant.
+#[inline]
+fn is_constant(cells: &Cells, place: usize) -> bool
+    requires { place < length cells.now.cells }
+    ensures { result ≡ true → (x : ℕ) → occurs x (tree_at (trees cells.now.cells) place) ≡ false }
+{
+    match cells.raw_at(place) {
+        Raw::Int(_) => true,
+        Raw::Atom(_) => true,
+        _ => false,
+    }
+}
+
+/// `unify_value V`: the argument is the register's term. Stuck where the register holds `whole`, the place of the structure
 /// itself, which is to come.
 #[inline]
-pub fn build_value(cells: &mut Cells, x: &[u32], y: &[u32], v: Slot) -> bool
+pub fn build_value(cells: &mut Cells, x: &[u32], y: &[u32], v: Slot) -> Parts
     requires room { 0 < cells.old.spare }
-    ensures built { (whole : ℕ) → ((read v (held x.now) (held y.now) ≡ whole → ⊥) → read v (held x.now) (held y.now) < length cells.old.cells) → BuiltOr whole cells.old.cells (held x.now) (held y.now) (unify_value v) cells.new.cells (held x.now) (held y.now) result }
+    ensures built { (whole : ℕ) → ((read v (held x.now) (held y.now) ≡ whole → ⊥) → read v (held x.now) (held y.now) < length cells.old.cells) → BuiltOr whole cells.old.cells (held x.now) (held y.now) (unify_value v) cells.new.cells (held x.now) (held y.now) (are_built result) }
+    ensures fresh { result ≡ Parts.Fresh → StandApart cells.old.cells cells.new.cells }
     ensures stays { KeepTrees cells.old.cells cells.new.cells }
     ensures longer { length cells.old.cells ≤ length cells.new.cells }
-    ensures spare { result ≡ true → cells.new.spare + 1 ≡ cells.old.spare }
+    ensures spare { are_built result ≡ true → cells.new.spare + 1 ≡ cells.old.spare }
     ensures keeps { Keeps cells.old cells.new }
 {
     let place = read(x, y, v);
-    if place < cells.len() {
-        push_value(cells, place);
-        true
+    if place >= cells.len() {
+        return Parts::Stuck;
+    }
+    let argument = push_value(cells, place);
+    if is_constant(cells, argument) {
+        Parts::Fresh
     } else {
-        false
+        Parts::Values
     }
 }
 
@@ -150,7 +168,7 @@ pub fn build_argument(
     requires has { HasTargets instr (length x.old) (length y.old) }
     ensures built { (whole : ℕ) → HoldPlacesBut whole (length cells.old.cells) x.old → HoldPlacesBut whole (length cells.old.cells) y.old → BuiltOr whole cells.old.cells (held x.old) (held y.old) (step_of code.now instr) cells.new.cells (held x.new) (held y.new) (are_built result) }
     ensures argument { are_built result ≡ true → is_control instr ≡ false }
-    ensures fresh { result ≡ Parts.Fresh → (is_value instr ≡ false) × StandApart cells.old.cells cells.new.cells }
+    ensures fresh { result ≡ Parts.Fresh → StandApart cells.old.cells cells.new.cells }
     ensures value { result ≡ Parts.Values → is_value instr ≡ true }
     ensures stays { KeepTrees cells.old.cells cells.new.cells }
     ensures holds_x { (whole : ℕ) → HoldPlacesBut whole (length cells.old.cells) x.old → HoldPlacesBut whole (length cells.new.cells) x.new }
@@ -165,13 +183,7 @@ pub fn build_argument(
             build_variable(cells, x, y, v);
             Parts::Fresh
         }
-        Instr::UnifyValue(v) => {
-            if build_value(cells, x, y, v) {
-                Parts::Values
-            } else {
-                Parts::Stuck
-            }
-        }
+        Instr::UnifyValue(v) => build_value(cells, x, y, v),
         Instr::UnifyConstant(name) => {
             build_atom(cells, name);
             Parts::Fresh
@@ -205,7 +217,7 @@ pub fn build_arguments(
     requires holds_y { HoldPlacesBut (length cells.old.cells + count) (length cells.old.cells) y.old }
     ensures built { BuiltOrStuck code.now at count cells.old.cells (held x.old) (held y.old) cells.new.cells (held x.new) (held y.new) (are_built result) }
     ensures passed { are_built result ≡ true → NoneOfControl code.now.instructions at count }
-    ensures fresh { result ≡ Parts.Fresh → (has_value code.now.instructions at count ≡ false) × StandApart cells.old.cells cells.new.cells }
+    ensures fresh { result ≡ Parts.Fresh → StandApart cells.old.cells cells.new.cells }
     ensures value { result ≡ Parts.Values → has_value code.now.instructions at count ≡ true }
     ensures stays { KeepTrees cells.old.cells cells.new.cells }
     ensures holds_x { (whole : ℕ) → HoldPlacesBut whole (length cells.old.cells) x.old → HoldPlacesBut whole (length cells.new.cells) x.new }

@@ -1,4 +1,4 @@
-use Rattle.std.proofs.Common.{◌≡◌, ℕ, ◌+◌, ◌<◌, ◌≤◌, true, false, length, slice_get, Some, sym, ap, ◌∙◌, subst, arith}
+use Rattle.std.proofs.Common.{◌≡◌, ℕ, ◌+◌, ◌<◌, ◌≤◌, true, length, slice_get, Some, sym, ap, ◌∙◌, subst, arith}
 use Rattle.std.proofs.lemmas.Bool.{false≢true}
 use Rattle.std.proofs.lemmas.Option.{slice_get_within}
 use Rattle.ap_cells.proofs.Stores.{Keeps-trans}
@@ -58,7 +58,7 @@ loop-i-preserved c =
     let whole : ℕ = length c.args.cells.now.cells + c.args.count in
     let e : slice_get c.args.code.now.instructions (at + i) ≡ Some c.in-Some.instr = sym c.in-Some.ensures in
     let value : c.build_argument.result ≡ Values → is_value c.in-Some.instr ≡ true = c.build_argument.ensures.value in
-    let fresh : c.build_argument.result ≡ Fresh → (is_value c.in-Some.instr ≡ false) × StandApart c.loop-i.cells.cells c.build_argument.new.cells.cells = c.build_argument.ensures.fresh in
+    let fresh : c.build_argument.result ≡ Fresh → StandApart c.loop-i.cells.cells c.build_argument.new.cells.cells = c.build_argument.ensures.fresh in
     let longer : length c.args.cells.now.cells ≤ length c.loop-i.cells.cells = let l : length c.loop-i.cells.cells ≡ length c.args.cells.now.cells + i = v.built.longer in omega arith in
     let ok : are_built c.build_argument.result ≡ true = elim c.match-build_argument.branch [ in-Fresh w ↦ ap are_built w.in-Fresh.is | in-Values w ↦ ap are_built w.in-Values.is ] in
     let behind : at + i + 1 ≡ at + (i + 1) = omega arith in
@@ -71,15 +71,15 @@ loop-i-preserved c =
           (subst (BuiltOr whole c.loop-i.cells.cells (held c.loop-i.x) (held c.loop-i.y) (step_of c.args.code.now c.in-Some.instr) c.build_argument.new.cells.cells (held c.build_argument.new.x) (held c.build_argument.new.y)) ok
           (c.build_argument.ensures.built whole (v.holds_x whole c.requires.holds_x) (v.holds_y whole c.requires.holds_y))));
       passed = none-more c.args.code.now.instructions at i c.in-Some.instr v.passed e (c.build_argument.ensures.argument ok);
-      among =
+      value =
           elim c.match-build_argument.branch [
-            | in-Fresh w ↦ value-kept c.args.code.now.instructions at i c.in-Some.instr e (fresh w.in-Fresh.is).0 ∙ v.among ∙ sym w.values-is
-            | in-Values w ↦ value-among c.args.code.now.instructions at i c.in-Some.instr e (i + 1) (omega arith) (value w.in-Values.is) ∙ sym w.values-is
+            | in-Fresh w ↦ λ some. value-kept c.args.code.now.instructions at i (v.value (sym w.values-is ∙ some))
+            | in-Values w ↦ λ some. value-among c.args.code.now.instructions at i c.in-Some.instr e (i + 1) (omega arith) (value w.in-Values.is)
           ];
       fresh =
           elim c.match-build_argument.branch [
             | in-Fresh w ↦ λ none.
-                StandApart-trans c.args.cells.now.cells c.loop-i.cells.cells c.build_argument.new.cells.cells longer c.build_argument.ensures.stays (v.fresh (sym w.values-is ∙ none)) (fresh w.in-Fresh.is).1
+                StandApart-trans c.args.cells.now.cells c.loop-i.cells.cells c.build_argument.new.cells.cells longer c.build_argument.ensures.stays (v.fresh (sym w.values-is ∙ none)) (fresh w.in-Fresh.is)
             | in-Values w ↦ λ none. absurd (false≢true (sym none ∙ w.values-is))
           ];
       stays = KeepTrees-trans c.args.cells.now.cells c.loop-i.cells.cells c.build_argument.new.cells.cells longer v.stays c.build_argument.ensures.stays;
@@ -105,11 +105,10 @@ returns-else-values-clause-built c =
     c.loop-i.invariant.built
 
 pub returns-then-values-clause-value : goal.returns-then-values-clause-value
-returns-then-values-clause-value c = λ t. let e : c.args.count ≡ c.loop-i.i = omega arith in ap (has_value c.args.code.now.instructions c.args.at) e ∙ c.loop-i.invariant.among ∙ c.if-values.true
+returns-then-values-clause-value c = λ t. let e : c.args.count ≡ c.loop-i.i = omega arith in ap (has_value c.args.code.now.instructions c.args.at) e ∙ c.loop-i.invariant.value c.if-values.true
 
 pub returns-else-values-clause-fresh : goal.returns-else-values-clause-fresh
-returns-else-values-clause-fresh c =
-    λ t. let e : c.args.count ≡ c.loop-i.i = omega arith in (ap (has_value c.args.code.now.instructions c.args.at) e ∙ c.loop-i.invariant.among ∙ c.if-values.false, c.loop-i.invariant.fresh c.if-values.false)
+returns-else-values-clause-fresh c = λ t. c.loop-i.invariant.fresh c.if-values.false
 
 pub returns-then-values-clause-stays : goal.returns-then-values-clause-stays
 returns-then-values-clause-stays c = c.loop-i.invariant.stays

@@ -1,4 +1,4 @@
-use Rattle.std.proofs.Common.{◌≡◌, ℕ, ◌+◌, ◌≤◌, false, length}
+use Rattle.std.proofs.Common.{◌≡◌, ℕ, ◌+◌, ◌≤◌, true, false, length}
 use Rattle.ap_cells.specs.Store.{Keeps}
 use Rattle.ap_steps.specs.Moves.{held, HoldPlacesBut}
 use Rattle.ap_steps.specs.Arguments.{BuiltAll, KeepTrees, StandApart}
@@ -9,7 +9,7 @@ abbrev pub invariant-loop-i : goal.invariant-loop-i
 invariant-loop-i l = record {
   built : BuiltAll l.i l.fn.cells.cells (held l.fn.x) (held l.fn.y) (steps_from l.code l.at) l.cells.cells (held l.x) (held l.y) (steps_from l.code (l.at + l.i));
   passed : NoneOfControl l.code.instructions l.at l.i;
-  among : has_value l.code.instructions l.at l.i ≡ l.values;
+  value : l.values ≡ true → has_value l.code.instructions l.at l.i ≡ true;
   fresh : l.values ≡ false → StandApart l.fn.cells.cells l.cells.cells;
   stays : KeepTrees l.fn.cells.cells l.cells.cells;
   inside : l.at + l.i ≤ length l.code.instructions;

@@ -12,7 +12,7 @@ pub bind_structure-requires-clause-absent : goal.bind_structure-requires-clause-
 bind_structure-requires-clause-absent c =
     let built = c.in-Fresh.ensures.built in
     let longer : length c.build_arguments.new.cells.cells ≡ length c.args.cells.now.cells + c.args.count = built.longer in
-    apart-absent c.args.cells.now.cells c.build_arguments.new.cells.cells (c.in-Fresh.ensures.fresh refl).1 c.args.variable c.len-first.result c.args.count c.requires.place c.len-first.ensures.place (omega arith)
+    apart-absent c.args.cells.now.cells c.build_arguments.new.cells.cells (c.in-Fresh.ensures.fresh refl) c.args.variable c.len-first.result c.args.count c.requires.place c.len-first.ensures.place (omega arith)
 
 pub returns-in-Fresh-clause-taken : goal.returns-in-Fresh-clause-taken
 returns-in-Fresh-clause-taken c =
