@@ -6,3 +6,4 @@ pub mod Compared
 pub mod Ran
 pub mod Passed
 pub mod Keys
+pub mod Unifying

@@ -65,7 +65,7 @@ fn is_other_integer(cells: &Cells, place: usize, value: i64) -> bool
 }
 
 /// An integer of the code's table.
-fn integer_at(code: &Code, index: u32) -> Option<i64>
+pub(crate) fn integer_at(code: &Code, index: u32) -> Option<i64>
     ensures { result ≡ slice_get code.now.integers index }
 {
     code.integers().get(index as usize).copied()
