@@ -144,6 +144,7 @@ impl Section {
         ensures fewer { IfOk result (λ found. IfNone found (moves_left code.now self.new.machine < moves_left code.now self.old.machine)) }
         ensures due { IfOk result (λ found. IfSome found (λ due. IsDue code.now self.new.machine due)) }
         ensures kept { OnErr result (self.new ≡ self.old) }
+        ensures points { self.new.machine.points ≡ self.old.machine.points }
     {
         match instruction_at(code, at) {
             None => self.next = Now::Failed,
@@ -185,6 +186,7 @@ impl Section {
         ensures ended { result ≡ false → self.new ≡ self.old }
         ensures fewer { result ≡ true → (code : Compiled) → moves_left code self.new.machine < moves_left code self.old.machine }
         ensures no_return { result ≡ false → self.old.machine.returns ≡ [] }
+        ensures points { self.new.machine.points ≡ self.old.machine.points }
     {
         match self.environments.pop(&mut self.y) {
             Some(place) => {

@@ -122,11 +122,16 @@ impl Section {
         let _ = &self.cells;
     }
 
-    /// Whether an alternative is left.
+    /// Whether an alternative is left. At an answer that says whether another state is.
     pub fn has_more(&self) -> bool
-        ensures { result ≡ false → self.now.machine.points ≡ [] }
+        ensures none { result ≡ false → self.now.machine.points ≡ [] }
+        ensures more { result ≡ true → (code : Compiled) → IsFor code self.now → IsAtAnswer self.now.machine → (s : State) (ss : List State) → Holds code self.now.machine (s ∷ ss) → ss ≡ [] → ⊥ }
+        ensures last { result ≡ false → (code : Compiled) → IsAtAnswer self.now.machine → (s : State) (ss : List State) → Holds code self.now.machine (s ∷ ss) → ss ≡ [] }
     {
-        self.environments.newest().is_some()
+        match self.environments.newest() {
+            Some(_) => true,
+            None => false,
+        }
     }
 
     /// Leaves the answer at which it stands; the search goes on behind it.
