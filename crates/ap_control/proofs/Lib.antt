@@ -7,3 +7,4 @@ pub mod Ran
 pub mod Passed
 pub mod Keys
 pub mod Unifying
+pub mod Building

@@ -22,7 +22,7 @@ use Rattle.ap_control.specs.Runs.{Ran, IsTransferAt}
 use Rattle.ap_control.specs.declared.taking.Want.{Want}
 use Rattle.ap_control.specs.declared.taking.Want.TheVariants.{Nothing, Binding, More}
 use Rattle.ap_control.specs.declared.taking.Way.{Way}
-use Rattle.ap_control.specs.declared.taking.Way.TheVariants.{On, Goal, Other}
+use Rattle.ap_control.specs.declared.taking.Way.TheVariants.{On, Structure, Goal, Other}
 use Rattle.ap_control.specs.Taking.{CanAsk, HasWanted, PassesWanted, IsWayByCall, LeadsBy}
 
 -- ---- goals
@@ -47,13 +47,19 @@ never-on : (o : Option Predicate) → IsWayByCall o On → ⊥
 never-on None e = let z : ⊥ = cc in z
 never-on (Some q) e = let z : ⊥ = cc in z
 
+never-structure : (n a : ℕ) (o : Option Predicate) → IsWayByCall o (Structure n a) → ⊥
+never-structure n a None e = let z : ⊥ = cc in z
+never-structure n a (Some q) e = let z : ⊥ = cc in z
+
 pub led-by-call : (code : Compiled) (p : ℕ) (way : Way) → IsWayByCall (slice_get code.predicates p) way → LeadsBy code (Call p) way
 led-by-call code p On h = absurd (never-on (slice_get code.predicates p) h)
+led-by-call code p (Structure n a) h = absurd (never-structure n a (slice_get code.predicates p) h)
 led-by-call code p Goal h = by-call (slice_get code.predicates p) h
 led-by-call code p Other h = λ t. by-none (slice_get code.predicates p) call h
 
 pub led-by-execute : (code : Compiled) (p : ℕ) (way : Way) → IsWayByCall (slice_get code.predicates p) way → LeadsBy code (Execute p) way
 led-by-execute code p On h = absurd (never-on (slice_get code.predicates p) h)
+led-by-execute code p (Structure n a) h = absurd (never-structure n a (slice_get code.predicates p) h)
 led-by-execute code p Goal h = by-execute (slice_get code.predicates p) h
 led-by-execute code p Other h = λ t. by-none (slice_get code.predicates p) execute h
 

@@ -1,15 +1,15 @@
 //! Clauses whose heads unify with a call: such as surely do, told without a run, and such as do, told by one.
 
-ghost use Rattle.std.specs.Prelude.{◌≡◌, ℕ, ◌<◌, ◌≤◌, length, drop, slice_get, List, true, false, None, Some, IfOk, IfSome};
+ghost use Rattle.std.specs.Prelude.{◌≡◌, ℕ, ◌+◌, ◌<◌, ◌≤◌, ◌∷◌, length, drop, slice_get, List, true, false, None, Some, IfOk, IfSome};
 ghost use Rattle.ap_term.specs.Tree.{Tree, atom, int};
 ghost use Rattle.ap_cells.specs.declared.cells.Raw.{Raw};
 ghost use Rattle.ap_cells.specs.Store.{Keeps};
-ghost use Rattle.ap_instr.specs.Step.{step_of};
+ghost use Rattle.ap_instr.specs.Step.{Step, step_of};
 ghost use Rattle.ap_instr.specs.Runs.{set_x, IsOpen, AsksOpenly};
 ghost use Rattle.ap_steps.specs.Moves.{held, HoldPlaces, IsStuck};
 ghost use Rattle.ap_steps.specs.Ways.{is_transfer, AllHaveTargets, room, steps_from};
 ghost use Rattle.ap_control.specs.Runs.{IsTransferAt};
-ghost use Rattle.ap_control.specs.Taking.{CanAsk, HasWanted, PassesWanted, IsWayByCall, LeadsBy};
+ghost use Rattle.ap_control.specs.Taking.{CanAsk, HasWanted, PassesWanted, IsWayByCall, IsApart, IsOpenInside, LeadsBy};
 
 use crate::alternatives::instruction_at;
 use crate::heads::integer_at;
@@ -25,6 +25,8 @@ use ap_unify::Work;
 enum Way {
     /// To the next one, whatever the registers hold.
     On,
+    /// To the so many arguments of a structure, which is put in an X register.
+    Structure(u8, u32),
     /// To a goal, or to the end of the clause.
     Goal,
     /// Elsewhere, or nowhere, or that isn't told by the instruction alone.
@@ -56,6 +58,7 @@ fn way_of(code: &Code, instr: Instr) -> Way
             Some(_) => Way::On,
             None => Way::Other,
         },
+        Instr::PutStructure(_, count, a) => Way::Structure(count, a),
         Instr::Allocate(_) => Way::On,
         Instr::Deallocate => Way::On,
         Instr::Call(number) => way_by_call(code, number),
@@ -66,17 +69,59 @@ fn way_of(code: &Code, instr: Instr) -> Way
     }
 }
 
+/// Whether a register isn't the X register with a number.
+#[inline(always)]
+fn is_apart(v: Slot, number: u32) -> bool
+    ensures { result ≡ true → IsApart v number }
+{
+    match v {
+        Slot::X(n) => n != number,
+        Slot::Y(_) => true,
+    }
+}
+
+/// Whether an instruction can always add an argument to a structure that an X register holds.
+#[inline(always)]
+fn adds_argument(code: &Code, instr: Instr, whole: u32) -> bool
+    ensures goes_on { result ≡ true → is_transfer instr ≡ false }
+    ensures opens { result ≡ true → (n : ℕ) (is : List Step) → IsOpenInside whole n is → IsOpenInside whole (n + 1) (step_of code.now instr ∷ is) }
+{
+    match instr {
+        Instr::UnifyVariable(v) => is_apart(v, whole),
+        Instr::UnifyValue(v) => is_apart(v, whole),
+        Instr::UnifyConstant(_) => true,
+        Instr::UnifyInteger(index) => match integer_at(code, index) {
+            Some(_) => true,
+            None => false,
+        },
+        _ => false,
+    }
+}
+
 /// Whether instructions that can always be taken lead from a place to a goal, or to the end of the clause.
 #[inline(always)]
 fn is_open(code: &Code, at: usize) -> bool
     ensures { result ≡ true → AsksOpenly (steps_from code.now at) → IsOpen (steps_from code.now at) }
 {
+    let mut left: u8 = 0;
+    let mut whole: u32 = 0;
     for place in at..code.instructions().len() {
         let Some(instr) = instruction_at(code, place) else {
             return false;
         };
+        if left > 0 {
+            if !adds_argument(code, instr, whole) {
+                return false;
+            }
+            left -= 1;
+            continue;
+        }
         match way_of(code, instr) {
             Way::On => {}
+            Way::Structure(count, a) => {
+                left = count;
+                whole = a;
+            }
             Way::Goal => return true,
             Way::Other => return false,
         }
@@ -217,6 +262,7 @@ fn leads_on(code: &Code, at: usize) -> bool
         Some(instr) => match way_of(code, instr) {
             Way::Goal => true,
             Way::On => false,
+            Way::Structure(_, _) => false,
             Way::Other => false,
         },
     }

@@ -10,3 +10,6 @@ returns-in-On-clause-shut c = λ b cs x y k bs h. none-on c.args.code.now c.args
 
 pub returns-in-Other-clause-shut : goal.returns-in-Other-clause-shut
 returns-in-Other-clause-shut c = λ b cs x y. stuck-there c.args.code.now c.args.at c.in-Some.instr (sym c.instruction_at.ensures ∙ c.in-Some.is) c.requires c.in-Other.ensures cs x y
+
+pub returns-in-Structure-clause-shut : goal.returns-in-Structure-clause-shut
+returns-in-Structure-clause-shut c = λ b cs x y k bs h. none-on c.args.code.now c.args.at c.in-Some.instr (sym c.instruction_at.ensures ∙ c.in-Some.is) c.requires c.in-Structure.ensures.0

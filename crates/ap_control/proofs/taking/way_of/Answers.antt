@@ -1,9 +1,10 @@
 use Rattle.std.proofs.Common.{refl, sym, subst, slice_get}
 use Rattle.ap_term.specs.Tree.{atom, none, more}
 use Rattle.ap_instr.specs.Runs.{set, read, set_x, set_y, applied, spread}
-use Rattle.ap_control.specs.declared.taking.Way.TheVariants.{On, Goal}
+use Rattle.ap_control.specs.declared.taking.Way.TheVariants.{On, Structure, Goal}
 use Rattle.ap_control.specs.Taking.{LeadsBy}
 use Rattle.ap_instr.specs.Builtin.{builtin_name, builtin_arity}
+use Rattle.ap_control.proofs.Building.{structure-opens}
 use Rattle.ap_control.proofs.Unifying.{led-by-call, led-by-execute, by-listed}
 use Rattle.ap_control.proofs.taking.way_of.Goals as goal
 
@@ -48,3 +49,9 @@ returns-in-Builtin c =
     let b = c.in-Builtin.field-0 in
     subst (λ i. LeadsBy c.args.code.now i Goal) (sym c.in-Builtin.is)
     (λ is o x y. let r = o.0 x y in (more (applied (builtin_name b) (spread x 1 (builtin_arity b))) r.0, (r.0, refl, r.1)))
+
+pub returns-in-PutStructure : goal.returns-in-PutStructure
+returns-in-PutStructure c =
+    let n = c.in-PutStructure.count in
+    let a = c.in-PutStructure.a in
+    subst (λ i. LeadsBy c.args.code.now i (Structure n a)) (sym c.in-PutStructure.is) (refl, structure-opens c.in-PutStructure.field-0 n a)
