@@ -9,7 +9,7 @@ ghost use Rattle.ap_instr.specs.Runs.{set_x, IsOpen, AsksOpenly};
 ghost use Rattle.ap_steps.specs.Moves.{held, HoldPlaces, IsStuck};
 ghost use Rattle.ap_steps.specs.Ways.{is_transfer, AllHaveTargets, room, steps_from};
 ghost use Rattle.ap_control.specs.Runs.{IsTransferAt};
-ghost use Rattle.ap_control.specs.Taking.{CanAsk, HasWanted, PassesWanted, IsWayByCall, IsApart, IsOpenInside, LeadsBy};
+ghost use Rattle.ap_control.specs.Taking.{CanAsk, HasWanted, HasStructure, PassesWanted, IsWayByCall, IsApart, IsOpenInside, LeadsBy};
 
 use crate::alternatives::instruction_at;
 use crate::heads::integer_at;
@@ -136,6 +136,8 @@ enum Want {
     Nothing,
     /// That an unbound variable is bound.
     Binding,
+    /// What its so many arguments behind want: that is a structure.
+    Arguments(u8),
     /// What isn't so, or can't be told.
     More,
 }
@@ -191,6 +193,26 @@ fn wanted_listed(cells: &Cells, place: usize, code: &Code, index: u32) -> Want
     }
 }
 
+/// What is wanted where a place is to be a structure of that name with so many arguments.
+#[inline(always)]
+fn wanted_structure(cells: &Cells, place: usize, name: Atom, count: u8) -> Want
+    requires { place < length cells.now.cells }
+    ensures { HasStructure cells.now.cells place name count result }
+{
+    match cells.top(place) {
+        Top::Node(found, _, arity) => {
+            if arity != count as u32 {
+                return Want::More;
+            }
+            if found != name {
+                return Want::More;
+            }
+            Want::Arguments(count)
+        }
+        _ => Want::More,
+    }
+}
+
 /// What an instruction wants, where the X registers below a number hold what they held at the call.
 #[inline(always)]
 fn wanted(cells: &Cells, x: &[u32], kept: u32, code: &Code, instr: Instr) -> Want
@@ -203,6 +225,9 @@ fn wanted(cells: &Cells, x: &[u32], kept: u32, code: &Code, instr: Instr) -> Wan
         Instr::GetConstant(name, a) if a < kept => wanted_atom(cells, place_in(x, a), name),
         Instr::GetInteger(index, a) if a < kept => {
             wanted_listed(cells, place_in(x, a), code, index)
+        }
+        Instr::GetStructure(name, count, a) if a < kept => {
+            wanted_structure(cells, place_in(x, a), name, count)
         }
         _ => Want::More,
     }
@@ -220,8 +245,8 @@ fn kept_behind(v: Slot, kept: u32) -> u32
     }
 }
 
-/// Whether the head of the clause at a place surely unifies with a call on the argument registers: of it only constants are
-/// looked at, and one at most binds a variable. False says nothing.
+/// Whether the head of the clause at a place surely unifies with a call on the argument registers: of it only constants, of
+/// which one at most binds a variable, and structures of variables are looked at. False says nothing.
 #[inline(always)]
 pub fn surely_unifies(cells: &Cells, x: &[u32], code: &Code, at: usize) -> bool
     requires { HoldPlaces (length cells.now.cells) x.now }
@@ -229,10 +254,19 @@ pub fn surely_unifies(cells: &Cells, x: &[u32], code: &Code, at: usize) -> bool
 {
     let mut kept = u32::MAX;
     let mut binds = false;
+    let mut left: u8 = 0;
     for place in at..code.instructions().len() {
         let Some(instr) = instruction_at(code, place) else {
             return false;
         };
+        if left > 0 {
+            let Instr::UnifyVariable(v) = instr else {
+                return false;
+            };
+            kept = kept_behind(v, kept);
+            left -= 1;
+            continue;
+        }
         if let Instr::GetVariable(v, _) = instr {
             kept = kept_behind(v, kept);
             continue;
@@ -245,6 +279,7 @@ pub fn surely_unifies(cells: &Cells, x: &[u32], code: &Code, at: usize) -> bool
                 }
                 binds = true;
             }
+            Want::Arguments(count) => left = count,
             Want::More => return is_open(code, place),
         }
     }
