@@ -15,14 +15,14 @@ pub enum Key {
 }
 
 /// The instruction at a place.
-pub fn instruction_at(code: &Code, at: usize) -> Option<Instr>
+pub(crate) fn instruction_at(code: &Code, at: usize) -> Option<Instr>
     ensures { result ≡ slice_get code.now.instructions at }
 {
     code.instructions().get(at).copied()
 }
 
 /// An integer of the code's table.
-pub fn integer_at(code: &Code, index: u32) -> Option<i64>
+fn integer_at(code: &Code, index: u32) -> Option<i64>
     ensures { result ≡ slice_get code.now.integers index }
 {
     code.integers().get(index as usize).copied()

@@ -11,5 +11,5 @@ mod key;
 mod row;
 
 pub use index::{Index, index_of};
-pub use key::{Key, instruction_at, integer_at};
+pub use key::Key;
 pub use row::{Link, Row};
