@@ -22,6 +22,7 @@ fn same_check(a: &Check, b: &Check) -> bool
     }
 }
 
+/// Whether a check is among those that are written, `indep` either way round.
 pub fn is_written(check: &Check, checks: &[Check]) -> bool
     ensures { result ≡ is_written check.now checks.now }
 {

@@ -19,6 +19,7 @@ mod without_groups;
 
 pub use certified::{Certified, Scope};
 pub use faults::CertErr;
+pub use groups::is_written;
 pub use programs::certify;
 pub use without_groups::plain;
 

@@ -1,7 +1,7 @@
 //! Code that keeps every rule.
 
 ghost use Rattle.std.specs.Prelude.{◌≡◌, ℕ, ◌<◌, Some, IsSome, IfOk, OnOk, IfErr, IfSome, length, slice_get};
-ghost use Rattle.ap_index.specs.Index.{LeavesOthers};
+ghost use Rattle.ap_index.specs.Index.{IsRowOf, IsRestOf, IsLinkOf};
 ghost use Rattle.ap_codecheck.specs.Rules.{IsSound};
 ghost use Rattle.ap_codecheck.specs.Judged.{KeepsAll, KeepsAllAt, BreaksIn, Breaks};
 
@@ -9,7 +9,7 @@ use crate::operands::check_operands;
 use crate::paths::check_paths;
 use crate::rule::{CodeErr, Rule};
 use crate::shape::Shape;
-use ap_index::{Index, Key, index_of};
+use ap_index::{Index, Link, Row, index_of};
 use ap_instr::{Code, Predicate};
 use std::alloc::Global;
 use std::marker::Model;
@@ -97,11 +97,28 @@ impl Sound {
         &self.code
     }
 
-    /// From a place among choices the next place for a first argument: the clauses that are left out ask for another one.
-    pub fn next(&self, key: Key, from: usize) -> usize
-        ensures { LeavesOthers self.now key from result }
+    /// The row of choices that begins at a place, if the index has one there.
+    #[inline]
+    pub fn row(&self, start: usize) -> Option<&Row>
+        ensures { IfSome result (λ row. IsRowOf self.now start row.now) }
     {
-        self.index.next(key, from)
+        self.index.row(start)
+    }
+
+    /// The row of choices that goes on at a place, behind a clause that has no key, if the index has one there.
+    #[inline]
+    pub fn rest(&self, from: usize) -> Option<&Row>
+        ensures { IfSome result (λ row. IsRestOf self.now from row.now) }
+    {
+        self.index.rest(from)
+    }
+
+    /// What the index has behind a choice.
+    #[inline]
+    pub fn link(&self, from: usize) -> Option<Link>
+        ensures { IfSome result (λ link. IsLinkOf self.now from link) }
+    {
+        self.index.link(from)
     }
 
     /// The number of the query's predicate.

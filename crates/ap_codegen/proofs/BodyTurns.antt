@@ -56,14 +56,6 @@ ask_turn g rest s0 s1 c0 c1 w l k s r =
     ∙ ap (λ q. c0 ++ q) (append_assoc (goal_code g s0) (asking g ∷ []) (body_code rest s1) ∙ ap (λ s. goal_code g s0 ++ (asking g ∷ body_code rest s)) s ∙ sym d)
     ∙ r
 
--- the last goal, a call
-pub last_turn : (g : Tree) (rest : Trees) (s0 : List ℕ) (c0 c1 w : List Step) → is_last_call g rest ≡ true
-    → c1 ≡ c0 ++ (goal_code g s0 ++ execute (name g) (count_trees (arguments g)) ∷ []) → c0 ++ body_code (more g rest) s0 ≡ w → c1 ≡ w
-last_turn g rest s0 c0 c1 w l k r =
-    let d : body_code (more g rest) s0 ≡ goal_code g s0 ++ execute (name g) (count_trees (arguments g)) ∷ [] =
-    ap (λ l. if l then goal_code g s0 ++ execute (name g) (count_trees (arguments g)) ∷ [] else goal_code g s0 ++ (asking g ∷ body_code rest (add_vars g s0))) l in
-    k ∙ ap (λ q. c0 ++ q) (sym d) ∙ r
-
 -- ---- goals can be called
 
 append_callable : (ts us : Trees) → all_callable ts ≡ true → all_callable us ≡ true → all_callable (append_trees ts us) ≡ true

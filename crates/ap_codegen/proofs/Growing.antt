@@ -1,13 +1,10 @@
 -- Tables that grow, and what instructions say by them.
-use Rattle.std.proofs.Common.{◌≡◌, ℕ, zero, suc, ◌+◌, ◌<◌, ◌≤◌, ℤ, Bool, true, false, ◌&&◌, ◌==◌, if◌then◌else◌, ◌⊎◌, inl, inr, List, [], ◌∷◌, ◌++◌, length, take, get_or, slice_get, Some, refl, ap, sym, ◌∙◌, subst, arith}
-use Rattle.std.proofs.lemmas.Bool.Decides.{Decides-eqb, Decides-int_eq}
+use Rattle.std.proofs.Common.{◌≡◌, ℕ, zero, suc, ◌+◌, ◌<◌, ◌≤◌, Bool, true, false, if◌then◌else◌, ◌⊎◌, inl, inr, List, [], ◌∷◌, ◌++◌, length, take, get_or, slice_get, Some, refl, ap, sym, ◌∙◌, subst, arith}
 use Rattle.std.proofs.lemmas.List.{take_more}
-use Rattle.std.specs.Ordering.{int_eq}
 use Rattle.std.specs.List.{list_all, AllZip}
-use Rattle.ap_term.specs.Tree.{Tree, int}
 use Rattle.ap_instr.specs.declared.instruction.Instr.{Instr}
 use Rattle.ap_instr.specs.Code.{Compiled}
-use Rattle.ap_instr.specs.Step.{Step, with_integer, with_predicate, step_of as said_by}
+use Rattle.ap_instr.specs.Step.{step_of as said_by}
 use Rattle.ap_codegen.specs.declared.steps.Step.{Step as Emitted}
 use Rattle.ap_codegen.specs.Emitted.{step_of, steps_of}
 use Rattle.ap_codegen.specs.Permanent.{is_builtin_key}
@@ -40,9 +37,6 @@ apart_insert false xs new a m n e q d h i k f = elim (push_get xs (m, n) k i (ap
   | inr g ↦ ap is_builtin_key (sym g.1) ∙ ap (λ m. is_builtin_key (m, n)) q ∙ d
 ]
 
-pub grows_same : (s : Numbered) → Grows s s
-grows_same s = record { integers = λ i x e. e; predicates = λ i x e. e }
-
 pub grows_on : (s t u : Numbered) → Grows s t → Grows t u → Grows s u
 grows_on s t u g h = record {
   integers = λ i x e. h.integers i x (g.integers i x e);
@@ -55,23 +49,7 @@ holds_less s t code g h = record {
   predicates = λ i k e. h.predicates i k (g.predicates i k e);
 }
 
-pub stored_integer : (xs : List ℤ) (i : ℕ) (z k : ℤ) → slice_get xs i ≡ Some k → int_eq z k ≡ true → slice_get xs i ≡ Some z
-stored_integer xs i z k e d = e ∙ ap Some (sym ((Decides-int_eq z k).0 d))
-
-pub stored_pair : (xs : List (ℕ × ℕ)) (i a n : ℕ) (k : ℕ × ℕ) → slice_get xs i ≡ Some k → ((a == k.0) && (n == k.1)) ≡ true → slice_get xs i ≡ Some (a, n)
-stored_pair xs i a n k e d =
-    let b = both_true (a == k.0) (n == k.1) d in
-    e ∙ ap (λ a. Some (a, k.1)) (sym ((Decides-eqb a k.0).0 b.0)) ∙ ap (λ n. Some (a, n)) (sym ((Decides-eqb n k.1).0 b.1))
-
 -- ---- instructions
-
-pub says_integer : (code : Compiled) (t : Numbered) (i : ℕ) (z : ℤ) (f : Tree → Step) → Holds t code → slice_get t.integers i ≡ Some z → with_integer (slice_get code.integers i) f ≡ f (int z)
-says_integer code t i z f h e = ap (λ o. with_integer o f) (h.integers i z e)
-
-pub says_predicate : (code : Compiled) (t : Numbered) (i a n : ℕ) (f : ℕ → ℕ → Step) → Holds t code → slice_get t.predicates i ≡ Some (a, n) → with_predicate (slice_get code.predicates i) f ≡ f a n
-says_predicate code t i a n f h e =
-    let p = h.predicates i (a, n) e in
-    ap (λ o. with_predicate o f) p.1 ∙ ap (λ a. f a p.0.arity) p.2 ∙ ap (f a) p.3
 
 -- a step of those that call no built-in goals
 pub step_apart : (steps : List Emitted) (i : ℕ) (step : Emitted) → i < length steps → step ≡ get_or steps i step → list_all calls_apart (steps_of steps) ≡ true → calls_apart (step_of step) ≡ true

@@ -1,7 +1,4 @@
 pub mod Registers
-pub mod Only
-pub mod Each
-pub mod Followed
 pub mod PermanentReads
 pub mod Open
 pub mod Framing

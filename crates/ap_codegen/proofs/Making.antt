@@ -112,14 +112,6 @@ made_more t u is is' qs qs' q k bs p g coded ei n a s en eq here away made = rec
         go (inl f) = made.laid code (own ++ later) (holds_less t u code g h) whole m r f
         go (inr f) = subst (IsLaid code) f.1 (block_laid code q k is bs later p (coded code h) a s (en ∙ ap length ei) whole)
 
-pub made_none : (t : Numbered) (p : Program) (is : List Instr) (qs : List Predicate) → is ≡ [] → qs ≡ [] → IsMade t is qs p
-made_none t p is qs e f = record {
-  named = λ n q g. let d : slice_get [] n ≡ Some q = ap (λ l. slice_get l n) (sym f) ∙ g in cc;
-  apart = λ n q g. let d : slice_get [] n ≡ Some q = ap (λ l. slice_get l n) (sym f) ∙ g in cc;
-  placed = λ code later h c n q g. let d : slice_get [] n ≡ Some q = ap (λ l. slice_get l n) (sym f) ∙ g in cc;
-  laid = λ code later h c n q g. let d : slice_get [] n ≡ Some q = ap (λ l. slice_get l n) (sym f) ∙ g in cc;
-}
-
 abbrev control_answer : Bool → Bool → Option (Option Subst)
 control_answer b d = if b then Some (Some []) else (if d then Some None else None)
 

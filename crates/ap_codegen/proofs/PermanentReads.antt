@@ -131,9 +131,6 @@ here seen v = has-add_vars v (var v) seen (or_right (has seen v) (nat_eq v v) (s
 pub grows : (t : Tree) (seen : List ℕ) (v : ℕ) → has seen v ≡ true → has (add_vars t seen) v ≡ true
 grows t seen v h = has-add_vars v t seen (or_left (has seen v) (occurs v t) h)
 
-pub grows_all : (ts : Trees) (seen : List ℕ) (v : ℕ) → has seen v ≡ true → has (add_all_vars ts seen) v ≡ true
-grows_all ts seen v h = has-add_all_vars v ts seen (or_left (has seen v) (occurs_all v ts) h)
-
 -- maps that agree on what was seen of a tree make the same of it
 seen_same : (t : Tree) (seen : List ℕ) (y h : ℕ → Tree) → AgreeOn (add_vars t seen) y h → instance y t ≡ instance h t
 seen_same t seen y h a = instance_agree y h t (λ v o. a v (has-add_vars v t seen (or_right (has seen v) (occurs v t) o)))

@@ -156,9 +156,6 @@ moved_sets k v was s z e h = subst (λ s. Sets (set_former k v (former k was)) s
 placed_sets : (k : Known) (u is : Slot) (n : ℕ) (s z : Shape) → n ≡ latter k is → is_set z is ≡ true → Sets k s z → Sets (set_latter k u n) s (write u z)
 placed_sets k u is n s z i e h = subst (λ z. Sets (set_latter k u n) s z) (written u z) (held_latter Bool Implies k u is n true s.x s.y z.x z.y i (sym e ∙ read_set z is) h)
 
-pending_left : (v : Slot) (s : Shape) → (write v s).pending ≡ s.pending
-pending_left v s = refl
-
 module _ (room : Option ℕ) where
   no_changes : (cs : List Change) → olds cs ≡ [] → news cs ≡ []
   no_changes [] e = refl

@@ -16,10 +16,6 @@ use Rattle.ap_codegen.proofs.Registers.{both_true, read_here, read_other, same_s
 pub above_zero : (n : ℕ) → nat_le 1 n ≡ true → 0 < n
 above_zero n e = grind (arith, nat_tests)
 
--- nothing is known of an empty list
-by-nothing : (n : ℕ) → by [] n ≡ 0
-by-nothing n = refl
-
 -- the numbers of values are below the next one
 pub record Below (k : Known) : Type 0 where
   pub formers : (v : Slot) → former k v < k.next

@@ -3,7 +3,7 @@ use Rattle.std.proofs.Common.{◌≡◌, ℕ, ◌+◌, ◌-◌, ◌<◌, ◌≤�
 use Rattle.std.proofs.lemmas.List.{append-nil, take_all, drop_all, length-drop}
 use Rattle.ap_term.specs.declared.terms.Term.{Term}
 use Rattle.ap_term.specs.declared.terms.Term.TheVariants.{Var, Int, Atom, Node}
-use Rattle.ap_term.specs.Tree.{Trees, node, none, more, count_trees, size_all}
+use Rattle.ap_term.specs.Tree.{Trees, node, more, count_trees, size_all}
 use Rattle.ap_term.specs.TermView.{tree_of, trees_of}
 use Rattle.ap_term.proofs.TermLists.{trees_of-drop_more}
 use Rattle.ap_instr.specs.Step.{Step, get_structure, put_structure}

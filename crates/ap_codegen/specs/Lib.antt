@@ -1,6 +1,3 @@
-pub mod Held
-pub mod Follow
-pub mod Laws
 pub mod Emitted
 pub mod Permanent
 pub mod Waiting

@@ -1,8 +1,8 @@
 //! From clauses to instructions.
 //!
 //! Stands on `ap_certify` for programs, on `ap_instr` for instructions and what they mean, on `ap_codecheck` for the rules
-//! of code, on `ap_term` for clauses, on `indexmap` for the tables. The one contract used above: the code that `compile` makes stands for the program
-//! beside the query, and is sound. A test of code whose registers are chosen more freely stands in `specs/Follow`, with its law.
+//! of code, on `ap_term` for clauses, on `indexmap` for the tables. The one contract used above: the code that `compile` makes
+//! stands for the program beside the query, and is sound.
 #![tactic(auto)]
 
 mod asking;
@@ -11,7 +11,6 @@ mod bodies;
 mod builtin_goals;
 mod choosing;
 mod index;
-pub mod laws;
 mod layout;
 mod permanent;
 mod programs;
@@ -21,6 +20,3 @@ mod tables;
 mod temporary;
 
 pub use programs::compile;
-
-#[cfg(test)]
-mod tests;

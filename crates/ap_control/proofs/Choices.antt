@@ -3,6 +3,7 @@ use Rattle.std.proofs.Common.{◌≡◌, ℕ, zero, suc, ◌≤◌, List, [], �
 use Rattle.ap_instr.specs.declared.instruction.Instr.{Instr}
 use Rattle.ap_instr.specs.declared.instruction.Instr.TheVariants.{Try, Retry, Trust, Fail}
 use Rattle.ap_instr.specs.StandsFor.{tried, alternatives}
+use Rattle.ap_index.specs.Index.{named}
 
 pub drop-past : (is : List Instr) (at : ℕ) → slice_get is at ≡ None → drop at is ≡ []
 drop-past [] zero e = refl
@@ -25,3 +26,7 @@ drop-beyond [] zero l = refl
 drop-beyond [] (suc n) l = refl
 drop-beyond (i ∷ is) zero l = absurd (omega arith)
 drop-beyond (i ∷ is) (suc n) l = drop-beyond is n (omega arith)
+
+pub named-other : (i : Instr) (is : List Instr) → ((l : ℕ) → i ≡ Try l → ⊥) → named (i ∷ is) ≡ tried (i ∷ is)
+named-other (Try l) is t = absurd (t l refl)
+named-other i is t = refl

@@ -4,16 +4,20 @@ use Rattle.std.specs.Prelude.{if◌then◌else◌}
 use Rattle.std.specs.List.{AllByRecursion}
 use Rattle.std.proofs.lemmas.Bool.{eqb-true, and_from}
 use Rattle.std.proofs.lemmas.Bool.Decides.{Decides-int_eq}
-use Rattle.ap_term.specs.Tree.{Tree, Trees, atom, int, node, count_trees}
+use Rattle.ap_term.specs.Tree.{Tree, Trees, atom, node, count_trees}
 use Rattle.ap_cells.specs.declared.cells.Raw.{Raw}
 use Rattle.ap_instr.specs.declared.instruction.Instr.{Instr}
-use Rattle.ap_instr.specs.declared.instruction.Instr.TheVariants.{GetConstant, GetInteger, GetStructure, Allocate}
+use Rattle.ap_instr.specs.declared.instruction.Instr.TheVariants.{GetConstant, GetInteger, GetStructure, Allocate, Try}
 use Rattle.ap_instr.specs.Code.{Compiled}
+use Rattle.ap_instr.specs.StandsFor.{alternatives, clause_places}
+use Rattle.ap_instr.specs.declared.compiled.Predicate.{Predicate}
 use Rattle.ap_instr.specs.Step.{Step, with_integer, get_constant, get_structure, steps_of}
 use Rattle.ap_index.specs.declared.key.Key.{Key}
 use Rattle.ap_index.specs.declared.key.Key.TheVariants.{Atom, Integer, Structure}
 use Rattle.ap_index.specs.Keys.{same_key, integer_key, first_key}
-use Rattle.ap_index.specs.Index.{AsksOther, LeavesOthers}
+use Rattle.ap_index.specs.Index.{AsksOther, LeavesOthers, named, tried_from, named_from, first_for, IsRowOf}
+use Rattle.ap_index.specs.declared.row.Row.{Row}
+use Rattle.ap_index.proofs.Keyed.{drop_at}
 use Rattle.ap_match.specs.Fits.{Fits}
 use Rattle.ap_steps.specs.Moves.{Asked}
 use Rattle.ap_standing.specs.Machine.{places_from}
@@ -74,5 +78,19 @@ module _ (code : Compiled) (cs : List Raw) (x : ℕ → ℕ) (key : Key) (held :
   shut [] h = tt
   shut (l ∷ ls) h = (λ y k bs. none-asked code cs x y key held h.0.asked h.0.other k bs (drop l code.instructions) h.0.asks, shut ls h.1)
 
-  pub passes-others : (from to : ℕ) → LeavesOthers code key from to → PassesOver code cs x (places_from code (Some from)) (places_from code (Some to))
-  passes-others from to h = record { passed = h.passed; are = h.are; shut = shut h.passed h.others }
+  pub passes-others : (ls rest : List ℕ) → LeavesOthers code key ls rest → PassesOver code cs x ls rest
+  passes-others ls rest h = record { passed = h.passed; are = h.are; shut = shut h.passed h.others }
+
+-- what the index says is left
+pub tried-places : (code : Compiled) (o : Option ℕ) → tried_from code o ≡ places_from code o
+tried-places code None = refl
+tried-places code (Some at) = refl
+
+-- the clauses of a predicate whose row begins there
+row-places : (code : Compiled) (q : Predicate) (r : Row) → IsRowOf code q.start r → clause_places code q ≡ named_from code (Some q.start)
+row-places code q r h = let e = drop_at code.instructions q.start (Try h.clause) h.begins in ap (alternatives q.start) e ∙ sym (ap named e)
+
+-- of those the ones from the choice on that the row has for the key
+pub row-passes : (code : Compiled) (cs : List Raw) (x : ℕ → ℕ) (key : Key) → ((k : ℕ → Tree) → Fits cs k → IsKeyOf key (k (x 1))) → (q : Predicate) (r : Row) → IsRowOf code q.start r → PassesOver code cs x (clause_places code q) (named_from code (first_for r key))
+row-passes code cs x key held q r h =
+    subst (λ ls. PassesOver code cs x ls (named_from code (first_for r key))) (sym (row-places code q r h)) (passes-others code cs x key held (named_from code (Some q.start)) (named_from code (first_for r key)) (h.leads key))

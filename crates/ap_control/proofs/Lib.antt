@@ -6,3 +6,5 @@ pub mod Compared
 pub mod Ran
 pub mod Passed
 pub mod Keys
+pub mod Unifying
+pub mod Building

@@ -48,7 +48,8 @@ passed code (Try l) is e o = absurd (false≢true (sym e))
 passed code (Retry l) is e o = absurd (false≢true (sym e))
 passed code (Trust l) is e o = absurd (false≢true (sym e))
 
-past : (code : Compiled) (at : ℕ) (i : Instr) → slice_get code.instructions at ≡ Some i → is_transfer i ≡ false → AsksOpenly (steps_from code at) → AsksOpenly (steps_from code (at + 1))
+-- behind an instruction
+pub past : (code : Compiled) (at : ℕ) (i : Instr) → slice_get code.instructions at ≡ Some i → is_transfer i ≡ false → AsksOpenly (steps_from code at) → AsksOpenly (steps_from code (at + 1))
 past code at i e goes_on o = passed code i (steps_from code (at + 1)) goes_on (subst AsksOpenly (steps-here code at i e) o)
 
 past_all : (code : Compiled) (at n : ℕ) → NoneOfControl code.instructions at n → AsksOpenly (steps_from code at) → AsksOpenly (steps_from code (at + n))

@@ -1,5 +1,5 @@
 -- Runs, one instruction behind another.
-use Rattle.std.proofs.Common.{◌≡◌, ℕ, zero, suc, ◌+◌, ◌≤◌, List, ◌∷◌, length, drop, slice_get, Some, ap, subst, arith}
+use Rattle.std.proofs.Common.{◌≡◌, ℕ, zero, suc, ◌+◌, ◌≤◌, true, List, ◌∷◌, length, drop, slice_get, Some, ap, ◌∙◌, subst, arith}
 use Rattle.std.proofs.lemmas.Option.{slice_get_within}
 use Rattle.ap_cells.specs.declared.cells.Raw.{Raw}
 use Rattle.ap_cells.specs.Store.{Store}
@@ -7,8 +7,9 @@ use Rattle.ap_instr.specs.declared.instruction.Instr.{Instr}
 use Rattle.ap_instr.specs.Code.{Compiled}
 use Rattle.ap_instr.specs.Step.{step_of}
 use Rattle.ap_steps.specs.Moves.{held, HoldPlaces, Moves, IsStuck}
-use Rattle.ap_steps.specs.Ways.{cells_of, room, NoneOfControl, steps_from, Passed}
+use Rattle.ap_steps.specs.Ways.{cells_of, room, wants, NoneOfControl, steps_from, Passed}
 use Rattle.ap_steps.proofs.Steps.{Moves-refl, Moves-trans, Moves-stuck}
+use Rattle.ap_steps.proofs.MemoryWants.{wants-on, wants-past}
 use Rattle.ap_steps.proofs.Places.{steps-here, room-here, none-room}
 use Rattle.ap_control.specs.Runs.{Ran}
 use Rattle.ap_control.proofs.Openness.{openly-past}
@@ -43,6 +44,12 @@ module _ (code : Compiled) (at place : ℕ) (cs : List Raw) (x y : List ℕ) (v 
       let c : room (drop (place + 1 + n) code.instructions) ≡ room (drop (place + (1 + n)) code.instructions) = ap (λ m. room (drop m code.instructions)) q in
       let d : v.spare ≤ w.spare + cells_of i = p.spare in
       omega arith
+
+  -- what is behind it and wants memory counts with it
+  pub wants-behind : (n : ℕ) (w : Store) (x'' y'' : List ℕ) → Passed code i (place + 1) n v x' y' w x'' y'' → wants (drop (place + (1 + n)) code.instructions) ≡ true → wants (drop place code.instructions) ≡ true
+  wants-behind n w x'' y'' p h =
+      let q : place + 1 + n ≡ place + (1 + n) = omega arith in
+      wants-on code.instructions place i e p.goes_on (wants-past code.instructions (place + 1) n p.arguments (ap (λ m. wants (drop m code.instructions)) q ∙ h))
 
 -- instructions that stand there lie inside
 pub none-inside : (is : List Instr) (at n : ℕ) → NoneOfControl is at n → at ≤ length is → at + n ≤ length is

@@ -3,8 +3,10 @@
 
 ghost use Rattle.std.specs.Prelude.{◌≡◌, ℕ, ◌+◌, ◌<◌, List, [], ◌∷◌, length, slice_get, true, None, Some, IfSome};
 ghost use Rattle.ap_term.specs.Tree.{Tree, Trees, atom, int, node, count_trees};
+ghost use Rattle.ap_instr.specs.Code.{Compiled};
 ghost use Rattle.ap_instr.specs.StandsFor.{clause_places};
 ghost use Rattle.ap_instr.specs.Step.{Step, step_of};
+ghost use Rattle.ap_index.specs.Index.{IsRestOf, IsLinkOf};
 ghost use Rattle.ap_match.specs.Fits.{Fits};
 ghost use Rattle.ap_steps.specs.Moves.{held, HoldPlaces, IsStuck};
 ghost use Rattle.ap_steps.specs.Ways.{steps_from};
@@ -12,10 +14,10 @@ ghost use Rattle.ap_standing.specs.Machine.{places_from};
 ghost use Rattle.ap_cells.specs.declared.cells.Raw.{Raw};
 ghost use Rattle.ap_control.specs.Heads.{PassesOver, IsKeyOf, only_asks};
 
-use crate::alternatives::{Alternative, first, following, instruction_at};
+use crate::alternatives::{Alternative, chosen, first, following, instruction_at};
 use ap_cells::{Cells, Top};
 use ap_codecheck::Sound;
-use ap_index::{FEW, Key};
+use ap_index::{Key, Link, Row};
 use ap_instr::{Code, Instr, Predicate};
 use ap_steps::registers::place_in;
 use ap_term::Atom;
@@ -65,7 +67,7 @@ fn is_other_integer(cells: &Cells, place: usize, value: i64) -> bool
 }
 
 /// An integer of the code's table.
-fn integer_at(code: &Code, index: u32) -> Option<i64>
+pub(crate) fn integer_at(code: &Code, index: u32) -> Option<i64>
     ensures { result ≡ slice_get code.now.integers index }
 {
     code.integers().get(index as usize).copied()
@@ -151,37 +153,44 @@ fn key_of(cells: &Cells, place: usize) -> Option<Key>
     }
 }
 
-/// Whether many choices stand in a row from a place on, by what stands at the last of so many.
+/// From a place behind a choice the next one for the first argument.
 #[inline(always)]
-fn are_many(code: &Code, at: usize) -> bool {
-    match instruction_at(code, at.saturating_add(FEW - 1)) {
-        Some(Instr::Retry(_)) => true,
-        Some(Instr::Trust(_)) => true,
-        _ => false,
-    }
-}
-
-/// From a place among choices the next place for the first argument, by the index.
-fn looked_up(cells: &Cells, x: &[u32], sound: &Sound, at: usize) -> usize
+fn linked(cells: &Cells, x: &[u32], link: Link, at: usize) -> Option<usize>
     requires { HoldPlaces (length cells.now.cells) x.now }
-    ensures { PassesOver sound.now cells.now.cells (held x.now) (places_from sound.now (Some at)) (places_from sound.now (Some result)) }
+    ensures { (code : Compiled) → IsLinkOf code at link → PassesOver code cells.now.cells (held x.now) (places_from code (Some at)) (places_from code result) }
 {
     match key_of(cells, place_in(x, 1)) {
-        Some(key) => sound.next(key, at),
-        None => at,
+        Some(key) => link.next(key, at),
+        None => Some(at),
     }
 }
 
-/// From a choice the next one for the first argument, by the index where many choices stand in a row.
+/// From a place where a row goes on the next choice for the first argument.
+fn in_rest(cells: &Cells, x: &[u32], row: &Row, at: usize) -> Option<usize>
+    requires { HoldPlaces (length cells.now.cells) x.now }
+    ensures { (code : Compiled) → IsRestOf code at row.now → PassesOver code cells.now.cells (held x.now) (places_from code (Some at)) (places_from code result) }
+{
+    match key_of(cells, place_in(x, 1)) {
+        Some(key) => row.first(key),
+        None => Some(at),
+    }
+}
+
+/// From a choice the next one for the first argument, by what the index has there.
 #[inline(always)]
 fn next_choice(cells: &Cells, x: &[u32], sound: &Sound, behind: Option<usize>) -> Option<usize>
     requires { HoldPlaces (length cells.now.cells) x.now }
     ensures { PassesOver sound.now cells.now.cells (held x.now) (places_from sound.now behind) (places_from sound.now result) }
 {
-    match behind {
-        None => None,
-        Some(at) if are_many(sound.code(), at) => Some(looked_up(cells, x, sound, at)),
-        Some(at) => Some(at),
+    let Some(at) = behind else {
+        return None;
+    };
+    if let Some(link) = sound.link(at) {
+        return linked(cells, x, link, at);
+    }
+    match sound.rest(at) {
+        Some(row) => in_rest(cells, x, row, at),
+        None => Some(at),
     }
 }
 
@@ -201,6 +210,31 @@ pub fn pass_over(cells: &Cells, x: &[u32], sound: &Sound, behind: Option<usize>)
     None
 }
 
+/// A predicate's first clause for the first argument, by the index where that has a row of them, or else its first one.
+#[inline(always)]
+fn first_choice(
+    cells: &Cells,
+    x: &[u32],
+    sound: &Sound,
+    predicate: &Predicate,
+) -> Option<Alternative>
+    requires { HoldPlaces (length cells.now.cells) x.now }
+    ensures none { result ≡ None → PassesOver sound.now cells.now.cells (held x.now) (clause_places sound.now predicate.now) [] }
+    ensures some { IfSome result (λ a. PassesOver sound.now cells.now.cells (held x.now) (clause_places sound.now predicate.now) (a.place ∷ places_from sound.now a.behind)) }
+{
+    let code = sound.code();
+    let Some(row) = sound.row(predicate.start as usize) else {
+        return first(code, predicate);
+    };
+    let Some(key) = key_of(cells, place_in(x, 1)) else {
+        return first(code, predicate);
+    };
+    match row.first(key) {
+        Some(at) => chosen(code, at),
+        None => None,
+    }
+}
+
 /// A predicate's first clause that doesn't fail at once.
 pub fn first_possible(
     cells: &Cells,
@@ -213,7 +247,7 @@ pub fn first_possible(
     ensures some { IfSome result (λ a. PassesOver sound.now cells.now.cells (held x.now) (clause_places sound.now predicate.now) (a.place ∷ places_from sound.now a.behind)) }
 {
     let code = sound.code();
-    let Some(found) = first(code, predicate) else {
+    let Some(found) = first_choice(cells, x, sound, predicate) else {
         return None;
     };
     if !fails_at_once(cells, x, code, found.place as usize) {

@@ -1,9 +1,9 @@
 //! Runs of instructions up to one of control.
 
-ghost use Rattle.std.specs.Prelude.{◌≡◌, ℕ, ◌+◌, ◌<◌, ◌≤◌, length, drop, take, slice_get, None, Some, true, false, IfOk, IfSome};
+ghost use Rattle.std.specs.Prelude.{◌≡◌, ℕ, ◌+◌, ◌<◌, ◌≤◌, length, drop, take, slice_get, None, Some, true, false, IfOk, IfSome, OnErr};
 ghost use Rattle.ap_cells.specs.Store.{Keeps};
 ghost use Rattle.ap_steps.specs.Moves.{held, HoldPlaces};
-ghost use Rattle.ap_steps.specs.Ways.{AllHaveTargets, room};
+ghost use Rattle.ap_steps.specs.Ways.{AllHaveTargets, room, wants};
 ghost use Rattle.ap_control.specs.Runs.{RanOrStuck, IsTransferAt};
 
 use crate::alternatives::instruction_at;
@@ -40,6 +40,7 @@ pub fn run_to_transfer(
     requires holds_y { HoldPlaces (length cells.old.cells) y.old }
     ensures ran { IfOk result (λ to. RanOrStuck code.now at cells.old.cells x.old y.old to cells.new.cells x.new y.new) }
     ensures transfer { IfOk result (λ to. IfSome to (λ place. IsTransferAt code.now place)) }
+    ensures wants { OnErr result (wants (drop at code.now.instructions) ≡ true) }
     ensures x_len { length x.new ≡ length x.old }
     ensures y_len { length y.new ≡ length y.old }
     ensures keeps { Keeps cells.old cells.new }

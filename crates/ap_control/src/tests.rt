@@ -3,9 +3,10 @@ ghost use Rattle.std.specs.Prelude.{◌≡◌, ℕ, ◌<◌, ◌≤◌, length, 
 ghost use Rattle.ap_steps.specs.Moves.{held};
 
 use crate::runs::run_to_transfer;
+use crate::taking::surely_unifies;
 use crate::widths::widths_of;
 use ap_cells::{Cell, Cells, Top};
-use ap_instr::{Code, Instr, Slot};
+use ap_instr::{Builtin, Code, Instr, Slot};
 use ap_match::push_new;
 use ap_steps::registers::argument;
 use ap_steps::room::most_room;
@@ -126,6 +127,40 @@ fn takes_structures(rt: HostRuntime) -> Result<(), Fail> {
             is_called,
             "{place}"
         );
+    }
+    Ok(())
+}
+
+// Whether the head of p(X, true) :- .. is told to unify surely with a call p(T, T), where T is the term of a place.
+fn tells(alloc: Global, cells: &Cells, place: u32) -> Result<bool, Fail>
+    requires { place < length cells.now.cells }
+{
+    let instructions = vec![in alloc;
+        Instr::Allocate(1),
+        Instr::GetVariable(Slot::Y(1), 1),
+        Instr::GetConstant(Atom::at(fixed::TRUE), 2),
+        Instr::PutStructure(Atom::at(fixed::MINUS), 1, 1),
+        Instr::UnifyValue(Slot::Y(1)),
+        Instr::Builtin(Builtin::True),
+        Instr::Deallocate,
+        Instr::Proceed,
+    ]?;
+    let code = Code::new(instructions, Vec::new(alloc), Vec::new(alloc), None);
+    let x = registers(alloc, 3, place)?;
+    Ok(surely_unifies(cells, &x, &code, 0))
+}
+
+#[test]
+fn tells_heads_that_surely_unify(rt: HostRuntime) -> Result<(), Fail> {
+    let alloc = rt.alloc();
+    let mut cells = Cells::new(alloc);
+    cells.reserve(3)?;
+    push_new(&mut cells, Cell::Atom(Atom::at(fixed::TRUE)));
+    push_new(&mut cells, Cell::Atom(Atom::at(fixed::FAIL)));
+    push_new(&mut cells, Cell::Free);
+    for (place, surely) in [(0, true), (1, false), (2, true)] {
+        assert!(rt; (place as usize) < cells.len());
+        assert_eq!(rt; tells(alloc, &cells, place)?, surely, "{place}");
     }
     Ok(())
 }

@@ -1,32 +1,123 @@
 -- Which clauses are left for a key.
-use Rattle.std.proofs.Common.{◌≡◌, ℕ, zero, suc, ◌+◌, Bool, true, false, List, [], ◌∷◌, ◌++◌, length, slice_get, Some, refl, ap, ◌∙◌}
+use Rattle.std.proofs.Common.{◌≡◌, ℕ, zero, suc, ◌+◌, Bool, true, false, ◌==◌, List, [], ◌∷◌, ◌++◌, length, slice_get, Option, Some, None, refl, ap, sym, ◌∙◌, subst, eq-eqb}
+use Rattle.std.proofs.lemmas.Bool.{false≢true}
 use Rattle.std.specs.Prelude.{if◌then◌else◌}
-use Rattle.ap_instr.specs.declared.instruction.Instr.TheVariants.{Retry}
+use Rattle.ap_instr.specs.declared.instruction.Instr.TheVariants.{Try, Retry, Trust}
 use Rattle.ap_instr.specs.Code.{Compiled}
 use Rattle.ap_instr.specs.StandsFor.{tried}
 use Rattle.ap_index.specs.declared.key.Key.{Key}
-use Rattle.ap_index.specs.Keys.{same_key, IsKeyed}
-use Rattle.ap_index.specs.declared.index.Segment.{Segment}
+use Rattle.ap_index.specs.Keys.{same_key, key_at, IsKeyed}
+use Rattle.ap_index.specs.Hashing.{slot_of}
+use Rattle.ap_index.specs.declared.row.Row.{Row}
+use Rattle.ap_index.specs.declared.row.Link.{Link}
 use Rattle.ap_index.specs.declared.index.Entry.{Entry}
-use Rattle.ap_index.specs.declared.index.Entry.TheVariants.{Nothing, Row, Behind}
-use Rattle.ap_index.specs.Index.{LeavesOthers, IsEntryOf}
+use Rattle.ap_index.specs.declared.index.Entry.TheVariants.{Nothing, Begins, Rest, Behind}
+use Rattle.ap_index.specs.Index.{LeavesOthers, named, tried_from, named_from, in_slot, first_for, IsFilled, IsRowOf, IsLinkOf, IsEntryOf}
 use Rattle.ap_index.proofs.Keyed.{drop_at}
+use Rattle.ap_index.proofs.Same.{true-same}
 
-pub leaves-all : (code : Compiled) (key : Key) (at : ℕ) → LeavesOthers code key at at
-leaves-all code key at = record { passed = []; are = refl; others = tt }
+-- a choice for a key was put first in its slot
+abbrev pub PutsFirst : Key → ℕ → Row → Row → Type 0
+PutsFirst asked at old new = (key : Key) → first_for new key ≡ (if slot_of key old.count == slot_of asked old.count then Some at else first_for old key)
 
--- one more clause before those
-pub leaves-one : (code : Compiled) (key asked : Key) (at to : ℕ) → IsKeyed code at asked → same_key asked key ≡ false → LeavesOthers code key (at + 1) to → LeavesOthers code key at to
-leaves-one code key asked at to k other h = record {
-  passed = k.clause ∷ h.passed;
-  are = ap tried (drop_at code.instructions at (Retry k.clause) k.names) ∙ ap (λ ls. k.clause ∷ ls) h.are;
-  others = (record { asked = asked; asks = k.asks; other = other }, h.others);
+module _ (code : Compiled) (key : Key) where
+  leaves-all : (ls rest : List ℕ) → ls ≡ rest → LeavesOthers code key ls rest
+  leaves-all ls rest e = record { passed = []; are = e; others = tt }
+
+  -- one more clause before those
+  leaves-one : (asked : Key) (l : ℕ) (ls rest : List ℕ) → key_at code l ≡ Some asked → same_key asked key ≡ false → LeavesOthers code key ls rest → LeavesOthers code key (l ∷ ls) rest
+  leaves-one asked l ls rest asks other h = record {
+    passed = l ∷ h.passed;
+    are = ap (λ ks. l ∷ ks) h.are;
+    others = (record { asked = asked; asks = asks; other = other }, h.others);
+  }
+
+  -- keys of other slots are others
+  apart : (asked : Key) (slots : ℕ) (b : Bool) → same_key asked key ≡ b → (slot_of key slots == slot_of asked slots) ≡ false → same_key asked key ≡ false
+  apart asked slots false s e = s
+  apart asked slots true s e = absurd (false≢true (sym e ∙ eq-eqb (slot_of key slots) (slot_of asked slots) (ap (λ k. slot_of k slots) (sym (true-same asked key s)))))
+
+  -- a choice comes first for the keys of its slot, and its clause is left out for the others
+  next : (asked : Key) (slots l at : ℕ) (first : Option ℕ) (ls : List ℕ) (from : Option ℕ → List ℕ) → key_at code l ≡ Some asked → from (Some at) ≡ l ∷ ls → LeavesOthers code key ls (from first)
+      → (b : Bool) → (slot_of key slots == slot_of asked slots) ≡ b → LeavesOthers code key (l ∷ ls) (from (if b then Some at else first))
+  next asked slots l at first ls from asks here h true e = leaves-all (l ∷ ls) (from (Some at)) (sym here)
+  next asked slots l at first ls from asks here h false e = leaves-one asked l ls (from first) asks (apart asked slots (same_key asked key) refl e) h
+
+  -- where that choice was put into a row
+  put-leaves : (asked : Key) (old new : Row) (l at : ℕ) (ls : List ℕ) (from : Option ℕ → List ℕ) → key_at code l ≡ Some asked → from (Some at) ≡ l ∷ ls → LeavesOthers code key ls (from (first_for old key)) → PutsFirst asked at old new
+      → LeavesOthers code key (from (Some at)) (from (first_for new key))
+  put-leaves asked old new l at ls from asks here h put =
+      subst (λ ks. LeavesOthers code key ks (from (first_for new key))) (sym here)
+      (subst (λ first. LeavesOthers code key (l ∷ ls) (from first)) (sym (put key)) (next asked old.count l at (first_for old key) ls from asks here h (slot_of key old.count == slot_of asked old.count) refl))
+
+-- a choice that is put behind the `try`
+module _ (code : Compiled) (at : ℕ) (here : named_from code (Some at) ≡ tried_from code (Some at)) where
+  either : (b : Bool) (o : Option ℕ) → named_from code o ≡ tried_from code o → named_from code (if b then Some at else o) ≡ tried_from code (if b then Some at else o)
+  either true o h = here
+  either false o h = h
+
+  put-behind : (asked : Key) (old new : Row) (key : Key) → named_from code (first_for old key) ≡ tried_from code (first_for old key) → PutsFirst asked at old new → named_from code (first_for new key) ≡ tried_from code (first_for new key)
+  put-behind asked old new key h put =
+      subst (λ first. named_from code first ≡ tried_from code first) (sym (put key)) (either (slot_of key old.count == slot_of asked old.count) (first_for old key) h)
+
+-- what choices name
+module _ (code : Compiled) (at l : ℕ) where
+  trust-last : slice_get code.instructions at ≡ Some (Trust l) → tried_from code (Some at) ≡ l ∷ []
+  trust-last e = ap tried (drop_at code.instructions at (Trust l) e)
+
+  retry-more : slice_get code.instructions at ≡ Some (Retry l) → tried_from code (Some at) ≡ l ∷ tried_from code (Some (at + 1))
+  retry-more e = ap tried (drop_at code.instructions at (Retry l) e)
+
+  try-more : slice_get code.instructions at ≡ Some (Try l) → named_from code (Some at) ≡ l ∷ tried_from code (Some (at + 1))
+  try-more e = ap named (drop_at code.instructions at (Try l) e)
+
+  pub trust-named : slice_get code.instructions at ≡ Some (Trust l) → named_from code (Some at) ≡ tried_from code (Some at)
+  trust-named e = ap named (drop_at code.instructions at (Trust l) e) ∙ sym (ap tried (drop_at code.instructions at (Trust l) e))
+
+  pub retry-named : slice_get code.instructions at ≡ Some (Retry l) → named_from code (Some at) ≡ tried_from code (Some at)
+  retry-named e = ap named (drop_at code.instructions at (Retry l) e) ∙ sym (ap tried (drop_at code.instructions at (Retry l) e))
+
+-- a link leads where the row did for its key
+pub row-link : (code : Compiled) (from : ℕ) (row : Row) (asked : Key) (l : Link) → l.count ≡ row.count → l.slot ≡ slot_of asked row.count → l.next ≡ first_for row asked
+    → IsFilled code from row → IsLinkOf code from l
+row-link code from row asked l count slot next filled = λ key same.
+    let e : slot_of key row.count ≡ slot_of asked row.count = ap (slot_of key) (sym count) ∙ same ∙ slot in
+    subst (λ first. LeavesOthers code key (tried_from code (Some from)) (tried_from code first)) (ap (in_slot row) e ∙ sym next) (filled.leads key)
+
+-- a choice behind the `try` more
+pub filled-more : (code : Compiled) (at : ℕ) (asked : Key) (k : IsKeyed code at (λ clause. Retry clause) asked) (old new : Row) → IsFilled code (at + 1) old → PutsFirst asked at old new → IsFilled code at new
+filled-more code at asked k old new h put = record {
+  leads = λ key. put-leaves code key asked old new k.clause at (tried_from code (Some (at + 1))) (tried_from code) k.asks (retry-more code at k.clause k.names) (h.leads key) put;
+  behind_try = λ key. put-behind code at (retry-named code at k.clause k.names) asked old new key (h.behind_try key) put;
 }
 
--- a choice comes first for its own key, and is left out for the others
-pub leaves-next : (code : Compiled) (key asked : Key) (at next : ℕ) → IsKeyed code at asked → LeavesOthers code key (at + 1) next → (b : Bool) → same_key asked key ≡ b → LeavesOthers code key at (if b then at else next)
-leaves-next code key asked at next k h true e = leaves-all code key at
-leaves-next code key asked at next k h false e = leaves-one code key asked at next k e h
+-- the last choice
+pub filled-last : (code : Compiled) (at : ℕ) (asked : Key) (k : IsKeyed code at (λ clause. Trust clause) asked) (old new : Row) → ((key : Key) → first_for old key ≡ None) → PutsFirst asked at old new → IsFilled code at new
+filled-last code at asked k old new empty put = record {
+  leads = λ key.
+      put-leaves code key asked old new k.clause at [] (tried_from code) k.asks (trust-last code at k.clause k.names)
+      (leaves-all code key [] (tried_from code (first_for old key)) (sym (ap (tried_from code) (empty key)))) put;
+  behind_try = λ key.
+      put-behind code at (trust-named code at k.clause k.names) asked old new key
+      (subst (λ first. named_from code first ≡ tried_from code first) (sym (empty key)) refl) put;
+}
+
+-- none yet
+pub filled-none : (code : Compiled) (at : ℕ) (row : Row) → named_from code (Some at) ≡ tried_from code (Some at) → ((key : Key) → first_for row key ≡ Some at) → IsFilled code at row
+filled-none code at row here empty = record {
+  leads = λ key. leaves-all code key (tried_from code (Some at)) (tried_from code (first_for row key)) (sym (ap (tried_from code) (empty key)));
+  behind_try = λ key. subst (λ first. named_from code first ≡ tried_from code first) (sym (empty key)) here;
+}
+
+-- the `try`
+pub filled-first : (code : Compiled) (at : ℕ) (asked : Key) (k : IsKeyed code at (λ clause. Try clause) asked) (old new : Row) → IsFilled code (at + 1) old → PutsFirst asked at old new → IsRowOf code at new
+filled-first code at asked k old new h put = record {
+  clause = k.clause;
+  begins = k.names;
+  leads = λ key.
+      put-leaves code key asked old new k.clause at (tried_from code (Some (at + 1))) (named_from code) k.asks (try-more code at k.clause k.names)
+      (subst (LeavesOthers code key (tried_from code (Some (at + 1)))) (sym (h.behind_try key)) (h.leads key)) put;
+}
 
 -- what a list has at a place it has there with more behind it
 has-more : {X : Type 0} (xs ys : List X) (n : ℕ) (x : X) → slice_get xs n ≡ Some x → slice_get (xs ++ ys) n ≡ Some x
@@ -34,12 +125,24 @@ has-more [] ys n x e = absurd (let z : ⊥ = cc in z)
 has-more (y ∷ xs) ys zero x e = e
 has-more (y ∷ xs) ys (suc n) x e = has-more xs ys n x e
 
-pub last-is : {X : Type 0} (xs : List X) (x : X) → slice_get (xs ++ x ∷ []) (length xs) ≡ Some x
+last-is : {X : Type 0} (xs : List X) (x : X) → slice_get (xs ++ x ∷ []) (length xs) ≡ Some x
 last-is [] x = refl
 last-is (y ∷ xs) x = last-is xs x
 
+-- what was pushed stands at the number of those before it
+pub pushed-is : {X : Type 0} (xs ys : List X) (x : X) (n : ℕ) → ys ≡ xs ++ x ∷ [] → n ≡ length xs → slice_get ys n ≡ Some x
+pushed-is xs ys x n e l = ap (slice_get ys) l ∙ ap (λ zs. slice_get zs (length xs)) e ∙ last-is xs x
+
 -- an entry stays right with more rows
-pub entry-more : (code : Compiled) (ss ts : List Segment) (from : ℕ) (e : Entry) → IsEntryOf code ss from e → IsEntryOf code (ss ++ ts) from e
-entry-more code ss ts from Nothing h = h
-entry-more code ss ts from (Row n) h = (h.0, has-more ss ts n h.0 h.1, h.2)
-entry-more code ss ts from (Behind l) h = h
+pub more-rows : (code : Compiled) (rs new : List Row) (r : Row) (ls : List Link) (from : ℕ) (e : Entry) → new ≡ rs ++ r ∷ [] → IsEntryOf code rs ls from e → IsEntryOf code new ls from e
+more-rows code rs new r ls from Nothing q h = h
+more-rows code rs new r ls from (Begins n) q h = (h.0, ap (λ rows. slice_get rows n) q ∙ has-more rs (r ∷ []) n h.0 h.1, h.2)
+more-rows code rs new r ls from (Rest n) q h = (h.0, ap (λ rows. slice_get rows n) q ∙ has-more rs (r ∷ []) n h.0 h.1, h.2)
+more-rows code rs new r ls from (Behind n) q h = h
+
+-- and with more links
+pub more-links : (code : Compiled) (rs : List Row) (ls new : List Link) (l : Link) (from : ℕ) (e : Entry) → new ≡ ls ++ l ∷ [] → IsEntryOf code rs ls from e → IsEntryOf code rs new from e
+more-links code rs ls new l from Nothing q h = h
+more-links code rs ls new l from (Begins n) q h = h
+more-links code rs ls new l from (Rest n) q h = h
+more-links code rs ls new l from (Behind n) q h = (h.0, ap (λ links. slice_get links n) q ∙ has-more ls (l ∷ []) n h.0 h.1, h.2)

@@ -1,16 +1,19 @@
 -- What an index says of code.
-use Rattle.std.specs.Prelude.{◌≡◌, ℕ, false, List, ◌++◌, drop, slice_get, get_or, unwrap_or, Some}
+use Rattle.std.specs.Prelude.{◌≡◌, ℕ, false, ◌==◌, if◌then◌else◌, List, [], ◌∷◌, ◌++◌, drop, slice_get, get_or, Option, Some, None}
 use Rattle.std.specs.List.{AllByRecursion}
-use Rattle.std.specs.HashMap.{get}
+use Rattle.ap_instr.specs.declared.instruction.Instr.{Instr}
+use Rattle.ap_instr.specs.declared.instruction.Instr.TheVariants.{Try}
 use Rattle.ap_instr.specs.Code.{Compiled}
 use Rattle.ap_instr.specs.StandsFor.{tried}
 use Rattle.ap_index.specs.declared.key.Key.{Key}
-use Rattle.ap_index.specs.declared.index.Link.{Link}
-use Rattle.ap_index.specs.declared.index.Segment.{Segment}
+use Rattle.ap_index.specs.declared.row.Row.{Row}
+use Rattle.ap_index.specs.declared.row.TheConstants.{NONE}
+use Rattle.ap_index.specs.declared.row.Link.{Link}
 use Rattle.ap_index.specs.declared.index.Entry.{Entry}
-use Rattle.ap_index.specs.declared.index.Entry.TheVariants.{Nothing, Row, Behind}
+use Rattle.ap_index.specs.declared.index.Entry.TheVariants.{Nothing, Begins, Rest, Behind}
 use Rattle.ap_index.specs.declared.index.Index.{Index}
 use Rattle.ap_index.specs.Keys.{same_key, key_at}
+use Rattle.ap_index.specs.Hashing.{slot_of}
 
 -- the clause at a place asks for another first argument
 pub record AsksOther (code : Compiled) (key : Key) (at : ℕ) : Type 0 where
@@ -18,29 +21,60 @@ pub record AsksOther (code : Compiled) (key : Key) (at : ℕ) : Type 0 where
   pub asks : key_at code at ≡ Some asked
   pub other : same_key asked key ≡ false
 
--- of the clauses that choices name from one place on those from another place on are left; the others ask for another
--- first argument
-pub record LeavesOthers (code : Compiled) (key : Key) (from to : ℕ) : Type 0 where
+-- of some clauses' places these are left; the clauses at those before them ask for another first argument
+pub record LeavesOthers (code : Compiled) (key : Key) (ls rest : List ℕ) : Type 0 where
   pub passed : List ℕ
-  pub are : tried (drop from code.instructions) ≡ passed ++ tried (drop to code.instructions)
+  pub are : ls ≡ passed ++ rest
   pub others : AllByRecursion (AsksOther code key) passed
 
--- the first place for a key
-abbrev pub first_for : Segment → Key → ℕ
-first_for s key = unwrap_or (get same_key s.firsts key) s.end
+-- the clauses that are named behind a `try`, from a choice on
+abbrev pub tried_from : Compiled → Option ℕ → List ℕ
+tried_from code None = []
+tried_from code (Some at) = tried (drop at code.instructions)
 
-abbrev pub IsSegmentOf : Compiled → ℕ → Segment → Type 0
-IsSegmentOf code from s = (key : Key) → LeavesOthers code key from (first_for s key)
+-- the clauses that choices name, the first of which may be a `try`
+abbrev pub named : List Instr → List ℕ
+named (Try l ∷ is) = l ∷ tried is
+named is = tried is
+
+-- those from a choice on
+abbrev pub named_from : Compiled → Option ℕ → List ℕ
+named_from code None = []
+named_from code (Some at) = named (drop at code.instructions)
+
+-- what a row has in a slot
+abbrev pub in_slot : Row → ℕ → Option ℕ
+in_slot r slot = let at = get_or r.slots.items slot NONE in if at == NONE then None else Some at
+
+-- the first choice for a key
+abbrev pub first_for : Row → Key → Option ℕ
+first_for r key = in_slot r (slot_of key r.count)
+
+-- a row of a predicate's choices, as far as it was filled: from a place behind the `try` on
+pub record IsFilled (code : Compiled) (from : ℕ) (r : Row) : Type 0 where
+  pub leads : (key : Key) → LeavesOthers code key (tried_from code (Some from)) (tried_from code (first_for r key))
+  pub behind_try : (key : Key) → named_from code (first_for r key) ≡ tried_from code (first_for r key)
+
+-- the choices of a predicate begin at a place with a row
+pub record IsRowOf (code : Compiled) (start : ℕ) (r : Row) : Type 0 where
+  pub clause : ℕ
+  pub begins : slice_get code.instructions start ≡ Some (Try clause)
+  pub leads : (key : Key) → LeavesOthers code key (named_from code (Some start)) (named_from code (first_for r key))
+
+-- they go on at a place with a row
+abbrev pub IsRestOf : Compiled → ℕ → Row → Type 0
+IsRestOf code from r = (key : Key) → LeavesOthers code key (tried_from code (Some from)) (tried_from code (first_for r key))
 
 abbrev pub IsLinkOf : Compiled → ℕ → Link → Type 0
-IsLinkOf code from l = LeavesOthers code l.key from l.next
+IsLinkOf code from l = (key : Key) → slot_of key l.count ≡ l.slot → LeavesOthers code key (tried_from code (Some from)) (tried_from code l.next)
 
 -- what an entry for a place says
-abbrev pub IsEntryOf : Compiled → List Segment → ℕ → Entry → Type 0
-IsEntryOf code segments from Nothing = Unit {0}
-IsEntryOf code segments from (Row number) = (s : Segment) × (slice_get segments number ≡ Some s) × IsSegmentOf code from s
-IsEntryOf code segments from (Behind l) = IsLinkOf code from l
+abbrev pub IsEntryOf : Compiled → List Row → List Link → ℕ → Entry → Type 0
+IsEntryOf code rows links from Nothing = Unit {0}
+IsEntryOf code rows links from (Begins number) = (r : Row) × (slice_get rows number ≡ Some r) × IsRowOf code from r
+IsEntryOf code rows links from (Rest number) = (r : Row) × (slice_get rows number ≡ Some r) × IsRestOf code from r
+IsEntryOf code rows links from (Behind number) = (l : Link) × (slice_get links number ≡ Some l) × IsLinkOf code from l
 
 -- an index of the code
 pub record IsIndexOf (code : Compiled) (i : Index) : Type 0 where
-  pub entries : (from : ℕ) → IsEntryOf code i.segments.items from (get_or i.entries.items from Nothing)
+  pub entries : (from : ℕ) → IsEntryOf code i.rows.items i.links.items from (get_or i.entries.items from Nothing)

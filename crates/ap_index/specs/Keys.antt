@@ -2,7 +2,7 @@
 use Rattle.std.specs.Prelude.{◌≡◌, ℕ, ℤ, Bool, true, false, not, ◌==◌, ◌&&◌, if◌then◌else◌, List, [], ◌∷◌, drop, slice_get, Option, Some, None}
 use Rattle.std.specs.Ordering.{int_eq}
 use Rattle.ap_instr.specs.declared.instruction.Instr.{Instr}
-use Rattle.ap_instr.specs.declared.instruction.Instr.TheVariants.{GetConstant, GetInteger, GetStructure, Allocate, Retry}
+use Rattle.ap_instr.specs.declared.instruction.Instr.TheVariants.{GetConstant, GetInteger, GetStructure, Allocate}
 use Rattle.ap_instr.specs.Code.{Compiled}
 use Rattle.ap_index.specs.declared.key.Key.{Key}
 use Rattle.ap_index.specs.declared.key.Key.TheVariants.{Atom, Integer, Structure}
@@ -40,8 +40,8 @@ first_key code (i ∷ is) = if leaves_first i then first_key code is else asked_
 abbrev pub key_at : Compiled → ℕ → Option Key
 key_at code at = first_key code (drop at code.instructions)
 
--- a choice stands at the place that isn't the last one, and names a clause that asks for a key
-pub record IsKeyed (code : Compiled) (at : ℕ) (key : Key) : Type 0 where
+-- a choice stands at the place, made of a clause's place in that way, and the clause asks for a key
+pub record IsKeyed (code : Compiled) (at : ℕ) (choice : ℕ → Instr) (key : Key) : Type 0 where
   pub clause : ℕ
-  pub names : slice_get code.instructions at ≡ Some (Retry clause)
+  pub names : slice_get code.instructions at ≡ Some (choice clause)
   pub asks : key_at code clause ≡ Some key

@@ -1,12 +1,13 @@
 //! What a clause asks of its first argument.
 
 ghost use Rattle.std.specs.Prelude.{◌≡◌, slice_get, None, IfSome};
+ghost use Rattle.ap_instr.specs.declared.instruction.Instr.TheVariants.{Try, Retry, Trust};
 ghost use Rattle.ap_index.specs.Keys.{leaves_first, asked_key, integer_key, key_at, IsKeyed};
 
 use ap_instr::{Code, Instr};
 
 /// A first argument that isn't a variable: an atom, an integer, or a structure's name with the number of its arguments.
-#[derive(Clone, Copy, PartialEq, Eq, Hash)]
+#[derive(Clone, Copy)]
 pub enum Key {
     Atom(u32),
     Integer(i64),
@@ -14,7 +15,7 @@ pub enum Key {
 }
 
 /// The instruction at a place.
-fn instruction_at(code: &Code, at: usize) -> Option<Instr>
+pub(crate) fn instruction_at(code: &Code, at: usize) -> Option<Instr>
     ensures { result ≡ slice_get code.now.instructions at }
 {
     code.instructions().get(at).copied()
@@ -78,15 +79,32 @@ fn key_at(code: &Code, at: usize) -> Option<Key>
     None
 }
 
-/// What the clause asks for that a choice at a place names, other than the last one.
-pub(crate) fn choice_key(code: &Code, at: usize) -> Option<Key>
-    ensures { IfSome result (λ key. IsKeyed code.now at key) }
+/// What the clause asks for that a `try` at a place names.
+pub(crate) fn try_key(code: &Code, at: usize) -> Option<Key>
+    ensures { IfSome result (λ key. IsKeyed code.now at (λ clause. Try clause) key) }
 {
     match instruction_at(code, at) {
-        None => None,
-        Some(instr) => match instr {
-            Instr::Retry(clause) => key_at(code, clause as usize),
-            _ => None,
-        },
+        Some(Instr::Try(clause)) => key_at(code, clause as usize),
+        _ => None,
+    }
+}
+
+/// What the clause asks for that a `retry` at a place names.
+pub(crate) fn retry_key(code: &Code, at: usize) -> Option<Key>
+    ensures { IfSome result (λ key. IsKeyed code.now at (λ clause. Retry clause) key) }
+{
+    match instruction_at(code, at) {
+        Some(Instr::Retry(clause)) => key_at(code, clause as usize),
+        _ => None,
+    }
+}
+
+/// What the clause asks for that a `trust` at a place names.
+pub(crate) fn trust_key(code: &Code, at: usize) -> Option<Key>
+    ensures { IfSome result (λ key. IsKeyed code.now at (λ clause. Trust clause) key) }
+{
+    match instruction_at(code, at) {
+        Some(Instr::Trust(clause)) => key_at(code, clause as usize),
+        _ => None,
     }
 }

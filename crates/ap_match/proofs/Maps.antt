@@ -138,11 +138,11 @@ cell-agree n k l a (Node b p m) e w = ap (node b) (spread-agree k l p m (λ i b 
 
 -- with one tree more
 module _ (old new : List Raw) (t : Tree) (pushed : trees new ≡ trees old ++ t ∷ []) where
-  below : (i : ℕ) → i < length old → tree_at (trees new) i ≡ tree_at (trees old) i
-  below i h = ap (λ ts. tree_at ts i) pushed ∙ get_or_append_left (trees old) (t ∷ []) (var i) i (omega (arith, trees-length old))
+  pub pushed-below : (i : ℕ) → i < length old → tree_at (trees new) i ≡ tree_at (trees old) i
+  pushed-below i h = ap (λ ts. tree_at ts i) pushed ∙ get_or_append_left (trees old) (t ∷ []) (var i) i (omega (arith, trees-length old))
 
-  last : tree_at (trees new) (length old) ≡ t
-  last = ap (λ ts. tree_at ts (length old)) pushed ∙ get_or_push (trees old) t (var (length old)) (length old) (trees-length old)
+  pub pushed-last : tree_at (trees new) (length old) ≡ t
+  pushed-last = ap (λ ts. tree_at ts (length old)) pushed ∙ get_or_push (trees old) t (var (length old)) (length old) (trees-length old)
 
 -- the term of another place
 module _ (old new : List Raw) (to : ℕ) (in_to : to < length old) (len : length new ≡ length old + 1) (pushed : trees new ≡ trees old ++ tree_at (trees old) to ∷ []) where
@@ -150,17 +150,17 @@ module _ (old new : List Raw) (to : ℕ) (in_to : to < length old) (len : length
   same-longer k h e = (h.0, λ i l. at i l (cases_lt i (length old)))
     where
       at : (i : ℕ) → i < length new → (i < length old) ⊎ (length old ≤ i) → k i ≡ instance h.0 (tree_at (trees new) i)
-      at i l (inl b) = h.1 i b ∙ ap (instance h.0) (sym (below old new (tree_at (trees old) to) pushed i b))
+      at i l (inl b) = h.1 i b ∙ ap (instance h.0) (sym (pushed-below old new (tree_at (trees old) to) pushed i b))
       at i l (inr b) =
           let q : i ≡ length old = omega arith in
-          ap k q ∙ e ∙ h.1 to in_to ∙ ap (instance h.0) (sym (last old new (tree_at (trees old) to) pushed) ∙ ap (tree_at (trees new)) (sym q))
+          ap k q ∙ e ∙ h.1 to in_to ∙ ap (instance h.0) (sym (pushed-last old new (tree_at (trees old) to) pushed) ∙ ap (tree_at (trees new)) (sym q))
 
   pub same-fits : Becomes old new (λ k. Unit {0}) (λ k. k (length old) ≡ k to)
   same-fits = record {
     longer = omega arith;
     only = λ k h.
-        let under : Under (length old) (trees old) h.0 k = λ i l. h.1 i (omega arith) ∙ ap (instance h.0) (below old new (tree_at (trees old) to) pushed i l) in
-        ((h.0, under), tt, h.1 (length old) (omega arith) ∙ ap (instance h.0) (last old new (tree_at (trees old) to) pushed) ∙ sym (under to in_to));
+        let under : Under (length old) (trees old) h.0 k = λ i l. h.1 i (omega arith) ∙ ap (instance h.0) (pushed-below old new (tree_at (trees old) to) pushed i l) in
+        ((h.0, under), tt, h.1 (length old) (omega arith) ∙ ap (instance h.0) (pushed-last old new (tree_at (trees old) to) pushed) ∙ sym (under to in_to));
     each = λ k h e.
         let l : ℕ → Tree = set k (length old) (k to) in
         let a : Agree (length old) k l = λ i b. sym (set-below k (length old) i (k to) b) in
@@ -172,10 +172,10 @@ module _ (old : List Raw) (c : Raw) (inside : (i : ℕ) → i < length old → L
   new = old ++ c ∷ []
 
   before : (i : ℕ) → i < length old → tree_at (trees new) i ≡ tree_at (trees old) i
-  before = below old new (step (trees old) (length old) c) pushed
+  before = pushed-below old new (step (trees old) (length old) c) pushed
 
   end : tree_at (trees new) (length old) ≡ step (trees old) (length old) c
-  end = last old new (step (trees old) (length old) c) pushed
+  end = pushed-last old new (step (trees old) (length old) c) pushed
 
   -- a map that fits the old cells, with a tree for the new place
   pub fits-longer : (k : ℕ → Tree) → Fits old k → k (length old) ≡ cell_tree k (length old) c → Fits new k

@@ -6,7 +6,9 @@
 
 mod matching;
 
-pub use matching::{equate, match_atom, match_built, match_integer, push_new, push_value};
+pub use matching::{
+    bind_structure, equate, match_atom, match_built, match_integer, push_new, push_value,
+};
 
 #[cfg(test)]
 mod tests;

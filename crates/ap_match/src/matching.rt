@@ -1,6 +1,6 @@
 //! Equations, constants and new cells.
 
-ghost use Rattle.std.specs.Prelude.{◌≡◌, ℕ, ◌+◌, ◌<◌, ◌≤◌, length, true, false, ◌==◌, IfOk};
+ghost use Rattle.std.specs.Prelude.{◌≡◌, ℕ, ◌+◌, ◌<◌, ◌≤◌, [], ◌∷◌, ◌++◌, length, true, false, ◌==◌, IfOk};
 ghost use Rattle.std.specs.Ordering.{int_eq};
 ghost use Rattle.ap_term.specs.Tree.{Tree, var, int, atom, node};
 ghost use Rattle.ap_term.specs.Vars.{occurs, occurs_all};
@@ -23,6 +23,7 @@ pub fn push_new(cells: &mut Cells, cell: Cell) -> usize
     ensures place { result ≡ length cells.old.cells }
     ensures becomes { Becomes cells.old.cells cells.new.cells (λ k. Unit {0}) (λ k. k result ≡ cell_tree k result (raw_of cell)) }
     ensures fits { (k : ℕ → Tree) → Fits cells.old.cells k → k result ≡ cell_tree k result (raw_of cell) → Fits cells.new.cells k }
+    ensures trees { trees cells.new.cells ≡ trees cells.old.cells ++ step (trees cells.old.cells) (length cells.old.cells) (raw_of cell) ∷ [] }
     ensures len { length cells.new.cells ≡ length cells.old.cells + 1 }
     ensures spare { cells.new.spare + 1 ≡ cells.old.spare }
     ensures keeps { Keeps cells.old cells.new }
@@ -39,6 +40,7 @@ pub fn push_value(cells: &mut Cells, to: usize) -> usize
     ensures place { result ≡ length cells.old.cells }
     ensures becomes { Becomes cells.old.cells cells.new.cells (λ k. Unit {0}) (λ k. k result ≡ k to) }
     ensures fits { (k : ℕ → Tree) → Fits cells.old.cells k → k result ≡ k to → Fits cells.new.cells k }
+    ensures trees { trees cells.new.cells ≡ trees cells.old.cells ++ tree_at (trees cells.old.cells) to ∷ [] }
     ensures len { length cells.new.cells ≡ length cells.old.cells + 1 }
     ensures spare { cells.new.spare + 1 ≡ cells.old.spare }
     ensures keeps { Keeps cells.old cells.new }
@@ -196,51 +198,46 @@ pub fn equate(cells: &mut Cells, a: usize, b: usize, work: &mut Work) -> Result<
     Ok(answer)
 }
 
-/// Binds a place to the compound term of a name and the cells from `first` on, where it is unbound and these are constants
-/// and other variables. Else it does nothing.
-fn bind_built(cells: &mut Cells, place: usize, name: Atom, first: usize, count: u32) -> bool
-    requires inside { place < length cells.old.cells }
+/// Binds an unbound place to the compound term of a name and the cells from `first` on, in which it doesn't stand. It takes
+/// no memory.
+#[inline]
+pub fn bind_structure(cells: &mut Cells, x: usize, name: Atom, first: usize, count: u32)
+    requires inside { x < length cells.old.cells }
     requires args { first + count ≤ length cells.old.cells }
-    ensures bound { result ≡ true → Becomes cells.old.cells cells.new.cells (λ k. k place ≡ node name (spread k first count)) (λ k. Unit {0}) }
-    ensures same { result ≡ false → cells.new ≡ cells.old }
+    requires unbound { tree_at (trees cells.old.cells) x ≡ var x }
+    requires absent { occurs_all x (span (trees cells.old.cells) first count) ≡ false }
+    ensures becomes { Becomes cells.old.cells cells.new.cells (λ k. k x ≡ node name (spread k first count)) (λ k. Unit {0}) }
     ensures len { length cells.new.cells ≡ length cells.old.cells }
     ensures spare { cells.new.spare ≡ cells.old.spare }
     ensures keeps { Keeps cells.old cells.new }
 {
-    match cells.top(place) {
-        Top::Free(x) => {
-            if !are_apart(cells, x, first, count) {
-                return false;
-            }
-            bind_term(cells, x, Cell::Node(name, first, count));
-            true
-        }
-        _ => false,
-    }
+    bind_term(cells, x, Cell::Node(name, first, count));
 }
 
-/// Makes a place's term the compound term of a name and the cells from `first` on, if it can be. After false, or want of
-/// memory, some bindings may be made; `undo_to` takes them back.
+/// Makes the term of an unbound place the compound term of a name and the cells from `first` on, if it can be: if it doesn't
+/// stand there. After false, or want of memory, some bindings may be made; `undo_to` takes them back.
 pub fn match_built(
     cells: &mut Cells,
-    place: usize,
+    x: usize,
     name: Atom,
     first: usize,
     count: u32,
     work: &mut Work,
 ) -> Result<bool, NoMemory>
     requires room { 0 < cells.old.spare }
-    requires inside { place < length cells.old.cells }
+    requires inside { x < length cells.old.cells }
     requires args { first + count ≤ length cells.old.cells }
-    ensures answered { IfOk result (λ r. Answered cells.old.cells cells.new.cells (λ k. k place ≡ node name (spread k first count)) r) }
+    requires unbound { tree_at (trees cells.old.cells) x ≡ var x }
+    ensures answered { IfOk result (λ r. Answered cells.old.cells cells.new.cells (λ k. k x ≡ node name (spread k first count)) r) }
     ensures longer { length cells.old.cells ≤ length cells.new.cells }
     ensures spare { cells.old.spare ≤ cells.new.spare + 1 }
     ensures keeps { Keeps cells.old cells.new }
 {
-    if bind_built(cells, place, name, first, count) {
+    if are_apart(cells, x, first, count) {
+        bind_structure(cells, x, name, first, count);
         return Ok(true);
     }
     let whole = push_new(cells, Cell::Node(name, first, count));
-    let answer = equate(cells, place, whole, work)?;
+    let answer = unify(cells, x, whole, work)?;
     Ok(answer)
 }

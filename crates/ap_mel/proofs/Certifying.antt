@@ -42,7 +42,7 @@ use Rattle.ap_mel.specs.declared.annotations.Kind.{Kind}
 use Rattle.ap_mel.specs.declared.annotations.Kind.TheVariants as kind
 use Rattle.ap_mel.specs.Mended.{is_given_up, is_none, is_bare, is_settled, is_body_settled, is_clause_settled, is_program_settled}
 use Rattle.ap_mel.specs.Made.{IsFirst, Passes, begun, passed, IsMade}
-use Rattle.ap_mel.specs.Scopes.{IsScopeOf}
+use Rattle.ap_certify.specs.Scopes.{IsScopeOf}
 use Rattle.ap_mel.proofs.Mending.{split_not, empty_list, mended-stripped, mended-length, program-stays}
 
 -- ---- lists of checks

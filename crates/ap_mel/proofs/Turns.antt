@@ -1,26 +1,17 @@
--- The walks of a pass over goals, parts and clauses.
-use Rattle.std.proofs.Common.{◌≡◌, ℕ, ◌+◌, ◌<◌, ◌≤◌, Bool, true, false, ◌&&◌, List, [], ◌∷◌, ◌++◌, length, drop, get_or, map, refl, ap, sym, ◌∙◌, append_assoc, append-nil}
+-- The walks of a pass over goals and clauses.
+use Rattle.std.proofs.Common.{◌≡◌, ℕ, ◌+◌, ◌<◌, ◌≤◌, Bool, true, false, ◌&&◌, List, [], ◌∷◌, ◌++◌, length, drop, get_or, refl, ap, sym, ◌∙◌, append_assoc, append-nil}
 use Rattle.std.proofs.lemmas.List.{drop_more, drop_all}
 use Rattle.ap_term.specs.declared.terms.Term.{Term}
-use Rattle.ap_term.specs.declared.clauses.Part as code
-use Rattle.ap_term.specs.GoalView.{part_of}
 use Rattle.ap_term.specs.TermView.{tree_of, trees_of}
 use Rattle.ap_term.specs.Goals.{Part, call, calls, Clause, Program}
 use Rattle.ap_term.proofs.TermLists.{trees_of-drop_more}
-use Rattle.ap_absunify.specs.declared.states.State.{State}
 use Rattle.ap_patterns.specs.Given.{Patterns}
-use Rattle.ap_fixpoint.proofs.Turns.{parts-drop_more}
-use Rattle.ap_udg.specs.Completed.{behind}
 use Rattle.ap_mel.specs.declared.annotations.Kind.{Kind}
-use Rattle.ap_mel.specs.Mended.{mended, mended_body, mended_clause, mended_program, is_settled, is_body_settled, is_clause_settled, is_program_settled}
+use Rattle.ap_mel.specs.Mended.{mended_clause, mended_program, is_clause_settled, is_program_settled}
 
 and_assoc : (a b c : Bool) → ((a && b) && c) ≡ (a && (b && c))
 and_assoc true b c = refl
 and_assoc false b c = refl
-
-and_true : (a : Bool) → (a && true) ≡ a
-and_true true = refl
-and_true false = refl
 
 -- ---- goals
 
@@ -32,34 +23,6 @@ calls-turn ts i t out new whole l e n h =
 
 pub calls-done : (ts : List Term) (i : ℕ) (out whole : List Part) → length ts ≤ i → out ++ calls (trees_of (drop i ts)) ≡ whole → out ≡ whole
 calls-done ts i out whole l h = sym (append-nil out) ∙ ap (λ z. out ++ calls (trees_of z)) (sym (drop_all i ts l)) ∙ h
-
--- ---- parts
-
-pub mended-turn : (bare analysed : Bool) (t : Patterns) (now after : State) (ps : List code.Part) (i : ℕ) (p : code.Part) (out new whole : List Part) → i < length ps → p ≡ get_or ps i p
-    → new ≡ out ++ mended bare now (part_of p) → after ≡ behind analysed t now (part_of p) → out ++ mended_body bare analysed t now (map part_of (drop i ps)) ≡ whole
-    → new ++ mended_body bare analysed t after (map part_of (drop (i + 1) ps)) ≡ whole
-mended-turn bare analysed t now after ps i p out new whole l e n a h =
-    ap (λ z. z ++ mended_body bare analysed t after (map part_of (drop (i + 1) ps))) n
-    ∙ ap (λ z. (out ++ mended bare now (part_of p)) ++ mended_body bare analysed t z (map part_of (drop (i + 1) ps))) a
-    ∙ append_assoc out (mended bare now (part_of p)) (mended_body bare analysed t (behind analysed t now (part_of p)) (map part_of (drop (i + 1) ps)))
-    ∙ ap (λ z. out ++ mended_body bare analysed t now z) (sym (parts-drop_more ps i p l e)) ∙ h
-
-pub mended-done : (bare analysed : Bool) (t : Patterns) (now : State) (ps : List code.Part) (i : ℕ) (out whole : List Part) → length ps ≤ i
-    → out ++ mended_body bare analysed t now (map part_of (drop i ps)) ≡ whole → out ≡ whole
-mended-done bare analysed t now ps i out whole l h = sym (append-nil out) ∙ ap (λ z. out ++ mended_body bare analysed t now (map part_of z)) (sym (drop_all i ps l)) ∙ h
-
-pub settled-turn : (bare analysed : Bool) (t : Patterns) (now after : State) (ps : List code.Part) (i : ℕ) (p : code.Part) (sofar stays whole : Bool) → i < length ps → p ≡ get_or ps i p
-    → stays ≡ is_settled bare now (part_of p) → after ≡ behind analysed t now (part_of p) → (sofar && is_body_settled bare analysed t now (map part_of (drop i ps))) ≡ whole
-    → ((sofar && stays) && is_body_settled bare analysed t after (map part_of (drop (i + 1) ps))) ≡ whole
-settled-turn bare analysed t now after ps i p sofar stays whole l e n a h =
-    ap (λ z. (sofar && z) && is_body_settled bare analysed t after (map part_of (drop (i + 1) ps))) n
-    ∙ ap (λ z. (sofar && is_settled bare now (part_of p)) && is_body_settled bare analysed t z (map part_of (drop (i + 1) ps))) a
-    ∙ and_assoc sofar (is_settled bare now (part_of p)) (is_body_settled bare analysed t (behind analysed t now (part_of p)) (map part_of (drop (i + 1) ps)))
-    ∙ ap (λ z. sofar && is_body_settled bare analysed t now z) (sym (parts-drop_more ps i p l e)) ∙ h
-
-pub settled-done : (bare analysed : Bool) (t : Patterns) (now : State) (ps : List code.Part) (i : ℕ) (sofar whole : Bool) → length ps ≤ i
-    → (sofar && is_body_settled bare analysed t now (map part_of (drop i ps))) ≡ whole → sofar ≡ whole
-settled-done bare analysed t now ps i sofar whole l h = sym (and_true sofar) ∙ ap (λ z. sofar && is_body_settled bare analysed t now (map part_of z)) (sym (drop_all i ps l)) ∙ h
 
 -- ---- clauses
 
@@ -81,27 +44,11 @@ clauses-turn k t P A i c d out new whole l m e f n h =
     ap (λ z. z ++ mended_program k t (drop (i + 1) P) (drop (i + 1) A)) n ∙ append_assoc out (mended_clause k t c d ∷ []) (mended_program k t (drop (i + 1) P) (drop (i + 1) A))
     ∙ ap (λ z. out ++ z) (sym (one_clause k t P A i c d l m e f)) ∙ h
 
-no_more : (k : Kind) (t : Patterns) (P : Program) → mended_program k t P [] ≡ []
-no_more k t [] = refl
-no_more k t (c ∷ cs) = refl
-
-no_more_settled : (k : Kind) (t : Patterns) (P : Program) → is_program_settled k t P [] ≡ true
-no_more_settled k t [] = refl
-no_more_settled k t (c ∷ cs) = refl
-
-pub clauses-done : (k : Kind) (t : Patterns) (P A : Program) (i : ℕ) (out whole : Program) → length A ≤ i → out ++ mended_program k t (drop i P) (drop i A) ≡ whole → out ≡ whole
-clauses-done k t P A i out whole l h =
-    sym (append-nil out) ∙ ap (λ z. out ++ z) (sym (no_more k t (drop i P)) ∙ ap (mended_program k t (drop i P)) (sym (drop_all i A l))) ∙ h
-
 pub all_settled-turn : (k : Kind) (t : Patterns) (P A : Program) (i : ℕ) (c d : Clause) (sofar stays whole : Bool) → i < length P → i < length A → c ≡ get_or P i c → d ≡ get_or A i d
     → stays ≡ is_clause_settled k t c d → (sofar && is_program_settled k t (drop i P) (drop i A)) ≡ whole
     → ((sofar && stays) && is_program_settled k t (drop (i + 1) P) (drop (i + 1) A)) ≡ whole
 all_settled-turn k t P A i c d sofar stays whole l m e f n h =
     ap (λ z. (sofar && z) && is_program_settled k t (drop (i + 1) P) (drop (i + 1) A)) n ∙ and_assoc sofar (is_clause_settled k t c d) (is_program_settled k t (drop (i + 1) P) (drop (i + 1) A))
     ∙ ap (λ z. sofar && z) (sym (one_settled k t P A i c d l m e f)) ∙ h
-
-pub all_settled-done : (k : Kind) (t : Patterns) (P A : Program) (i : ℕ) (sofar whole : Bool) → length A ≤ i → (sofar && is_program_settled k t (drop i P) (drop i A)) ≡ whole → sofar ≡ whole
-all_settled-done k t P A i sofar whole l h =
-    sym (and_true sofar) ∙ ap (λ z. sofar && z) (sym (no_more_settled k t (drop i P)) ∙ ap (is_program_settled k t (drop i P)) (sym (drop_all i A l))) ∙ h
 
 pub ruleset rules_of_calls = (calls-turn, calls-done)

@@ -1,3 +1,2 @@
 pub mod Mended
 pub mod Made
-pub mod Scopes

@@ -8,7 +8,7 @@ ghost use Rattle.ap_certify.specs.Certificate.{IsSoundAnnotation};
 ghost use Rattle.ap_udg.specs.declared.runs.Rule.TheVariants.{Conditional};
 ghost use Rattle.ap_udg.specs.Annotated.{IsAnnotated};
 ghost use Rattle.ap_mel.specs.Made.{IsFirst, IsMade};
-ghost use Rattle.ap_mel.specs.Scopes.{IsScopeOf};
+ghost use Rattle.ap_certify.specs.Scopes.{IsScopeOf};
 
 use crate::entries::certified;
 use crate::passes::{Pass, pass_over};

@@ -3,7 +3,7 @@
 ghost use Rattle.std.specs.Prelude.{◌≡◌, IfOk};
 ghost use Rattle.ap_certify.specs.declared.certified.Scope.TheVariants.{Of};
 ghost use Rattle.ap_certify.specs.Certificate.{AreMissingGiven};
-ghost use Rattle.ap_mel.specs.Scopes.{AreSameEntries, IsScopeOf};
+ghost use Rattle.ap_certify.specs.Scopes.{AreSameEntries, IsScopeOf};
 
 use ap_certify::{Certified, Scope};
 use ap_cge::Annotated;

@@ -17,9 +17,9 @@ use crate::annotations::Kind;
 use ap_absunify::State;
 use ap_cge::Annotated;
 use ap_conditions::{Simplified, full, simplify};
-use ap_patterns::Table;
+use ap_patterns::{Table, is_analysed};
 use ap_term::{Body, Checks, Clause, NoMemory, Part, Program, Term, copy_term};
-use ap_udg::{behind, copy_part, has_groups, is_analysed, missing, start, with_checks};
+use ap_udg::{behind, copy_part, has_groups, missing, start, with_checks};
 use std::alloc::Global;
 
 /// Whether the full condition of goals holds nowhere.

@@ -4,11 +4,12 @@ use Rattle.std.proofs.lemmas.List.{take-append-le, take_all}
 use Rattle.std.specs.List.{AllByRecursion}
 use Rattle.ap_instr.specs.Code.{Compiled}
 use Rattle.ap_steps.specs.Moves.{held, IsStuck}
-use Rattle.ap_steps.specs.Ways.{AllHaveTargets, steps_from}
+use Rattle.ap_steps.specs.Ways.{AllHaveTargets, IsRoomFor, steps_from}
 use Rattle.ap_standing.specs.Machine.{Point, Machine}
 use Rattle.ap_standing.specs.Holds.{HoldsRest}
 use Rattle.ap_standing.proofs.Calls.{skipped}
 use Rattle.ap_control.specs.Heads.{IsShut, PassesOver}
+use Rattle.ap_section.specs.Live.{AreLive}
 use Rattle.ap_section.specs.View.{Paused, IsFor}
 use Rattle.ap_section.specs.Choices.{Stays, AtNewest, Returned, LeavesOut}
 
@@ -21,11 +22,12 @@ Stays-refl s = record { x = refl; y = refl; roots = refl; spent = refl; budget =
 pub Returned-trans : (s t u : Paused) → Returned s t → Returned t u → Returned s u
 Returned-trans s t u h k = record { stays = Stays-trans s t u h.stays k.stays; points = k.points ∙ h.points; now = k.now ∙ h.now; at = k.at }
 
-pub IsFor-stays : (code : Compiled) (s t : Paused) → Stays s t → IsFor code s → IsFor code t
-IsFor-stays code s t h f = record {
+pub IsFor-stays : (code : Compiled) (s t : Paused) → Stays s t → AreLive code t.machine → IsFor code s → IsFor code t
+IsFor-stays code s t h live f = record {
   targets = λ at. subst (λ n. AllHaveTargets (drop at code.instructions) n (length t.machine.y)) (sym h.x) (subst (λ n. AllHaveTargets (drop at code.instructions) (length s.machine.x) n) (sym h.y) (f.targets at));
   arities = λ n q e. let l : q.arity < length s.machine.x = f.arities n q e in let k = h.x in omega arith;
-  room = λ at. let l = f.room at in let k = h.room in omega arith;
+  room = subst (IsRoomFor code) (sym h.room) f.room;
+  live = live;
 }
 
 -- ---- the clauses that are left

@@ -11,6 +11,7 @@ use Rattle.ap_cells.specs.Trees.{trees, span}
 use Rattle.ap_instr.specs.declared.compiled.Predicate.{Predicate}
 use Rattle.ap_instr.specs.Code.{Compiled}
 use Rattle.ap_environments.specs.Kept.{Kept}
+use Rattle.ap_steps.specs.declared.room.Room.{Room}
 use Rattle.ap_steps.specs.Moves.{held, HoldPlaces}
 use Rattle.ap_standing.specs.Machine.{Now, calling, inside}
 use Rattle.ap_standing.specs.Holds.{Holds}
@@ -79,7 +80,7 @@ module _ (code : Compiled) (v : Store) (k : Kept) (x y roots : List ℕ) (next :
       stands (inside a.3) (start u ∷ []) (step.asks a)
       (holds-question code v.cells t.base t.first t.count ts x y roots t.within t.tuple t.args t.len t.each t.width a.3 u (question-reads code p u is number e) same is.is_query)
 
-  pub started : (rest room : ℕ) → IsFor code (record { machine = machine_of v k x y roots next; spent = 0; budget = rest; room = room })
+  pub started : (rest : ℕ) (room : Room) → IsFor code (record { machine = machine_of v k x y roots next; spent = 0; budget = rest; room = room })
       → Started code ts number rest (record { machine = machine_of v k x y roots next; spent = 0; budget = rest; room = room })
   started rest room for = record {
     is_for = for;

@@ -1,5 +1,5 @@
 -- A call, and the clause that is taken next.
-use Rattle.std.proofs.Common.{◌≡◌, ℕ, ◌+◌, ◌*◌, ◌<◌, ◌≤◌, List, [], ◌∷◌, ◌++◌, length, take, map, Option, Some, None, slice_get, refl, ap, ap₂, sym, ◌∙◌, subst, arith}
+use Rattle.std.proofs.Common.{◌≡◌, ℕ, ◌+◌, ◌*◌, ◌<◌, ◌≤◌, List, [], ◌∷◌, ◌++◌, length, Option, Some, None, slice_get, refl, ap, ap₂, sym, ◌∙◌, subst, arith}
 use Rattle.std.proofs.lemmas.List.{get_or-take}
 use Rattle.std.proofs.Math.Nat.{mul-le-mul_left}
 use Rattle.std.specs.List.{AllByRecursion}
@@ -7,6 +7,7 @@ use Rattle.ap_term.specs.Tree.{Trees}
 use Rattle.ap_term.specs.Goals.{Program}
 use Rattle.ap_term.specs.WellFormed.{IsProgram}
 use Rattle.ap_term.specs.Search.{State}
+use Rattle.std.specs.Prelude.{IfSome}
 use Rattle.ap_cells.specs.declared.cells.Raw.{Raw}
 use Rattle.ap_instr.specs.declared.compiled.Predicate.{Predicate}
 use Rattle.ap_instr.specs.Code.{Compiled}
@@ -19,16 +20,12 @@ use Rattle.ap_standing.specs.Laws.{machine, IsTurn, KeepsStanding, SameArguments
 use Rattle.ap_standing.proofs.Calls.{turned, taken, skipped, renamed}
 use Rattle.ap_standing.proofs.Turns.{SameSet-trans, rest-none, AtCall-registers}
 use Rattle.ap_standing.proofs.Machines.{points-failed, failed-points}
-use Rattle.ap_cells.specs.Store.{Store, undone}
-use Rattle.ap_environments.specs.Kept.{Kept}
-use Rattle.ap_section.specs.declared.section.Now.{Now as Kind}
-use Rattle.ap_section.specs.declared.section.Now.TheVariants.{Inside, Failed}
-use Rattle.ap_section.specs.View.{Paused, now_of, point_of, machine_of}
-use Rattle.ap_section.proofs.Solving.{IsTurn-from}
+use Rattle.ap_section.specs.View.{Paused}
 use Rattle.ap_resolution.specs.Instances.{Inst}
 use Rattle.ap_control.specs.declared.alternatives.Alternative.{Alternative}
 use Rattle.ap_control.specs.Heads.{IsShut, PassesOver}
-use Rattle.ap_section.specs.Choices.{Stays, AtNewest, Returned, LeavesOut, places_of, points_left}
+use Rattle.ap_section.specs.Choices.{Stays, AtNewest, Returned, LeavesOut, places_of, called_point, points_left}
+use Rattle.ap_section.specs.Live.{IsLive, kept_points, AreLive, KeepsLive, UnifiesAtNewest}
 use Rattle.ap_section.specs.Lasting.{moves_to_end, moves_of_points, moves_left}
 use Rattle.ap_section.proofs.Alternatives.{Returned-trans}
 
@@ -103,15 +100,26 @@ module _ (code : Compiled) (cs : List Raw) (x y : List ℕ) (ws : List Return) (
       let t = turned-to (l ∷ ls) over ss h in
       (t.0, t.1, taken code roots qs here l ls qs x y (λ n w a b. refl) (λ left u. rest-none code roots here qs left (passed ls [] none left u)) t.0 t.2)
 
-  pub entered-many : (us : List Raw) → us ≡ cs → (args : List ℕ) → args ≡ take (q.arity + 1) x → (place : ℕ) (behind : Option ℕ) → PassesOver code cs (held x) (clause_places code q) (place ∷ places_from code behind)
-      → IsTurn code p before (machine cs x y ws roots (record { cells = us; returns = ws; arguments = args; predicate = number; place = place; behind = behind } ∷ qs) failed)
-  entered-many us eu args ea place behind over ss h =
-      let point : Point = record { cells = cs; returns = ws; arguments = take (q.arity + 1) x; predicate = number; place = place; behind = behind } in
-      let other : Point = record { cells = us; returns = ws; arguments = args; predicate = number; place = place; behind = behind } in
-      let same : SameArguments q.arity (held point.arguments) (held x) = λ w a b. get_or-take (q.arity + 1) x w 0 b in
-      let t = turned-to (places code other) over ss h in
-      let r : HoldsRest code roots point (places code other) qs t.0 = regiven code roots qs here point refl refl refl q known same (places code other) t.0 t.2 in
-      (t.0, t.1, points-failed code (machine cs x y ws roots (other ∷ qs) failed) refl h.5 t.0 (renamed code roots qs point other eu refl ea refl (places code other) t.0 r))
+  -- a choice point for the call, with clauses that are left
+  kept-for : (a : Alternative) (left : List State) → HoldsRest code roots here (a.place ∷ places_from code a.behind) qs left → HoldsPoints code roots (called_point number q.arity a before ∷ qs) left
+  kept-for a left h =
+      regiven code roots qs here (called_point number q.arity a before) refl refl refl q known (λ w c b. get_or-take (q.arity + 1) x w 0 b) (a.place ∷ places_from code a.behind) left h
+
+  pub entered-many : (a : Alternative) → PassesOver code cs (held x) (clause_places code q) (a.place ∷ places_from code a.behind)
+      → IsTurn code p before (machine cs x y ws roots (called_point number q.arity a before ∷ qs) failed)
+  entered-many a over ss h =
+      let t = turned-to (a.place ∷ places_from code a.behind) over ss h in
+      (t.0, t.1, points-failed code (machine cs x y ws roots (called_point number q.arity a before ∷ qs) failed) refl h.5 t.0 (kept-for a t.0 t.2))
+
+  -- the first clause is taken, and the choice point is for those behind it
+  pub entered-first : (l : ℕ) (ls : List ℕ) (a : Alternative) → PassesOver code cs (held x) (clause_places code q) (l ∷ ls) → PassesOver code cs (held x) ls (a.place ∷ places_from code a.behind)
+      → IsTurn code p before (machine cs x y ws roots (called_point number q.arity a before ∷ qs) (inside l))
+  entered-first l ls a over behind ss h =
+      let t = turned-to (l ∷ ls) over ss h in (
+        t.0,
+        t.1,
+        taken code roots qs here l ls (called_point number q.arity a before ∷ qs) x y (λ n w a b. refl) (λ left u. kept-for a left (passed ls (a.place ∷ places_from code a.behind) behind left u)) t.0 t.2,
+      )
 
 -- ---- the next clause of the newest choice point
 
@@ -151,45 +159,47 @@ pub named-anew : (code : Compiled) (roots : List ℕ) (q : Point) (qs : List Poi
     → HoldsRest code roots q (place ∷ places_from code behind) qs left → HoldsPoints code roots (record q { place = place; behind = behind } ∷ qs) left
 named-anew code roots q qs place behind left h = renamed code roots qs q (record q { place = place; behind = behind }) refl refl refl refl (place ∷ places_from code behind) left h
 
--- ---- the section behind a call
+-- ---- the machine behind a call
 
-module _ (v : Store) (k : Kept) (x y roots : List ℕ) (next : Kind) (spent budget room : ℕ) (s : Paused)
-    (view : record { machine = machine_of v k x y roots next; spent = spent; budget = budget; room = room } ≡ s)
-    (code : Compiled) (number : ℕ) (due : s.machine.now ≡ calling number) (predicate : Predicate) (found : Some predicate ≡ slice_get code.predicates number)
+module _ (code : Compiled) (m : Machine) (number : ℕ) (due : m.now ≡ calling number) (predicate : Predicate) (found : Some predicate ≡ slice_get code.predicates number)
     (p : Program) (q : Predicate) (known : slice_get code.predicates number ≡ Some q) (good : IsProgram p) (stands : StandsFor code p) where
+  abbrev calls : Machine
+  calls = record m { now = calling number }
+
   same-predicate : predicate ≡ q
   same-predicate = let e : Some predicate ≡ Some q = found ∙ known in cc
 
-  enters : (m' : Machine) → IsTurn code p (machine v.cells x y k.returns roots (map (point_of v) k.moments) (calling number)) m' → IsTurn code p s.machine m'
-  enters m' t = IsTurn-from code p s.machine v.cells x y k.returns roots (map (point_of v) k.moments) (now_of next) (calling number) m' (ap (λ (t : Paused). t.machine) view) due t
+  enters : (m' : Machine) → IsTurn code p calls m' → IsTurn code p m m'
+  enters m' t = subst (λ n. IsTurn code p (record m { now = n }) m') (sym due) t
 
-  -- clauses that are passed over on the section's cells and registers
-  passes : (rest : List ℕ) → PassesOver code s.machine.cells (held s.machine.x) (clause_places code predicate) rest → PassesOver code v.cells (held x) (clause_places code q) rest
-  passes rest over =
-      subst (λ (r : Predicate). PassesOver code v.cells (held x) (clause_places code r) rest) same-predicate
-      (subst (λ (t : Paused). PassesOver code t.machine.cells (held t.machine.x) (clause_places code predicate) rest) (sym view) over)
+  -- the predicate's clauses that are left
+  passes : (rest : List ℕ) → PassesOver code m.cells (held m.x) (clause_places code predicate) rest → PassesOver code m.cells (held m.x) (clause_places code q) rest
+  passes rest over = subst (λ (r : Predicate). PassesOver code m.cells (held m.x) (clause_places code r) rest) same-predicate over
 
-  pub turns-to-none : PassesOver code s.machine.cells (held s.machine.x) (clause_places code predicate) [] → IsTurn code p s.machine (machine_of v k x y roots Failed)
-  turns-to-none over =
-      enters (machine_of v k x y roots Failed)
-      (entered-none code v.cells x y k.returns roots (map (point_of v) k.moments) number q known p good stands (passes [] over))
+  -- a choice point for the call, where the arity is the other one
+  called-same : (a : Alternative) → called_point number q.arity a m ≡ called_point number predicate.arity a m
+  called-same a = ap (λ (r : Predicate). called_point number r.arity a m) (sym same-predicate)
 
-  pub turns-to-one : (l : ℕ) (ls : List ℕ) → PassesOver code s.machine.cells (held s.machine.x) (clause_places code predicate) (l ∷ ls) → PassesOver code s.machine.cells (held s.machine.x) ls []
-      → IsTurn code p s.machine (machine_of v k x y roots (Inside l))
+  pub turns-to-none : PassesOver code m.cells (held m.x) (clause_places code predicate) [] → IsTurn code p m (record m { now = failed })
+  turns-to-none over = enters (record m { now = failed }) (entered-none code m.cells m.x m.y m.returns m.roots m.points number q known p good stands (passes [] over))
+
+  pub turns-to-one : (l : ℕ) (ls : List ℕ) → PassesOver code m.cells (held m.x) (clause_places code predicate) (l ∷ ls) → PassesOver code m.cells (held m.x) ls [] → IsTurn code p m (record m { now = inside l })
   turns-to-one l ls over none =
-      enters (machine_of v k x y roots (Inside l))
-      (entered-one code v.cells x y k.returns roots (map (point_of v) k.moments) number q known p good stands l ls (passes (l ∷ ls) over)
-      (subst (λ (t : Paused). PassesOver code t.machine.cells (held t.machine.x) ls []) (sym view) none))
+      enters (record m { now = inside l }) (entered-one code m.cells m.x m.y m.returns m.roots m.points number q known p good stands l ls (passes (l ∷ ls) over) none)
 
-  pub turns-to-many : (cells trail place : ℕ) (behind : Option ℕ) (args : List ℕ) (l : Kept)
-      → l ≡ record { returns = k.returns; moments = record { choice = record { cells = cells; trail = trail; predicate = number; place = place; behind = behind }; returns = k.returns; arguments = args } ∷ k.moments }
-      → undone v cells trail ≡ v.cells → args ≡ take (predicate.arity + 1) x → PassesOver code s.machine.cells (held s.machine.x) (clause_places code predicate) (place ∷ places_from code behind)
-      → IsTurn code p s.machine (machine_of v l x y roots Failed)
-  turns-to-many cells trail place behind args l el leads ea over =
-      subst (λ j. IsTurn code p s.machine (machine_of v j x y roots Failed)) (sym el)
-      (enters (machine_of v (record { returns = k.returns; moments = record { choice = record { cells = cells; trail = trail; predicate = number; place = place; behind = behind }; returns = k.returns; arguments = args } ∷ k.moments }) x y roots Failed)
-      (entered-many code v.cells x y k.returns roots (map (point_of v) k.moments) number q known p good stands (undone v cells trail) leads args
-      (ea ∙ ap (λ (r : Predicate). take (r.arity + 1) x) same-predicate) place behind (passes (place ∷ places_from code behind) over)))
+  pub turns-to-many : (a : Alternative) → PassesOver code m.cells (held m.x) (clause_places code predicate) (a.place ∷ places_from code a.behind)
+      → IsTurn code p m (record m { points = called_point number predicate.arity a m ∷ m.points; now = failed })
+  turns-to-many a over =
+      subst (λ c. IsTurn code p m (record m { points = c ∷ m.points; now = failed })) (called-same a)
+      (enters (record m { points = called_point number q.arity a m ∷ m.points; now = failed })
+      (entered-many code m.cells m.x m.y m.returns m.roots m.points number q known p good stands a (passes (a.place ∷ places_from code a.behind) over)))
+
+  pub turns-to-first : (l : ℕ) (ls : List ℕ) (a : Alternative) → PassesOver code m.cells (held m.x) (clause_places code predicate) (l ∷ ls) → PassesOver code m.cells (held m.x) ls (a.place ∷ places_from code a.behind)
+      → IsTurn code p m (record m { points = called_point number predicate.arity a m ∷ m.points; now = inside l })
+  turns-to-first l ls a over behind =
+      subst (λ c. IsTurn code p m (record m { points = c ∷ m.points; now = inside l })) (called-same a)
+      (enters (record m { points = called_point number q.arity a m ∷ m.points; now = inside l })
+      (entered-first code m.cells m.x m.y m.returns m.roots m.points number q known p good stands l ls a (passes (l ∷ ls) over) behind))
 
 module _ (code : Compiled) (s t u n r : Paused) (q : Point) (qs : List Point) (is : s.machine.points ≡ q ∷ qs) (due : s.machine.now ≡ failed) (first : Returned s t) (second : Returned t u)
     (behind : Option ℕ) (eb : q.behind ≡ behind) (place : ℕ) (ep : q.place ≡ place) (found : Option Alternative) (out : LeavesOut code t.machine (places_from code behind) (places_of code found))
@@ -238,3 +248,15 @@ module _ (code : Compiled) (s t u n r : Paused) (q : Point) (qs : List Point) (i
   retried-stays =
       subst (Stays s) (sym is-whole)
       (record { x = back.stays.x; y = back.stays.y; roots = back.stays.roots; spent = back.stays.spent; budget = back.stays.budget; room = back.stays.room })
+
+  -- the choice points behind the newest one are live, and that is if another clause of it is left
+  pub retried-live : IfSome found (λ a. UnifiesAtNewest code t.machine a.place) → KeepsLive code s.machine r.machine
+  retried-live unifies h =
+      let others : AllByRecursion (IsLive code) qs =
+      subst (λ ps. AllByRecursion (IsLive code) (kept_points failed ps)) is (subst (λ now. AllByRecursion (IsLive code) (kept_points now s.machine.points)) due h)
+      in
+      subst (λ (w : Paused). AreLive code w.machine) (sym is-whole) (points found unifies others)
+    where
+      points : (found : Option Alternative) → IfSome found (λ a. UnifiesAtNewest code t.machine a.place) → AllByRecursion (IsLive code) qs → AllByRecursion (IsLive code) (points_left found q qs)
+      points None unifies others = others
+      points (Some a) unifies others = (unifies q qs (first.points ∙ is), others)

@@ -5,9 +5,10 @@ use Rattle.ap_term.specs.WellFormed.{IsProgram}
 use Rattle.ap_term.specs.Search.{State, children}
 use Rattle.ap_instr.specs.Code.{Compiled}
 use Rattle.ap_instr.specs.StandsFor.{StandsFor}
-use Rattle.ap_steps.specs.Ways.{AllHaveTargets, room}
+use Rattle.ap_steps.specs.Ways.{AllHaveTargets, IsRoomFor}
 use Rattle.ap_standing.specs.Holds.{Turned}
 use Rattle.ap_standing.specs.Laws.{KeepsStanding, IsTurn}
+use Rattle.ap_section.specs.Live.{AreLive, KeepsLive}
 use Rattle.ap_section.specs.View.{Paused, IsFor}
 use Rattle.ap_section.specs.Choices.{Stays}
 use Rattle.ap_section.specs.Advanced.{Advanced}
@@ -19,19 +20,20 @@ pub Stays-trans : (s t u : Paused) → Stays s t → Stays t u → Stays s u
 Stays-trans s t u h k = record { x = k.x ∙ h.x; y = k.y ∙ h.y; roots = k.roots ∙ h.roots; spent = k.spent ∙ h.spent; budget = k.budget ∙ h.budget; room = k.room ∙ h.room }
 
 -- as many registers, and as much room
-pub as-wide : (code : Compiled) (old new : Paused) → IsFor code old → length new.machine.x ≡ length old.machine.x → length new.machine.y ≡ length old.machine.y → new.room ≡ old.room → IsFor code new
-as-wide code old new f ex ey er = record {
+pub as-wide : (code : Compiled) (old new : Paused) → IsFor code old → length new.machine.x ≡ length old.machine.x → length new.machine.y ≡ length old.machine.y → new.room ≡ old.room → AreLive code new.machine → IsFor code new
+as-wide code old new f ex ey er live = record {
   targets = λ at. subst (λ n. AllHaveTargets (drop at code.instructions) n (length new.machine.y)) (sym ex) (subst (λ n. AllHaveTargets (drop at code.instructions) (length old.machine.x) n) (sym ey) (f.targets at));
   arities = λ n q e. subst (λ m. q.arity < m) (sym ex) (f.arities n q e);
-  room = λ at. subst (λ n. room (drop at code.instructions) ≤ n) (sym er) (f.room at);
+  room = subst (IsRoomFor code) (sym er) f.room;
+  live = live;
 }
 
-pub still-for : (code : Compiled) (s t : Paused) → IsFor code s → Stays s t → IsFor code t
-still-for code s t f h = as-wide code s t f h.x h.y h.room
+pub still-for : (code : Compiled) (s t : Paused) → IsFor code s → Stays s t → KeepsLive code s.machine t.machine → IsFor code t
+still-for code s t f h live = as-wide code s t f h.x h.y h.room (live f.live)
 
 -- a section that differs in what registers and room are not, by what it is equal to
-pub for-same : (code : Compiled) (s t u : Paused) → s ≡ u → length t.machine.x ≡ length s.machine.x → length t.machine.y ≡ length s.machine.y → t.room ≡ s.room → IsFor code u → IsFor code t
-for-same code s t u e ex ey er f = as-wide code s t (subst (IsFor code) (sym e) f) ex ey er
+pub for-same : (code : Compiled) (s t u : Paused) → s ≡ u → length t.machine.x ≡ length s.machine.x → length t.machine.y ≡ length s.machine.y → t.room ≡ s.room → KeepsLive code s.machine t.machine → IsFor code u → IsFor code t
+for-same code s t u e ex ey er live f = let g : IsFor code s = subst (IsFor code) (sym e) f in as-wide code s t g ex ey er (live g.live)
 
 -- ---- turns
 
@@ -53,14 +55,15 @@ Advanced-then code r s t h k = record {
   x = k.x ∙ h.x;
   y = k.y ∙ h.y;
   room = k.room ∙ h.room;
+  live = λ l. k.live (h.live l);
 }
   where
     sum : (s.spent - r.spent) + (t.spent - s.spent) ≡ t.spent - r.spent
     sum = let a : r.spent ≤ s.spent = h.more in let b : s.spent ≤ t.spent = k.more in omega arith
 
 -- moves that are no calls
-pub settled : (code : Compiled) (s t : Paused) → KeepsStanding code s.machine t.machine → Stays s t → Advanced code s t
-settled code s t keeps h = record {
+pub settled : (code : Compiled) (s t : Paused) → KeepsStanding code s.machine t.machine → Stays s t → KeepsLive code s.machine t.machine → Advanced code s t
+settled code s t keeps h live = record {
   more = let a : t.spent ≡ s.spent = h.spent in omega arith;
   turned = λ p good stands ss k. (ss, subst (λ n. Turned p n ss ss) (let a : t.spent ≡ s.spent = h.spent in let q : 0 ≡ t.spent - s.spent = omega arith in q) refl, keeps ss k);
   budget = h.budget;
@@ -68,11 +71,12 @@ settled code s t keeps h = record {
   x = h.x;
   y = h.y;
   room = h.room;
+  live = live;
 }
 
 -- a call, which is counted
-pub counted : (code : Compiled) (s t : Paused) → ((p : Program) → IsProgram p → StandsFor code p → IsTurn code p s.machine t.machine) → Stays s t → Advanced code s (record t { spent = t.spent + 1 })
-counted code s t turn h = record {
+pub counted : (code : Compiled) (s t : Paused) → ((p : Program) → IsProgram p → StandsFor code p → IsTurn code p s.machine t.machine) → Stays s t → KeepsLive code s.machine t.machine → Advanced code s (record t { spent = t.spent + 1 })
+counted code s t turn h live = record {
   more = let a : t.spent ≡ s.spent = h.spent in omega arith;
   turned = λ p good stands ss k.
       let u = turn p good stands ss k in
@@ -82,6 +86,7 @@ counted code s t turn h = record {
   x = h.x;
   y = h.y;
   room = h.room;
+  live = live;
 }
   where
     one : 1 ≡ (t.spent + 1) - s.spent
@@ -89,11 +94,11 @@ counted code s t turn h = record {
 
 -- nothing was done
 pub stopped : (code : Compiled) (s : Paused) → Advanced code s s
-stopped code s = settled code s s (λ ss h. h) (Stays-refl s)
+stopped code s = settled code s s (λ ss h. h) (Stays-refl s) (λ l. l)
 
 -- what came out is what there was
 pub unchanged : (code : Compiled) (s t : Paused) → t ≡ s → Advanced code s t
 unchanged code s t e = subst (Advanced code s) (sym e) (stopped code s)
 
 pub for-after : (code : Compiled) (s t : Paused) → IsFor code s → Advanced code s t → IsFor code t
-for-after code s t f h = as-wide code s t f h.x h.y h.room
+for-after code s t f h = as-wide code s t f h.x h.y h.room (h.live f.live)

@@ -1,6 +1,6 @@
 -- A section whose instructions were taken, or taken back.
-use Rattle.std.proofs.Common.{◌≡◌, ℕ, ◌≤◌, List, ◌++◌, length, take, drop, map, Option, ap, ap₂, sym, ◌∙◌, subst, arith}
-use Rattle.std.proofs.lemmas.List.{take_all, take-append-le}
+use Rattle.std.proofs.Common.{◌≡◌, ℕ, ◌<◌, ◌≤◌, List, ◌++◌, length, take, drop, map, replicate, Option, ap, ap₂, sym, ◌∙◌, subst, arith}
+use Rattle.std.proofs.lemmas.List.{take_all, take-append-le, length-replicate}
 use Rattle.ap_term.specs.Search.{State}
 use Rattle.ap_cells.specs.declared.cells.Raw.{Raw}
 use Rattle.ap_cells.specs.Store.{Store, Keeps, IsTrail, IsMark, freed, undone}
@@ -19,6 +19,7 @@ use Rattle.ap_section.specs.declared.section.Now.{Now as Kind}
 use Rattle.ap_section.specs.View.{Paused, point_of, now_of, machine_of}
 use Rattle.ap_section.specs.Sane.{AreShort, AreMoments, Sane}
 use Rattle.ap_section.specs.Lasting.{SameRest}
+use Rattle.ap_section.proofs.Sanity.{held-zeros}
 use Rattle.ap_section.proofs.Kept.{HoldPlaces-more, AreWithin-more, inside-more, AreMoments-now, points-keep, HasBottom-keeps}
 
 -- registers that were written back
@@ -66,6 +67,16 @@ sane-kept v w k x y x' y' roots s keeps l ex ey =
     (subst (HoldPlaces (length w.cells)) (sym ex) (HoldPlaces-more (length v.cells) (length w.cells) x l s.x))
     (subst (HoldPlaces (length w.cells)) (sym ey) (HoldPlaces-more (length v.cells) (length w.cells) y l s.y))
     (ap length ex) (ap length ey)
+
+-- registers that all hold place 0
+pub sane-cleared : (v w : Store) (k : Kept) (x y x' y' roots : List ℕ) (n m : ℕ) → Sane v k x y roots → Keeps v w → length v.cells ≤ length w.cells → x' ≡ replicate n 0 → y' ≡ replicate m 0 → n ≡ length x → m ≡ length y
+    → Sane w k x' y' roots
+sane-cleared v w k x y x' y' roots n m s keeps l ex ey en em =
+    let some : 0 < length v.cells = s.bottom.mark.fewer in
+    sane-ran v w k x y x' y' roots s keeps l
+    (λ u. let z : held x' u ≡ 0 = ap (λ us. held us u) ex ∙ held-zeros n u in omega arith)
+    (λ u. let z : held y' u ≡ 0 = ap (λ us. held us u) ey ∙ held-zeros m u in omega arith)
+    (ap length ex ∙ length-replicate n 0 ∙ en) (ap length ey ∙ length-replicate m 0 ∙ em)
 
 -- nothing was changed but room
 pub machine-same : (v w : Store) (k : Kept) (x y x' y' roots : List ℕ) (next : Kind) → Sane v k x y roots → Keeps v w → w.cells ≡ v.cells → x' ≡ x → y' ≡ y

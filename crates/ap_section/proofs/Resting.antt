@@ -19,14 +19,16 @@ use Rattle.ap_resolution.specs.Instances.{Inst, SameSet, IsSetOf}
 use Rattle.ap_steps.specs.Moves.{held}
 use Rattle.ap_steps.specs.Standing.{AtCall, InCode}
 use Rattle.ap_steps.specs.Ways.{steps_from}
-use Rattle.ap_standing.specs.Machine.{Now, calling, inside, returning, failed, Machine, standing}
+use Rattle.ap_standing.specs.Machine.{Point, Now, calling, inside, returning, failed, Machine, standing}
 use Rattle.ap_standing.specs.Holds.{AtCallOf, SetAt, IsOpenAt, AreOpen, HoldsPoints, Holds}
 use Rattle.ap_standing.specs.Laws.{machine}
 use Rattle.ap_standing.proofs.Calls.{answered}
 use Rattle.ap_standing.proofs.Machines.{a-state, failed-points, points-failed, steps-at}
 use Rattle.ap_standing.proofs.Moved.{some-waits, some-call}
+use Rattle.ap_section.specs.Live.{IsLive, AreLive}
 use Rattle.ap_section.specs.View.{Paused}
 use Rattle.ap_section.specs.Stands.{IsCallDue, IsAtAnswer, IsAtEnd, tuple_of, IsAnswer, HasGoals}
+use Rattle.ap_section.proofs.Living.{all-live, some-left}
 
 -- ---- a call is due
 
@@ -116,6 +118,13 @@ module _ (code : Compiled) (m : Machine) (roots_inside : AllByRecursion (λ r. r
       let e : s ∷ ss ≡ a.0 ∷ a.1 = a.2 in
       let same : ss ≡ a.1 = cc in
       points-failed code (record m { now = failed }) refl (subst (AreOpen code) (sym at.1) tt) ss (subst (HoldsPoints code m.roots m.points) (sym same) a.5)
+
+  -- behind an answer a state is left, where another clause of a choice point is
+  pub answer-more : AreLive code m → (q : Point) (qs : List Point) → m.points ≡ q ∷ qs → (s : State) (ss : List State) → Holds code m (s ∷ ss) → ss ≡ [] → ⊥
+  answer-more live q qs e s ss h =
+      let all : AllByRecursion (IsLive code) (q ∷ qs) = subst (AllByRecursion (IsLive code)) e (all-live code m returning at.0 (λ qs. refl) live) in
+      some-left code m.roots q qs all.0 ss
+      (subst (λ ps. HoldsPoints code m.roots ps ss) e (failed-points code (record m { now = failed }) refl ss (answer-left s ss h)))
 
 -- ---- the end
 

@@ -2,6 +2,7 @@
 use Rattle.std.proofs.Common.{◌≡◌, ℕ, List, ◌∷◌, length, map, ap, sym, ◌∙◌, subst}
 use Rattle.ap_cells.specs.Store.{Store, IsMark, Keeps}
 use Rattle.ap_environments.specs.Kept.{Moment, Kept}
+use Rattle.ap_steps.specs.declared.room.Room.{Room}
 use Rattle.ap_standing.specs.Machine.{Point}
 use Rattle.ap_section.specs.declared.section.Now.{Now as Kind}
 use Rattle.ap_section.specs.View.{Paused, point_of, machine_of}
@@ -12,7 +13,7 @@ use Rattle.ap_section.proofs.Kept.{AreMoments-now, HasBottom-keeps}
 use Rattle.ap_section.proofs.Sanity.{some-moment, can-go-back, points-same, Sane-back, points-stay}
 
 -- from v by way of w, which keeps the marks of v, to u
-module _ (v w u : Store) (k l : Kept) (x y x' y' roots : List ℕ) (next : Kind) (spent budget room : ℕ) (s : Paused)
+module _ (v w u : Store) (k l : Kept) (x y x' y' roots : List ℕ) (next : Kind) (spent budget : ℕ) (room : Room) (s : Paused)
     (view : record { machine = machine_of v k x y roots next; spent = spent; budget = budget; room = room } ≡ s) (sane : Sane v k x y roots)
     (some : (q : Point) × (qs : List Point) × (s.machine.points ≡ q ∷ qs)) where
   pub can-return : CanGoBack v k.moments (length x)

@@ -6,6 +6,7 @@ use Rattle.ap_cells.specs.Store.{Store, undone, IsMark, IsTrail, Keeps}
 use Rattle.ap_environments.specs.Kept.{Moment, Kept}
 use Rattle.ap_environments.specs.declared.environments.Choice.{Choice}
 use Rattle.ap_control.proofs.Marks.{mark-whole}
+use Rattle.ap_steps.specs.declared.room.Room.{Room}
 use Rattle.ap_steps.specs.Moves.{held, HoldPlaces}
 use Rattle.ap_steps.specs.Standing.{Return}
 use Rattle.ap_standing.specs.Machine.{Point, AreWithin}
@@ -176,7 +177,7 @@ module _ (v : Store) (k l : Kept) (x y roots : List ℕ) (m : Moment) (ms : List
 
 -- ---- as the section's callers see it
 
-module _ (v : Store) (k l : Kept) (x y roots : List ℕ) (next : Kind) (spent budget room : ℕ) (s : Paused)
+module _ (v : Store) (k l : Kept) (x y roots : List ℕ) (next : Kind) (spent budget : ℕ) (room : Room) (s : Paused)
     (view : record { machine = machine_of v k x y roots next; spent = spent; budget = budget; room = room } ≡ s) where
   abbrev seen : List Point → List Return → Paused → Paused
   seen ps ws t = record t { machine = record t.machine { points = ps; returns = ws } }

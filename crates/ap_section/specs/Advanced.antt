@@ -6,6 +6,7 @@ use Rattle.ap_term.specs.Search.{State}
 use Rattle.ap_instr.specs.Code.{Compiled}
 use Rattle.ap_instr.specs.StandsFor.{StandsFor}
 use Rattle.ap_standing.specs.Holds.{Holds, Turned}
+use Rattle.ap_section.specs.Live.{KeepsLive}
 use Rattle.ap_section.specs.View.{Paused}
 
 -- As many turns of the model as calls were counted lead from each list of states that it stood for to one that it stands for.
@@ -17,3 +18,4 @@ pub record Advanced (code : Compiled) (old new : Paused) : Type 0 where
   pub x : length new.machine.x ≡ length old.machine.x
   pub y : length new.machine.y ≡ length old.machine.y
   pub room : new.room ≡ old.room
+  pub live : KeepsLive code old.machine new.machine

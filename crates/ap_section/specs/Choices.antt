@@ -1,5 +1,5 @@
 -- What a section's moves keep.
-use Rattle.std.specs.Prelude.{◌≡◌, ℕ, ◌≤◌, List, [], ◌∷◌, length, Option, None, Some}
+use Rattle.std.specs.Prelude.{◌≡◌, ℕ, ◌+◌, ◌≤◌, List, [], ◌∷◌, length, take, Option, None, Some}
 use Rattle.ap_term.specs.Search.{State}
 use Rattle.ap_instr.specs.Code.{Compiled}
 use Rattle.ap_control.specs.declared.alternatives.Alternative.{Alternative}
@@ -42,6 +42,17 @@ places_of code (Some a) = a.place ∷ places_from code a.behind
 pub record LeavesOut (code : Compiled) (m : Machine) (ls rest : List ℕ) : Type 0 where
   pub fewer : length rest ≤ length ls
   pub keeps : (q : Point) (qs : List Point) → m.points ≡ q ∷ qs → (ss : List State) → HoldsRest code m.roots q ls qs ss → HoldsRest code m.roots q rest qs ss
+
+-- a choice point for a call on the argument registers, with an alternative
+abbrev pub called_point : ℕ → ℕ → Alternative → Machine → Point
+called_point number arity a m = record {
+  cells = m.cells;
+  returns = m.returns;
+  arguments = take (arity + 1) m.x;
+  predicate = number;
+  place = a.place;
+  behind = a.behind;
+}
 
 -- the choice points where of the newest one an alternative, and those behind it, are left
 abbrev pub points_left : Option Alternative → Point → List Point → List Point

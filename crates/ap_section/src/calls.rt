@@ -1,6 +1,6 @@
 //! Calls, and the clauses that are tried.
 
-ghost use Rattle.std.specs.Prelude.{◌≡◌, ℕ, ◌<◌, ◌≤◌, List, [], ◌∷◌, length, drop, slice_get, Some, None, Ok, true, false, IfOk, IfSome, OnOk, OnErr};
+ghost use Rattle.std.specs.Prelude.{◌≡◌, ℕ, ◌+◌, ◌<◌, ◌≤◌, List, [], ◌∷◌, length, take, drop, slice_get, Some, None, Ok, true, false, IfOk, IfSome, OnOk, OnErr};
 ghost use Rattle.ap_term.specs.Goals.{Program};
 ghost use Rattle.ap_term.specs.WellFormed.{IsProgram};
 ghost use Rattle.ap_instr.specs.declared.compiled.Predicate.{Predicate as PredicateOf};
@@ -12,20 +12,19 @@ ghost use Rattle.ap_steps.specs.Ways.{AllHaveTargets, room, steps_from};
 ghost use Rattle.ap_standing.specs.Machine.{Point, calling, inside, failed, places_from};
 ghost use Rattle.ap_standing.specs.Laws.{IsTurn, KeepsStanding};
 ghost use Rattle.ap_control.specs.Heads.{PassesOver};
+ghost use Rattle.ap_control.specs.Taking.{CanTake};
 ghost use Rattle.ap_section.specs.View.{IsFor};
-ghost use Rattle.ap_section.specs.Choices.{Stays, AtNewest, Returned, LeavesOut, places_of, points_left};
+ghost use Rattle.ap_section.specs.Live.{UnifiesAtNewest, KeepsLive};
+ghost use Rattle.ap_section.specs.Choices.{Stays, AtNewest, Returned, LeavesOut, places_of, called_point, points_left};
 ghost use Rattle.ap_section.specs.Lasting.{moves_left};
 ghost use Rattle.ap_section.specs.Back.{CanGoBack, WentBack};
 
 use crate::section::{Now, Section};
-use ap_cells::{CellMark, Cells, Top};
+use ap_cells::{CellMark, Cells};
 use ap_codecheck::Sound;
-use ap_control::{
-    Alternative, first_possible, following, instruction_at, pass_over, run_to_transfer,
-};
+use ap_control::{Alternative, can_take, first_possible, following, pass_over, surely_unifies};
 use ap_environments::{Choice, Environments};
-use ap_instr::{Code, Instr, Predicate};
-use ap_steps::registers::place_in;
+use ap_instr::{Code, Predicate};
 use ap_term::NoMemory;
 use ap_unify::Work;
 
@@ -53,7 +52,7 @@ fn back_to_newest(cells: &mut Cells, environments: &mut Environments, x: &mut [u
     }
 }
 
-/// Whether the head of the clause at a place can be taken, and back to the newest choice point.
+/// Whether the clause at a place can be taken, and back to the newest choice point.
 fn run_and_go_back(
     cells: &mut Cells,
     environments: &mut Environments,
@@ -68,81 +67,15 @@ fn run_and_go_back(
     requires holds_x { HoldPlaces (length cells.old.cells) x.old }
     requires holds_y { HoldPlaces (length cells.old.cells) y.old }
     requires back { CanGoBack cells.old environments.old.moments (length x.old) }
+    ensures taken { IfOk result (λ b. b ≡ true → CanTake code.now cells.old.cells (held x.old) at) }
     ensures stuck { IfOk result (λ b. b ≡ false → IsStuck cells.old.cells (held x.old) (held y.old) (steps_from code.now at)) }
     ensures back { (w : Store) × Keeps cells.old w × ((m : Moment) (ms : List Moment) → environments.old.moments ≡ m ∷ ms → WentBack w cells.new environments.old environments.new x.new y.new m) }
     ensures x_len { length x.new ≡ length x.old }
     ensures y_len { length y.new ≡ length y.old }
 {
-    let outcome = run_to_transfer(cells, x, y, code, at, work);
+    let outcome = can_take(cells, x, y, code, at, work);
     back_to_newest(cells, environments, x, y);
-    match outcome {
-        Ok(Some(_)) => Ok(true),
-        Ok(None) => Ok(false),
-        Err(error) => Err(error),
-    }
-}
-
-/// What an instruction of a head asks, on registers on which it doesn't fail at once.
-#[derive(Clone, Copy)]
-enum Want {
-    /// Nothing: it is taken as it stands.
-    Nothing,
-    /// An unbound variable is to be bound.
-    Binding,
-    /// Anything else.
-    More,
-    /// It is none of a head's.
-    End,
-}
-
-/// What an instruction asks that wants a constant at a place.
-fn wanted_at(cells: &Cells, place: usize) -> Want
-    requires { place < length cells.now.cells }
-{
-    match cells.top(place) {
-        Top::Free(_) => Want::Binding,
-        _ => Want::Nothing,
-    }
-}
-
-/// What an instruction asks.
-fn wanted(cells: &Cells, x: &[u32], instr: Instr) -> Want
-    requires { HoldPlaces (length cells.now.cells) x.now }
-{
-    match instr {
-        Instr::GetVariable(_, _) => Want::Nothing,
-        Instr::Allocate(_) => Want::Nothing,
-        Instr::GetConstant(_, a) => wanted_at(cells, place_in(x, a)),
-        Instr::GetInteger(_, a) => wanted_at(cells, place_in(x, a)),
-        Instr::GetValue(_, _) => Want::More,
-        Instr::GetStructure(_, _, _) => Want::More,
-        _ => Want::End,
-    }
-}
-
-/// Whether a clause that doesn't fail at once may fail further on in its head, which is then worth a try: it wants more than
-/// constants of which one at most is bound to a variable. Nothing is promised of that: a clause that isn't tried is one that stays.
-fn may_fail(cells: &Cells, x: &[u32], code: &Code, at: usize) -> bool
-    requires { HoldPlaces (length cells.now.cells) x.now }
-{
-    let mut binds = false;
-    for place in at..code.instructions().len() {
-        let Some(instr) = instruction_at(code, place) else {
-            return false;
-        };
-        match wanted(cells, x, instr) {
-            Want::Nothing => {}
-            Want::Binding => {
-                if binds {
-                    return true;
-                }
-                binds = true;
-            }
-            Want::More => return true,
-            Want::End => return false,
-        }
-    }
-    false
+    outcome
 }
 
 impl Section {
@@ -161,39 +94,67 @@ impl Section {
         pass_over(&self.cells, &self.x, sound, behind)
     }
 
-    /// Enters a predicate of the table, which is a turn. Clauses that fail at once are passed over; where two others or more
-    /// are left, a choice point keeps them, and where one is, control goes right inside it. Without memory nothing changes.
+    /// Whether the head of a clause surely unifies with the call of a predicate of so many arguments.
+    fn surely_takes(&self, code: &Code, arity: u8, place: u32) -> bool
+        requires { arity < length self.now.machine.x }
+        ensures { result ≡ true → CanTake code.now self.now.machine.cells (held (take (arity + 1) self.now.machine.x)) place }
+    {
+        let arguments = &self.x[..arity as usize + 1];
+        surely_unifies(&self.cells, arguments, code, place as usize)
+    }
+
+    /// Keeps a choice point for the call of a predicate of so many arguments.
+    fn keep(&mut self, number: u32, arity: u8, left: Alternative) -> Result<(), NoMemory>
+        requires { arity < length self.old.machine.x }
+        ensures ok { OnOk result (self.new ≡ record self.old { machine = record self.old.machine { points = called_point number arity left self.old.machine ∷ self.old.machine.points } }) }
+        ensures err { OnErr result (self.new ≡ self.old) }
+    {
+        self.cells.is_store();
+        let mark = self.cells.mark();
+        let choice = Choice {
+            cells: mark.cells,
+            trail: mark.trail,
+            predicate: number,
+            place: left.place,
+            behind: left.behind,
+        };
+        let arguments = &self.x[..arity as usize + 1];
+        self.environments.keep(choice, arguments)?;
+        Ok(())
+    }
+
+    /// Enters a predicate of the table, which is a turn. Clauses that fail at once are passed over, and control goes right
+    /// inside the first one that is left; a choice point keeps the next one, where its head surely unifies with the call.
+    /// Where that isn't sure, the choice point keeps both, and is gone back to. Without memory nothing changes.
     pub(crate) fn enter(&mut self, sound: &Sound, number: u32) -> Result<(), NoMemory>
         requires due { self.old.machine.now ≡ calling number }
         requires is_for { IsFor sound.now self.old }
         ensures turn { OnOk result ((p : Program) (q : PredicateOf) → slice_get sound.now.predicates number ≡ Some q → IsProgram p → StandsFor sound.now p → IsTurn sound.now p self.old.machine self.new.machine) }
         ensures kept { OnErr result (self.new ≡ self.old) }
         ensures stays { Stays self.old self.new }
+        ensures live { KeepsLive sound.now self.old.machine self.new.machine }
     {
-        let Some(predicate) = predicate_at(sound.code(), number) else {
-            self.next = Now::Failed;
+        let code = sound.code();
+        let Some(predicate) = predicate_at(code, number) else {
+            self.fail();
             return Ok(());
         };
-        let Some(alternative) = self.first_clause(sound, &predicate) else {
-            self.next = Now::Failed;
+        let Some(first) = self.first_clause(sound, &predicate) else {
+            self.fail();
             return Ok(());
         };
-        match self.choice_from(sound, alternative.behind) {
-            None => self.next = Now::Inside(alternative.place as usize),
-            Some(_) => {
-                self.cells.is_store();
-                let mark = self.cells.mark();
-                let choice = Choice {
-                    cells: mark.cells,
-                    trail: mark.trail,
-                    predicate: number,
-                    place: alternative.place,
-                    behind: alternative.behind,
-                };
-                let arguments = &self.x[..predicate.arity as usize + 1];
-                self.environments.keep(choice, arguments)?;
-                self.next = Now::Failed;
-            }
+        let rest = self.choice_from(sound, first.behind);
+        let Some(next) = following(code, rest) else {
+            self.resume(first.place as usize);
+            return Ok(());
+        };
+        let arity = predicate.arity;
+        if self.surely_takes(code, arity, next.place) {
+            self.keep(number, arity, next)?;
+            self.resume(first.place as usize);
+        } else {
+            self.keep(number, arity, first)?;
+            self.fail();
         }
         Ok(())
     }
@@ -219,18 +180,19 @@ impl Section {
         );
     }
 
-    /// Whether a clause's head unifies with the call of the newest choice point, where the section stands. A head that
-    /// surely does isn't run for that.
+    /// Whether the clause at a place can be taken at the newest choice point, where the section stands. A head that surely
+    /// unifies with the call isn't run for that.
     fn try_clause(&mut self, code: &Code, place: u32) -> Result<bool, NoMemory>
         requires is_for { IsFor code.now self.old }
         requires at { AtNewest self.old.machine }
+        ensures taken { IfOk result (λ b. b ≡ true → CanTake code.now self.old.machine.cells (held self.old.machine.x) place) }
         ensures stuck { IfOk result (λ b. b ≡ false → IsStuck self.old.machine.cells (held self.old.machine.x) (held self.old.machine.y) (steps_from code.now place)) }
         ensures back { Returned self.old self.new }
     {
-        if !may_fail(&self.cells, &self.x, code, place as usize) {
+        if surely_unifies(&self.cells, &self.x, code, place as usize) {
             return Ok(true);
         }
-        self.cells.reserve(self.room)?;
+        self.cells.reserve(self.room.cells)?;
         run_and_go_back(
             &mut self.cells,
             &mut self.environments,
@@ -251,6 +213,7 @@ impl Section {
         requires is_for { IsFor sound.now self.old }
         requires at { AtNewest self.old.machine }
         ensures left { IfOk result (λ found. LeavesOut sound.now self.old.machine (places_from sound.now behind) (places_of sound.now found)) }
+        ensures live { IfOk result (λ found. IfSome found (λ a. UnifiesAtNewest sound.now self.old.machine a.place)) }
         ensures back { Returned self.old self.new }
     {
         let code = sound.code();
@@ -305,6 +268,7 @@ impl Section {
         requires is_for { IsFor sound.now self.old }
         ensures holds { KeepsStanding sound.now self.old.machine self.new.machine }
         ensures ended { result ≡ Ok false → (self.new ≡ self.old) × (self.old.machine.points ≡ []) }
+        ensures live { KeepsLive sound.now self.old.machine self.new.machine }
         ensures fewer { result ≡ Ok true → moves_left sound.now self.new.machine < moves_left sound.now self.old.machine }
         ensures still { OnErr result (self.new.machine.now ≡ failed) }
         ensures stays { Stays self.old self.new }

@@ -6,7 +6,7 @@ ghost use Rattle.ap_cells.specs.Store.{Keeps};
 ghost use Rattle.ap_instr.specs.declared.compiled.Predicate.{Predicate};
 ghost use Rattle.ap_instr.specs.Code.{Compiled};
 ghost use Rattle.ap_steps.specs.Moves.{held, HoldPlaces};
-ghost use Rattle.ap_steps.specs.Ways.{AllHaveTargets, room};
+ghost use Rattle.ap_steps.specs.Ways.{AllHaveTargets, room, wants};
 ghost use Rattle.ap_control.specs.Runs.{RanOrStuck, IsTransferAt};
 ghost use Rattle.ap_standing.specs.Machine.{inside, returning, failed};
 ghost use Rattle.ap_standing.specs.Holds.{Holds};
@@ -24,10 +24,14 @@ use ap_instr::{Code, Instr};
 use ap_term::NoMemory;
 use ap_unify::Work;
 
-/// Keeps what registers hold, in a vector whose memory is used again.
-fn save(saved: &mut Vec<u32>, registers: &[u32]) -> Result<(), NoMemory>
-    ensures { OnOk result (saved.new.items ≡ registers.now) }
+/// Keeps what registers hold, if that may be needed, in a vector whose memory is used again.
+#[inline]
+fn save(needed: bool, saved: &mut Vec<u32>, registers: &[u32]) -> Result<(), NoMemory>
+    ensures { OnOk result (needed ≡ true → saved.new.items ≡ registers.now) }
 {
+    if !needed {
+        return Ok(());
+    }
     if saved.len() == registers.len() {
         saved.copy_from_slice(registers);
         return Ok(());
@@ -74,6 +78,7 @@ fn run_or_undo(
     ensures ran { IfOk result (λ to. RanOrStuck code.now at cells.old.cells x.old y.old to cells.new.cells x.new y.new) }
     ensures transfer { IfOk result (λ to. IfSome to (λ place. IsTransferAt code.now place)) }
     ensures longer { length cells.old.cells ≤ length cells.new.cells }
+    ensures wants { OnErr result (wants (drop at code.now.instructions) ≡ true) }
     ensures err { OnErr result (cells.new.cells ≡ cells.old.cells) }
     ensures x_len { length x.new ≡ length x.old }
     ensures y_len { length y.new ≡ length y.old }
@@ -106,9 +111,10 @@ impl Section {
         ensures at { IfOk result (λ found. MatchOption found (self.new.machine.now ≡ failed) (λ to. (self.new.machine.now ≡ inside to) × IsTransferAt code.now to)) }
         ensures kept { OnErr result (self.new ≡ self.old) }
     {
-        self.cells.reserve(self.room)?;
-        save(&mut self.before_x, &self.x)?;
-        save(&mut self.before_y, &self.y)?;
+        self.cells.reserve(self.room.cells)?;
+        let may_want = self.room.may_want(at);
+        save(may_want, &mut self.before_x, &self.x)?;
+        save(may_want, &mut self.before_y, &self.y)?;
         match run_or_undo(
             &mut self.cells,
             &mut self.x,
@@ -122,8 +128,8 @@ impl Section {
                 Ok(Some(to))
             }
             Ok(None) => {
-                self.x.copy_from_slice(&self.before_x);
-                self.y.copy_from_slice(&self.before_y);
+                self.x.fill(0);
+                self.y.fill(0);
                 self.next = Now::Failed;
                 Ok(None)
             }
@@ -144,6 +150,7 @@ impl Section {
         ensures fewer { IfOk result (λ found. IfNone found (moves_left code.now self.new.machine < moves_left code.now self.old.machine)) }
         ensures due { IfOk result (λ found. IfSome found (λ due. IsDue code.now self.new.machine due)) }
         ensures kept { OnErr result (self.new ≡ self.old) }
+        ensures points { self.new.machine.points ≡ self.old.machine.points }
     {
         match instruction_at(code, at) {
             None => self.next = Now::Failed,
@@ -185,6 +192,7 @@ impl Section {
         ensures ended { result ≡ false → self.new ≡ self.old }
         ensures fewer { result ≡ true → (code : Compiled) → moves_left code self.new.machine < moves_left code self.old.machine }
         ensures no_return { result ≡ false → self.old.machine.returns ≡ [] }
+        ensures points { self.new.machine.points ≡ self.old.machine.points }
     {
         match self.environments.pop(&mut self.y) {
             Some(place) => {

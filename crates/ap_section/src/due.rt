@@ -4,6 +4,7 @@ ghost use Rattle.std.specs.Prelude.{◌≡◌, ◌≤◌, ◌<◌, Some, None, t
 ghost use Rattle.ap_standing.specs.Machine.{calling, inside};
 ghost use Rattle.ap_standing.specs.Laws.{KeepsStanding};
 ghost use Rattle.ap_section.specs.View.{IsFor};
+ghost use Rattle.ap_section.specs.Live.{KeepsLive};
 ghost use Rattle.ap_section.specs.Choices.{Stays};
 ghost use Rattle.ap_section.specs.Lasting.{moves_left};
 ghost use Rattle.ap_section.specs.Due.{IsDue};
@@ -35,6 +36,7 @@ impl Section {
         ensures stays { Stays self.old self.new }
         ensures fewer { IfNone result (moves_left code.now self.new.machine < moves_left code.now self.old.machine) }
         ensures due { IfSome result (λ due. IsDue code.now self.new.machine due) }
+        ensures points { self.new.machine.points ≡ self.old.machine.points }
     {
         if is_known(code, number) {
             return Some(Due::Call(number));
@@ -51,6 +53,7 @@ impl Section {
         ensures stays { Stays self.old self.new }
         ensures fewer { IfOk result (λ found. IfNone found (moves_left code.now self.new.machine < moves_left code.now self.old.machine)) }
         ensures due { IfOk result (λ found. IfSome found (λ due. IsDue code.now self.new.machine due)) }
+        ensures points { self.new.machine.points ≡ self.old.machine.points }
     {
         match self.run(code, at)? {
             Some(to) => self.transfer(code, to),
@@ -65,6 +68,7 @@ impl Section {
         ensures stays { Stays self.old self.new }
         ensures fewer { IfOk result (λ found. IfNone found (moves_left sound.now self.new.machine < moves_left sound.now self.old.machine)) }
         ensures due { IfOk result (λ found. IfSome found (λ due. IsDue sound.now self.new.machine due)) }
+        ensures live { KeepsLive sound.now self.old.machine self.new.machine }
     {
         let code = sound.code();
         match self.now() {
@@ -91,6 +95,7 @@ impl Section {
         ensures holds { KeepsStanding sound.now self.old.machine self.new.machine }
         ensures stays { Stays self.old self.new }
         ensures due { IfOk result (λ due. IsDue sound.now self.new.machine due) }
+        ensures live { KeepsLive sound.now self.old.machine self.new.machine }
     {
         'moves: loop {
             if let Some(due) = self.go_on(sound)? {

@@ -110,6 +110,7 @@ impl Section {
         ensures turn { OnOk result ((p : Program) → IsProgram p → IsTurn code.now p self.old.machine self.new.machine) }
         ensures kept { OnErr result (self.new ≡ self.old) }
         ensures stays { Stays self.old self.new }
+        ensures points { self.new.machine.points ≡ self.old.machine.points }
     {
         let to = behind(code, at);
         let holds = solve_goal(

@@ -16,6 +16,7 @@ use ap_cells::{CellMark, Cells};
 use ap_checks::Comparison;
 use ap_copy::{Packing, Parcelled, copy_out};
 use ap_environments::Environments;
+use ap_steps::room::Room;
 use ap_term::NoMemory;
 use ap_unify::Work;
 use std::alloc::Global;
@@ -47,7 +48,7 @@ pub struct Section {
     pub(crate) next: Now,
     pub(crate) spent: u64,
     pub(crate) budget: u64,
-    pub(crate) room: usize,
+    pub(crate) room: Room,
     pub(crate) before_x: Vec<u32>,
     pub(crate) before_y: Vec<u32>,
     pub(crate) work: Work,
@@ -122,11 +123,16 @@ impl Section {
         let _ = &self.cells;
     }
 
-    /// Whether an alternative is left.
+    /// Whether an alternative is left. At an answer that says whether another state is.
     pub fn has_more(&self) -> bool
-        ensures { result ≡ false → self.now.machine.points ≡ [] }
+        ensures none { result ≡ false → self.now.machine.points ≡ [] }
+        ensures more { result ≡ true → (code : Compiled) → IsFor code self.now → IsAtAnswer self.now.machine → (s : State) (ss : List State) → Holds code self.now.machine (s ∷ ss) → ss ≡ [] → ⊥ }
+        ensures last { result ≡ false → (code : Compiled) → IsAtAnswer self.now.machine → (s : State) (ss : List State) → Holds code self.now.machine (s ∷ ss) → ss ≡ [] }
     {
-        self.environments.newest().is_some()
+        match self.environments.newest() {
+            Some(_) => true,
+            None => false,
+        }
     }
 
     /// Leaves the answer at which it stands; the search goes on behind it.

@@ -18,7 +18,7 @@ use ap_control::{first, following, widths_of};
 use ap_copy::{Parcelled, Roots, copy_in};
 use ap_environments::Environments;
 use ap_instr::Code;
-use ap_steps::room::most_room;
+use ap_steps::room::Room;
 use ap_term::{Atom, NoMemory};
 use ap_unify::Work;
 use std::alloc::Global;
@@ -116,7 +116,7 @@ impl Section {
         let x = arguments(alloc, widths.x, copied)?;
         let y = registers(alloc, widths.y)?;
         let roots = places(alloc, copied)?;
-        let room = most_room(code)?;
+        let room = Room::of(alloc, code)?;
         let section = Section {
             cells,
             environments: Environments::new(alloc),

@@ -7,3 +7,5 @@ pub mod Entry
 pub mod Finding
 pub mod StructureSteps
 pub mod StructuresTaken
+pub mod MemoryWants
+pub mod NewCells

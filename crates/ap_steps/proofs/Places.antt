@@ -1,12 +1,16 @@
 -- The instructions from a place of code on.
-use Rattle.std.proofs.Common.{◌≡◌, ℕ, zero, suc, ◌+◌, ◌≤◌, false, if◌then◌else◌, List, [], ◌∷◌, drop, slice_get, Some, None, refl, ap, ◌∙◌, subst, arith}
+use Rattle.std.proofs.Common.{◌≡◌, ℕ, zero, suc, ◌+◌, ◌-◌, ◌<◌, ◌≤◌, true, false, if◌then◌else◌, List, [], ◌∷◌, length, take, drop, min, get_or, slice_get, Some, None, refl, ap, ◌∙◌, subst, arith}
+use Rattle.std.proofs.Math.Nat.{le-min}
+use Rattle.std.proofs.lemmas.List.{get_or-drop, get_or-take, length-drop, length-take}
+use Rattle.std.proofs.lemmas.List.Folds.{list_any_kept, list_any_at}
+use Rattle.std.proofs.lemmas.Option.{slice_get_within, get_or_from_slice_get}
 use borrow.Author.Count.{below_more}
 use Rattle.ap_instr.specs.declared.instruction.Instr.{Instr}
 use Rattle.ap_instr.specs.declared.instruction.Instr.TheVariants.{Allocate, Deallocate}
 use Rattle.ap_instr.specs.Code.{Compiled}
 use Rattle.ap_instr.specs.Step.{step_of, steps_of}
 use Rattle.ap_steps.specs.Moves.{HasTargets}
-use Rattle.ap_steps.specs.Ways.{is_control, is_transfer, cells_of, room, NoneOfControl, AllHaveTargets, steps_from}
+use Rattle.ap_steps.specs.Ways.{is_control, is_transfer, is_value, has_value, cells_of, room, NoneOfControl, AllHaveTargets, steps_from}
 
 pub drop-here : (is : List Instr) (at : ℕ) (i : Instr) → slice_get is at ≡ Some i → drop at is ≡ i ∷ drop (at + 1) is
 drop-here [] at i e = cc
@@ -58,3 +62,22 @@ none-room is at (suc n) none =
     let q : at + n + 1 ≡ at + suc n = omega arith in
     let moved : room (drop (at + n + 1) is) ≡ room (drop (at + suc n) is) = ap (λ m. room (drop m is)) q in
     omega arith
+
+-- ---- what registers hold among so many instructions
+
+-- one more instruction
+pub value-kept : (is : List Instr) (at n : ℕ) → has_value is at n ≡ true → has_value is at (n + 1) ≡ true
+value-kept is at n h = list_any_kept is_value (drop at is) n h
+
+module _ (is : List Instr) (at n : ℕ) (i : Instr) (here : slice_get is (at + n) ≡ Some i) where
+  behind : n < length (drop at is)
+  behind = let l : at + n < length is = slice_get_within is (at + n) i here in let q : length (drop at is) ≡ length is - at = length-drop at is in omega arith
+
+  found : get_or (drop at is) n i ≡ i
+  found = get_or-drop at is n i ∙ get_or_from_slice_get is (at + n) i i here
+
+  pub value-among : (count : ℕ) → n < count → is_value i ≡ true → has_value is at count ≡ true
+  value-among count less value =
+      let all : length (take count (drop at is)) ≡ min count (length (drop at is)) = length-take count (drop at is) in
+      let least : suc n ≤ min count (length (drop at is)) = le-min (omega arith) (let l : n < length (drop at is) = behind in omega arith) in
+      list_any_at is_value (take count (drop at is)) n i (omega arith) (ap is_value (get_or-take count (drop at is) n i less ∙ found) ∙ value)

@@ -1,16 +1,18 @@
 -- The steps that structures take, by the instructions of their arguments.
-use Rattle.std.proofs.Common.{◌≡◌, ℕ, ◌+◌, ◌<◌, Bool, true, false, List, ◌∷◌, length, ap, sym, ◌∙◌, subst, arith}
-use Rattle.ap_term.specs.Tree.{Tree, Trees, node, count_trees}
+use Rattle.std.proofs.Common.{◌≡◌, ℕ, ◌+◌, ◌<◌, ◌≤◌, Bool, true, false, List, ◌∷◌, length, ap, sym, ◌∙◌, subst, arith}
+use Rattle.ap_term.specs.Tree.{Tree, Trees, var, node, count_trees}
 use Rattle.ap_cells.specs.declared.cells.Raw.{Raw}
+use Rattle.ap_cells.specs.Trees.{tree_at, trees}
 use Rattle.ap_instr.specs.Code.{Compiled}
 use Rattle.ap_instr.specs.Step.{get_structure, put_structure}
 use Rattle.ap_instr.specs.Runs.{set, spread}
 use Rattle.ap_match.specs.Fits.{Fits, Becomes, Answered}
 use Rattle.ap_steps.specs.Moves.{IsStuck}
-use Rattle.ap_steps.specs.Arguments.{BuiltAll, IsStuckInside}
+use Rattle.ap_steps.specs.Arguments.{BuiltAll, IsStuckInside, KeepTrees}
 use Rattle.ap_steps.specs.Found.{MatchedAll}
 use Rattle.ap_steps.specs.Ways.{steps_from, StepTaken}
 use Rattle.ap_steps.proofs.RegisterMaps.{funext}
+use Rattle.ap_steps.proofs.NewCells.{asked-of}
 use Rattle.ap_steps.proofs.StructureSteps.{node-args, node-name, spread-count, structure-built, structure-stuck, structure-found, found-stuck, another-stuck, got-apart, got-built}
 
 module _ (code : Compiled) (at f n a : ℕ) (cs : List Raw) (x y : ℕ → ℕ) where
@@ -29,12 +31,16 @@ module _ (code : Compiled) (at f n a : ℕ) (cs : List Raw) (x y : ℕ → ℕ) 
   pub no_structure : (t : Tree) → ((ts : Trees) → t ≡ node f ts → ⊥) → ((k : ℕ → Tree) → Fits cs k → k (x a) ≡ t) → IsStuck cs x y (get_structure f n a ∷ steps_from code at)
   no_structure t apart found = another-stuck cs x y f n a (steps_from code at) (λ k ts h e q. apart ts (sym (found k h) ∙ q))
 
-  -- one that is built
-  module _ (inside_x : (w : ℕ) → x w < length cs) (inside_y : (w : ℕ) → y w < length cs) (place first : ℕ) (is_first : first ≡ length cs) (is_place : x a ≡ place) where
-    pub built-taken : (ds es : List Raw) (x' y' : ℕ → ℕ) → BuiltAll n cs x y (steps_from code at) ds x' y' (steps_from code (at + n)) → ((w : ℕ) → x' w < length ds) → ((w : ℕ) → y' w < length ds) → (b : Bool)
-        → Answered ds es (λ k. k place ≡ node f (spread k first n)) b → StepTaken code (get_structure f n a) at n cs x y es x' y' b
-    built-taken ds es x' y' built in_x in_y b answer = go b (subst (λ q. Answered ds es (λ k. k (x a) ≡ node f (spread k q n)) b) is_first (subst (λ q. Answered ds es (λ k. k q ≡ node f (spread k first n)) b) (sym is_place) answer))
+  -- one that is built and bound to a variable, which the argument was before
+  module _ (inside_x : (w : ℕ) → x w < length cs) (inside_y : (w : ℕ) → y w < length cs) (variable first : ℕ) (is_first : first ≡ length cs) (inside : variable < length cs) (unbound : tree_at (trees cs) variable ≡ var variable) (was : tree_at (trees cs) (x a) ≡ var variable) where
+    pub built-taken : (ds es : List Raw) (x' y' : ℕ → ℕ) → KeepTrees cs ds → BuiltAll n cs x y (steps_from code at) ds x' y' (steps_from code (at + n)) → ((w : ℕ) → x' w < length ds) → ((w : ℕ) → y' w < length ds) → (b : Bool)
+        → Answered ds es (λ k. k variable ≡ node f (spread k first n)) b → StepTaken code (get_structure f n a) at n cs x y es x' y' b
+    built-taken ds es x' y' keep built in_x in_y b answer =
+        go b (subst (λ q. Answered ds es (λ k. k (x a) ≡ node f (spread k q n)) b) is_first (asked-of cs ds es variable (x a) keep longer inside (inside_x a) unbound was (λ k. node f (spread k first n)) b answer))
       where
+        longer : length cs ≤ length ds
+        longer = let l : length ds ≡ length cs + n = built.longer in omega arith
+
         go : (b : Bool) → Answered ds es (λ k. k (x a) ≡ node f (spread k (length cs) n)) b → StepTaken code (get_structure f n a) at n cs x y es x' y' b
         go true becomes = got-built cs x y f n a (steps_from code at) inside_x inside_y ds es x' y' (steps_from code (at + n)) built in_x in_y becomes
         go false never = got-apart cs x y f n a (steps_from code at) inside_x inside_y ds es x' y' (steps_from code (at + n)) built never

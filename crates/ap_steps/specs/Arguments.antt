@@ -2,11 +2,15 @@
 -- the cells that are pushed.
 use Rattle.std.specs.Prelude.{◌≡◌, ℕ, suc, ◌+◌, ◌<◌, ◌≤◌, Bool, true, false, List, ◌∷◌, length}
 use Rattle.ap_term.specs.Tree.{Tree, Trees}
+use Rattle.ap_term.specs.Vars.{occurs}
 use Rattle.ap_cells.specs.declared.cells.Raw.{Raw}
+use Rattle.ap_cells.specs.Trees.{tree_at, trees}
 use Rattle.ap_instr.specs.Code.{Compiled}
 use Rattle.ap_instr.specs.Step.{Step}
 use Rattle.ap_instr.specs.Runs.{Runs, spread}
 use Rattle.ap_match.specs.Fits.{Fits}
+use Rattle.ap_steps.specs.declared.arguments.Parts.{Parts}
+use Rattle.ap_steps.specs.declared.arguments.Parts.TheVariants.{Fresh, Values, Stuck}
 use Rattle.ap_steps.specs.Ways.{steps_from}
 
 -- under a map that fits the cells, inside a structure whose arguments ts are still to come, the steps ask for these goals
@@ -40,3 +44,17 @@ IsStuckInside whole total cs x y js =
 abbrev pub BuiltOrStuck : Compiled → ℕ → ℕ → List Raw → (ℕ → ℕ) → (ℕ → ℕ) → List Raw → (ℕ → ℕ) → (ℕ → ℕ) → Bool → Type 0
 BuiltOrStuck code at n cs x y ds x' y' true = BuiltAll n cs x y (steps_from code at) ds x' y' (steps_from code (at + n))
 BuiltOrStuck code at n cs x y ds x' y' false = IsStuckInside (length cs + n) n cs x y (steps_from code at)
+
+-- arguments were built
+abbrev pub are_built : Parts → Bool
+are_built Fresh = true
+are_built Values = true
+are_built Stuck = false
+
+-- the old places keep their trees
+abbrev pub KeepTrees : List Raw → List Raw → Type 0
+KeepTrees cs ds = (p : ℕ) → p < length cs → tree_at (trees ds) p ≡ tree_at (trees cs) p
+
+-- no variable of the old cells stands in the cells behind them, as where these are constants and variables of their own
+abbrev pub StandApart : List Raw → List Raw → Type 0
+StandApart cs ds = (x p : ℕ) → x < length cs → length cs ≤ p → p < length ds → occurs x (tree_at (trees ds) p) ≡ false

@@ -1,11 +1,13 @@
 -- Where the instructions of a clause lead.
-use Rattle.std.specs.Prelude.{◌≡◌, ℕ, ◌+◌, ◌<◌, ◌≤◌, Bool, true, false, if◌then◌else◌, List, [], ◌∷◌, length, drop, slice_get, Some}
+use Rattle.std.specs.Prelude.{◌≡◌, ℕ, ◌+◌, ◌<◌, ◌≤◌, Bool, true, false, ◌||◌, if◌then◌else◌, List, [], ◌∷◌, length, take, drop, slice_get, slice_index_or, Some}
+use Rattle.std.specs.List.{list_any}
 use Rattle.ap_cells.specs.declared.cells.Raw.{Raw}
 use Rattle.ap_cells.specs.Store.{Store}
 use Rattle.ap_instr.specs.declared.instruction.Instr.{Instr}
-use Rattle.ap_instr.specs.declared.instruction.Instr.TheVariants.{GetStructure, PutVariable, PutConstant, PutInteger, PutStructure, Allocate, Deallocate, Call, Execute, Proceed, Builtin, Jump, Fail, Try, Retry, Trust}
+use Rattle.ap_instr.specs.declared.instruction.Instr.TheVariants.{GetValue, GetStructure, PutVariable, PutConstant, PutInteger, PutStructure, UnifyValue, Allocate, Deallocate, Call, Execute, Proceed, Builtin, Jump, Fail, Try, Retry, Trust}
 use Rattle.ap_instr.specs.Code.{Compiled}
 use Rattle.ap_instr.specs.Step.{Step, step_of, steps_of}
+use Rattle.ap_steps.specs.declared.room.Room.{Room}
 use Rattle.ap_steps.specs.declared.run.Outcome.{Outcome}
 use Rattle.ap_steps.specs.declared.run.Outcome.TheVariants.{On, Transfer, Stuck}
 use Rattle.ap_steps.specs.Moves.{held, HoldPlaces, HasTargets, Moves, IsStuck}
@@ -35,6 +37,15 @@ is_transfer i = is_control i
 abbrev pub NoneOfControl : List Instr → ℕ → ℕ → Type 0
 NoneOfControl is at n = (k : ℕ) → k < n → (i : Instr) × (slice_get is (at + k) ≡ Some i) × (is_control i ≡ false)
 
+-- an argument that is what a register holds
+abbrev pub is_value : Instr → Bool
+is_value (UnifyValue v) = true
+is_value _ = false
+
+-- whether one stands among so many instructions from a place on
+abbrev pub has_value : List Instr → ℕ → ℕ → Bool
+has_value is at count = list_any is_value (take count (drop at is))
+
 -- the most cells that an instruction makes; a structure's own is one, and those of its arguments count with it
 abbrev pub cells_of : Instr → ℕ
 cells_of (GetStructure f n a) = n + 1
@@ -48,6 +59,22 @@ cells_of _ = 0
 abbrev pub room : List Instr → ℕ
 room [] = 0
 room (i ∷ is) = if is_transfer i then 0 else cells_of i + room is
+
+-- whether an instruction may want memory, by those behind it: where it unifies what a register holds
+abbrev pub wants_memory : Instr → List Instr → Bool
+wants_memory (GetValue v a) is = true
+wants_memory (GetStructure f n a) is = has_value is 0 n
+wants_memory _ is = false
+
+-- whether one that may stands before the next transfer of control
+abbrev pub wants : List Instr → Bool
+wants [] = false
+wants (i ∷ is) = if is_transfer i then false else wants_memory i is || wants is
+
+-- what runs of the code need: at most so many cells, and memory just where the table says so
+pub record IsRoomFor (code : Compiled) (r : Room) : Type 0 where
+  pub cells : (at : ℕ) → room (drop at code.instructions) ≤ r.cells
+  pub wanting : (at : ℕ) → slice_index_or r.wanting.items at false ≡ wants (drop at code.instructions)
 
 -- up to the next instruction of control, the registers that are written are among so many X and Y registers
 abbrev pub AllHaveTargets : List Instr → ℕ → ℕ → Type 0

@@ -1,12 +1,12 @@
 //! Arguments of a structure that is there: each is matched with what stands at its place.
 
-ghost use Rattle.std.specs.Prelude.{◌≡◌, ℕ, ◌+◌, ◌<◌, ◌≤◌, List, length, drop, slice_get, true, false, IfOk, OnOk};
+ghost use Rattle.std.specs.Prelude.{◌≡◌, ℕ, ◌+◌, ◌<◌, ◌≤◌, List, length, drop, slice_get, true, false, IfOk, OnOk, OnErr};
 ghost use Rattle.ap_term.specs.Tree.{Tree, atom, int};
 ghost use Rattle.ap_cells.specs.Store.{Keeps};
 ghost use Rattle.ap_instr.specs.Step.{unify_variable, unify_value, unify_constant, with_integer, step_of};
 ghost use Rattle.ap_steps.specs.Moves.{held, HoldPlaces, HasRegister, HasTargets};
 ghost use Rattle.ap_steps.specs.Found.{Matched, MatchedAll};
-ghost use Rattle.ap_steps.specs.Ways.{is_control, NoneOfControl, AllHaveTargets};
+ghost use Rattle.ap_steps.specs.Ways.{is_control, is_value, has_value, NoneOfControl, AllHaveTargets};
 
 use crate::registers::{read, write};
 use crate::tables::{instruction_at, integer_at};
@@ -103,6 +103,7 @@ fn match_argument(
     requires inside { place < length cells.old.cells }
     ensures matched { IfOk result (λ b. Matched cells.old.cells (held x.old) (held y.old) (step_of code.now instr) place cells.new.cells (held x.new) (held y.new) b) }
     ensures argument { IfOk result (λ b. b ≡ true → is_control instr ≡ false) }
+    ensures wants { OnErr result (is_value instr ≡ true) }
     ensures holds_x { HoldPlaces (length cells.new.cells) x.new }
     ensures holds_y { HoldPlaces (length cells.new.cells) y.new }
     ensures x_len { length x.new ≡ length x.old }
@@ -145,6 +146,7 @@ pub fn match_arguments(
     requires args { first + count ≤ length cells.old.cells }
     ensures matched { IfOk result (λ b. MatchedAll code.now at first count cells.old.cells (held x.old) (held y.old) cells.new.cells (held x.new) (held y.new) b) }
     ensures passed { IfOk result (λ b. b ≡ true → NoneOfControl code.now.instructions at count) }
+    ensures wants { OnErr result (has_value code.now.instructions at count ≡ true) }
     ensures holds_x { HoldPlaces (length cells.new.cells) x.new }
     ensures holds_y { HoldPlaces (length cells.new.cells) y.new }
     ensures x_len { length x.new ≡ length x.old }

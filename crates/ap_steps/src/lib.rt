@@ -13,3 +13,4 @@ pub mod room;
 pub mod run;
 pub mod structures;
 mod tables;
+mod wanting;

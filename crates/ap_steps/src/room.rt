@@ -1,14 +1,17 @@
-//! The cells that runs of instructions make at most.
+//! What runs of instructions need: the cells that they make at most, and whether they may want memory.
 
 ghost use Rattle.std.specs.Prelude.{◌≡◌, ℕ, ◌+◌, ◌≤◌, length, drop, if◌then◌else◌, IfOk};
-ghost use Rattle.ap_steps.specs.Ways.{is_transfer, cells_of, room};
+ghost use Rattle.ap_instr.specs.Code.{Compiled};
+ghost use Rattle.ap_steps.specs.Ways.{is_transfer, cells_of, room, wants, IsRoomFor};
 
 use crate::tables::instruction_at;
+use crate::wanting::wanting;
 use ap_instr::{Code, Instr};
 use ap_term::NoMemory;
+use std::alloc::Global;
 
 /// Whether an instruction leads anywhere else than to the next one.
-fn is_transfer(instr: &Instr) -> bool
+pub(crate) fn is_transfer(instr: &Instr) -> bool
     ensures { result ≡ is_transfer instr.now }
 {
     match *instr {
@@ -75,4 +78,36 @@ pub fn most_room(code: &Code) -> Result<usize, NoMemory>
         }
     }
     Ok(most)
+}
+
+/// What runs of code need, from any place on to a transfer of control.
+#[derive(Drop)]
+pub struct Room {
+    /// The most cells that one makes.
+    pub cells: usize,
+    /// By places, whether one may want memory, whatever was reserved.
+    pub wanting: Vec<bool>,
+}
+
+impl Room {
+    /// What runs of the code need.
+    pub fn of(alloc: Global, code: &Code) -> Result<Room, NoMemory>
+        ensures { IfOk result (λ room. IsRoomFor code.now room) }
+    {
+        Ok(Room {
+            cells: most_room(code)?,
+            wanting: wanting(alloc, code)?,
+        })
+    }
+
+    /// Whether the run from a place on may want memory.
+    #[inline]
+    pub fn may_want(&self, at: usize) -> bool
+        ensures { (code : Compiled) → IsRoomFor code self.now → result ≡ wants (drop at code.instructions) }
+    {
+        match self.wanting.get(at) {
+            Some(wants) => *wants,
+            None => false,
+        }
+    }
 }

@@ -1,10 +1,10 @@
 //! The instructions of a clause.
 
-ghost use Rattle.std.specs.Prelude.{◌≡◌, ℕ, ◌+◌, ◌<◌, ◌≤◌, List, length, drop, slice_get, false, IfOk};
+ghost use Rattle.std.specs.Prelude.{◌≡◌, ℕ, ◌+◌, ◌<◌, ◌≤◌, List, length, drop, slice_get, false, true, IfOk, OnErr};
 ghost use Rattle.ap_cells.specs.Store.{Keeps};
 ghost use Rattle.ap_instr.specs.Step.{get_constant, put_constant, with_integer};
 ghost use Rattle.ap_steps.specs.Moves.{held, HoldPlaces, HasTargets, Taken};
-ghost use Rattle.ap_steps.specs.Ways.{is_transfer, cells_of, came_to, AllHaveTargets, CameTo};
+ghost use Rattle.ap_steps.specs.Ways.{is_transfer, cells_of, came_to, wants_memory, AllHaveTargets, CameTo};
 
 use crate::instructions::{
     get_constant, get_integer, get_value, get_variable, put_constant, put_integer, put_value,
@@ -96,6 +96,7 @@ pub fn step(
     requires targets { AllHaveTargets (drop at code.now.instructions) (length x.old) (length y.old) }
     requires holds_x { HoldPlaces (length cells.old.cells) x.old }
     requires holds_y { HoldPlaces (length cells.old.cells) y.old }
+    ensures wants { OnErr result (wants_memory instr (drop at code.now.instructions) ≡ true) }
     ensures came { IfOk result (λ o. CameTo code.now instr at cells.old x.old y.old o cells.new x.new y.new) }
     ensures x_len { length x.new ≡ length x.old }
     ensures y_len { length y.new ≡ length y.old }

@@ -1,17 +1,19 @@
 //! Structures with their arguments. The arguments' instructions stand from a place `at` of the code on.
 
-ghost use Rattle.std.specs.Prelude.{◌≡◌, ℕ, ◌+◌, ◌<◌, ◌≤◌, ◌==◌, length, drop, true, IfOk, OnOk};
+ghost use Rattle.std.specs.Prelude.{◌≡◌, ℕ, ◌+◌, ◌<◌, ◌≤◌, ◌==◌, length, drop, true, IfOk, OnOk, OnErr};
+ghost use Rattle.ap_term.specs.Tree.{var};
 ghost use Rattle.ap_cells.specs.Store.{Keeps};
+ghost use Rattle.ap_cells.specs.Trees.{tree_at, trees};
 ghost use Rattle.ap_instr.specs.Step.{get_structure, put_structure};
 ghost use Rattle.ap_steps.specs.Moves.{held, HoldPlaces};
-ghost use Rattle.ap_steps.specs.Ways.{NoneOfControl, AllHaveTargets, StepTaken};
+ghost use Rattle.ap_steps.specs.Ways.{has_value, NoneOfControl, AllHaveTargets, StepTaken};
 
-use crate::arguments::build_arguments;
+use crate::arguments::{Parts, build_arguments};
 use crate::found::match_arguments;
 use crate::registers::{place_in, put};
 use ap_cells::{Cell, Cells, Top};
 use ap_instr::Code;
-use ap_match::{match_built, push_new};
+use ap_match::{bind_structure, match_built, push_new};
 use ap_term::{Atom, NoMemory};
 use ap_unify::Work;
 
@@ -45,14 +47,16 @@ pub fn put_structure(
     let first = cells.len();
     let whole = first + count as usize;
     put(x, a as usize, whole as u32);
-    if !build_arguments(cells, x, y, code, at, count as usize) {
-        return false;
+    match build_arguments(cells, x, y, code, at, count as usize) {
+        Parts::Stuck => false,
+        Parts::Fresh | Parts::Values => {
+            push_new(cells, Cell::Node(name, first, count as u32));
+            true
+        }
     }
-    push_new(cells, Cell::Node(name, first, count as u32));
-    true
 }
 
-/// A structure that is built and made equal to a place's term, if it can be.
+/// A structure that is built and bound to a variable, if it can be. Only what registers held can keep it from that.
 #[inline]
 fn build_structure(
     cells: &mut Cells,
@@ -62,7 +66,7 @@ fn build_structure(
     at: usize,
     name: Atom,
     count: u8,
-    place: usize,
+    variable: usize,
     work: &mut Work,
 ) -> Result<bool, NoMemory>
     requires room { count < cells.old.spare }
@@ -70,8 +74,10 @@ fn build_structure(
     requires targets { AllHaveTargets (drop at code.now.instructions) (length x.old) (length y.old) }
     requires holds_x { HoldPlaces (length cells.old.cells) x.old }
     requires holds_y { HoldPlaces (length cells.old.cells) y.old }
-    requires place { place < length cells.old.cells }
-    ensures taken { IfOk result (λ b. (a : ℕ) → held x.old a ≡ place → StepTaken code.now (get_structure name count a) at count cells.old.cells (held x.old) (held y.old) cells.new.cells (held x.new) (held y.new) b) }
+    requires place { variable < length cells.old.cells }
+    requires unbound { tree_at (trees cells.old.cells) variable ≡ var variable }
+    ensures taken { IfOk result (λ b. (a : ℕ) → tree_at (trees cells.old.cells) (held x.old a) ≡ var variable → StepTaken code.now (get_structure name count a) at count cells.old.cells (held x.old) (held y.old) cells.new.cells (held x.new) (held y.new) b) }
+    ensures wants { OnErr result (has_value code.now.instructions at count ≡ true) }
     ensures passed { IfOk result (λ b. b ≡ true → NoneOfControl code.now.instructions at count) }
     ensures holds_x { IfOk result (λ b. b ≡ true → HoldPlaces (length cells.new.cells) x.new) }
     ensures holds_y { IfOk result (λ b. b ≡ true → HoldPlaces (length cells.new.cells) y.new) }
@@ -81,11 +87,17 @@ fn build_structure(
     ensures keeps { Keeps cells.old cells.new }
 {
     let first = cells.len();
-    if !build_arguments(cells, x, y, code, at, count as usize) {
-        return Ok(false);
+    match build_arguments(cells, x, y, code, at, count as usize) {
+        Parts::Fresh => {
+            bind_structure(cells, variable, name, first, count as u32);
+            Ok(true)
+        }
+        Parts::Values => {
+            let answer = match_built(cells, variable, name, first, count as u32, work)?;
+            Ok(answer)
+        }
+        Parts::Stuck => Ok(false),
     }
-    let answer = match_built(cells, place, name, first, count as u32, work)?;
-    Ok(answer)
 }
 
 /// Whether a structure that is there has a name and so many arguments.
@@ -117,6 +129,7 @@ pub fn get_structure(
     requires holds_x { HoldPlaces (length cells.old.cells) x.old }
     requires holds_y { HoldPlaces (length cells.old.cells) y.old }
     ensures taken { IfOk result (λ b. StepTaken code.now (get_structure name count a) at count cells.old.cells (held x.old) (held y.old) cells.new.cells (held x.new) (held y.new) b) }
+    ensures wants { OnErr result (has_value code.now.instructions at count ≡ true) }
     ensures passed { IfOk result (λ b. b ≡ true → NoneOfControl code.now.instructions at count) }
     ensures holds_x { IfOk result (λ b. b ≡ true → HoldPlaces (length cells.new.cells) x.new) }
     ensures holds_y { IfOk result (λ b. b ≡ true → HoldPlaces (length cells.new.cells) y.new) }
@@ -127,7 +140,9 @@ pub fn get_structure(
 {
     let place = place_in(x, a);
     match cells.top(place) {
-        Top::Free(_) => build_structure(cells, x, y, code, at, name, count, place, work),
+        Top::Free(variable) => {
+            build_structure(cells, x, y, code, at, name, count, variable, work)
+        }
         Top::Node(found, first, arity) => {
             if !is_of(found, arity, name, count) {
                 return Ok(false);

@@ -53,17 +53,52 @@ fn is_answer(alloc: Global, text: &str, wanted: &str) -> Result<bool, Fail> {
     Ok(answer_beside(alloc, text, &mut atoms)?.as_str() == wanted)
 }
 
-/// What the piece of a source at that place is answered beside a program.
-fn query_at(
+/// The name and the number of arguments of a head.
+fn head_of<'a>(clause: &Clause, atoms: &'a Atoms) -> (&'a str, usize) {
+    match clause.head() {
+        Term::Atom(name) => (atoms.get(*name).unwrap_or(""), 0),
+        Term::Node(name, args) => (atoms.get(*name).unwrap_or(""), args.len()),
+        _ => ("", 0),
+    }
+}
+
+/// A query with the heads of what is lifted from it, and the names of its variables.
+fn shown_query(alloc: Global, query: &Query, atoms: &Atoms) -> Result<String, Fail> {
+    let mut text = String::from_str(alloc, "a query")?;
+    for clause in query.lifted() {
+        let (name, arity) = head_of(clause, atoms);
+        text.push_str(format!(in alloc; " {name}/{arity}")?.as_str())?;
+    }
+    for name in query.names() {
+        text.push_str(" ")?;
+        text.push_str(name.as_str())?;
+    }
+    Ok(text)
+}
+
+/// What the last piece of a source is read as beside a program.
+fn last_query(
     alloc: Global,
     program: &Program,
     source: &str,
-    at: usize,
     atoms: &mut Atoms,
 ) -> Result<Result<Query, Refusal>, Fail> {
     let pieces = pieces(alloc, source.as_bytes()).ok().ok_or("no memory")?;
-    let piece = pieces.get(at).ok_or("no piece")?;
+    let last = pieces.len().saturating_sub(1);
+    let piece = pieces.get(last).ok_or("no piece")?;
     Ok(query(alloc, source.as_bytes(), piece, program, atoms))
+}
+
+fn last_answer(
+    alloc: Global,
+    program: &Program,
+    source: &str,
+    atoms: &mut Atoms,
+) -> Result<String, Fail> {
+    match &last_query(alloc, program, source, atoms)? {
+        Ok(query) => shown_query(alloc, query, atoms),
+        Err(refusal) => shown(alloc, refusal, atoms),
+    }
 }
 
 fn program_of(alloc: Global, text: &str, atoms: &mut Atoms) -> Result<Program, Fail> {
@@ -71,24 +106,15 @@ fn program_of(alloc: Global, text: &str, atoms: &mut Atoms) -> Result<Program, F
     Ok(program.ok_or("refused")?)
 }
 
-fn is_query_answer(
-    alloc: Global,
-    file: &str,
-    source: &str,
-    at: usize,
-    wanted: &str,
-) -> Result<bool, Fail> {
+/// What the last query of a source is answered beside the program of a text.
+fn query_answer(alloc: Global, file: &str, source: &str) -> Result<String, Fail> {
     let mut atoms = new_atoms(alloc)?;
     let program = program_of(alloc, file, &mut atoms)?;
-    let refused = query_at(alloc, &program, source, at, &mut atoms)?.err();
-    match &refused {
-        None => Ok(wanted == "a query"),
-        Some(refusal) => Ok(shown(alloc, refusal, &atoms)?.as_str() == wanted),
-    }
+    last_answer(alloc, &program, source, &mut atoms)
 }
 
 /// The names that no goal and no head may have; `\+` stands among the programs, since its quoted form differs.
-const REFUSED: [&str; 57] = [
+static REFUSED: [&str; 57] = [
     "!",
     "->",
     "-->",
@@ -149,7 +175,7 @@ const REFUSED: [&str; 57] = [
 ];
 
 /// A program, and what it is answered.
-const PROGRAMS: [(&str, &str); 79] = [
+static PROGRAMS: [(&str, &str); 79] = [
     ("", "a program"),
     ("% nothing\n", "a program"),
     ("p(1). p(2).", "a program"),
@@ -240,13 +266,13 @@ const PROGRAMS: [(&str, &str); 79] = [
     ("p :- !. q :- {}.", "line 1: outside !"),
 ];
 
-/// A program, a query, and what the query is answered.
-const QUERIES: [(&str, &str, &str); 17] = [
+/// A program, queries, and what the last one is answered: what is lifted from it goes on behind its program.
+static QUERIES: [(&str, &str, &str); 19] = [
     ("", "?- true.", "a query"),
-    ("", "?- X = f(X).", "a query"),
-    ("n(z). n(s(X)) :- n(X).", "?- n(X).", "a query"),
+    ("", "?- X = f(X).", "a query X"),
+    ("n(z). n(s(X)) :- n(X).", "?- n(X).", "a query X"),
     ("", "a, b.", "a query"),
-    ("", "(?- a ; b).", "a query"),
+    ("", "(?- a ; b).", "a query lift_1/0 lift_1/0"),
     ("", "X.", "line 1: outside call"),
     ("", "1.", "line 1: not a clause"),
     ("", "?- a, 1.", "line 1: not a clause"),
@@ -255,14 +281,20 @@ const QUERIES: [(&str, &str, &str); 17] = [
     ("", "a :- b.", "line 1: outside :-"),
     ("", "?- a, nl.", "line 1: outside nl"),
     ("", "?- X = 9223372036854775808.", "line 1: not a clause"),
-    ("", "?- X is -9223372036854775808.", "a query"),
+    ("", "?- X is -9223372036854775808.", "a query X"),
     ("", "?- {}.", "line 1: bad token"),
     ("", "?- a & true => b.", "line 1: not a clause"),
-    ("", "?- ground(X) => a & b.", "a query"),
+    ("", "?- ground(X) => a & b.", "a query X"),
+    ("p(1). p(2).", "?- p(1).\n?- p(.\n", "line 2: not a clause"),
+    (
+        "p :- (a ; b). lift_3.",
+        "?- (lift_4(X, _Y) ; a), (b(X) ; c(_)).",
+        "a query lift_2/3 lift_2/3 lift_5/3 lift_5/3 X _Y _",
+    ),
 ];
 
 /// A text by parts and how often each stands there, and what it is answered.
-const LIMITS: [(&[(&str, usize)], &str); 19] = [
+static LIMITS: [(&[(&str, usize)], &str); 19] = [
     (&[("p([X1", 1), (",_", 254), ("]).", 1)], "a program"),
     (
         &[("p([X1", 1), (",_", 255), ("]).", 1)],
@@ -318,7 +350,7 @@ const LIMITS: [(&[(&str, usize)], &str); 19] = [
 ];
 
 /// A program, and the same with its bodies lifted, each in one line.
-const LIFTED: [(&str, &str); 19] = [
+static LIFTED: [(&str, &str); 19] = [
     (
         "p(X) :- ( X = 1 ; X = 2 ).",
         "p(X) :- lift_1(X). lift_1(X) :- X = 1. lift_1(X) :- X = 2.",
@@ -438,18 +470,12 @@ fn refused_names_are_outside(rt: HostRuntime) -> Result<(), Fail> {
     Ok(())
 }
 
-const SOURCE: &str = "?- p(1).\n?- p(.\n?- p(2).\n";
-
 #[test]
 fn queries_are_answered(rt: HostRuntime) -> Result<(), Fail> {
-    let alloc = rt.alloc();
     for (file, source, wanted) in &QUERIES {
-        assert!(rt;
-            is_query_answer(alloc, file, source, 0, wanted)?,
-            "{source}"
-        );
+        let found = query_answer(rt.alloc(), file, source)?;
+        assert!(rt; found.as_str() == *wanted, "{source}");
     }
-    assert!(rt; is_query_answer(alloc, "p(1). p(2).", SOURCE, 1, "line 2: not a clause")?);
     Ok(())
 }
 
@@ -482,45 +508,6 @@ fn bodies_are_lifted(rt: HostRuntime) -> Result<(), Fail> {
     Ok(())
 }
 
-/// The name and the number of arguments of a head.
-fn head_of<'a>(clause: &Clause, atoms: &'a Atoms) -> (&'a str, usize) {
-    match clause.head() {
-        Term::Node(name, args) => (atoms.get(*name).unwrap_or(""), args.len()),
-        _ => ("", 0),
-    }
-}
-
-/// The heads of what is lifted from a query, and the names of its variables.
-fn lifted(alloc: Global, query: &Query, atoms: &Atoms) -> Result<String, Fail> {
-    let mut text = String::new(alloc);
-    for clause in query.lifted() {
-        let (name, arity) = head_of(clause, atoms);
-        text.push_str(format!(in alloc; "{name}/{arity} ")?.as_str())?;
-    }
-    for name in query.names() {
-        text.push_str(name.as_str())?;
-        text.push_str(" ")?;
-    }
-    Ok(text)
-}
-
-fn is_lifted(alloc: Global, file: &str, source: &str, wanted: &str) -> Result<bool, Fail> {
-    let mut atoms = new_atoms(alloc)?;
-    let program = program_of(alloc, file, &mut atoms)?;
-    let query = query_at(alloc, &program, source, 0, &mut atoms)?.ok();
-    let query = query.ok_or("refused")?;
-    Ok(lifted(alloc, &query, &atoms)?.as_str() == wanted)
-}
-
-#[test]
-fn query_goes_on_behind_its_program(rt: HostRuntime) -> Result<(), Fail> {
-    let file = "p :- (a ; b). lift_3.";
-    let source = "?- (lift_4(X, _Y) ; a), (b(X) ; c(_)).";
-    let wanted = "lift_2/3 lift_2/3 lift_5/3 lift_5/3 X _Y _ ";
-    assert!(rt; is_lifted(rt.alloc(), file, source, wanted)?);
-    Ok(())
-}
-
 /// A table with room for two names.
 fn nearly_full(alloc: Global) -> Result<Atoms, Fail> {
     let mut atoms = new_atoms(alloc)?;
@@ -532,7 +519,7 @@ fn nearly_full(alloc: Global) -> Result<Atoms, Fail> {
 }
 
 /// What a table with room for two names answers, each text after the others: a refused text leaves the room as it was.
-const FILLED: [(&str, &str); 7] = [
+static FILLED: [(&str, &str); 7] = [
     ("p :- q, r.", "line 1: too many atoms"),
     ("p :- (q ; q).", "line 1: too many atoms"),
     ("true.\np. q. r.", "line 1: outside true"),

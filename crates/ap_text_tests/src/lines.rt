@@ -1,7 +1,8 @@
 //! The lines of clauses, and what printing puts where the sink fails.
 
+use crate::outside::has_pieces;
 use crate::reading::{new_atoms, read};
-use ap_cge::{Annotated, PrintErr, hand_written, print, strip};
+use ap_cge::{Annotated, PrintErr, print, strip};
 use ap_outside::{MemSink, Refusal, SteadySink};
 use ap_term::{
     Args, Atoms, Body, Check, Checks, Clause, Part, Program, Term, copy_term, is_clause,
@@ -39,19 +40,26 @@ fn check_of(t: &Term) -> Result<Check, Fail> {
     }
 }
 
-fn group_of(alloc: Global, checks: &Term, goals: &Term) -> Result<Part, Fail> {
-    let mut tests = Checks::new(alloc);
-    for check in &elements(alloc, checks)? {
-        tests.push(check_of(check)?)?;
+fn checks_of(alloc: Global, list: &Term) -> Result<Checks, Fail> {
+    let mut checks = Checks::new(alloc);
+    for check in &elements(alloc, list)? {
+        checks.push(check_of(check)?)?;
     }
+    Ok(checks)
+}
+
+fn calls_of(alloc: Global, list: &Term) -> Result<Args, Fail> {
     let mut calls = Args::new(alloc);
-    for goal in &elements(alloc, goals)? {
+    for goal in &elements(alloc, list)? {
         calls.push(copy_term(alloc, goal)?)?;
     }
-    Ok(Part::Group {
-        checks: tests,
-        calls,
-    })
+    Ok(calls)
+}
+
+fn group_of(alloc: Global, checks: &Term, goals: &Term) -> Result<Part, Fail> {
+    let checks = checks_of(alloc, checks)?;
+    let calls = calls_of(alloc, goals)?;
+    Ok(Part::Group { checks, calls })
 }
 
 fn part_of(alloc: Global, atoms: &Atoms, t: &Term) -> Result<Part, Fail> {
@@ -96,7 +104,7 @@ fn program_of(alloc: Global, texts: &[&str], atoms: &mut Atoms) -> Result<Progra
     Ok(program)
 }
 
-const LINES: [(&str, &str); 30] = [
+static LINES: [(&str, &str); 30] = [
     ("[p].", "p.\n"),
     ("[p(X,Y,X)].", "p(_1,_2,_1).\n"),
     ("[p(Y,X),q(X)].", "p(_1,_2) :- q(_2).\n"),
@@ -147,19 +155,27 @@ const LINES: [(&str, &str); 30] = [
     ("['/*'].", "'/*'.\n"),
 ];
 
-/// Whether the clause that a list tells is printed as one piece, that line.
+/// Whether a program is put so, each line as one piece, into a sink that refuses what is told; a refusal ends it.
+fn is_put(
+    alloc: Global,
+    program: Program,
+    atoms: &Atoms,
+    refusals: &[Refusal],
+    wanted: &[&str],
+) -> Result<bool, Fail> {
+    let mut sink = MemSink::new(alloc, refusals)?;
+    let is_as_told = match print(alloc, &Annotated::new(program), atoms, &mut sink) {
+        Ok(()) => refusals.is_empty(),
+        Err(PrintErr::Sunk) => !refusals.is_empty(),
+        Err(PrintErr::NoMemory) => false,
+    };
+    Ok(is_as_told && has_pieces(sink.pieces(), wanted))
+}
+
 fn is_line(alloc: Global, text: &str, line: &str) -> Result<bool, Fail> {
     let mut atoms = new_atoms(alloc)?;
     let program = program_of(alloc, &[text], &mut atoms)?;
-    let annotated = hand_written(alloc, &program)?;
-    let mut sink = SteadySink::new(alloc);
-    print(alloc, &annotated, &atoms, &mut sink)
-        .ok()
-        .ok_or("no lines")?;
-    match sink.pieces() {
-        [piece] => Ok(piece.as_slice() == line.as_bytes()),
-        _ => Ok(false),
-    }
+    is_put(alloc, program, &atoms, &[], &[line])
 }
 
 #[test]
@@ -176,7 +192,8 @@ const CLAUSES: [&str; 3] = [
     "[b(X),group([],[a,a]),group([indep(X,Y)],[c(Y)])].",
 ];
 
-const SEQUENCES: [&str; 3] = ["[p(X),a,b(X),c].", "[a].", "[b(X),a,a,c(Y)]."];
+/// The lines of these clauses, their goals one after another.
+const SEQUENCES: [&str; 3] = ["p(_1) :- a, b(_1), c.\n", "a.\n", "b(_1) :- a, a, c(_2).\n"];
 
 /// The lines that are printed of a program.
 pub(crate) fn printed(alloc: Global, annotated: &Annotated, atoms: &Atoms) -> Result<String, Fail> {
@@ -191,45 +208,31 @@ pub(crate) fn printed(alloc: Global, annotated: &Annotated, atoms: &Atoms) -> Re
     Ok(String::from_utf8(text)?)
 }
 
-/// What is printed of the program without groups.
-fn stripped(alloc: Global, texts: &[&str]) -> Result<String, Fail> {
+fn is_sequence(alloc: Global) -> Result<bool, Fail> {
     let mut atoms = new_atoms(alloc)?;
-    let annotated = Annotated::new(program_of(alloc, texts, &mut atoms)?);
-    let program = strip(alloc, &annotated)?;
-    printed(alloc, &Annotated::new(program), &atoms)
-}
-
-fn printed_texts(alloc: Global, texts: &[&str]) -> Result<String, Fail> {
-    let mut atoms = new_atoms(alloc)?;
-    let annotated = Annotated::new(program_of(alloc, texts, &mut atoms)?);
-    printed(alloc, &annotated, &atoms)
+    let program = program_of(alloc, &CLAUSES, &mut atoms)?;
+    let stripped = strip(alloc, &Annotated::new(program))?;
+    is_put(alloc, stripped, &atoms, &[], &SEQUENCES)
 }
 
 #[test]
 fn goals_of_groups_are_called_one_after_another(rt: HostRuntime) -> Result<(), Fail> {
-    let found = stripped(rt.alloc(), &CLAUSES)?;
-    let wanted = printed_texts(rt.alloc(), &SEQUENCES)?;
-    assert!(rt; found.as_str() == wanted.as_str());
+    assert!(rt; is_sequence(rt.alloc())?);
     Ok(())
 }
 
 /// Whether a sink whose second call takes one byte has the first line and that byte.
 fn is_cut_short(alloc: Global) -> Result<bool, Fail> {
     let mut atoms = new_atoms(alloc)?;
-    let annotated = Annotated::new(program_of(alloc, &CLAUSES, &mut atoms)?);
-    let mut sink = MemSink::new(alloc, &[Refusal { call: 2, takes: 1 }])?;
-    let is_sunk = matches!(
-        print(alloc, &annotated, &atoms, &mut sink),
-        Err(PrintErr::Sunk)
-    );
-    match sink.pieces() {
-        [first, second] => Ok(
-            is_sunk
-                && first.as_slice() == b"p(_1) :- ground(_1) => a & b(_1), c.\n".as_slice()
-                && second.as_slice() == b"a".as_slice(),
-        ),
-        _ => Ok(false),
-    }
+    let program = program_of(alloc, &CLAUSES, &mut atoms)?;
+    let front = ["p(_1) :- ground(_1) => a & b(_1), c.\n", "a"];
+    is_put(
+        alloc,
+        program,
+        &atoms,
+        &[Refusal { call: 2, takes: 1 }],
+        &front,
+    )
 }
 
 #[test]

@@ -25,14 +25,14 @@ fn is_read<F: Files>(
 /// A file's name, a limit, what reading it answers, and what it leaves.
 type Reading = (&'static str, u64, Result<Got, FileErr>, &'static str);
 
-const IN_MEMORY: [Reading; 4] = [
+static IN_MEMORY: [Reading; 4] = [
     ("f.pl", 5, Ok(Got::Whole), "p(1)."),
     ("f.pl", 4, Ok(Got::TooLong), ""),
     ("none.pl", 5, Err(FileErr::Failed), ""),
     ("", 0, Ok(Got::Whole), ""),
 ];
 
-const OF_THE_SYSTEM: [Reading; 4] = [
+static OF_THE_SYSTEM: [Reading; 4] = [
     ("f.pl", 5, Ok(Got::Whole), "p(1)."),
     ("f.pl", 4, Ok(Got::TooLong), ""),
     ("none.pl", 5, Err(FileErr::Failed), ""),
@@ -63,6 +63,7 @@ fn files_of_the_system_are_read(rt: HostRuntime) -> Result<(), Fail> {
             "{name}"
         );
     }
+    fs::remove_file(&rt, "f.pl")?;
     Ok(())
 }
 
@@ -94,7 +95,7 @@ fn a_reader_is_a_source(rt: HostRuntime) -> Result<(), Fail> {
     Ok(())
 }
 
-fn has_pieces(pieces: &[Vec<u8>], wanted: &[&str]) -> bool {
+pub(crate) fn has_pieces(pieces: &[Vec<u8>], wanted: &[&str]) -> bool {
     for (piece, want) in pieces.iter().zip(wanted) {
         if piece.as_slice() != want.as_bytes() {
             return false;

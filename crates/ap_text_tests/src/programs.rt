@@ -10,7 +10,7 @@ use std::alloc::Global;
 use std::test::Fail;
 
 /// A text, and what is printed of its program.
-const PROGRAMS: [(&str, &str); 6] = [
+static PROGRAMS: [(&str, &str); 6] = [
     (
         "p(X) :- ( X = 1 ; X = 2 ).",
         "p(_1) :- lift_1(_1).\nlift_1(_1) :- =(_1,1).\nlift_1(_1) :- =(_1,2).\n",

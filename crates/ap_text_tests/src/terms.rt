@@ -5,12 +5,13 @@ use crate::reading::{new_atoms, read, repeated};
 use ap_reader::ReadErr;
 use ap_spec::identical;
 use std::alloc::Global;
+use std::process::Abort;
 use std::test::Fail;
 
 /// Texts, and the same terms in functional notation. Of these and the next ones all but the last two were read as the same by SWI-Prolog (with
 /// `--traditional`) under this table of operators, and by GNU Prolog 1.4.5 but for `- 1`, which it reads as an integer,
 /// and for integers of more than 61 bits. `bench/reader_compare` tries that again.
-const OPERATIONS: [(&str, &str); 106] = [
+static OPERATIONS: [(&str, &str); 106] = [
     ("-1.", "-1."),
     ("- 1.", "'-'(1)."),
     ("-(1).", "'-'(1)."),
@@ -120,7 +121,7 @@ const OPERATIONS: [(&str, &str); 106] = [
 ];
 
 /// Names as functors and alone, lists, quoted names, variables and integers.
-const TERMS: [(&str, &str); 72] = [
+static TERMS: [(&str, &str); 72] = [
     ("=(a).", "'='(a)."),
     ("=(a,b).", "'='(a,b)."),
     ("is(X).", "'is'(X)."),
@@ -196,7 +197,7 @@ const TERMS: [(&str, &str); 72] = [
 ];
 
 /// Texts that are no term, for neither of those systems.
-const OTHERS: [&str; 87] = [
+static OTHERS: [&str; 87] = [
     "a = b = c.",
     "a = b == c.",
     "a < b < c.",
@@ -287,7 +288,7 @@ const OTHERS: [&str; 87] = [
 ];
 
 /// Texts that are no term here, and that one of those systems reads.
-const NARROWED: [&str; 37] = [
+static NARROWED: [&str; 37] = [
     "- = x.",
     "= = = .",
     "X = is.",
@@ -349,62 +350,61 @@ fn outcome(alloc: Global, text: &str) -> Result<u8, Fail> {
     }
 }
 
-#[test]
-fn reads_terms_as_in_functional_notation(rt: HostRuntime) -> Result<(), Fail> {
-    for (text, canonical) in &TERMS {
-        assert!(rt; is_same(rt.alloc(), text, canonical)?, "{text}");
+fn check_same(rt: &impl Abort, alloc: Global, rows: &[(&str, &str)]) -> Result<(), Fail> {
+    for (text, canonical) in rows {
+        assert!(rt; is_same(alloc, text, canonical)?, "{text}");
     }
     Ok(())
 }
 
 #[test]
-fn reads_operations_as_in_functional_notation(rt: HostRuntime) -> Result<(), Fail> {
-    for (text, canonical) in &OPERATIONS {
-        assert!(rt; is_same(rt.alloc(), text, canonical)?, "{text}");
+fn texts_are_read_as_in_functional_notation(rt: HostRuntime) -> Result<(), Fail> {
+    check_same(&rt, rt.alloc(), &TERMS)?;
+    check_same(&rt, rt.alloc(), &OPERATIONS)
+}
+
+fn check_others(rt: &impl Abort, alloc: Global, texts: &[&str]) -> Result<(), Fail> {
+    for text in texts {
+        assert!(rt; outcome(alloc, text)? == 2, "{text}");
     }
     Ok(())
 }
 
 #[test]
 fn other_texts_are_no_terms(rt: HostRuntime) -> Result<(), Fail> {
-    for text in &OTHERS {
-        assert!(rt; outcome(rt.alloc(), text)? == 2, "{text}");
-    }
-    for text in &NARROWED {
-        assert!(rt; outcome(rt.alloc(), text)? == 2, "{text}");
-    }
-    Ok(())
+    check_others(&rt, rt.alloc(), &OTHERS)?;
+    check_others(&rt, rt.alloc(), &NARROWED)
 }
 
 /// The parts of a text, each so many times, and its outcome.
-const LIMITS: [([(&str, usize); 3], u8); 27] = [
-    ([("(", 1000), ("a", 1), (")", 1000)], 0),
-    ([("(", 1001), ("a", 1), (")", 1001)], 1),
-    ([("(", 1001), ("a", 1), ("", 0)], 1),
-    ([(")", 1001), ("a", 1), ("", 0)], 2),
-    ([("f(", 1000), ("a", 1), (")", 1000)], 0),
-    ([("- ", 1000), ("a", 1), ("", 0)], 0),
-    ([("- ", 1001), ("a", 1), ("", 0)], 1),
-    ([("- ", 100000), ("a", 1), ("", 0)], 1),
-    ([("- ", 100000), ("", 0), ("", 0)], 2),
-    ([("1-", 1000), ("a", 1), ("", 0)], 0),
-    ([("1-", 1001), ("a", 1), ("", 0)], 1),
-    ([("1-", 100000), ("a", 1), ("", 0)], 1),
-    ([("[f(", 1), ("a,", 5000), ("a)]", 1)], 0),
-    ([("[a", 1), (",a", 999999), ("]", 1)], 0),
-    ([("[a", 1), (",a", 1000), ("|T]", 1)], 0),
-    ([("[", 1000), ("a", 1), ("]", 1000)], 0),
-    ([("[", 1001), ("a", 1), ("]", 1001)], 1),
-    ([("[(", 500), ("a", 1), (")]", 500)], 0),
-    ([("([", 501), ("a", 1), ("])", 501)], 1),
-    ([("- ", 999), ("[a]", 1), ("", 0)], 0),
-    ([("- ", 1000), ("[]", 1), ("", 0)], 0),
-    ([("- ", 1000), ("[a]", 1), ("", 0)], 1),
-    ([("1 - ", 1000), ("- a", 1), ("", 0)], 0),
-    ([("a,", 1000), ("a", 1), ("", 0)], 0),
-    ([("a,", 1001), ("a", 1), ("", 0)], 1),
-    ([("a&", 1001), ("a", 1), ("", 0)], 1),
-    ([("(", 100000), ("a", 1), (")", 100000)], 1),
+static LIMITS: [(&[(&str, usize)], u8); 27] = [
+    (&[("(", 1000), ("a", 1), (")", 1000)], 0),
+    (&[("(", 1001), ("a", 1), (")", 1001)], 1),
+    (&[("(", 1001), ("a", 1)], 1),
+    (&[(")", 1001), ("a", 1)], 2),
+    (&[("f(", 1000), ("a", 1), (")", 1000)], 0),
+    (&[("- ", 1000), ("a", 1)], 0),
+    (&[("- ", 1001), ("a", 1)], 1),
+    (&[("- ", 100000), ("a", 1)], 1),
+    (&[("- ", 100000)], 2),
+    (&[("1-", 1000), ("a", 1)], 0),
+    (&[("1-", 1001), ("a", 1)], 1),
+    (&[("1-", 100000), ("a", 1)], 1),
+    (&[("[f(", 1), ("a,", 5000), ("a)]", 1)], 0),
+    (&[("[a", 1), (",a", 999999), ("]", 1)], 0),
+    (&[("[a", 1), (",a", 1000), ("|T]", 1)], 0),
+    (&[("[", 1000), ("a", 1), ("]", 1000)], 0),
+    (&[("[", 1001), ("a", 1), ("]", 1001)], 1),
+    (&[("[(", 500), ("a", 1), (")]", 500)], 0),
+    (&[("([", 501), ("a", 1), ("])", 501)], 1),
+    (&[("- ", 999), ("[a]", 1)], 0),
+    (&[("- ", 1000), ("[]", 1)], 0),
+    (&[("- ", 1000), ("[a]", 1)], 1),
+    (&[("1 - ", 1000), ("- a", 1)], 0),
+    (&[("a,", 1000), ("a", 1)], 0),
+    (&[("a,", 1001), ("a", 1)], 1),
+    (&[("a&", 1001), ("a", 1)], 1),
+    (&[("(", 100000), ("a", 1), (")", 100000)], 1),
 ];
 
 fn outcome_of(alloc: Global, parts: &[(&str, usize)]) -> Result<u8, Fail> {

@@ -73,6 +73,7 @@ fn query(alloc: Global, names: &[&str]) -> Result<Query, Fail> {
     Ok(Query::new(question, Program::new(alloc), list))
 }
 
+/// The line of an answer whose tuple is that of a query.
 fn line_of(alloc: Global, query: &Query, tuple: &[Term], atoms: &Atoms) -> Result<Vec<u8>, Fail> {
     if query.names().len() != tuple.len() {
         return Err(Fail::new("no tuple"));
@@ -80,16 +81,20 @@ fn line_of(alloc: Global, query: &Query, tuple: &[Term], atoms: &Atoms) -> Resul
     Ok(answer_line(alloc, query, tuple, atoms)?)
 }
 
+fn answer(alloc: Global, names: &[&str], tuple: &[Term], atoms: &Atoms) -> Result<Vec<u8>, Fail> {
+    let query = query(alloc, names)?;
+    line_of(alloc, &query, tuple, atoms)
+}
+
 fn is_answer(alloc: Global, names: &[&str], steps: &[Step], wanted: &str) -> Result<bool, Fail> {
     let mut atoms = new_atoms(alloc)?;
     let tuple = terms_of(alloc, &mut atoms, steps)?;
-    let query = query(alloc, names)?;
-    let line = line_of(alloc, &query, &tuple, &atoms)?;
+    let line = answer(alloc, names, &tuple, &atoms)?;
     Ok(line.as_slice() == wanted.as_bytes())
 }
 
 /// Names, and how they are printed.
-const NAMES: [(&str, &str); 27] = [
+static NAMES: [(&str, &str); 27] = [
     ("fooBar_9", "fooBar_9"),
     ("", "''"),
     ("Foo", "'Foo'"),
@@ -128,7 +133,7 @@ fn a_name_is_bare_only_where_it_is_a_token(rt: HostRuntime) -> Result<(), Fail> 
 }
 
 /// Terms, and how they are printed.
-const TERMS: [(&[Step<'static>], &str); 10] = [
+static TERMS: [(&[Step<'static>], &str); 10] = [
     (&[Int(i64::MIN)], "-9223372036854775808"),
     (&[Int(0)], "0"),
     (&[Var(u64::MAX)], "_1"),
@@ -166,7 +171,7 @@ fn terms_are_printed_without_operators(rt: HostRuntime) -> Result<(), Fail> {
 }
 
 /// The names of a query's variables, a tuple for them, and the answer's line.
-const ANSWERS: [(&[&str], &[Step<'static>], &str); 8] = [
+static ANSWERS: [(&[&str], &[Step<'static>], &str); 8] = [
     (&[], &[], "true"),
     (&["_", "_A"], &[Int(1), Var(1)], "true"),
     (

@@ -35,7 +35,7 @@ fn cutting(alloc: Global, text: &[u8]) -> Result<String, Fail> {
 }
 
 /// A text, and its pieces with their tokens.
-const ROWS: [(&[u8], &str); 52] = [
+static ROWS: [(&[u8], &str); 52] = [
     (b"", ""),
     (b" \n% c\n\t/* d. */\r", ""),
     (
@@ -235,7 +235,7 @@ fn cuts_each_prefix(rt: HostRuntime) -> Result<(), Fail> {
 }
 
 /// Digits, and the number that they stand for.
-const NUMBERS: [(&str, Option<u64>); 5] = [
+static NUMBERS: [(&str, Option<u64>); 5] = [
     ("0", Some(0)),
     ("007", Some(7)),
     ("9223372036854775808", Some(9223372036854775808)),

@@ -24,10 +24,3 @@ pub use answers::{BOUNDS, Bounds};
 pub use command::run;
 pub use source::LIMIT;
 pub use status::Status;
-
-#[cfg(test)]
-mod code_tests;
-#[cfg(test)]
-mod show_tests;
-#[cfg(test)]
-mod tests;

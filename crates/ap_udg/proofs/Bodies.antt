@@ -28,10 +28,6 @@ some_first : (ps : List Part) (p : Part) → take 1 ps ≡ p ∷ [] → 1 ≤ le
 some_first [] p e = absurd (cc)
 some_first (q ∷ ps) p e = omega arith
 
-pub next-some : (r : Rule) (s : State) (ps : List Part) (n : ℕ) (p : Part) → IsNext r s ps n p → 1 ≤ n
-next-some r s ps k q (alone m n p l one e h) = omega arith
-next-some r s ps k q (together n p l two h) = omega arith
-
 pub next-within : (r : Rule) (s : State) (ps : List Part) (n : ℕ) (p : Part) → IsNext r s ps n p → n ≤ length ps
 next-within r s ps k q (alone m n p l one e h) = let k : 1 ≤ length ps = some_first ps p h in omega arith
 next-within r s ps k q (together n p l two h) = l.run.there

@@ -1,4 +1,3 @@
 pub mod LongestRuns
 pub mod Bodies
-pub mod Lists
 pub mod Annotations

@@ -10,9 +10,9 @@ ghost use Rattle.ap_udg.specs.Annotated.{is_group, has_groups, IsBody, IsAnnotat
 use crate::completions::completed;
 use crate::groups::grouped;
 use crate::runs::Rule;
-use crate::states::{is_analysed, start};
+use crate::states::start;
 use ap_cge::Annotated;
-use ap_patterns::Table;
+use ap_patterns::{Table, is_analysed};
 use ap_term::{Body, Clause, NoMemory, Part, Program, add_copies, copy_term};
 use std::alloc::Global;
 

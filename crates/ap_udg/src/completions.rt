@@ -8,7 +8,6 @@ ghost use Rattle.ap_term.specs.TermView.{trees_of};
 ghost use Rattle.ap_term.specs.WellFormed.{numbered_all};
 ghost use Rattle.ap_conditions.specs.FullCondition.{full_condition};
 ghost use Rattle.ap_conditions.specs.Simplified.{left};
-ghost use Rattle.ap_certify.specs.Written.{same_check, is_written};
 ghost use Rattle.ap_patterns.specs.Given.{patterns};
 ghost use Rattle.ap_fixpoint.specs.Formed.{goals_formed};
 ghost use Rattle.ap_udg.specs.Completed.{missing, completed, completed_body};
@@ -16,6 +15,7 @@ ghost use Rattle.ap_udg.specs.Completed.{missing, completed, completed_body};
 use crate::copies::{copy_goals, copy_part};
 use crate::states::behind;
 use ap_absunify::State;
+use ap_certify::is_written;
 use ap_conditions::{full, gives};
 use ap_patterns::Table;
 use ap_term::{Body, Check, Checks, NoMemory, Part, Term};
@@ -34,22 +34,6 @@ pub fn left(alloc: Global, s: &State, goals: &[Term]) -> Result<Checks, NoMemory
         }
     }
     Ok(left)
-}
-
-fn same_check(a: &Check, b: &Check) -> bool
-    ensures { result ≡ same_check a.now b.now }
-{
-    match (a, b) {
-        (Check::Ground(x), Check::Ground(y)) => x == y,
-        (Check::Indep(x, y), Check::Indep(z, w)) => (x == z && y == w) || (x == w && y == z),
-        _ => false,
-    }
-}
-
-fn is_written(check: &Check, checks: &[Check]) -> bool
-    ensures { result ≡ is_written check.now checks.now }
-{
-    checks.iter().any(|written| same_check(check, written))
 }
 
 /// The checks of the goals' full condition that are neither written nor given by the state.

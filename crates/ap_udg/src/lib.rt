@@ -17,4 +17,4 @@ pub use annotators::{annotate, annotate_by, has_groups};
 pub use completions::{missing, with_checks};
 pub use copies::copy_part;
 pub use runs::Rule;
-pub use states::{behind, is_analysed, start};
+pub use states::{behind, start};

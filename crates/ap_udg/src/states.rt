@@ -2,63 +2,25 @@
 
 ghost use Rattle.std.specs.Prelude.{◌≡◌, IfOk, IsTrue};
 ghost use Rattle.ap_absunify.specs.declared.states.State.TheVariants.{Unreachable};
-ghost use Rattle.ap_term.specs.Tree.{count_trees};
 ghost use Rattle.ap_term.specs.GoalView.{part_of};
 ghost use Rattle.ap_term.specs.TermView.{tree_of, trees_of};
 ghost use Rattle.ap_term.specs.WellFormed.{all_callable, numbered_all};
-ghost use Rattle.ap_patterns.specs.Places.{arguments};
 ghost use Rattle.ap_patterns.specs.Table.{predicate_of};
-ghost use Rattle.ap_patterns.specs.Given.{patterns, call_at, after_goals, after_part, is_analysed, any_pattern};
+ghost use Rattle.ap_patterns.specs.Given.{patterns, call_at, after_goals, after_part};
 ghost use Rattle.ap_fixpoint.specs.Formed.{goals_formed};
 ghost use Rattle.ap_udg.specs.Completed.{unknown, start, behind};
 
 use ap_absunify::State;
-use ap_freeness::Free;
-use ap_patterns::{Pattern, Table, after_goal, call_at, enter};
-use ap_sharing::{Sets, Share, VarSet};
+use ap_patterns::{Pattern, Table, after_goal, any_pattern, call_at, enter, is_analysed};
 use ap_term::{Clause, NoMemory, Part, Term};
 use std::alloc::Global;
-
-/// How many variables and arguments of the head an analysed clause has at most.
-const MOST: u64 = 64;
-
-/// How many arguments a head has.
-fn arity(head: &Term) -> u64
-    ensures { result ≡ count_trees (arguments (tree_of head.now)) }
-{
-    match head {
-        Term::Node(_, args) => args.len() as u64,
-        _ => 0,
-    }
-}
-
-/// Whether a clause is small enough for states.
-#[tactic(auto, using(ap_fixpoint::proofs::Formed::rules_of_clauses))]
-pub fn is_analysed(clause: &Clause) -> bool
-    ensures { result ≡ is_analysed clause.now }
-{
-    clause.vars() + arity(clause.head()) <= MOST
-}
-
-/// Nothing is known of any variable.
-fn any_state(alloc: Global) -> State
-    ensures { result ≡ any_pattern 255 }
-{
-    let mut any = VarSet::new();
-    for x in 0..255 {
-        any.insert(x + 1);
-    }
-    let share = Share::new(Sets::new(alloc), any);
-    let free = Free::new(VarSet::new());
-    State::Reachable { share, free }
-}
 
 fn unknown(alloc: Global, called: &Pattern) -> State
     ensures { result ≡ unknown called.now }
 {
     match called {
         State::Unreachable => State::Unreachable,
-        State::Reachable { .. } => any_state(alloc),
+        State::Reachable { .. } => any_pattern(alloc, 255),
     }
 }
 

@@ -1,4 +1,4 @@
-use Rattle.std.proofs.Common.{◌≡◌, [], ◌∷◌, Option, Some, None, subst}
+use Rattle.std.proofs.Common.{◌≡◌, [], ◌∷◌, Option, Some, None, refl, subst}
 use Rattle.std.specs.Prelude.{IfSome}
 use Rattle.ap_instr.specs.Code.{Compiled}
 use Rattle.ap_instr.specs.StandsFor.{clause_places}
@@ -6,7 +6,7 @@ use Rattle.ap_steps.specs.Moves.{held}
 use Rattle.ap_standing.specs.Machine.{places_from}
 use Rattle.ap_control.specs.declared.alternatives.Alternative.{Alternative}
 use Rattle.ap_control.specs.Heads.{IsShut, PassesOver}
-use Rattle.ap_control.proofs.Passed.{passes-none, passes-same, passes-one, passes-then}
+use Rattle.ap_control.proofs.Passed.{passes-same, passes-one, passes-then}
 use Rattle.ap_control.proofs.heads.first_possible.Goals as goal
 
 -- behind the first clause
@@ -17,11 +17,10 @@ behind c =
     let x = held c.args.x.now in
     let ls = clause_places code c.args.predicate.now in
     let rest = places_from code c.in-Some.found.behind in
-    let is : ls ≡ c.in-Some.found.place ∷ rest =
-    subst (λ (k : Compiled). clause_places k c.args.predicate.now ≡ c.in-Some.found.place ∷ places_from k c.in-Some.found.behind) c.code-code.ensures.same c.in-Some.ensures.some in
     let shut : IsShut code cs x c.in-Some.found.place =
     subst (λ (k : Compiled). IsShut k cs x c.in-Some.found.place) c.code-code.ensures.same (c.fails_at_once.ensures c.if-not-fails_at_once.false) in
-    passes-then code cs x ls rest (places_from code c.pass_over-rest.result) (passes-one code cs x ls rest c.in-Some.found.place is shut) c.pass_over-rest.ensures
+    passes-then code cs x ls rest (places_from code c.pass_over-rest.result)
+    (passes-then code cs x ls (c.in-Some.found.place ∷ rest) rest c.in-Some.ensures.some (passes-one code cs x (c.in-Some.found.place ∷ rest) rest c.in-Some.found.place refl shut)) c.pass_over-rest.ensures
 
 pub returns-clause-none : goal.returns-clause-none
 returns-clause-none c = λ e.

@@ -2,7 +2,7 @@ use Rattle.std.proofs.Common.{◌≡◌, ◌+◌, ◌≤◌, [], ◌∷◌, leng
 use Rattle.ap_instr.specs.Code.{Compiled}
 use Rattle.ap_steps.specs.Moves.{held}
 use Rattle.ap_standing.specs.Machine.{places_from}
-use Rattle.ap_control.specs.Heads.{IsShut, PassesOver}
+use Rattle.ap_control.specs.Heads.{IsShut}
 use Rattle.ap_control.proofs.Passed.{passes-same, passes-one, passes-then, passes-shorter}
 use Rattle.ap_control.proofs.heads.pass_over.Goals as goal
 

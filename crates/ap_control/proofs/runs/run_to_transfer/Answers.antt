@@ -1,10 +1,11 @@
-use Rattle.std.proofs.Common.{◌≡◌, ◌+◌, [], length, slice_get, Some, sym, ap, ◌∙◌, subst, arith}
+use Rattle.std.proofs.Common.{rules, ◌≡◌, ◌+◌, true, [], length, drop, slice_get, Some, sym, ap, ◌∙◌, subst, arith}
 use Rattle.ap_steps.specs.Moves.{held, HasTargets, Moves}
-use Rattle.ap_steps.specs.Ways.{CameTo, Passed, steps_from}
+use Rattle.ap_steps.specs.Ways.{wants, CameTo, Passed, steps_from}
 use Rattle.ap_steps.proofs.Places.{steps-past, targets-here, room-here}
+use Rattle.ap_steps.proofs.MemoryWants.{wants-now}
 use Rattle.ap_steps.proofs.Steps.{Moves-stuck}
 use Rattle.ap_control.proofs.Marks.{Keeps-trans}
-use Rattle.ap_control.proofs.Ran.{ran-on, ran-stuck, room-on, none-inside}
+use Rattle.ap_control.proofs.Ran.{ran-on, ran-stuck, room-on, wants-behind, none-inside}
 use Rattle.ap_control.proofs.runs.run_to_transfer.Goals as goal
 
 pub step-requires-clause-room : goal.step-requires-clause-room
@@ -24,6 +25,13 @@ step-requires-clause-has c =
 
 pub returns-in_err-outcome-clause-keeps : goal.returns-in_err-outcome-clause-keeps
 returns-in_err-outcome-clause-keeps c = Keeps-trans c.args.cells.now c.run.cells c.step.new.cells c.run.invariant.keeps c.step.ensures.keeps
+
+pub returns-in_err-outcome-clause-wants : goal.returns-in_err-outcome-clause-wants
+returns-in_err-outcome-clause-wants c =
+    let w : wants (drop c.args.at c.args.code.now.instructions) ≡ true =
+    c.run.invariant.wants (wants-now c.args.code.now.instructions c.run.place c.in-Some.instr (sym c.in-Some.ensures) c.in_err-outcome.ensures.wants)
+    in
+    search rules
 
 pub overflow_add-place-in-On : goal.overflow_add-place-in-On
 overflow_add-place-in-On c =
@@ -54,6 +62,7 @@ run-preserved c =
     record {
       ran = ran-on code c.args.at c.run.place c.args.cells.now.cells c.args.x.now c.args.y.now c.run.cells c.run.x c.run.y c.in-Some.instr e v.ran c.in-On.arguments c.step.new.cells c.step.new.x c.step.new.y p;
       room = room-on code c.args.at c.run.place c.args.cells.now.cells c.args.x.now c.args.y.now c.run.cells c.run.x c.run.y c.in-Some.instr e c.in-On.arguments c.step.new.cells c.step.new.x c.step.new.y p v.room;
+      wants = λ w. v.wants (wants-behind code c.args.at c.run.place c.args.cells.now.cells c.args.x.now c.args.y.now c.run.cells c.run.x c.run.y c.in-Some.instr e c.in-On.arguments c.step.new.cells c.step.new.x c.step.new.y p w);
       x_len = c.step.ensures.x_len ∙ v.x_len;
       y_len = c.step.ensures.y_len ∙ v.y_len;
       keeps = Keeps-trans c.args.cells.now c.run.cells c.step.new.cells v.keeps c.step.ensures.keeps;

@@ -1,6 +1,6 @@
-use Rattle.std.proofs.Common.{◌≡◌, ◌≤◌, ◌-◌, length, drop}
+use Rattle.std.proofs.Common.{◌≡◌, ◌≤◌, ◌-◌, true, length, drop}
 use Rattle.ap_cells.specs.Store.{Keeps}
-use Rattle.ap_steps.specs.Ways.{room}
+use Rattle.ap_steps.specs.Ways.{room, wants}
 use Rattle.ap_control.specs.Runs.{Ran}
 use Rattle.ap_control.proofs.runs.run_to_transfer.Given as goal
 
@@ -11,6 +11,7 @@ abbrev pub invariant-run : goal.invariant-run
 invariant-run l = record {
   ran : Ran l.code l.at l.fn.cells.cells l.fn.x l.fn.y l.place l.cells.cells l.x l.y;
   room : room (drop l.place l.code.instructions) ≤ l.cells.spare;
+  wants : wants (drop l.place l.code.instructions) ≡ true → wants (drop l.at l.code.instructions) ≡ true;
   x_len : length l.x ≡ length l.fn.x;
   y_len : length l.y ≡ length l.fn.y;
   keeps : Keeps l.fn.cells l.cells;

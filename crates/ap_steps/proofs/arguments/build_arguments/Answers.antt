@@ -1,13 +1,17 @@
-use Rattle.std.proofs.Common.{◌≡◌, ℕ, ◌+◌, ◌<◌, length, slice_get, Some, refl, sym, ◌∙◌, subst, arith}
+use Rattle.std.proofs.Common.{◌≡◌, ℕ, ◌+◌, ◌<◌, ◌≤◌, true, length, slice_get, Some, sym, ap, ◌∙◌, subst, arith}
+use Rattle.std.proofs.lemmas.Bool.{false≢true}
 use Rattle.std.proofs.lemmas.Option.{slice_get_within}
 use Rattle.ap_cells.proofs.Stores.{Keeps-trans}
 use Rattle.ap_instr.specs.Step.{step_of}
 use Rattle.ap_steps.specs.Moves.{held, HasTargets}
-use Rattle.ap_steps.specs.Arguments.{BuiltAll}
-use Rattle.ap_steps.specs.Ways.{NoneOfControl, steps_from}
-use Rattle.ap_steps.proofs.Places.{steps-here, steps-past, targets-here, none-more, none-targets}
+use Rattle.ap_steps.specs.declared.arguments.Parts.TheVariants.{Fresh, Values}
+use Rattle.ap_steps.specs.Arguments.{BuiltOr, BuiltAll, are_built, StandApart}
+use Rattle.ap_steps.specs.Ways.{is_value, has_value, steps_from}
+use Rattle.ap_steps.proofs.Places.{steps-here, steps-past, targets-here, none-more, none-targets, value-kept, value-among}
+use Rattle.ap_steps.proofs.NewCells.{KeepTrees-trans, StandApart-trans}
 use Rattle.ap_steps.proofs.StructureSteps.{BuiltAll-more, BuiltAll-stuck, BuiltAll-end}
 use Rattle.ap_steps.proofs.arguments.build_arguments.Goals as goal
+use Rattle.ap_steps.proofs.arguments.build_arguments.Goals.{in-Fresh, in-Values}
 
 pub build_argument-requires-clause-has : goal.build_argument-requires-clause-has
 build_argument-requires-clause-has c =
@@ -19,8 +23,8 @@ build_argument-requires-clause-has c =
     in
     subst (λ n. HasTargets c.in-Some.instr n (length c.loop-i.y)) (sym v.x_len) (subst (HasTargets c.in-Some.instr (length c.args.x.now)) (sym v.y_len) h)
 
-pub returns-then-not-build_argument-clause-built : goal.returns-then-not-build_argument-clause-built
-returns-then-not-build_argument-clause-built c =
+pub returns-in-Stuck-clause-built : goal.returns-in-Stuck-clause-built
+returns-in-Stuck-clause-built c =
     let v = c.loop-i.invariant in
     let whole : ℕ = length c.args.cells.now.cells + c.args.count in
     let e : slice_get c.args.code.now.instructions (c.args.at + c.loop-i.i) ≡ Some c.in-Some.instr = sym c.in-Some.ensures in
@@ -28,16 +32,16 @@ returns-then-not-build_argument-clause-built c =
     (steps_from c.args.code.now c.args.at) (steps_from c.args.code.now (c.args.at + c.loop-i.i + 1)) (step_of c.args.code.now c.in-Some.instr) c.loop-i-test.true
     (subst (λ is. BuiltAll c.loop-i.i c.args.cells.now.cells (held c.args.x.now) (held c.args.y.now) (steps_from c.args.code.now c.args.at) c.loop-i.cells.cells (held c.loop-i.x) (held c.loop-i.y) is)
     (steps-here c.args.code.now (c.args.at + c.loop-i.i) c.in-Some.instr e) v.built)
-    (c.if-not-build_argument.ensures.built whole (v.holds_x whole c.requires.holds_x) (v.holds_y whole c.requires.holds_y))
+    (c.in-Stuck.ensures.built whole (v.holds_x whole c.requires.holds_x) (v.holds_y whole c.requires.holds_y))
 
-pub returns-then-not-build_argument-clause-holds_x : goal.returns-then-not-build_argument-clause-holds_x
-returns-then-not-build_argument-clause-holds_x c = λ whole h. c.build_argument.ensures.holds_x whole (c.loop-i.invariant.holds_x whole h)
+pub returns-in-Stuck-clause-holds_x : goal.returns-in-Stuck-clause-holds_x
+returns-in-Stuck-clause-holds_x c = λ whole h. c.build_argument.ensures.holds_x whole (c.loop-i.invariant.holds_x whole h)
 
-pub returns-then-not-build_argument-clause-holds_y : goal.returns-then-not-build_argument-clause-holds_y
-returns-then-not-build_argument-clause-holds_y c = λ whole h. c.build_argument.ensures.holds_y whole (c.loop-i.invariant.holds_y whole h)
+pub returns-in-Stuck-clause-holds_y : goal.returns-in-Stuck-clause-holds_y
+returns-in-Stuck-clause-holds_y c = λ whole h. c.build_argument.ensures.holds_y whole (c.loop-i.invariant.holds_y whole h)
 
-pub returns-then-not-build_argument-clause-keeps : goal.returns-then-not-build_argument-clause-keeps
-returns-then-not-build_argument-clause-keeps c = Keeps-trans c.args.cells.now c.loop-i.cells c.build_argument.new.cells c.loop-i.invariant.keeps c.build_argument.ensures.keeps
+pub returns-in-Stuck-clause-keeps : goal.returns-in-Stuck-clause-keeps
+returns-in-Stuck-clause-keeps c = Keeps-trans c.args.cells.now c.loop-i.cells c.build_argument.new.cells c.loop-i.invariant.keeps c.build_argument.ensures.keeps
 
 pub returns-in-None-clause-built : goal.returns-in-None-clause-built
 returns-in-None-clause-built c =
@@ -53,6 +57,10 @@ loop-i-preserved c =
     let at : ℕ = c.args.at in
     let whole : ℕ = length c.args.cells.now.cells + c.args.count in
     let e : slice_get c.args.code.now.instructions (at + i) ≡ Some c.in-Some.instr = sym c.in-Some.ensures in
+    let value : c.build_argument.result ≡ Values → is_value c.in-Some.instr ≡ true = c.build_argument.ensures.value in
+    let fresh : c.build_argument.result ≡ Fresh → StandApart c.loop-i.cells.cells c.build_argument.new.cells.cells = c.build_argument.ensures.fresh in
+    let longer : length c.args.cells.now.cells ≤ length c.loop-i.cells.cells = let l : length c.loop-i.cells.cells ≡ length c.args.cells.now.cells + i = v.built.longer in omega arith in
+    let ok : are_built c.build_argument.result ≡ true = elim c.match-build_argument.branch [ in-Fresh w ↦ ap are_built w.in-Fresh.is | in-Values w ↦ ap are_built w.in-Values.is ] in
     let behind : at + i + 1 ≡ at + (i + 1) = omega arith in
     record {
       built =
@@ -60,22 +68,58 @@ loop-i-preserved c =
           (BuiltAll-more i c.args.cells.now.cells c.loop-i.cells.cells c.build_argument.new.cells.cells (held c.args.x.now) (held c.args.y.now) (held c.loop-i.x) (held c.loop-i.y) (held c.build_argument.new.x) (held c.build_argument.new.y)
           (steps_from c.args.code.now at) (steps_from c.args.code.now (at + i + 1)) (step_of c.args.code.now c.in-Some.instr)
           (subst (λ is. BuiltAll i c.args.cells.now.cells (held c.args.x.now) (held c.args.y.now) (steps_from c.args.code.now at) c.loop-i.cells.cells (held c.loop-i.x) (held c.loop-i.y) is) (steps-here c.args.code.now (at + i) c.in-Some.instr e) v.built)
-          (c.if-not-build_argument.ensures.built whole (v.holds_x whole c.requires.holds_x) (v.holds_y whole c.requires.holds_y)));
-      passed = none-more c.args.code.now.instructions at i c.in-Some.instr v.passed e (c.if-not-build_argument.ensures.argument refl);
+          (subst (BuiltOr whole c.loop-i.cells.cells (held c.loop-i.x) (held c.loop-i.y) (step_of c.args.code.now c.in-Some.instr) c.build_argument.new.cells.cells (held c.build_argument.new.x) (held c.build_argument.new.y)) ok
+          (c.build_argument.ensures.built whole (v.holds_x whole c.requires.holds_x) (v.holds_y whole c.requires.holds_y))));
+      passed = none-more c.args.code.now.instructions at i c.in-Some.instr v.passed e (c.build_argument.ensures.argument ok);
+      value =
+          elim c.match-build_argument.branch [
+            | in-Fresh w ↦ λ some. value-kept c.args.code.now.instructions at i (v.value (sym w.values-is ∙ some))
+            | in-Values w ↦ λ some. value-among c.args.code.now.instructions at i c.in-Some.instr e (i + 1) (omega arith) (value w.in-Values.is)
+          ];
+      fresh =
+          elim c.match-build_argument.branch [
+            | in-Fresh w ↦ λ none.
+                StandApart-trans c.args.cells.now.cells c.loop-i.cells.cells c.build_argument.new.cells.cells longer c.build_argument.ensures.stays (v.fresh (sym w.values-is ∙ none)) (fresh w.in-Fresh.is)
+            | in-Values w ↦ λ none. absurd (false≢true (sym none ∙ w.values-is))
+          ];
+      stays = KeepTrees-trans c.args.cells.now.cells c.loop-i.cells.cells c.build_argument.new.cells.cells longer v.stays c.build_argument.ensures.stays;
       inside = let l : at + i < length c.args.code.now.instructions = slice_get_within c.args.code.now.instructions (at + i) c.in-Some.instr e in omega arith;
       holds_x = λ w h. c.build_argument.ensures.holds_x w (v.holds_x w h);
       holds_y = λ w h. c.build_argument.ensures.holds_y w (v.holds_y w h);
       x_len = c.build_argument.ensures.x_len ∙ v.x_len;
       y_len = c.build_argument.ensures.y_len ∙ v.y_len;
-      spare = omega (arith, c.if-not-build_argument.ensures.spare refl);
+      spare = omega (arith, c.build_argument.ensures.spare ok);
       keeps = Keeps-trans c.args.cells.now c.loop-i.cells c.build_argument.new.cells v.keeps c.build_argument.ensures.keeps;
     }
 
-pub returns-clause-built : goal.returns-clause-built
-returns-clause-built c =
+pub returns-then-values-clause-built : goal.returns-then-values-clause-built
+returns-then-values-clause-built c =
     let e : c.loop-i.i ≡ c.args.count = omega arith in
     subst (λ n. BuiltAll n c.args.cells.now.cells (held c.args.x.now) (held c.args.y.now) (steps_from c.args.code.now c.args.at) c.loop-i.cells.cells (held c.loop-i.x) (held c.loop-i.y) (steps_from c.args.code.now (c.args.at + n))) e
     c.loop-i.invariant.built
 
-pub returns-clause-passed : goal.returns-clause-passed
-returns-clause-passed c = λ t. let e : c.loop-i.i ≡ c.args.count = omega arith in subst (NoneOfControl c.args.code.now.instructions c.args.at) e c.loop-i.invariant.passed
+pub returns-else-values-clause-built : goal.returns-else-values-clause-built
+returns-else-values-clause-built c =
+    let e : c.loop-i.i ≡ c.args.count = omega arith in
+    subst (λ n. BuiltAll n c.args.cells.now.cells (held c.args.x.now) (held c.args.y.now) (steps_from c.args.code.now c.args.at) c.loop-i.cells.cells (held c.loop-i.x) (held c.loop-i.y) (steps_from c.args.code.now (c.args.at + n))) e
+    c.loop-i.invariant.built
+
+pub returns-then-values-clause-value : goal.returns-then-values-clause-value
+returns-then-values-clause-value c = λ t. let e : c.args.count ≡ c.loop-i.i = omega arith in ap (has_value c.args.code.now.instructions c.args.at) e ∙ c.loop-i.invariant.value c.if-values.true
+
+pub returns-else-values-clause-fresh : goal.returns-else-values-clause-fresh
+returns-else-values-clause-fresh c = λ t. c.loop-i.invariant.fresh c.if-values.false
+
+pub returns-then-values-clause-stays : goal.returns-then-values-clause-stays
+returns-then-values-clause-stays c = c.loop-i.invariant.stays
+
+pub returns-else-values-clause-stays : goal.returns-else-values-clause-stays
+returns-else-values-clause-stays c = c.loop-i.invariant.stays
+
+pub returns-in-None-clause-stays : goal.returns-in-None-clause-stays
+returns-in-None-clause-stays c = c.loop-i.invariant.stays
+
+pub returns-in-Stuck-clause-stays : goal.returns-in-Stuck-clause-stays
+returns-in-Stuck-clause-stays c =
+    let longer : length c.args.cells.now.cells ≤ length c.loop-i.cells.cells = let l : length c.loop-i.cells.cells ≡ length c.args.cells.now.cells + c.loop-i.i = c.loop-i.invariant.built.longer in omega arith in
+    KeepTrees-trans c.args.cells.now.cells c.loop-i.cells.cells c.build_argument.new.cells.cells longer c.loop-i.invariant.stays c.build_argument.ensures.stays

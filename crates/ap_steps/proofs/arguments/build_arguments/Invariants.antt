@@ -1,14 +1,17 @@
-use Rattle.std.proofs.Common.{◌≡◌, ℕ, ◌+◌, ◌≤◌, length}
+use Rattle.std.proofs.Common.{◌≡◌, ℕ, ◌+◌, ◌≤◌, true, false, length}
 use Rattle.ap_cells.specs.Store.{Keeps}
 use Rattle.ap_steps.specs.Moves.{held, HoldPlacesBut}
-use Rattle.ap_steps.specs.Arguments.{BuiltAll}
-use Rattle.ap_steps.specs.Ways.{NoneOfControl, steps_from}
+use Rattle.ap_steps.specs.Arguments.{BuiltAll, KeepTrees, StandApart}
+use Rattle.ap_steps.specs.Ways.{has_value, NoneOfControl, steps_from}
 use Rattle.ap_steps.proofs.arguments.build_arguments.Given as goal
 
 abbrev pub invariant-loop-i : goal.invariant-loop-i
 invariant-loop-i l = record {
   built : BuiltAll l.i l.fn.cells.cells (held l.fn.x) (held l.fn.y) (steps_from l.code l.at) l.cells.cells (held l.x) (held l.y) (steps_from l.code (l.at + l.i));
   passed : NoneOfControl l.code.instructions l.at l.i;
+  value : l.values ≡ true → has_value l.code.instructions l.at l.i ≡ true;
+  fresh : l.values ≡ false → StandApart l.fn.cells.cells l.cells.cells;
+  stays : KeepTrees l.fn.cells.cells l.cells.cells;
   inside : l.at + l.i ≤ length l.code.instructions;
   holds_x : (whole : ℕ) → HoldPlacesBut whole (length l.fn.cells.cells) l.fn.x → HoldPlacesBut whole (length l.cells.cells) l.x;
   holds_y : (whole : ℕ) → HoldPlacesBut whole (length l.fn.cells.cells) l.fn.y → HoldPlacesBut whole (length l.cells.cells) l.y;

@@ -1,9 +1,33 @@
+use Rattle.std.proofs.Common.{◌≡◌, false, subst, arith}
+use Rattle.ap_term.specs.Vars.{occurs}
+use Rattle.ap_cells.specs.Trees.{tree_at, trees}
 use Rattle.ap_steps.specs.Moves.{held}
 use Rattle.ap_steps.proofs.Building.{value-built}
+use Rattle.ap_steps.proofs.NewCells.{push-keeps}
 use Rattle.ap_steps.proofs.arguments.build_value.Goals as goal
 
-pub returns-then-place-len-clause-built : goal.returns-then-place-len-clause-built
-returns-then-place-len-clause-built c =
+pub returns-then-is_constant-clause-built : goal.returns-then-is_constant-clause-built
+returns-then-is_constant-clause-built c =
     λ whole inside.
-    value-built c.args.cells.now.cells c.push_value.new.cells.cells c.read-place.result c.push_value.result c.push_value.ensures.place c.push_value.ensures.len c.push_value.ensures.becomes c.push_value.ensures.fits (held c.args.x.now)
-    (held c.args.y.now) c.args.v c.read-place.ensures
+    value-built c.args.cells.now.cells c.push_value-argument.new.cells.cells c.read-place.result c.push_value-argument.result c.push_value-argument.ensures.place c.push_value-argument.ensures.len c.push_value-argument.ensures.becomes
+    c.push_value-argument.ensures.fits (held c.args.x.now) (held c.args.y.now) c.args.v c.read-place.ensures
+
+pub returns-then-is_constant-clause-stays : goal.returns-then-is_constant-clause-stays
+returns-then-is_constant-clause-stays c =
+    push-keeps c.args.cells.now.cells c.push_value-argument.new.cells.cells (tree_at (trees c.args.cells.now.cells) c.read-place.result) c.push_value-argument.ensures.trees
+
+pub returns-else-is_constant-clause-built : goal.returns-else-is_constant-clause-built
+returns-else-is_constant-clause-built c =
+    λ whole inside.
+    value-built c.args.cells.now.cells c.push_value-argument.new.cells.cells c.read-place.result c.push_value-argument.result c.push_value-argument.ensures.place c.push_value-argument.ensures.len c.push_value-argument.ensures.becomes
+    c.push_value-argument.ensures.fits (held c.args.x.now) (held c.args.y.now) c.args.v c.read-place.ensures
+
+pub returns-else-is_constant-clause-stays : goal.returns-else-is_constant-clause-stays
+returns-else-is_constant-clause-stays c =
+    push-keeps c.args.cells.now.cells c.push_value-argument.new.cells.cells (tree_at (trees c.args.cells.now.cells) c.read-place.result) c.push_value-argument.ensures.trees
+
+pub returns-then-is_constant-clause-fresh : goal.returns-then-is_constant-clause-fresh
+returns-then-is_constant-clause-fresh c =
+    λ t x p inside above below.
+    let q : c.push_value-argument.result ≡ p = omega arith in
+    subst (λ i. occurs x (tree_at (trees c.push_value-argument.new.cells.cells) i) ≡ false) q (c.is_constant.ensures c.if-is_constant.true x)

@@ -1,11 +1,12 @@
-use Rattle.std.proofs.Common.{◌≡◌, ℕ, suc, ◌+◌, ◌-◌, ◌<◌, length, slice_get, Some, ◌∷◌, sym, ◌∙◌, subst, arith, rules}
+use Rattle.std.proofs.Common.{◌≡◌, ℕ, suc, ◌+◌, ◌-◌, ◌<◌, true, Ok, Err, length, slice_get, Some, ◌∷◌, sym, ◌∙◌, subst, arith, rules}
+use Rattle.std.specs.Prelude.{OnErr}
 use Rattle.std.proofs.lemmas.Option.{slice_get_within}
 use Rattle.ap_cells.proofs.Stores.{Keeps-trans}
 use Rattle.ap_instr.specs.Step.{step_of}
 use Rattle.ap_steps.specs.Moves.{held, HasTargets}
 use Rattle.ap_steps.specs.Found.{MovesInside, Matched}
-use Rattle.ap_steps.specs.Ways.{steps_from}
-use Rattle.ap_steps.proofs.Places.{steps-here, steps-past, targets-here, none-more, none-targets}
+use Rattle.ap_steps.specs.Ways.{has_value, steps_from}
+use Rattle.ap_steps.proofs.Places.{steps-here, steps-past, targets-here, none-more, none-targets, value-among}
 use Rattle.ap_steps.proofs.Finding.{MovesInside-refl, MovesInside-trans, MovesInside-stuck, MovesInside-end}
 use Rattle.ap_steps.proofs.found.match_arguments.Goals as goal
 
@@ -109,3 +110,11 @@ returns-clause-matched c =
     let e : c.loop-i.i ≡ c.args.count = omega arith in
     subst (λ w. MovesInside c.args.cells.now.cells (held c.args.x.now) (held c.args.y.now) (steps_from c.args.code.now c.args.at) c.args.first c.args.count c.loop-i.cells.cells (held c.loop-i.x) (held c.loop-i.y) (steps_from c.args.code.now (c.args.at + w)) (c.args.first + w) 0) e
     (c.loop-i.invariant.matched 0 n)
+
+pub returns-in_err-matched-in-Some-clause-wants : goal.returns-in_err-matched-in-Some-clause-wants
+returns-in_err-matched-in-Some-clause-wants c =
+    let e : slice_get c.args.code.now.instructions (c.args.at + c.loop-i.i) ≡ Some c.in-Some.instr = sym c.in-Some.ensures in
+    elim c.from_residual.result as (λ r. OnErr r (has_value c.args.code.now.instructions c.args.at c.args.count ≡ true)) [
+      | Ok b ↦ tt
+      | Err f ↦ value-among c.args.code.now.instructions c.args.at c.loop-i.i c.in-Some.instr e c.args.count c.loop-i-test.true c.in_err-matched-in-Some.ensures.wants
+    ]

@@ -1,38 +1,17 @@
-use Rattle.std.proofs.Common.{◌≡◌, ◌+◌, ◌-◌, refl, sym, subst, arith}
-use Rattle.std.proofs.lemmas.Result.{on_ok_weaker}
-use Rattle.ap_index.specs.declared.key.Key.{Key}
-use Rattle.ap_index.specs.Keys.{same_key}
-use Rattle.ap_index.specs.Index.{first_for, LeavesOthers}
-use Rattle.ap_index.proofs.Left.{leaves-all, leaves-next}
+use Rattle.std.proofs.Common.{◌≡◌, ◌+◌, ◌-◌, subst, arith}
+use Rattle.ap_index.specs.Index.{IsFilled}
+use Rattle.ap_index.proofs.Left.{filled-more, row-link}
 use Rattle.ap_index.proofs.index.Index.add.Goals as goal
-
-pub loop-at-init : goal.loop-at-init
-loop-at-init c = record {
-  order = c.requires.order;
-  index = c.requires.is_index;
-  firsts = λ key. subst (LeavesOthers c.args.code.now key c.args.end) (sym (c.new-segment.ensures key)) (leaves-all c.args.code.now key c.args.end);
-}
 
 pub loop-at-preserved : goal.loop-at-preserved
 loop-at-preserved c =
     let code = c.args.code.now in
     let at = c.loop-at.at - 1 in
+    let row = c.loop-at.row in
     let e : c.loop-at.at ≡ at + 1 = omega arith in
-    let behind : (key : Key) → LeavesOthers code key (at + 1) (first_for c.loop-at.segment key) =
-    λ key. subst (λ n. LeavesOthers code key n (first_for c.loop-at.segment key)) e (c.loop-at.invariant.firsts key)
-    in
+    let filled : IsFilled code (at + 1) row = subst (λ n. IsFilled code n row) e c.loop-at.invariant.filled in
     record {
       order = omega arith;
-      index = c.put.ensures code c.loop-at.invariant.index (subst (LeavesOthers code c.in-Some.key (at + 1)) (sym c.first-next.ensures) (behind c.in-Some.key));
-      firsts = λ key.
-          subst (LeavesOthers code key at) (sym (c.in_ok-put.ensures key))
-          (leaves-next code key c.in-Some.key at (first_for c.loop-at.segment key) c.in-Some.ensures (behind key) (same_key c.in-Some.key key) refl);
+      index = c.in_ok-put_link.ensures code c.loop-at.invariant.index (row-link code (at + 1) row c.in-Some-retry_key.key c.link.result c.link.ensures.count c.link.ensures.slot c.link.ensures.next filled);
+      filled = filled-more code at c.in-Some-retry_key.key c.in-Some-retry_key.ensures row c.put.new.self filled c.put.ensures;
     }
-
-pub returns : goal.returns
-returns c =
-    let code = c.args.code.now in
-    let e : c.loop-at.at ≡ c.args.start = omega (arith, c.loop-at.invariant.order) in
-    on_ok_weaker c.add_segment.result
-    (λ add. add code c.loop-at.invariant.index (λ key. subst (λ n. LeavesOthers code key n (first_for c.loop-at.segment key)) e (c.loop-at.invariant.firsts key)))
-    c.add_segment.ensures

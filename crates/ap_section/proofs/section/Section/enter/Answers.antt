@@ -1,45 +1,69 @@
-use Rattle.std.proofs.Common.{◌≡◌, ◌+◌, ◌<◌, length, take, slice_get, refl, ap, sym, ◌∙◌, subst, arith}
-use Rattle.std.proofs.lemmas.List.{length-take}
+use Rattle.std.proofs.Common.{◌≡◌, [], ◌∷◌, slice_get, Some, refl, ap, sym, ◌∙◌, subst}
 use Rattle.ap_instr.specs.Code.{Compiled}
-use Rattle.ap_standing.specs.Machine.{places_from}
+use Rattle.ap_steps.specs.Moves.{held}
+use Rattle.ap_standing.specs.Machine.{Machine, calling, inside, failed, places_from}
+use Rattle.ap_standing.specs.Laws.{IsTurn}
+use Rattle.ap_control.specs.Heads.{PassesOver}
+use Rattle.ap_control.proofs.Passed.{passes-same}
 use Rattle.ap_section.specs.View.{Paused}
-use Rattle.ap_section.specs.Sane.{Sane}
-use Rattle.ap_section.proofs.Sanity.{Sane-kept}
-use Rattle.ap_section.proofs.Entered.{turns-to-none, turns-to-one, turns-to-many}
+use Rattle.ap_section.specs.Choices.{called_point}
+use Rattle.ap_section.specs.Live.{AreLive, UnifiesAt}
+use Rattle.ap_section.proofs.Entered.{turns-to-none, turns-to-one, turns-to-many, turns-to-first}
+use Rattle.ap_section.proofs.Living.{all-live}
 use Rattle.ap_section.proofs.section.Section.enter.Goals as goal
-
-pub slice_bounds-arguments-end : goal.slice_bounds-arguments-end
-slice_bounds-arguments-end c =
-    let l : c.in-Some.predicate.arity < length c.args.self.now.machine.x = c.requires.is_for.arities c.args.number c.in-Some.predicate (sym (c.in-Some.ensures ∙ ap (λ (k : Compiled). slice_get k.predicates c.args.number) c.code.ensures.same)) in
-    let e : length c.self.inside.x.items ≡ length c.args.self.now.machine.x = ap (λ (s : Paused). length s.machine.x) c.self.view_is in
-    let f : length c.deref.result.now ≡ length c.self.inside.x.items = ap length c.deref.ensures.value in
-    let k = length-take (c.in-Some.predicate.arity + 1) c.deref.result.now in
-    omega arith
-
-pub invariant_of-self-in-Some-choice_from : goal.invariant_of-self-in-Some-choice_from
-invariant_of-self-in-Some-choice_from c =
-    let i = c.self.inside in
-    let l : c.in-Some.predicate.arity < length c.args.self.now.machine.x = c.requires.is_for.arities c.args.number c.in-Some.predicate (sym (c.in-Some.ensures ∙ ap (λ (k : Compiled). slice_get k.predicates c.args.number) c.code.ensures.same)) in
-    let e : length i.x.items ≡ length c.args.self.now.machine.x = ap (λ (s : Paused). length s.machine.x) c.self.view_is in
-    subst (λ k. Sane i.cells k i.x.items i.y.items i.roots.items) (sym c.in_ok-keep-in-Some-choice_from.ensures.ok)
-    (Sane-kept i.cells i.environments i.x.items i.y.items i.roots.items _ c.is_store.ensures.is_trail c.mark-mark.ensures.is_mark c.mark-mark.ensures.leads refl
-    (c.in-Some.predicate.arity + 1) (omega arith) (ap (take (c.in-Some.predicate.arity + 1)) c.deref.ensures.value) c.self.invariant)
 
 pub returns-in_default-first_clause-clause-turn : goal.returns-in_default-first_clause-clause-turn
 returns-in_default-first_clause-clause-turn c = λ p q known good stands.
-    let i = c.self.inside in
-    turns-to-none i.cells i.environments i.x.items i.y.items i.roots.items i.next i.spent i.budget i.room c.args.self.now c.self.view_is c.args.sound.now c.args.number c.requires.due c.in-Some.predicate (c.in-Some.ensures ∙ ap (λ (k : Compiled). slice_get k.predicates c.args.number) c.code.ensures.same) p q known good stands
-    (c.first_clause.ensures.none c.in_default-first_clause.is)
+    let code = c.args.sound.now in
+    let m = c.args.self.now.machine in
+    let found : Some c.in-Some.predicate ≡ slice_get code.predicates c.args.number = c.in-Some.ensures ∙ ap (λ (k : Compiled). slice_get k.predicates c.args.number) c.code-code.ensures.same in
+    subst (IsTurn code p m) (sym (ap (λ (s : Paused). s.machine) c.fail-in_default-first_clause.ensures))
+    (turns-to-none code m c.args.number c.requires.due c.in-Some.predicate found p q known good stands (c.first_clause.ensures.none c.in_default-first_clause.is))
 
-pub returns-in-None-clause-turn : goal.returns-in-None-clause-turn
-returns-in-None-clause-turn c = λ p q known good stands.
-    let i = c.self.inside in
-    turns-to-one i.cells i.environments i.x.items i.y.items i.roots.items i.next i.spent i.budget i.room c.args.self.now c.self.view_is c.args.sound.now c.args.number c.requires.due c.in-Some.predicate (c.in-Some.ensures ∙ ap (λ (k : Compiled). slice_get k.predicates c.args.number) c.code.ensures.same) p q known good stands
-    c.in-Some-first_clause.alternative.place (places_from c.args.sound.now c.in-Some-first_clause.alternative.behind) c.in-Some-first_clause.ensures.some c.in-None.ensures
+pub returns-in_default-following-clause-turn : goal.returns-in_default-following-clause-turn
+returns-in_default-following-clause-turn c = λ p q known good stands.
+    let code = c.args.sound.now in
+    let m = c.args.self.now.machine in
+    let first = c.in-Some-first_clause.first in
+    let found : Some c.in-Some.predicate ≡ slice_get code.predicates c.args.number = c.in-Some.ensures ∙ ap (λ (k : Compiled). slice_get k.predicates c.args.number) c.code-code.ensures.same in
+    let none : PassesOver code m.cells (held m.x) (places_from code first.behind) [] =
+    passes-same code m.cells (held m.x) (places_from code first.behind) (places_from code c.choice_from-rest.result) [] c.choice_from-rest.ensures
+    (subst (λ (k : Compiled). places_from k c.choice_from-rest.result ≡ []) c.code-code.ensures.same (c.following.ensures.none c.in_default-following.is))
+    in
+    subst (IsTurn code p m) (sym (ap (λ (s : Paused). s.machine) c.resume.ensures))
+    (turns-to-one code m c.args.number c.requires.due c.in-Some.predicate found p q known good stands first.place (places_from code first.behind) c.in-Some-first_clause.ensures.some none)
 
-pub returns-in_ok-keep-in-Some-choice_from-clause-turn : goal.returns-in_ok-keep-in-Some-choice_from-clause-turn
-returns-in_ok-keep-in-Some-choice_from-clause-turn c = λ p q known good stands.
-    let i = c.self.inside in
-    turns-to-many i.cells i.environments i.x.items i.y.items i.roots.items i.next i.spent i.budget i.room c.args.self.now c.self.view_is c.args.sound.now c.args.number c.requires.due c.in-Some.predicate (c.in-Some.ensures ∙ ap (λ (k : Compiled). slice_get k.predicates c.args.number) c.code.ensures.same) p q known good stands
-    c.mark-mark.result.cells c.mark-mark.result.trail c.in-Some-first_clause.alternative.place c.in-Some-first_clause.alternative.behind _ c.keep.new.self c.in_ok-keep-in-Some-choice_from.ensures.ok c.mark-mark.ensures.leads
-    (ap (take (c.in-Some.predicate.arity + 1)) c.deref.ensures.value) c.in-Some-first_clause.ensures.some
+pub returns-in_ok-keep-clause-turn : goal.returns-in_ok-keep-clause-turn
+returns-in_ok-keep-clause-turn c = λ p q known good stands.
+    let code = c.args.sound.now in
+    let m = c.args.self.now.machine in
+    let first = c.in-Some-first_clause.first in
+    let next = c.in-Some-following.next in
+    let found : Some c.in-Some.predicate ≡ slice_get code.predicates c.args.number = c.in-Some.ensures ∙ ap (λ (k : Compiled). slice_get k.predicates c.args.number) c.code-code.ensures.same in
+    let behind : PassesOver code m.cells (held m.x) (places_from code first.behind) (next.place ∷ places_from code next.behind) =
+    passes-same code m.cells (held m.x) (places_from code first.behind) (places_from code c.choice_from-rest.result) (next.place ∷ places_from code next.behind) c.choice_from-rest.ensures
+    (subst (λ (k : Compiled). places_from k c.choice_from-rest.result ≡ next.place ∷ places_from k next.behind) c.code-code.ensures.same c.in-Some-following.ensures.some)
+    in
+    subst (IsTurn code p m) (sym (ap (λ (s : Paused). s.machine) c.resume-then-surely_takes.ensures ∙ ap (λ (s : Paused). record s.machine { now = inside first.place }) c.in_ok-keep.ensures.ok))
+    (turns-to-first code m c.args.number c.requires.due c.in-Some.predicate found p q known good stands first.place (places_from code first.behind) next c.in-Some-first_clause.ensures.some behind)
+
+pub returns-in_ok-keep-clause-live : goal.returns-in_ok-keep-clause-live
+returns-in_ok-keep-clause-live c = λ live.
+    let code = c.args.sound.now in
+    let m = c.args.self.now.machine in
+    let first = c.in-Some-first_clause.first in
+    let next = c.in-Some-following.next in
+    let point = called_point c.args.number c.in-Some.predicate.arity next m in
+    let takes : UnifiesAt code point next.place = subst (λ (k : Compiled). UnifiesAt k point next.place) c.code-code.ensures.same (c.surely_takes.ensures c.if-surely_takes.true) in
+    let new : Machine = record m { points = point ∷ m.points; now = inside first.place } in
+    let whole : AreLive code new = (takes, all-live code m (calling c.args.number) c.requires.due (λ qs. refl) live) in
+    subst (AreLive code) (sym (ap (λ (s : Paused). s.machine) c.resume-then-surely_takes.ensures ∙ ap (λ (s : Paused). record s.machine { now = inside first.place }) c.in_ok-keep.ensures.ok)) whole
+
+pub returns-in_ok-keep-2-clause-turn : goal.returns-in_ok-keep-2-clause-turn
+returns-in_ok-keep-2-clause-turn c = λ p q known good stands.
+    let code = c.args.sound.now in
+    let m = c.args.self.now.machine in
+    let first = c.in-Some-first_clause.first in
+    let found : Some c.in-Some.predicate ≡ slice_get code.predicates c.args.number = c.in-Some.ensures ∙ ap (λ (k : Compiled). slice_get k.predicates c.args.number) c.code-code.ensures.same in
+    subst (IsTurn code p m) (sym (ap (λ (s : Paused). s.machine) c.fail-else-surely_takes.ensures ∙ ap (λ (s : Paused). record s.machine { now = failed }) c.in_ok-keep-2.ensures.ok))
+    (turns-to-many code m c.args.number c.requires.due c.in-Some.predicate found p q known good stands first c.in-Some-first_clause.ensures.some)

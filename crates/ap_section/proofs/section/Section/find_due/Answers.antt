@@ -5,10 +5,10 @@ use Rattle.ap_section.proofs.Progress.{Stays-refl, Stays-trans, still-for}
 use Rattle.ap_section.proofs.section.Section.find_due.Goals as goal
 
 pub moves-init : goal.moves-init
-moves-init c = record { holds = λ ss h. h; stays = Stays-refl c.args.self.now }
+moves-init c = record { holds = λ ss h. h; stays = Stays-refl c.args.self.now; live = λ l. l }
 
 pub go_on-requires : goal.go_on-requires
-go_on-requires c = still-for c.args.sound.now c.args.self.now c.moves.self c.requires c.moves.invariant.stays
+go_on-requires c = still-for c.args.sound.now c.args.self.now c.moves.self c.requires c.moves.invariant.stays c.moves.invariant.live
 
 pub returns-in_err-due-clause-holds : goal.returns-in_err-due-clause-holds
 returns-in_err-due-clause-holds c = λ ss h. c.go_on.ensures.holds ss (c.moves.invariant.holds ss h)
@@ -26,6 +26,7 @@ pub moves-preserved : goal.moves-preserved
 moves-preserved c = record {
   holds = λ ss h. c.go_on.ensures.holds ss (c.moves.invariant.holds ss h);
   stays = Stays-trans c.args.self.now c.moves.self c.go_on.new.self c.moves.invariant.stays c.go_on.ensures.stays;
+  live = λ l. c.go_on.ensures.live (c.moves.invariant.live l);
 }
 
 pub moves-smaller : goal.moves-smaller
@@ -33,3 +34,9 @@ moves-smaller c =
     let P : Type 0 = moves_left c.args.sound.now c.go_on.new.self.machine < moves_left c.args.sound.now c.moves.self.machine in
     let fewer : P = subst (λ found. IfNone found P) c.in_default.is c.in_ok-due.ensures.fewer in
     fewer
+
+pub returns-in_err-due-clause-live : goal.returns-in_err-due-clause-live
+returns-in_err-due-clause-live c = λ l. c.go_on.ensures.live (c.moves.invariant.live l)
+
+pub returns-in-Some-clause-live : goal.returns-in-Some-clause-live
+returns-in-Some-clause-live c = λ l. c.go_on.ensures.live (c.moves.invariant.live l)

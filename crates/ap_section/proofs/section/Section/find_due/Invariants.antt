@@ -1,5 +1,6 @@
 use Rattle.ap_standing.specs.Laws.{KeepsStanding}
 use Rattle.ap_section.specs.Choices.{Stays}
+use Rattle.ap_section.specs.Live.{KeepsLive}
 use Rattle.ap_section.specs.Lasting.{moves_left}
 use Rattle.ap_section.proofs.section.Section.find_due.Given as goal
 
@@ -10,4 +11,5 @@ abbrev pub invariant-moves : goal.invariant-moves
 invariant-moves l = record {
   holds : KeepsStanding l.sound l.fn.self.machine l.self.machine;
   stays : Stays l.fn.self l.self;
+  live : KeepsLive l.sound l.fn.self.machine l.self.machine;
 }

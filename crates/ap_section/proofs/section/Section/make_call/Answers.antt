@@ -10,4 +10,4 @@ returns-in_err-enter-clause-advanced c = unchanged c.args.sound.now c.args.self.
 pub returns-clause-advanced : goal.returns-clause-advanced
 returns-clause-advanced c =
     let P : Paused → Type 0 = λ s. Advanced c.args.sound.now c.args.self.now s in
-    subst P (sym c.count.ensures) (counted c.args.sound.now c.args.self.now c.enter.new.self (λ p good stands. c.in_ok-enter.ensures.turn p c.requires.due.1.0 c.requires.due.1.1 good stands) c.enter.ensures.stays)
+    subst P (sym c.count.ensures) (counted c.args.sound.now c.args.self.now c.enter.new.self (λ p good stands. c.in_ok-enter.ensures.turn p c.requires.due.1.0 c.requires.due.1.1 good stands) c.enter.ensures.stays c.enter.ensures.live)

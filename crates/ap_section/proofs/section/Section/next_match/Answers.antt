@@ -3,10 +3,12 @@ use Rattle.ap_instr.specs.Code.{Compiled}
 use Rattle.ap_steps.specs.Moves.{held, IsStuck}
 use Rattle.ap_steps.specs.Ways.{steps_from}
 use Rattle.ap_standing.specs.Machine.{places_from}
+use Rattle.ap_control.specs.Taking.{CanTake}
 use Rattle.ap_control.proofs.Passed.{passes-shorter}
 use Rattle.ap_section.specs.View.{IsFor}
 use Rattle.ap_section.specs.Choices.{Returned}
 use Rattle.ap_section.proofs.Alternatives.{Returned-trans, Returned-refl, IsFor-stays, leaves-all, leaves-same, leaves-stuck, leaves-passed}
+use Rattle.ap_section.proofs.Living.{live-still, unifies-at, UnifiesAtNewest-same}
 use Rattle.ap_section.proofs.section.Section.next_match.Goals as goal
 
 pub loop-found-init : goal.loop-found-init
@@ -18,7 +20,8 @@ loop-found-init c = record {
 
 pub try_clause-requires-clause-is_for : goal.try_clause-requires-clause-is_for
 try_clause-requires-clause-is_for c =
-    subst (λ (k : Compiled). IsFor k c.loop-found.self) (sym c.code-code.ensures.same) (IsFor-stays c.args.sound.now c.args.self.now c.loop-found.self c.loop-found.invariant.back.stays c.requires.is_for)
+    subst (λ (k : Compiled). IsFor k c.loop-found.self) (sym c.code-code.ensures.same) (IsFor-stays c.args.sound.now c.args.self.now c.loop-found.self c.loop-found.invariant.back.stays
+    (live-still c.args.sound.now c.args.self.now.machine c.loop-found.self.machine c.loop-found.invariant.back.now c.loop-found.invariant.back.points c.requires.is_for.live) c.requires.is_for)
 
 pub try_clause-requires-clause-at : goal.try_clause-requires-clause-at
 try_clause-requires-clause-at c = c.loop-found.invariant.back.at
@@ -71,3 +74,11 @@ returns-clause-left c =
 
 pub returns-clause-back : goal.returns-clause-back
 returns-clause-back c = c.loop-found.invariant.back
+
+pub returns-then-branch-clause-live : goal.returns-then-branch-clause-live
+returns-then-branch-clause-live c =
+    let code = c.args.sound.now in
+    let m = c.loop-found.self.machine in
+    let place = c.in-Some.found.place in
+    UnifiesAtNewest-same code c.args.self.now.machine m c.loop-found.invariant.back.points place
+    (unifies-at code m c.loop-found.invariant.back.at place (subst (λ (k : Compiled). CanTake k m.cells (held m.x) place) c.code-code.ensures.same (c.in_ok-try_clause.ensures.taken c.if-branch.true)))

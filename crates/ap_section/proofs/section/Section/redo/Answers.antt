@@ -1,13 +1,18 @@
 use Rattle.std.proofs.Common.{ap, refl, sym, subst}
 use Rattle.ap_standing.specs.Machine.{failed}
 use Rattle.ap_standing.specs.Holds.{Holds}
-use Rattle.ap_section.specs.View.{Paused}
+use Rattle.ap_section.specs.View.{Paused, machine_of}
+use Rattle.ap_section.proofs.Living.{live-failed}
 use Rattle.ap_section.proofs.Progress.{for-same}
 use Rattle.ap_section.proofs.Resting.{roots-inside, answer-left}
 use Rattle.ap_section.proofs.section.Section.redo.Goals as goal
 
 pub returns-clause-is_for : goal.returns-clause-is_for
-returns-clause-is_for c = λ code h. for-same code _ _ c.args.self.now c.self.view_is refl refl refl h
+returns-clause-is_for c = λ code h.
+    let i = c.self.inside in
+    let s : Paused = record { machine = machine_of i.cells i.environments i.x.items i.y.items i.roots.items i.next; spent = i.spent; budget = i.budget; room = i.room } in
+    let t : Paused = record s { machine = record s.machine { now = failed } } in
+    for-same code s t c.args.self.now c.self.view_is refl refl refl (live-failed code s.machine t.machine refl refl) h
 
 pub returns-clause-left : goal.returns-clause-left
 returns-clause-left c = λ at code s ss h.

@@ -1,12 +1,13 @@
-use Rattle.std.proofs.Common.{◌≡◌, ℕ, List, ◌++◌, length, take, drop, Some, None, arith, refl, ap, sym, ◌∙◌, subst}
+use Rattle.std.proofs.Common.{◌≡◌, ℕ, true, List, ◌++◌, length, take, drop, Some, None, arith, refl, ap, sym, ◌∙◌, subst}
 use Rattle.ap_cells.specs.Store.{Keeps}
+use Rattle.ap_steps.specs.Ways.{IsRoomFor}
 use Rattle.ap_standing.specs.Machine.{inside}
 use Rattle.ap_standing.specs.Holds.{Holds}
 use Rattle.ap_control.specs.Runs.{RanOrStuck}
 use Rattle.ap_control.proofs.Marks.{Keeps-trans}
 use Rattle.ap_section.specs.declared.section.Now.TheVariants.{Inside, Failed}
 use Rattle.ap_section.specs.View.{machine_of}
-use Rattle.ap_section.proofs.Ran.{written, same-store, sane-ran, sane-kept, machine-same, rest-same, moved-ran, opened, ran-holds, stuck-holds}
+use Rattle.ap_section.proofs.Ran.{written, same-store, sane-ran, sane-kept, sane-cleared, machine-same, rest-same, moved-ran, opened, ran-holds, stuck-holds}
 use Rattle.ap_section.proofs.section.Section.run.Goals as goal
 
 pub invariant_of-self : goal.invariant_of-self
@@ -66,9 +67,8 @@ invariant_of-self-in-Ok-None c =
     let keeps : Keeps a.cells w = Keeps-trans a.cells c.reserve.new.self w (same-store a.cells c.reserve.new.self c.reserve.ensures.cells c.reserve.ensures.trail) c.run_or_undo.ensures.keeps in
     let e = ap length c.reserve.ensures.cells in
     let l = c.run_or_undo.ensures.longer in
-    let ex : c.copy_from_slice.new.self.items ≡ a.x.items = c.copy_from_slice.ensures.items ∙ c.deref-in-Ok-None.ensures.value ∙ c.in_ok-save.ensures ∙ c.deref.ensures.value in
-    let ey : c.copy_from_slice-in-Ok-None.new.self.items ≡ a.y.items = c.copy_from_slice-in-Ok-None.ensures.items ∙ c.deref-in-Ok-None-2.ensures.value ∙ c.in_ok-save-2.ensures ∙ c.deref-2.ensures.value in
-    sane-kept a.cells w a.environments a.x.items a.y.items c.copy_from_slice.new.self.items c.copy_from_slice-in-Ok-None.new.self.items a.roots.items c.self.invariant keeps (omega (arith, e, l)) ex ey
+    sane-cleared a.cells w a.environments a.x.items a.y.items c.fill.new.self.items c.fill-in-Ok-None.new.self.items a.roots.items a.x.len a.y.len c.self.invariant keeps (omega (arith, e, l)) (c.fill.ensures.items (λ z f. cc)) (c.fill-in-Ok-None.ensures.items (λ z f. cc))
+    (sym c.deref_mut.ensures.len ∙ ap length c.deref_mut.ensures.value) (sym c.deref_mut-2.ensures.len ∙ ap length c.deref_mut-2.ensures.value)
 
 pub returns-in-Ok-None-clause-holds : goal.returns-in-Ok-None-clause-holds
 returns-in-Ok-None-clause-holds c = λ ss h₀.
@@ -79,7 +79,7 @@ returns-in-Ok-None-clause-holds c = λ ss h₀.
     let h = subst (λ o. RanOrStuck c.args.code.now c.args.at c.reserve.new.self.cells c.deref_mut.result.now c.deref_mut-2.result.now o w.cells r.x r.y) c.in-Ok-None.field-0-is c.in-Ok-None.ensures.ran in
     let stuck = moved-ran c.args.code.now c.args.at a.cells.cells c.reserve.new.self.cells w.cells a.x.items c.deref_mut.result.now a.y.items c.deref_mut-2.result.now r.x r.x r.y r.y None
     c.reserve.ensures.cells c.deref_mut.ensures.value c.deref_mut-2.ensures.value refl refl h in
-    stuck-holds c.args.code.now a.cells w a.environments a.x.items a.y.items c.copy_from_slice.new.self.items c.copy_from_slice-in-Ok-None.new.self.items a.roots.items c.args.at c.self.invariant keeps stuck ss
+    stuck-holds c.args.code.now a.cells w a.environments a.x.items a.y.items c.fill.new.self.items c.fill-in-Ok-None.new.self.items a.roots.items c.args.at c.self.invariant keeps stuck ss
     (opened c.args.code.now ss c.args.self.now (machine_of a.cells a.environments a.x.items a.y.items a.roots.items a.next) (inside c.args.at) (ap (λ s. s.machine) c.self.view_is) c.requires.here h₀)
 
 pub invariant_of-self-in-Err : goal.invariant_of-self-in-Err
@@ -89,19 +89,21 @@ invariant_of-self-in-Err c =
     let keeps : Keeps a.cells w = Keeps-trans a.cells c.reserve.new.self w (same-store a.cells c.reserve.new.self c.reserve.ensures.cells c.reserve.ensures.trail) c.run_or_undo.ensures.keeps in
     let e = ap length c.reserve.ensures.cells in
     let l = c.run_or_undo.ensures.longer in
-    let ex : c.copy_from_slice-in-Err.new.self.items ≡ a.x.items = c.copy_from_slice-in-Err.ensures.items ∙ c.deref-in-Err.ensures.value ∙ c.in_ok-save.ensures ∙ c.deref.ensures.value in
-    let ey : c.copy_from_slice-in-Err-2.new.self.items ≡ a.y.items = c.copy_from_slice-in-Err-2.ensures.items ∙ c.deref-in-Err-2.ensures.value ∙ c.in_ok-save-2.ensures ∙ c.deref-2.ensures.value in
-    sane-kept a.cells w a.environments a.x.items a.y.items c.copy_from_slice-in-Err.new.self.items c.copy_from_slice-in-Err-2.new.self.items a.roots.items c.self.invariant keeps (omega (arith, e, l)) ex ey
+    let said : c.may_want-may_want.result ≡ true = c.may_want-may_want.ensures c.args.code.now (subst (IsRoomFor c.args.code.now) (sym (ap (λ s. s.room) c.self.view_is)) c.requires.is_for.room) ∙ c.in-Err.ensures.wants in
+    let ex : c.copy_from_slice.new.self.items ≡ a.x.items = c.copy_from_slice.ensures.items ∙ c.deref-in-Err.ensures.value ∙ c.in_ok-save.ensures said ∙ c.deref.ensures.value in
+    let ey : c.copy_from_slice-in-Err.new.self.items ≡ a.y.items = c.copy_from_slice-in-Err.ensures.items ∙ c.deref-in-Err-2.ensures.value ∙ c.in_ok-save-2.ensures said ∙ c.deref-2.ensures.value in
+    sane-kept a.cells w a.environments a.x.items a.y.items c.copy_from_slice.new.self.items c.copy_from_slice-in-Err.new.self.items a.roots.items c.self.invariant keeps (omega (arith, e, l)) ex ey
 
 pub returns-in-Err-clause-kept : goal.returns-in-Err-clause-kept
 returns-in-Err-clause-kept c =
     let a = c.self.inside in
     let w = c.run_or_undo.new.cells in
     let keeps : Keeps a.cells w = Keeps-trans a.cells c.reserve.new.self w (same-store a.cells c.reserve.new.self c.reserve.ensures.cells c.reserve.ensures.trail) c.run_or_undo.ensures.keeps in
-    let ex : c.copy_from_slice-in-Err.new.self.items ≡ a.x.items = c.copy_from_slice-in-Err.ensures.items ∙ c.deref-in-Err.ensures.value ∙ c.in_ok-save.ensures ∙ c.deref.ensures.value in
-    let ey : c.copy_from_slice-in-Err-2.new.self.items ≡ a.y.items = c.copy_from_slice-in-Err-2.ensures.items ∙ c.deref-in-Err-2.ensures.value ∙ c.in_ok-save-2.ensures ∙ c.deref-2.ensures.value in
+    let said : c.may_want-may_want.result ≡ true = c.may_want-may_want.ensures c.args.code.now (subst (IsRoomFor c.args.code.now) (sym (ap (λ s. s.room) c.self.view_is)) c.requires.is_for.room) ∙ c.in-Err.ensures.wants in
+    let ex : c.copy_from_slice.new.self.items ≡ a.x.items = c.copy_from_slice.ensures.items ∙ c.deref-in-Err.ensures.value ∙ c.in_ok-save.ensures said ∙ c.deref.ensures.value in
+    let ey : c.copy_from_slice-in-Err.new.self.items ≡ a.y.items = c.copy_from_slice-in-Err.ensures.items ∙ c.deref-in-Err-2.ensures.value ∙ c.in_ok-save-2.ensures said ∙ c.deref-2.ensures.value in
     ap (λ m. record { machine = m; spent = a.spent; budget = a.budget; room = a.room })
-    (machine-same a.cells w a.environments a.x.items a.y.items c.copy_from_slice-in-Err.new.self.items c.copy_from_slice-in-Err-2.new.self.items a.roots.items a.next c.self.invariant keeps (c.in-Err.ensures.err ∙ c.reserve.ensures.cells) ex ey)
+    (machine-same a.cells w a.environments a.x.items a.y.items c.copy_from_slice.new.self.items c.copy_from_slice-in-Err.new.self.items a.roots.items a.next c.self.invariant keeps (c.in-Err.ensures.err ∙ c.reserve.ensures.cells) ex ey)
     ∙ c.self.view_is
 
 pub returns-in-Err-clause-holds : goal.returns-in-Err-clause-holds
@@ -109,10 +111,11 @@ returns-in-Err-clause-holds c = λ ss h.
     let a = c.self.inside in
     let w = c.run_or_undo.new.cells in
     let keeps : Keeps a.cells w = Keeps-trans a.cells c.reserve.new.self w (same-store a.cells c.reserve.new.self c.reserve.ensures.cells c.reserve.ensures.trail) c.run_or_undo.ensures.keeps in
-    let ex : c.copy_from_slice-in-Err.new.self.items ≡ a.x.items = c.copy_from_slice-in-Err.ensures.items ∙ c.deref-in-Err.ensures.value ∙ c.in_ok-save.ensures ∙ c.deref.ensures.value in
-    let ey : c.copy_from_slice-in-Err-2.new.self.items ≡ a.y.items = c.copy_from_slice-in-Err-2.ensures.items ∙ c.deref-in-Err-2.ensures.value ∙ c.in_ok-save-2.ensures ∙ c.deref-2.ensures.value in
+    let said : c.may_want-may_want.result ≡ true = c.may_want-may_want.ensures c.args.code.now (subst (IsRoomFor c.args.code.now) (sym (ap (λ s. s.room) c.self.view_is)) c.requires.is_for.room) ∙ c.in-Err.ensures.wants in
+    let ex : c.copy_from_slice.new.self.items ≡ a.x.items = c.copy_from_slice.ensures.items ∙ c.deref-in-Err.ensures.value ∙ c.in_ok-save.ensures said ∙ c.deref.ensures.value in
+    let ey : c.copy_from_slice-in-Err.new.self.items ≡ a.y.items = c.copy_from_slice-in-Err.ensures.items ∙ c.deref-in-Err-2.ensures.value ∙ c.in_ok-save-2.ensures said ∙ c.deref-2.ensures.value in
     subst (λ q. Holds c.args.code.now q ss)
-    (sym (machine-same a.cells w a.environments a.x.items a.y.items c.copy_from_slice-in-Err.new.self.items c.copy_from_slice-in-Err-2.new.self.items a.roots.items a.next c.self.invariant keeps (c.in-Err.ensures.err ∙ c.reserve.ensures.cells) ex ey ∙ ap (λ s. s.machine) c.self.view_is)) h
+    (sym (machine-same a.cells w a.environments a.x.items a.y.items c.copy_from_slice.new.self.items c.copy_from_slice-in-Err.new.self.items a.roots.items a.next c.self.invariant keeps (c.in-Err.ensures.err ∙ c.reserve.ensures.cells) ex ey ∙ ap (λ s. s.machine) c.self.view_is)) h
 
 pub returns-in-Ok-Some-clause-rest : goal.returns-in-Ok-Some-clause-rest
 returns-in-Ok-Some-clause-rest c =

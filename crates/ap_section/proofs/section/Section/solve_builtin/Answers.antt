@@ -1,4 +1,6 @@
-use Rattle.ap_section.proofs.Sanity.{Sane-keeps}
+use Rattle.std.proofs.Common.{ap, ◌∙◌}
+use Rattle.ap_section.specs.View.{Paused}
+use Rattle.ap_section.proofs.Sanity.{Sane-keeps, points-same}
 use Rattle.ap_section.proofs.Solving.{kept-on-err, view-kept, turn-of-goal}
 use Rattle.ap_section.proofs.section.Section.solve_builtin.Goals as goal
 
@@ -22,3 +24,13 @@ returns-clause-turn c =
     turn-of-goal i.cells c.solve_goal.new.cells i.environments i.x.items i.y.items i.roots.items i.next i.spent i.budget i.room c.args.self.now c.self.view_is c.self.invariant c.solve_goal.ensures.keeps
     c.args.code.now c.args.at c.requires.here c.args.builtin c.requires.stands c.deref.result.now c.deref.ensures.value c.in_ok-holds.holds c.in_ok-holds.ensures.solved
     c.after_goal-self-inside.result (c.after_goal-self-inside.ensures c.args.at c.behind-to.ensures)
+
+pub returns-in_err-holds-clause-points : goal.returns-in_err-holds-clause-points
+returns-in_err-holds-clause-points c =
+    let i = c.self.inside in
+    points-same i.cells c.solve_goal.new.cells i.environments i.x.items i.y.items i.roots.items c.solve_goal.ensures.keeps c.self.invariant ∙ ap (λ (t : Paused). t.machine.points) c.self.view_is
+
+pub returns-clause-points : goal.returns-clause-points
+returns-clause-points c =
+    let i = c.self.inside in
+    points-same i.cells c.solve_goal.new.cells i.environments i.x.items i.y.items i.roots.items c.solve_goal.ensures.keeps c.self.invariant ∙ ap (λ (t : Paused). t.machine.points) c.self.view_is

@@ -1,11 +1,13 @@
-use Rattle.std.proofs.Common.{◌≡◌, ◌<◌, length, drop, slice_get, ap, sym, ◌∙◌, subst, arith}
+use Rattle.std.proofs.Common.{◌≡◌, ◌<◌, length, drop, map, slice_get, ap, sym, ◌∙◌, subst, arith}
 use Rattle.std.proofs.lemmas.List.{length-replicate}
 use Rattle.ap_cells.specs.Trees.{trees}
 use Rattle.ap_instr.specs.Code.{Compiled}
 use Rattle.ap_steps.specs.Ways.{AllHaveTargets}
-use Rattle.ap_section.specs.View.{Paused, machine_of}
+use Rattle.ap_environments.specs.Kept.{Kept}
+use Rattle.ap_section.specs.View.{Paused, point_of, machine_of}
 use Rattle.ap_section.specs.Started.{Started}
 use Rattle.ap_section.proofs.Kept.{HasBottom-keeps}
+use Rattle.ap_section.proofs.Living.{live-none}
 use Rattle.ap_section.proofs.Places.{places-inside}
 use Rattle.ap_section.proofs.Begun.{Sane-new, tuple-width, HoldsTuple, started}
 use Rattle.ap_section.proofs.section.Section.start.Goals as goal
@@ -62,6 +64,7 @@ returns c =
           (subst (λ n. AllHaveTargets (drop at code.instructions) widths.x n) (sym y_len) (c.widths_of-widths.ensures.targets at));
       arities = λ n q known. subst (λ m. q.arity < m) (sym c.in_ok-x.ensures.len) (c.widths_of-widths.ensures.arities n q known);
       room = c.in_ok-room.ensures;
+      live = live-none code section.machine (ap (λ (k : Kept). map (point_of cells) k.moments) c.new.ensures);
     })
     in
     subst (λ (d : Compiled). Started d c.args.tuple.now c.args.predicate c.args.rest section) c.code-code.ensures.same new

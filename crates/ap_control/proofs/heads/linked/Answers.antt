@@ -1,0 +1,18 @@
+use Rattle.std.proofs.Common.{ℕ, Some, subst}
+use Rattle.ap_term.specs.Tree.{Tree}
+use Rattle.ap_index.specs.Index.{tried_from}
+use Rattle.ap_match.specs.Fits.{Fits}
+use Rattle.ap_steps.specs.Moves.{held}
+use Rattle.ap_standing.specs.Machine.{places_from}
+use Rattle.ap_control.specs.Heads.{IsKeyOf, PassesOver}
+use Rattle.ap_control.proofs.Keys.{passes-others, tried-places}
+use Rattle.ap_control.proofs.heads.linked.Goals as goal
+
+pub returns-in-Some : goal.returns-in-Some
+returns-in-Some c = λ code link.
+    let cs = c.args.cells.now.cells in
+    let x = held c.args.x.now in
+    let from = places_from code (Some c.args.at) in
+    let known = subst (λ p. (k : ℕ → Tree) → Fits cs k → IsKeyOf c.in-Some.key (k p)) c.place_in.ensures c.in-Some.ensures in
+    subst (PassesOver code cs x from) (tried-places code c.next.result)
+    (passes-others code cs x c.in-Some.key known from (tried_from code c.next.result) (c.next.ensures code link))

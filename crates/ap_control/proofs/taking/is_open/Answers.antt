@@ -1,0 +1,65 @@
+use Rattle.std.proofs.Common.{◌≡◌, ◌+◌, ◌-◌, ◌∷◌, Some, slice_get, sym, ◌∙◌, subst, arith}
+use Rattle.ap_instr.specs.Step.{step_of}
+use Rattle.ap_instr.specs.Runs.{IsOpen, AsksOpenly}
+use Rattle.ap_steps.specs.Ways.{steps_from}
+use Rattle.ap_steps.proofs.Places.{steps-here}
+use Rattle.ap_control.specs.declared.taking.Way.TheVariants.{On, Structure}
+use Rattle.ap_control.specs.Taking.{IsOpenInside, LeadsBy}
+use Rattle.ap_control.proofs.Building.{inside-none, inside-open}
+use Rattle.ap_control.proofs.Openness.{past}
+use Rattle.ap_control.proofs.taking.is_open.Goals.{in-On, in-Structure}
+use Rattle.ap_control.proofs.taking.is_open.Goals as goal
+
+pub loop-place-init : goal.loop-place-init
+loop-place-init c = record { opens = inside-open 0 (steps_from c.args.code.now c.args.at); openly = λ o. o }
+
+pub returns-in-Goal : goal.returns-in-Goal
+returns-in-Goal c = λ b openly.
+    let code = c.args.code.now in
+    let at = c.loop-place.place in
+    let here : steps_from code at ≡ step_of code c.in-Some.instr ∷ steps_from code (at + 1) = steps-here code at c.in-Some.instr (sym c.instruction_at.ensures ∙ c.in-Some.is) in
+    let none : c.loop-place.left ≡ 0 = omega arith in
+    let o : IsOpen (steps_from code at) = subst IsOpen (sym here) (c.in-Goal.ensures (steps_from code (at + 1)) (subst AsksOpenly here (c.loop-place.invariant.openly openly))) in
+    c.loop-place.invariant.opens (subst (λ n. IsOpenInside c.loop-place.whole n (steps_from code at)) (sym none) (inside-none c.loop-place.whole (steps_from code at) o))
+
+pub loop-place-preserved : goal.loop-place-preserved
+loop-place-preserved c =
+    let code = c.args.code.now in
+    let at = c.loop-place.place in
+    let is = steps_from code (at + 1) in
+    let stands : slice_get code.instructions at ≡ Some c.in-Some.instr = sym c.instruction_at.ensures ∙ c.in-Some.is in
+    let here : steps_from code at ≡ step_of code c.in-Some.instr ∷ is = steps-here code at c.in-Some.instr stands in
+    let none : c.loop-place.left ≡ 0 = omega arith in
+    let base : IsOpen (step_of code c.in-Some.instr ∷ is) → IsOpen (steps_from code c.args.at) =
+    λ o. c.loop-place.invariant.opens (subst (λ n. IsOpenInside c.loop-place.whole n (steps_from code at)) (sym none) (inside-none c.loop-place.whole (steps_from code at) (subst IsOpen (sym here) o)))
+    in
+    elim c.match-way_of.branch [
+      | in-On w ↦
+          let leads : LeadsBy code c.in-Some.instr On = subst (LeadsBy code c.in-Some.instr) w.in-On.is c.way_of.ensures in
+          record {
+            opens = λ h. base (leads.1 is (inside-open c.match-way_of.whole is (subst (λ n. IsOpenInside c.match-way_of.whole n is) (w.left-is ∙ none) h)));
+            openly = λ o. past code at c.in-Some.instr stands leads.0 (c.loop-place.invariant.openly o);
+          }
+      | in-Structure w ↦
+          let leads : LeadsBy code c.in-Some.instr (Structure w.in-Structure.count w.in-Structure.a) = subst (LeadsBy code c.in-Some.instr) w.in-Structure.is c.way_of.ensures in
+          record {
+            opens = λ h. base (leads.1 is (subst (λ a. IsOpenInside a w.in-Structure.count is) w.whole-is (subst (λ n. IsOpenInside c.match-way_of.whole n is) w.left-is h)));
+            openly = λ o. past code at c.in-Some.instr stands leads.0 (c.loop-place.invariant.openly o);
+          }
+    ]
+
+pub loop-place-preserved-then-left-gt0 : goal.loop-place-preserved-then-left-gt0
+loop-place-preserved-then-left-gt0 c =
+    let code = c.args.code.now in
+    let at = c.loop-place.place in
+    let is = steps_from code (at + 1) in
+    let a = c.loop-place.whole in
+    let stands : slice_get code.instructions at ≡ Some c.in-Some.instr = sym c.instruction_at.ensures ∙ c.in-Some.is in
+    let here : steps_from code at ≡ step_of code c.in-Some.instr ∷ is = steps-here code at c.in-Some.instr stands in
+    let one : (c.loop-place.left - 1) + 1 ≡ c.loop-place.left = omega arith in
+    record {
+      opens = λ h.
+          let o : IsOpenInside a ((c.loop-place.left - 1) + 1) (step_of code c.in-Some.instr ∷ is) = c.adds_argument.ensures.opens c.if-not-adds_argument.false (c.loop-place.left - 1) is h in
+          c.loop-place.invariant.opens (subst (IsOpenInside a c.loop-place.left) (sym here) (subst (λ n. IsOpenInside a n (step_of code c.in-Some.instr ∷ is)) one o));
+      openly = λ o. past code at c.in-Some.instr stands (c.adds_argument.ensures.goes_on c.if-not-adds_argument.false) (c.loop-place.invariant.openly o);
+    }

@@ -1,0 +1,10 @@
+use Rattle.ap_instr.specs.Runs.{IsOpen, AsksOpenly}
+use Rattle.ap_steps.specs.Ways.{steps_from}
+use Rattle.ap_control.specs.Taking.{IsOpenInside}
+use Rattle.ap_control.proofs.taking.is_open.Given as goal
+
+abbrev pub invariant-loop-place : goal.invariant-loop-place
+invariant-loop-place l = record {
+  opens : IsOpenInside l.whole l.left (steps_from l.code l.place) → IsOpen (steps_from l.code l.at);
+  openly : AsksOpenly (steps_from l.code l.at) → AsksOpenly (steps_from l.code l.place);
+}

@@ -1,0 +1,24 @@
+//! What an index keeps: rows of choices, and links between choices.
+
+ghost use Rattle.std.specs.Prelude.{◌≡◌, ◌<◌, vec_len};
+
+/// Stands for no choice. Code with an index ends before this place.
+pub(crate) const NONE: u32 = 0xffff_ffff;
+
+/// Choices in a row, by slots: each key has one of so many, where the place of the first choice for a key of that slot stands,
+/// or that of the choice behind the row, if there is one.
+#[derive(Drop)]
+pub struct Row {
+    pub(crate) slots: Vec<u32>,
+    pub(crate) count: u32,
+    ghost full: { vec_len slots ≡ count },
+    ghost some: { 0 < count },
+}
+
+/// Behind a choice: the next one whose key has the same slot, of so many, or the one behind the row.
+#[derive(Clone, Copy)]
+pub struct Link {
+    pub(crate) slot: u32,
+    pub(crate) count: u32,
+    pub(crate) next: Option<u32>,
+}

@@ -1,0 +1,166 @@
+//! Programs and queries, with the answers that the language's rules give.
+
+use crate::cases::{Command, check_all};
+use ap_top::Status;
+use std::test::Fail;
+
+const RUN: &[&str] = &["andprolog", "run", "f.pl"];
+
+const ANSWERS: [Command; 25] = [
+    (
+        RUN,
+        "p(1). p(2).",
+        "?- p(X).",
+        "X = 1\nX = 2\nno more.\n",
+        Status::Done,
+    ),
+    (RUN, "", "?- true.", "true\nno more.\n", Status::Done),
+    (
+        RUN,
+        "q(X,Y) :- a(X) & a(Y). a(1). a(2).",
+        "?- q(X,Y).",
+        "X = 1, Y = 1\nX = 1, Y = 2\nX = 2, Y = 1\nX = 2, Y = 2\nno more.\n",
+        Status::Done,
+    ),
+    (
+        RUN,
+        "q(X,Y) :- a(X) & a(Y). a(1). a(2).",
+        "?- X = Y, q(X,Y).",
+        "X = 1, Y = 1\nX = 2, Y = 2\nno more.\n",
+        Status::Done,
+    ),
+    (
+        &["andprolog", "run", "f.pl", "--budget", "100"],
+        "r(X) :- l & f, X = 0. r(1). l :- l. f :- fail.",
+        "?- r(X).",
+        "budget spent.\n",
+        Status::BudgetSpent,
+    ),
+    (RUN, "", "?- X = f(X).", "no more.\n", Status::Done),
+    (
+        &["andprolog", "run", "f.pl", "--budget", "3"],
+        "n(z). n(s(X)) :- n(X).",
+        "?- n(X).",
+        "X = z\nX = s(z)\nX = s(s(z))\nbudget spent.\n",
+        Status::BudgetSpent,
+    ),
+    (
+        RUN,
+        "p(1). p(1).",
+        "?- p(X).",
+        "X = 1\nX = 1\nno more.\n",
+        Status::Done,
+    ),
+    (
+        RUN,
+        "e(X,Y) :- X = f(Y).",
+        "?- e(A,B). ?- e(_A,B).",
+        "A = f(_1), B = _1\nno more.\nB = _1\nno more.\n",
+        Status::Done,
+    ),
+    (
+        RUN,
+        "p :- !.",
+        "?- p.",
+        "refused: line 1: outside !\n",
+        Status::ProgramRefused,
+    ),
+    (
+        &["andprolog", "run", "f.pl", "--budget", "3"],
+        "t :- f & l. l :- l. f :- fail.",
+        "?- t.",
+        "no more.\n",
+        Status::Done,
+    ),
+    (
+        &["andprolog", "run", "f.pl", "--budget", "2"],
+        "t :- f & l. l :- l. f :- fail.",
+        "?- t.",
+        "budget spent.\n",
+        Status::BudgetSpent,
+    ),
+    (
+        &["andprolog", "run", "f.pl", "--answers", "2"],
+        "q(X,Y) :- a(X) & a(Y). a(1). a(2).",
+        "?- q(X,Y).",
+        "X = 1, Y = 1\nX = 1, Y = 2\nstopped.\n",
+        Status::Done,
+    ),
+    (
+        RUN,
+        "p(1).\np(2",
+        "?- p(1).",
+        "refused: line 2: not a clause\n",
+        Status::ProgramRefused,
+    ),
+    (
+        RUN,
+        "p(1). p(2).",
+        "?- p(1).\n?- p(.\n?- p(2).",
+        "true\nno more.\nrefused: line 2: not a clause\ntrue\nno more.\n",
+        Status::QueryRefused,
+    ),
+    (RUN, "", "?- X is 1 // 0.", "no more.\n", Status::Done),
+    (
+        RUN,
+        "p(X, f(X)).",
+        "?- p(A, A).",
+        "no more.\n",
+        Status::Done,
+    ),
+    (RUN, "p(1). p(2).", "", "", Status::Done),
+    (
+        RUN,
+        "",
+        "?- X is 9223372036854775807 + 0. ?- X is 9223372036854775807 + 1.",
+        "X = 9223372036854775807\nno more.\nno more.\n",
+        Status::Done,
+    ),
+    (
+        RUN,
+        "",
+        "?- X = -9223372036854775808. ?- X = 9223372036854775808.",
+        "X = -9223372036854775808\nno more.\nrefused: line 1: not a clause\n",
+        Status::QueryRefused,
+    ),
+    (
+        RUN,
+        "p :- a & a & a & a & a & a & a & a & a & a & a & a & a & a & a & a & a & a & a & a & a & a & a & a & a & a & a & a & a & a & a & a & a.",
+        "?- p.",
+        "refused: line 1: too large group\n",
+        Status::ProgramRefused,
+    ),
+    (
+        RUN,
+        "p :- a & a & a & a & a & a & a & a & a & a & a & a & a & a & a & a & a & a & a & a & a & a & a & a & a & a & a & a & a & a & a & a.",
+        "?- p.",
+        "no more.\n",
+        Status::Done,
+    ),
+    (
+        RUN,
+        "",
+        "?- X = (a, b & c, d).",
+        "X = ','(a,','(&(b,c),d))\nno more.\n",
+        Status::Done,
+    ),
+    (
+        RUN,
+        "",
+        "?- X = -1, Y = - 1, Z = 7 - -2.",
+        "X = -1, Y = -(1), Z = -(7,-2)\nno more.\n",
+        Status::Done,
+    ),
+    (
+        RUN,
+        "",
+        "?- X is -7 // 2, Y is -7 mod 2, Z is -7 rem 2.",
+        "X = -3, Y = 1, Z = -1\nno more.\n",
+        Status::Done,
+    ),
+];
+
+#[test]
+fn programs_answer_queries(rt: HostRuntime) -> Result<(), Fail> {
+    check_all(&rt, rt.alloc(), &ANSWERS)
+}
