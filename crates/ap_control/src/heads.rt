@@ -1,4 +1,4 @@
-//! Clauses whose heads can't be taken, told by the constants and the first structure there, and in long rows by the index of
+//! Clauses whose heads can't be taken, told by the constants and the first structure there, and in rows by the index of
 //! the first argument: nothing is bound for that, and nothing undone.
 
 ghost use Rattle.std.specs.Prelude.{◌≡◌, ℕ, ◌+◌, ◌<◌, List, [], ◌∷◌, length, slice_get, true, None, Some, IfSome};

@@ -16,7 +16,7 @@ use ap_term::NoMemory;
 use std::alloc::Global;
 
 /// Fewer choices than this in a row are gone over one by one.
-const FEW: u32 = 8;
+const FEW: u32 = 2;
 
 /// So many slots are there for each choice of a row, so that most have none or one.
 const SLOTS_EACH: u32 = 4;
