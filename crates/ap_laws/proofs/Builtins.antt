@@ -10,6 +10,8 @@ use Rattle.ap_term.specs.Unification.{mgu}
 use Rattle.ap_term.specs.Identical.{identical, identical_all}
 use Rattle.ap_term.specs.Arithmetic.{eval, negated, value_of, operation_named, compare_values}
 use Rattle.ap_term.specs.Builtins.{builtin, relation_named, relation_answer, named_answer, succeeds_if, unified_value}
+use Rattle.ap_term.specs.declared.faults.Fault.TheVariants.{WrongType}
+use Rattle.ap_term.specs.Faults.{or_then, two_faults, negated_fault, fault_in, relation_fault, fault_of}
 use Rattle.ap_laws.specs.Renaming.{OptionZip, OptionAll, Renamed, RenamedAll, RenamedSubst, Local, LocalSubst}
 use Rattle.ap_laws.proofs.Zips.{related-if}
 use Rattle.ap_laws.proofs.Renamed.{IsOneToOne, Renamed-mgu}
@@ -38,6 +40,44 @@ Renamed-eval R (node a (more _ (more _ (more _ _)))) (node b (more _ none)) h = 
 Renamed-eval R (node a (more _ (more _ none))) (node b (more _ (more _ (more _ _)))) h = absurd h.1.1.1
 Renamed-eval R (node a (more _ (more _ (more _ _)))) (node b (more _ (more _ none))) h = absurd h.1.1.1
 Renamed-eval R _ _ h = absurd h
+
+-- and the same fault
+pub Renamed-fault_in : (R : ℕ → ℕ → Type 0) (t u : Tree) → Renamed R t u → fault_in t ≡ fault_in u
+Renamed-fault_in R (var x) (var y) h = refl
+Renamed-fault_in R (int z) (int w) h = refl
+Renamed-fault_in R (atom a) (atom b) h = refl
+Renamed-fault_in R (node a none) (node b none) h = refl
+Renamed-fault_in R (node a (more t none)) (node b (more u none)) h =
+    ap (λ c. if c == MINUS then or_then (fault_in t) (negated_fault (eval t)) else Some WrongType) h.0
+    ∙ ap₂ (λ e v. if b == MINUS then or_then e (negated_fault v) else Some WrongType) (Renamed-fault_in R t u h.1.0) (Renamed-eval R t u h.1.0)
+Renamed-fault_in R (node a (more t (more v none))) (node b (more u (more w none))) h =
+    ap (λ c. two_faults (operation_named c) (fault_in t) (fault_in v) (eval t) (eval v)) h.0
+    ∙ ap₂ (λ e i. two_faults (operation_named b) e i (eval t) (eval v)) (Renamed-fault_in R t u h.1.0) (Renamed-fault_in R v w h.1.1.0)
+    ∙ ap₂ (two_faults (operation_named b) (fault_in u) (fault_in w)) (Renamed-eval R t u h.1.0) (Renamed-eval R v w h.1.1.0)
+Renamed-fault_in R (node a (more t (more v (more _ _)))) (node b (more u (more w (more _ _)))) h = refl
+Renamed-fault_in R (node a none) (node b (more _ _)) h = absurd h.1
+Renamed-fault_in R (node a (more _ none)) (node b none) h = absurd h.1
+Renamed-fault_in R (node a (more _ (more _ none))) (node b none) h = absurd h.1
+Renamed-fault_in R (node a (more _ (more _ (more _ _)))) (node b none) h = absurd h.1
+Renamed-fault_in R (node a (more _ none)) (node b (more _ (more _ none))) h = absurd h.1.1
+Renamed-fault_in R (node a (more _ none)) (node b (more _ (more _ (more _ _)))) h = absurd h.1.1
+Renamed-fault_in R (node a (more _ (more _ none))) (node b (more _ none)) h = absurd h.1.1
+Renamed-fault_in R (node a (more _ (more _ (more _ _)))) (node b (more _ none)) h = absurd h.1.1
+Renamed-fault_in R (node a (more _ (more _ none))) (node b (more _ (more _ (more _ _)))) h = absurd h.1.1.1
+Renamed-fault_in R (node a (more _ (more _ (more _ _)))) (node b (more _ (more _ none))) h = absurd h.1.1.1
+Renamed-fault_in R _ _ h = absurd h
+
+Renamed-relation_fault : (R : ℕ → ℕ → Type 0) (r : Option Relation) (t t' u u' : Tree) → Renamed R t t' → Renamed R u u' → relation_fault r t u ≡ relation_fault r t' u'
+Renamed-relation_fault R None t t' u u' h k = refl
+Renamed-relation_fault R (Some Unify) t t' u u' h k = refl
+Renamed-relation_fault R (Some NotUnify) t t' u u' h k = refl
+Renamed-relation_fault R (Some Same) t t' u u' h k = refl
+Renamed-relation_fault R (Some NotSame) t t' u u' h k = refl
+Renamed-relation_fault R (Some Is) t t' u u' h k = Renamed-fault_in R u u' k
+Renamed-relation_fault R (Some (Compare o)) t t' u u' h k = ap₂ or_then (Renamed-fault_in R t t' h) (Renamed-fault_in R u u' k)
+
+pub Renamed-fault_of : (R : ℕ → ℕ → Type 0) (t u : Tree) → Renamed R t u → fault_of t ≡ fault_of u
+Renamed-fault_of R t u h = refl
 
 module _ (R : ℕ → ℕ → Type 0) (one_one : IsOneToOne R) where
   mutual

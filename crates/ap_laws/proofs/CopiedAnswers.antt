@@ -109,5 +109,6 @@ copied g b n m j k n' U V f h ps T bn nn o r fresh hp hT = (
         (fitted-copy g b n m j n' U V f h bn nn o r fresh) ps hp,
     RenamedAll-both (λ x. x < n) (R g b n m j n' U V f h bn nn o r fresh) (fitted g b n U) (value (fit_all (arguments g) V [])) (fitted-copy g b n m j n' U V f h bn nn o r fresh) T hT,
     refl,
+    refl,
   ),
 )

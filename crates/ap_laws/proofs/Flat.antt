@@ -6,23 +6,25 @@ use Rattle.ap_term.specs.Substitution.{instance, instance_all}
 use Rattle.ap_term.specs.Independence.{AreApart}
 use Rattle.ap_term.proofs.Copies.{instance_all_twice}
 use Rattle.ap_laws.specs.Renaming.{LocalAll}
-use Rattle.ap_laws.specs.Plain.{Plain, state, Ways, append_trees, next_of, Renames, Locals, IsPlainBelow}
+use Rattle.ap_laws.specs.Plain.{Plain, state, faulted, Ways, append_trees, next_of, Renames, Locals, IsPlainBelow}
 use Rattle.ap_laws.specs.Graft.{arguments, alone, lifted, lifted_var, fitted, graft, grafts, IsOwn, IsOf, AreOf}
 use Rattle.ap_laws.proofs.Local.{LocalAll-occurs_all, LocalAll-instance_all}
 use Rattle.ap_laws.proofs.Zips.{AllByRecursion-append}
 use Rattle.ap_laws.proofs.Plain.{LocalAll-append_trees, LocalAll-arguments}
 use Rattle.ap_laws.specs.Gives.{Gives, Rejoins}
-use Rattle.ap_laws.specs.Tasks.{Round, first, later, closed, Task, task, Alternatives, exhausted, plain, frame, Slots, no_slot, fresh, busy, held, redone, again, joined_if, flat_task, flat_alternatives, flat_slots, left, edge_alternatives, edge_slots, slot_goals}
+use Rattle.ap_laws.specs.Tasks.{Round, first, later, closed, Task, task, Alternatives, exhausted, plain, frame, Slots, no_slot, fresh, stored, busy, held, redone, again, drained, joined_if, flat_task, flat_alternatives, flat_slots, left, edge_alternatives, edge_slots, slot_goals}
 use Rattle.ap_laws.proofs.Invariant.{base, base_alternatives, base_slots, cost, cost_alternatives, cost_slots, HasGiven, Strong, Pivot, Weak, TaskInvariant, AlternativesInvariant}
 use Rattle.ap_laws.proofs.Graft.{lifted-old, lifted-new, below_or_not, Linked-lifted, LocalAll-IsOwn_below, IsOf-alone, graft-alone}
 use Rattle.ap_laws.proofs.Dead.{Local-fitted}
 use Rattle.ap_laws.proofs.Gives.{Gives-then, Gives-beside, Gives-none, Gives-less, Gives-graft, graft-answer}
 
 pub IsPlainBelow-IsOf : (g : Tree) (b : ℕ) (s : Plain) → IsOf g b s → IsPlainBelow s
+IsPlainBelow-IsOf g b (faulted e j) o = tt
 IsPlainBelow-IsOf g b (state G U m j) o = (LocalAll-IsOwn_below g b m G o.2, LocalAll-IsOwn_below g b m U o.3)
 
 -- a graft on a state of a goal's search is one again
 pub IsOf-graft : (h : Tree) (c : ℕ) (g : Tree) (K T : Trees) (b n k : ℕ) → b ≤ n → IsOf h c (state (more g K) T n k) → (a : Plain) → IsOf g b a → IsOf h c (graft b (state (more g K) T n k) a)
+IsOf-graft h c g K T b n k bn o (faulted e j) q = tt
 IsOf-graft h c g K T b n k bn o (state G U m j) q = (
   (λ x. instance (fitted g b n U) (o.0 x)),
   ap (instance_all (fitted g b n U)) o.1 ∙ instance_all_twice o.0 (fitted g b n U) (arguments h),
@@ -51,6 +53,9 @@ AreOf-grafts h c g K T b n k bn o (a ∷ l) q = (IsOf-graft h c g K T b n k bn o
 pub minus-le : (a b c e : ℕ) → a ≤ b + e → a - c ≤ (b - c) + e
 minus-le a b c e h = omega arith
 
+pub more_than : (x a b c : ℕ) → a ≤ b + c → x + a ≤ (x + b) + c
+more_than x a b c h = omega arith
+
 pub next_of-le : (s : Plain) (n : ℕ) → next_of s ≡ n → next_of s ≤ n
 next_of-le s n e = omega arith
 
@@ -59,18 +64,22 @@ module _ (A : Ways) (renames : Renames A) (locals : Locals A) where
     pub Weak-Strong : (w : Slots) (b : ℕ) → Strong A b w → Weak A b w
     Weak-Strong no_slot b h = tt
     Weak-Strong (fresh g w) b h = (h.0, Weak-Strong w b h.1)
+    Weak-Strong (stored g m w) b h = (h.0, h.1, Weak-Strong w b h.2)
     Weak-Strong (busy g t w) b h = (h.0, h.1, Weak-Strong w b h.3, h.2)
     Weak-Strong (held g m a t c w) b h = (h.0, h.1, h.2, h.3, Weak-Strong w b h.5, h.6)
     Weak-Strong (redone g m t i w) b h = absurd h
     Weak-Strong (again g m a t c w) b h = absurd h
+    Weak-Strong (drained g m t i e w) b h = (h.0, h.1, Weak-Strong w b h.5, h.2)
 
     pub Weak-Pivot : (w : Slots) (b : ℕ) → Pivot A b w → Weak A b w
     Weak-Pivot no_slot b h = absurd h
     Weak-Pivot (fresh g w) b h = absurd h
+    Weak-Pivot (stored g m w) b h = absurd h
     Weak-Pivot (busy g t w) b h = absurd h
     Weak-Pivot (held g m a t c w) b h = (h.0, h.1, h.2, h.3, Weak-Pivot w b h.4, h.5)
     Weak-Pivot (redone g m t i w) b h = (h.0, h.1, Weak-Strong w b h.2, h.3)
     Weak-Pivot (again g m a t c w) b h = (h.0, h.1, h.2, h.3, Weak-Strong w b h.4, h.5)
+    Weak-Pivot (drained g m t i e w) b h = absurd h
 
   -- all that a task has left are states of its goal's search
   mutual
@@ -99,8 +108,10 @@ module _ (A : Ways) (renames : Renames A) (locals : Locals A) where
     AreOf-flat_slots no_slot h z later b K T n k bn ind o i = (o, tt)
     AreOf-flat_slots no_slot h z closed b K T n k bn ind o i = tt
     AreOf-flat_slots (fresh g w) h z r b K T n k bn ind o i = (o, tt)
+    AreOf-flat_slots (stored g m w) h z r b K T n k bn ind o i = (o, tt)
     AreOf-flat_slots (busy g t w) h z r b K T n k bn ind o i = AreOf-grafts h z g (append_trees (slot_goals w) K) T b n k bn o (flat_task t) (AreOf-flat_task t g b i.1)
     AreOf-flat_slots (redone g m t j w) h z r b K T n k bn ind o i = AreOf-grafts h z g (append_trees (slot_goals w) K) T b n k bn o (flat_task t) (AreOf-flat_task t g b i.1)
+    AreOf-flat_slots (drained g m t j e w) h z r b K T n k bn ind o i = AreOf-grafts h z g (append_trees (slot_goals w) K) T b n k bn o (flat_task t) (AreOf-flat_task t g b i.1)
     AreOf-flat_slots (held g m a t c w) h z r b K T n k bn ind o i =
         let q = graft-answer g (slot_goals w) K T b n k a bn (IsPlainBelow-IsOf h z (state (more g (append_trees (slot_goals w) K)) T n k) o) ind.0 i.2 i.3.0 in
         AllByRecursion-append (IsOf h z) (flat_slots w r b (graft b (state (more g (append_trees (slot_goals w) K)) T n k) a)) (grafts b (state (more g (append_trees (slot_goals w) K)) T n k) (flat_task t))
@@ -132,7 +143,9 @@ module _ (A : Ways) (renames : Renames A) (locals : Locals A) where
         → AreOf h z (base_slots w b (state (append_trees (slot_goals w) K) T n k))
     AreOf-base_slots no_slot h z b K T n k bn ind o i = absurd i
     AreOf-base_slots (fresh g w) h z b K T n k bn ind o i = absurd i
+    AreOf-base_slots (stored g m w) h z b K T n k bn ind o i = absurd i
     AreOf-base_slots (busy g t w) h z b K T n k bn ind o i = absurd i
+    AreOf-base_slots (drained g m t j e w) h z b K T n k bn ind o i = absurd i
     AreOf-base_slots (redone g m t j w) h z b K T n k bn ind o i = AreOf-grafts h z g (append_trees (slot_goals w) K) T b n k bn o (base t) (AreOf-base t g b i.1)
     AreOf-base_slots (held g m a t c w) h z b K T n k bn ind o i =
         let q = graft-answer g (slot_goals w) K T b n k a bn (IsPlainBelow-IsOf h z (state (more g (append_trees (slot_goals w) K)) T n k) o) ind.0 i.2 i.3.0 in
@@ -171,6 +184,7 @@ module _ (A : Ways) (renames : Renames A) (locals : Locals A) where
         → Gives A (state (append_trees (slot_goals w) K) T n k ∷ []) [] (flat_slots w r b (state (append_trees (slot_goals w) K) T n k)) (edge_slots w)
     Gives-Strong no_slot r e b K T n k bn ind o i = subst (λ x. Gives A (state K T n k ∷ []) [] x 0) (sym (e (state K T n k))) (Gives-none A (state K T n k ∷ []))
     Gives-Strong (fresh g w) r e b K T n k bn ind o i = Gives-none A (state (more g (append_trees (slot_goals w) K)) T n k ∷ [])
+    Gives-Strong (stored g m w) r e b K T n k bn ind o i = Gives-none A (state (more g (append_trees (slot_goals w) K)) T n k ∷ [])
     Gives-Strong (busy g t w) r e b K T n k bn ind o i =
         let q = Gives-flat_task t g b i.1 in
         subst (λ x. Gives A (x ∷ []) [] (grafts b (state (more g (append_trees (slot_goals w) K)) T n k) (flat_task t)) (left t)) (graft-alone g (append_trees (slot_goals w) K) T b n k i.0)
@@ -186,12 +200,20 @@ module _ (A : Ways) (renames : Renames A) (locals : Locals A) where
         (subst (λ x. Gives A (x ∷ []) [] (flat_slots w r b x) (edge_slots w)) (sym q.4) (Gives-Strong w r e b q.0 q.1 q.2 q.3 q.6 ind.1 q.5 i.5)))
     Gives-Strong (redone g m t j w) r e b K T n k bn ind o i = absurd i
     Gives-Strong (again g m a t c w) r e b K T n k bn ind o i = absurd i
+    Gives-Strong (drained g m t j x w) r e b K T n k bn ind o i =
+        let s : Plain = state (more g (append_trees (slot_goals w) K)) T n k in
+        let q = Gives-flat_task t g b i.1 in
+        Gives-less A (s ∷ []) [] (grafts b s (flat_task t)) ((x + (cost t - j)) + q.0) (x + (left t - j)) (more_than x (left t - j) (cost t - j) q.0 (minus-le (left t) (cost t) j q.0 q.2))
+        (Gives-then A (s ∷ []) [] (grafts b s (base t)) [] (grafts b s (flat_task t)) (x + (cost t - j)) q.0 (i.4 K T n k bn o)
+        (Gives-graft A renames locals g (append_trees (slot_goals w) K) T b n k bn o (base t) (flat_task t) q.0 (AreOf-base t g b i.1) (AreOf-flat_task t g b i.1) q.1))
 
     pub Gives-Pivot : (w : Slots) (b : ℕ) (K T : Trees) (n k : ℕ) → b ≤ n → AreApart (slot_goals w) → IsPlainBelow (state (append_trees (slot_goals w) K) T n k) → Pivot A b w
         → (e : ℕ) × Gives A (base_slots w b (state (append_trees (slot_goals w) K) T n k)) [] (flat_slots w later b (state (append_trees (slot_goals w) K) T n k)) e × (edge_slots w ≤ cost_slots w + e)
     Gives-Pivot no_slot b K T n k bn ind o i = absurd i
     Gives-Pivot (fresh g w) b K T n k bn ind o i = absurd i
+    Gives-Pivot (stored g m w) b K T n k bn ind o i = absurd i
     Gives-Pivot (busy g t w) b K T n k bn ind o i = absurd i
+    Gives-Pivot (drained g m t j x w) b K T n k bn ind o i = absurd i
     Gives-Pivot (redone g m t j w) b K T n k bn ind o i =
         let q = Gives-flat_task t g b i.1 in
         (q.0, Gives-graft A renames locals g (append_trees (slot_goals w) K) T b n k bn o (base t) (flat_task t) q.0 (AreOf-base t g b i.1) (AreOf-flat_task t g b i.1) q.1, minus-le (left t) (cost t) j q.0 q.2)

@@ -2,13 +2,14 @@
 use Rattle.std.proofs.Common.{◌≡◌, ℕ, zero, suc, ◌+◌, ◌-◌, ◌<◌, ◌≤◌, ◌⊎◌, inl, inr, Bool, true, false, cond, ltb, ◌==◌, ◌||◌, List, [], ◌∷◌, ◌++◌, refl, ap, ap₂, sym, ◌∙◌, subst, arith, append-nil, append_assoc}
 use Rattle.std.specs.List.{flat_map}
 use Rattle.std.proofs.lemmas.Bool.{false≢true, lt-ltb, le-ltb, ltb-true, ltb-false}
+use Rattle.ap_term.specs.declared.faults.Fault.{Fault}
 use Rattle.ap_term.specs.Tree.{Tree, Trees, var, int, atom, node, none, more}
 use Rattle.ap_term.specs.Vars.{occurs, occurs_all}
 use Rattle.ap_term.specs.Substitution.{instance, instance_all, Subst, value}
 use Rattle.ap_term.proofs.Copies.{instance_var, instance_all_var, instance_twice, instance_all_twice}
 use Rattle.ap_term.proofs.Solutions.{same_var, same_test}
 use Rattle.ap_laws.specs.Renaming.{Renamed, RenamedAll, RenamedSubst, Linked, Local, LocalAll, LocalSubst}
-use Rattle.ap_laws.specs.Plain.{Plain, state, PlainWay, way, Ways, append_trees, plain_child, plain_children_by, plain_children, RenamedPlainWay, RenamedPlainWays, Renames, LocalPlainWays, Locals}
+use Rattle.ap_laws.specs.Plain.{Plain, state, faulted, PlainWay, way, fault_way, Ways, append_trees, plain_child, plain_children_by, plain_children, RenamedPlainWay, RenamedPlainWays, Renames, LocalPlainWays, Locals}
 use Rattle.ap_laws.specs.Trace.{Action, called, cut, answered, trace, followed}
 use Rattle.ap_laws.specs.Graft.{arguments, alone, fit, fit_all, lifted, lifted_var, lowered, fitted, graft, grafts, IsOwn, IsOf, AreOf}
 use Rattle.ap_laws.proofs.Renamed.{Renamed-value}
@@ -19,6 +20,9 @@ use Rattle.ap_laws.proofs.Plain.{instance-Local, instance_all-LocalAll, instance
 
 pub state-eq : {G G' T T' : Trees} {n n' k k' : ℕ} → G ≡ G' → T ≡ T' → n ≡ n' → k ≡ k' → state G T n k ≡ state G' T' n' k'
 state-eq a b c d = cc
+
+pub faulted-eq : {e e' : Fault} {k k' : ℕ} → e ≡ e' → k ≡ k' → faulted e k ≡ faulted e' k'
+faulted-eq a b = cc
 
 -- fitting
 pub cond-or : (p q : Bool) (t u : Tree) → cond p t (cond q t u) ≡ cond (p || q) t u
@@ -212,6 +216,12 @@ plain_children_by-graft g K T b n k bn hK hT G U m j o (way s d w ∷ l) (way r 
       (plain_children_by-graft g K T b n k bn hK hT G U m j o l l' h.1 a.1 a'.1).0,
   (IsOf-plain_child g b n G U m j o s r d c w v h.0 a.0.0 a.0.1, (plain_children_by-graft g K T b n k bn hK hT G U m j o l l' h.1 a.1 a'.1).1),
 )
+plain_children_by-graft g K T b n k bn hK hT G U m j o (fault_way e ∷ l) (fault_way i ∷ l') h a a' = (
+  ap₂ (λ x y. x ∷ y) (faulted-eq (sym h.0) (omega arith)) (plain_children_by-graft g K T b n k bn hK hT G U m j o l l' h.1 a.1 a'.1).0,
+  (tt, (plain_children_by-graft g K T b n k bn hK hT G U m j o l l' h.1 a.1 a'.1).1),
+)
+plain_children_by-graft g K T b n k bn hK hT G U m j o (way s d w ∷ l) (fault_way i ∷ l') h a a' = absurd h.0
+plain_children_by-graft g K T b n k bn hK hT G U m j o (fault_way e ∷ l) (way r c v ∷ l') h a a' = absurd h.0
 plain_children_by-graft g K T b n k bn hK hT G U m j o _ _ h a a' = absurd h
 
 pub followed-append : (a b : List Action) (k : Plain → ℕ → List Action) → followed (a ++ b) k ≡ followed a k ++ followed b k
@@ -260,6 +270,8 @@ module _ (A : Ways) (renames : Renames A) (locals : Locals A) where
   unfolding trace
   trace-graft g K T b n k bn hK hT zero (state none U m j) h = sym (append-nil _)
   trace-graft g K T b n k bn hK hT (suc r) (state none U m j) h = sym (append-nil _)
+  trace-graft g K T b n k bn hK hT zero (faulted e j) h = sym (append-nil _)
+  trace-graft g K T b n k bn hK hT (suc r) (faulted e j) h = sym (append-nil _)
   trace-graft g K T b n k bn hK hT zero (state (more t G) U m j) h = refl
   trace-graft g K T b n k bn hK hT (suc r) (state (more t G) U m j) h =
       ap (λ z. called ∷ z)

@@ -1,11 +1,12 @@
 -- Grafts on states with groups, and fitting under other names.
-use Rattle.std.proofs.Common.{◌≡◌, ℕ, ◌+◌, ◌-◌, ◌<◌, ◌≤◌, List, [], ◌∷◌, map, refl, ap, sym, ◌∙◌, subst, arith}
+use Rattle.std.proofs.Common.{◌≡◌, ℕ, ◌+◌, ◌-◌, ◌<◌, ◌≤◌, List, [], ◌∷◌, map, Option, Some, None, refl, ap, sym, ◌∙◌, subst, arith}
 use Rattle.ap_term.specs.Tree.{Tree, Trees, var, int, atom, node, none, more}
 use Rattle.ap_term.specs.Substitution.{instance_all, Subst}
 use Rattle.ap_term.specs.Goals.{Part, call, group, instance_part, calls, opened}
+use Rattle.ap_term.specs.declared.faults.Fault.{Fault}
 use Rattle.ap_term.specs.Search.{State}
 use Rattle.ap_laws.specs.Renaming.{Renamed, RenamedAll, RenamedSubst, Linked, Local, LocalAll, LocalPart, LocalParts, IsBelow}
-use Rattle.ap_laws.specs.Plain.{Plain, state, plain_goals, plain_of, AreGroups, append_trees}
+use Rattle.ap_laws.specs.Plain.{Plain, state, faulted, plain_goals, plain_by, plain_of, AreGroups, append_trees}
 use Rattle.ap_laws.specs.Graft.{fit, fit_all, lifted, lifted_var, fitted, graft, graft_by, IsOwn, IsOf}
 use Rattle.ap_laws.specs.Laws.{FittingLaw}
 use Rattle.ap_laws.specs.SearchLaws.{GraftStateLaw}
@@ -13,7 +14,7 @@ use Rattle.ap_laws.proofs.Zips.{AllByRecursion-append}
 use Rattle.ap_laws.proofs.Local.{LocalAll-instance_all, LocalParts-instance_part, LocalParts-opened, LocalAll-calls}
 use Rattle.ap_laws.proofs.Graft.{state-eq, Linked-lifted}
 use Rattle.ap_laws.proofs.Dead.{Local-fitted}
-use Rattle.ap_laws.proofs.Views.{plain_goals-instance, plain_goals-calls_append, plain_goals-opened, AreGroups-append, AreGroups-calls, AreGroups-instance, AreGroups-opened, StartsWithCall, StartsWithCall-opened}
+use Rattle.ap_laws.proofs.Views.{plain_by-None, plain_goals-instance, plain_goals-calls_append, plain_goals-opened, AreGroups-append, AreGroups-calls, AreGroups-instance, AreGroups-opened, StartsWithCall, StartsWithCall-opened}
 
 -- ---- fitting
 
@@ -54,23 +55,31 @@ fitting f g n m ts us vs ws h k = RenamedSubst-fit_all (Linked f g n m) ts us vs
 
 -- ---- grafts
 
-plain_of-graft_by : (b : ℕ) (s : State) (ps : List Part) (u : Plain) → StartsWithCall ps → plain_goals ps ≡ plain_goals s.goals → plain_of (graft_by b s ps u) ≡ graft b (state (plain_goals ps) s.tuple s.next s.steps) u
-plain_of-graft_by b s [] u h e = ap (λ G. state G s.tuple s.next s.steps) (sym e)
+plain_of-graft_by : (b : ℕ) (s : State) (ps : List Part) (u : Plain) → StartsWithCall ps → plain_goals ps ≡ plain_goals s.goals → plain_of (graft_by b s ps u) ≡ graft b (plain_by s.fault (plain_goals ps) s.tuple s.next s.steps) u
+plain_of-graft_by b s [] u h e = ap (λ G. plain_by s.fault G s.tuple s.next s.steps) (sym e) ∙ go s.fault
+  where
+    go : (f : Option Fault) → plain_by f none s.tuple s.next s.steps ≡ graft b (plain_by f none s.tuple s.next s.steps) u
+    go None = refl
+    go (Some i) = refl
+plain_of-graft_by b s (call g ∷ rest) (faulted i j) h e = refl
 plain_of-graft_by b s (group cs ts ∷ rest) u h e = absurd h
 plain_of-graft_by b s (call g ∷ rest) (state G U m j) h e =
-    state-eq
+    plain_by-None _ _ _ _
+    ∙ state-eq
     (plain_goals-calls_append (instance_all (lifted_var b s.next) G) (map (instance_part (fitted g b s.next U)) rest)
     ∙ ap (append_trees (instance_all (lifted_var b s.next) G)) (plain_goals-instance (fitted g b s.next U) rest)) refl refl refl
 
 AreGroups-graft_by : (b : ℕ) (s : State) (ps : List Part) (u : Plain) → AreGroups s.goals → AreGroups ps → AreGroups (graft_by b s ps u).goals
 AreGroups-graft_by b s [] u h k = h
 AreGroups-graft_by b s (group cs ts ∷ rest) u h k = h
+AreGroups-graft_by b s (call g ∷ rest) (faulted i j) h k = tt
 AreGroups-graft_by b s (call g ∷ rest) (state G U m j) h k =
     AreGroups-append (calls (instance_all (lifted_var b s.next) G)) (map (instance_part (fitted g b s.next U)) rest) (AreGroups-calls (instance_all (lifted_var b s.next) G))
     (AreGroups-instance (fitted g b s.next U) rest k)
 
 IsBelow-graft_by : (b : ℕ) (s : State) (g : Tree) (rest : List Part) (u : Plain) → b ≤ s.next → LocalParts (λ x. x < s.next) (call g ∷ rest) → LocalAll (λ x. x < s.next) s.tuple → IsOf g b u
     → IsBelow (graft_by b s (call g ∷ rest) u)
+IsBelow-graft_by b s g rest (faulted i j) bn h hT o = (tt, hT)
 IsBelow-graft_by b s g rest (state G U m j) bn h hT o = (
   AllByRecursion-append (LocalPart (λ x. x < n)) (calls (instance_all (lifted_var b s.next) G)) (map (instance_part (fitted g b s.next U)) rest)
       (LocalAll-calls (λ x. x < n) (instance_all (lifted_var b s.next) G) (LocalAll-instance_all (IsOwn g b m) (λ x. x < n) (lifted_var b s.next) moved G o.2))
@@ -91,7 +100,7 @@ pub grafted_state : GraftStateLaw
 grafted_state = (
   λ b s u.
       plain_of-graft_by b s (opened s.goals) u (StartsWithCall-opened s.goals) (plain_goals-opened s.goals)
-      ∙ ap (λ G. graft b (state G s.tuple s.next s.steps) u) (plain_goals-opened s.goals),
+      ∙ ap (λ G. graft b (plain_by s.fault G s.tuple s.next s.steps) u) (plain_goals-opened s.goals),
   λ b s u h. AreGroups-graft_by b s (opened s.goals) u h (AreGroups-opened s.goals h),
   λ b s g rest u e bn h o.
       subst (λ ps. IsBelow (graft_by b s ps u)) (sym e)

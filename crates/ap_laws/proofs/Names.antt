@@ -1,5 +1,5 @@
 -- Searches of states that are the same up to names.
-use Rattle.std.proofs.Common.{◌≡◌, ℕ, zero, suc, ◌-◌, ◌<◌, Bool, true, false, ◌||◌, nat_eq, List, [], ◌∷◌, ◌++◌, refl, ap, ap₂, sym, ◌∙◌, subst}
+use Rattle.std.proofs.Common.{◌≡◌, ℕ, zero, suc, ◌-◌, ◌<◌, Bool, true, false, ◌||◌, nat_eq, List, [], ◌∷◌, ◌++◌, Option, Some, None, refl, ap, ap₂, sym, ◌∙◌, subst}
 use Rattle.std.specs.List.{flat_map, AllZip, AllByRecursion}
 use Rattle.std.proofs.lemmas.Bool.{false≢true}
 use Rattle.ap_term.specs.Tree.{Tree, Trees, var, int, atom, node, none, more}
@@ -9,11 +9,12 @@ use Rattle.ap_term.specs.Laws.{KeepsApart}
 use Rattle.ap_term.specs.Goals.{Part, call, group, Program}
 use Rattle.ap_term.specs.WellFormed.{IsProgram}
 use Rattle.ap_term.specs.UpToNames.{renumbered, SameUpToNames}
-use Rattle.ap_term.specs.Search.{State, Found, by_goals, answers_below, answers_to_depth, done, open_states, with_answers, turn, search, children}
+use Rattle.ap_term.specs.declared.faults.Fault.{Fault}
+use Rattle.ap_term.specs.Search.{by_goals, State, Outcome, answer, fails_by, outcome_by, outcome_of, Met, outcomes_below, outcomes_to_depth, done, open_states, with_outcomes, turn, meets, children}
 use Rattle.ap_term.proofs.Renamings.{renumbered-renamed}
 use Rattle.ap_term.proofs.Solutions.{same_var}
 use Rattle.ap_laws.specs.Renaming.{Renamed, RenamedAll, RenamedPart, RenamedParts, RenamedCheck, Linked, SameState, SameTuple, Local, LocalAll, LocalPart, LocalCheck, IsBelow}
-use Rattle.ap_laws.specs.Laws.{SameFound, RenamingLaw}
+use Rattle.ap_laws.specs.Laws.{SameOutcome, SameFound, RenamingLaw}
 use Rattle.ap_laws.proofs.Zips.{AllZip-append, AllZip-flat_map, AllZip-weaken}
 use Rattle.ap_laws.proofs.Local.{AllByRecursion-add_all_vars}
 use Rattle.ap_laws.proofs.Ways.{SameState-children}
@@ -77,7 +78,7 @@ SameUpToNames-SameTuple ts us h = sym (renumbered-renamed f ts apart) ∙ ap ren
 SameTuple-SameState : (s t : State) → SameState s t → SameTuple s.tuple t.tuple
 SameTuple-SameState s t h = (h.0, h.1, s.next, t.next, h.2.1)
 
--- ---- answers and budgets
+-- ---- outcomes and budgets
 
 related-by_goals : {A B : Type 0} (S : A → B → Type 0) (R : ℕ → ℕ → Type 0) (ps qs : List Part) → RenamedParts R ps qs → (a b : A) (c d : B) → S a c → S b d → S (by_goals ps a b) (by_goals qs c d)
 related-by_goals S R [] [] h a b c d k l = k
@@ -85,29 +86,50 @@ related-by_goals S R (p ∷ ps) (q ∷ qs) h a b c d k l = l
 related-by_goals S R [] (_ ∷ _) h a b c d k l = absurd h
 related-by_goals S R (_ ∷ _) [] h a b c d k l = absurd h
 
+-- before tuples are renumbered
+abbrev RenamedOutcome : Outcome → Outcome → Type 0
+RenamedOutcome (answer ts) (answer us) = SameTuple ts us
+RenamedOutcome (fails_by e) (fails_by i) = e ≡ i
+RenamedOutcome _ _ = ⊥
+
+SameOutcome-RenamedOutcome : (o r : Outcome) → RenamedOutcome o r → SameOutcome o r
+SameOutcome-RenamedOutcome (answer ts) (answer us) h = SameUpToNames-SameTuple ts us h
+SameOutcome-RenamedOutcome (fails_by e) (fails_by i) h = h
+SameOutcome-RenamedOutcome (answer ts) (fails_by i) h = absurd h
+SameOutcome-RenamedOutcome (fails_by e) (answer us) h = absurd h
+
+RenamedOutcome-SameState : (s t : State) → SameState s t → RenamedOutcome (outcome_of s) (outcome_of t)
+RenamedOutcome-SameState s t h = go s.fault t.fault h.2.3
+  where
+    go : (e i : Option Fault) → e ≡ i → RenamedOutcome (outcome_by e s.tuple) (outcome_by i t.tuple)
+    go None None q = SameTuple-SameState s t h
+    go (Some e) (Some i) q = cc
+    go None (Some i) q = cc
+    go (Some e) None q = cc
+
 module _ (p : Program) (good : IsProgram p) where
-  SameTuple-answers_below : (n : ℕ) (s t : State) → SameState s t → AllZip SameTuple (answers_below p n s) (answers_below p n t)
+  SameTuple-answers_below : (n : ℕ) (s t : State) → SameState s t → AllZip RenamedOutcome (outcomes_below p n s) (outcomes_below p n t)
   SameTuple-answers_below zero s t h =
-      related-by_goals (AllZip SameTuple) (Linked h.0 h.1 s.next t.next) s.goals t.goals h.2.0 (s.tuple ∷ []) [] (t.tuple ∷ []) [] (SameTuple-SameState s t h, tt) tt
+      related-by_goals (AllZip RenamedOutcome) (Linked h.0 h.1 s.next t.next) s.goals t.goals h.2.0 (outcome_of s ∷ []) [] (outcome_of t ∷ []) [] (RenamedOutcome-SameState s t h, tt) tt
   SameTuple-answers_below (suc n) s t h =
-      related-by_goals (AllZip SameTuple) (Linked h.0 h.1 s.next t.next) s.goals t.goals h.2.0 (s.tuple ∷ []) (flat_map (answers_below p n) (children p s)) (t.tuple ∷ []) (flat_map (answers_below p n) (children p t))
-      (SameTuple-SameState s t h, tt)
-      (AllZip-flat_map SameState SameTuple (answers_below p n) (answers_below p n) (SameTuple-answers_below n) (children p s) (children p t) (SameState-children p good s t h))
+      related-by_goals (AllZip RenamedOutcome) (Linked h.0 h.1 s.next t.next) s.goals t.goals h.2.0 (outcome_of s ∷ []) (flat_map (outcomes_below p n) (children p s)) (outcome_of t ∷ []) (flat_map (outcomes_below p n) (children p t))
+      (RenamedOutcome-SameState s t h, tt)
+      (AllZip-flat_map SameState RenamedOutcome (outcomes_below p n) (outcomes_below p n) (SameTuple-answers_below n) (children p s) (children p t) (SameState-children p good s t h))
 
-  pub SameTuple-answers_to_depth : (d : ℕ) (s t : State) → SameState s t → AllZip SameTuple (answers_to_depth p s d) (answers_to_depth p t d)
+  pub SameTuple-answers_to_depth : (d : ℕ) (s t : State) → SameState s t → AllZip RenamedOutcome (outcomes_to_depth p s d) (outcomes_to_depth p t d)
   SameTuple-answers_to_depth d s t h =
-      subst (λ n. AllZip SameTuple (answers_to_depth p s d) (answers_below p (d - n) t)) h.2.2 (SameTuple-answers_below (d - s.steps) s t h)
+      subst (λ n. AllZip RenamedOutcome (outcomes_to_depth p s d) (outcomes_below p (d - n) t)) h.2.2 (SameTuple-answers_below (d - s.steps) s t h)
 
-  abbrev Alike : Found → Found → Type 0
-  Alike f g = AllZip SameTuple f.answers g.answers × (f.ended ≡ g.ended)
+  abbrev Alike : Met → Met → Type 0
+  Alike f g = AllZip RenamedOutcome f.outcomes g.outcomes × (f.ended ≡ g.ended)
 
-  Alike-with_answers : (as' bs : List Trees) → AllZip SameTuple as' bs → (f g : Found) → Alike f g → Alike (with_answers as' f) (with_answers bs g)
-  Alike-with_answers as' bs h f g k = (AllZip-append SameTuple as' f.answers bs g.answers h k.0, k.1)
+  Alike-with_answers : (as' bs : List Outcome) → AllZip RenamedOutcome as' bs → (f g : Met) → Alike f g → Alike (with_outcomes as' f) (with_outcomes bs g)
+  Alike-with_answers as' bs h f g k = (AllZip-append RenamedOutcome as' f.outcomes bs g.outcomes h k.0, k.1)
 
-  SameTuple-done : (ss ts : List State) → AllZip SameState ss ts → AllZip SameTuple (done ss) (done ts)
+  SameTuple-done : (ss ts : List State) → AllZip SameState ss ts → AllZip RenamedOutcome (done ss) (done ts)
   SameTuple-done [] [] h = tt
   SameTuple-done (s ∷ ss) (t ∷ ts) h =
-      related-by_goals (AllZip SameTuple) (Linked h.0.0 h.0.1 s.next t.next) s.goals t.goals h.0.2.0 (s.tuple ∷ done ss) [] (t.tuple ∷ done ts) [] (SameTuple-SameState s t h.0, SameTuple-done ss ts h.1) tt
+      related-by_goals (AllZip RenamedOutcome) (Linked h.0.0 h.0.1 s.next t.next) s.goals t.goals h.0.2.0 (outcome_of s ∷ done ss) [] (outcome_of t ∷ done ts) [] (RenamedOutcome-SameState s t h.0, SameTuple-done ss ts h.1) tt
   SameTuple-done [] (_ ∷ _) h = absurd h
   SameTuple-done (_ ∷ _) [] h = absurd h
 
@@ -118,31 +140,31 @@ module _ (p : Program) (good : IsProgram p) where
   SameState-open_states [] (_ ∷ _) h = absurd h
   SameState-open_states (_ ∷ _) [] h = absurd h
 
-  Alike-turn : (F G : State → List State → Found) → ((s t : State) (ss ts : List State) → SameState s t → AllZip SameState ss ts → Alike (F s ss) (G t ts)) → (ss ts : List State) → AllZip SameState ss ts
+  Alike-turn : (F G : State → List State → Met) → ((s t : State) (ss ts : List State) → SameState s t → AllZip SameState ss ts → Alike (F s ss) (G t ts)) → (ss ts : List State) → AllZip SameState ss ts
       → Alike (turn F ss) (turn G ts)
   Alike-turn F G e [] [] h = (tt, refl)
   Alike-turn F G e (s ∷ ss) (t ∷ ts) h = e s t ss ts h.0 h.1
   Alike-turn F G e [] (_ ∷ _) h = absurd h
   Alike-turn F G e (_ ∷ _) [] h = absurd h
 
-  Alike-search : (n : ℕ) (ss ts : List State) → AllZip SameState ss ts → Alike (search p n ss) (search p n ts)
+  Alike-search : (n : ℕ) (ss ts : List State) → AllZip SameState ss ts → Alike (meets p n ss) (meets p n ts)
   Alike-search zero ss ts h =
       Alike-with_answers (done ss) (done ts) (SameTuple-done ss ts h) _ _
-      (Alike-turn (λ s ss. record { answers = []; ended = false }) (λ s ss. record { answers = []; ended = false }) (λ s t ss ts k l. (tt, refl)) (open_states ss) (open_states ts) (SameState-open_states ss ts h))
+      (Alike-turn (λ s ss. record { outcomes = []; ended = false }) (λ s ss. record { outcomes = []; ended = false }) (λ s t ss ts k l. (tt, refl)) (open_states ss) (open_states ts) (SameState-open_states ss ts h))
   Alike-search (suc n) ss ts h =
       Alike-with_answers (done ss) (done ts) (SameTuple-done ss ts h) _ _
-      (Alike-turn (λ s ss. search p n (children p s ++ ss)) (λ s ss. search p n (children p s ++ ss))
+      (Alike-turn (λ s ss. meets p n (children p s ++ ss)) (λ s ss. meets p n (children p s ++ ss))
       (λ s t ss ts k l. Alike-search n (children p s ++ ss) (children p t ++ ts) (AllZip-append SameState (children p s) ss (children p t) ts (SameState-children p good s t k) l))
       (open_states ss) (open_states ts) (SameState-open_states ss ts h))
 
   -- at each budget the same answers up to names, and the same end
-  pub SameFound-search : (n : ℕ) (ss ts : List State) → AllZip SameState ss ts → SameFound (search p n ss) (search p n ts)
+  pub SameFound-search : (n : ℕ) (ss ts : List State) → AllZip SameState ss ts → SameFound (meets p n ss) (meets p n ts)
   SameFound-search n ss ts h =
-      let r = Alike-search n ss ts h in (AllZip-weaken SameTuple SameUpToNames SameUpToNames-SameTuple (search p n ss).answers (search p n ts).answers r.0, r.1)
+      let r = Alike-search n ss ts h in (AllZip-weaken RenamedOutcome SameOutcome SameOutcome-RenamedOutcome (meets p n ss).outcomes (meets p n ts).outcomes r.0, r.1)
 
 pub renaming : RenamingLaw
 renaming p good s t h = (
-  λ d. AllZip-weaken SameTuple SameUpToNames SameUpToNames-SameTuple (answers_to_depth p s d) (answers_to_depth p t d) (SameTuple-answers_to_depth p good d s t h),
+  λ d. AllZip-weaken RenamedOutcome SameOutcome SameOutcome-RenamedOutcome (outcomes_to_depth p s d) (outcomes_to_depth p t d) (SameTuple-answers_to_depth p good d s t h),
   λ n. SameFound-search p good n (s ∷ []) (t ∷ []) (h, tt),
 )
 
@@ -203,7 +225,7 @@ pub SameState-refl : (s : State) → IsBelow s → SameState s s
 SameState-refl s h =
     let R : ℕ → ℕ → Type 0 = Linked (λ x. x) (λ x. x) s.next s.next in
     let e : (x : ℕ) → x < s.next → R x x = λ x l. (refl, refl, l, l) in
-    (λ x. x, λ x. x, (AllZip-refl (LocalPart (λ x. x < s.next)) (RenamedPart R) (RenamedPart-refl (λ x. x < s.next) R e) s.goals h.0, RenamedAll-refl (λ x. x < s.next) R e s.tuple h.1, refl))
+    (λ x. x, λ x. x, (AllZip-refl (LocalPart (λ x. x < s.next)) (RenamedPart R) (RenamedPart-refl (λ x. x < s.next) R e) s.goals h.0, RenamedAll-refl (λ x. x < s.next) R e s.tuple h.1, refl, refl))
 
 pub IsBelow-children : (p : Program) → IsProgram p → (s : State) → IsBelow s → AllByRecursion IsBelow (children p s)
 IsBelow-children p good s h = AllByRecursion-AllZip SameState IsBelow IsBelow-SameState (children p s) (children p s) (SameState-children p good s s (SameState-refl s h))

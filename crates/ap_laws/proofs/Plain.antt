@@ -1,14 +1,15 @@
 -- Plain states: lists of goals, and the ways on of a program's plain form.
-use Rattle.std.proofs.Common.{◌≡◌, ℕ, ◌+◌, true, false, List, [], ◌∷◌, refl, ap}
+use Rattle.std.proofs.Common.{◌≡◌, ℕ, ◌+◌, true, false, List, [], ◌∷◌, Option, Some, None, refl, ap}
 use Rattle.ap_term.specs.Tree.{Tree, Trees, var, int, atom, node, none, more}
 use Rattle.ap_term.specs.Vars.{occurs, occurs_all}
 use Rattle.ap_term.specs.Substitution.{instance, instance_all}
 use Rattle.ap_term.specs.Goals.{Part, call, group, Program}
 use Rattle.ap_term.specs.WellFormed.{IsProgram}
-use Rattle.ap_term.specs.Search.{ways}
+use Rattle.ap_term.specs.declared.faults.Fault.{Fault}
+use Rattle.ap_term.specs.Search.{Way, ways}
 use Rattle.ap_term.proofs.Solutions.{same_test, instance_agree, instance_all_agree, or_left}
 use Rattle.ap_laws.specs.Renaming.{RenamedAll, RenamedParts, Linked, RenamedWay, Local, LocalAll, LocalParts, LocalWay}
-use Rattle.ap_laws.specs.Plain.{append_trees, plain_goals, plain_way, plain_ways, Renames, Locals, RenamedPlainWay, LocalPlainWay}
+use Rattle.ap_laws.specs.Plain.{append_trees, plain_goals, way_by, plain_way, plain_ways, Renames, Locals, RenamedPlainWay, LocalPlainWay}
 use Rattle.ap_laws.specs.Graft.{arguments}
 use Rattle.ap_laws.proofs.Zips.{AllZip-map, AllByRecursion-map}
 use Rattle.ap_laws.proofs.Local.{Local-occurs, LocalAll-occurs_all, Local-each, LocalAll-each}
@@ -85,12 +86,28 @@ LocalAll-plain_goals P [] h = tt
 LocalAll-plain_goals P (call t ∷ ps) h = (h.0, LocalAll-plain_goals P ps h.1)
 LocalAll-plain_goals P (group cs ts ∷ ps) h = LocalAll-append_trees P ts (plain_goals ps) h.0.1 (LocalAll-plain_goals P ps h.1)
 
+RenamedPlainWay-plain_way : (f g : ℕ → ℕ) (n m : ℕ) (v w : Way) → RenamedWay f g n m v w → RenamedPlainWay f g n m (plain_way v) (plain_way w)
+RenamedPlainWay-plain_way f g n m v w h = go v.fault w.fault h.3
+  where
+    go : (e i : Option Fault) → e ≡ i → RenamedPlainWay f g n m (way_by e v) (way_by i w)
+    go None None q = (h.0, h.1, RenamedAll-plain_goals (Linked f g (n + v.takes) (m + w.takes)) v.body w.body h.2)
+    go (Some e) (Some i) q = cc
+    go None (Some i) q = cc
+    go (Some e) None q = cc
+
+LocalPlainWay-plain_way : (P : ℕ → Type 0) (w : Way) → LocalWay P w → LocalPlainWay P (plain_way w)
+LocalPlainWay-plain_way P w h = go w.fault
+  where
+    go : (e : Option Fault) → LocalPlainWay P (way_by e w)
+    go None = (h.0, LocalAll-plain_goals P w.body h.1)
+    go (Some e) = tt
+
 pub Renames-plain_ways : (p : Program) → IsProgram p → Renames (plain_ways p)
 Renames-plain_ways p good f g n m t u forth back h =
     AllZip-map (RenamedWay f g n m) (RenamedPlainWay f g n m) plain_way plain_way
-    (λ v w k. (k.0, k.1, RenamedAll-plain_goals (Linked f g (n + v.takes) (m + w.takes)) v.body w.body k.2)) (ways p n t) (ways p m u)
+    (RenamedPlainWay-plain_way f g n m) (ways p n t) (ways p m u)
     (Renamed-ways f g n m forth back p good t u h)
 
 pub Locals-plain_ways : (p : Program) → IsProgram p → Locals (plain_ways p)
 Locals-plain_ways p good P t n h new =
-    AllByRecursion-map (LocalWay P) (LocalPlainWay P) plain_way (λ w k. (k.0, LocalAll-plain_goals P w.body k.1)) (ways p n t) (Local-ways P p good n t h new)
+    AllByRecursion-map (LocalWay P) (LocalPlainWay P) plain_way (LocalPlainWay-plain_way P) (ways p n t) (Local-ways P p good n t h new)

@@ -98,7 +98,7 @@ SameState-sym s t h =
     let R : ℕ → ℕ → Type 0 = Linked h.0 h.1 s.next t.next in
     let S : ℕ → ℕ → Type 0 = Linked h.1 h.0 t.next s.next in
     let e : (x y : ℕ) → R x y → S y x = λ x y k. (k.1, k.0, k.3, k.2) in
-    (h.1, h.0, (AllZip-sym (RenamedPart R) (RenamedPart S) (RenamedPart-sym R S e) s.goals t.goals h.2.0, RenamedAll-sym R S e s.tuple t.tuple h.2.1, sym h.2.2))
+    (h.1, h.0, (AllZip-sym (RenamedPart R) (RenamedPart S) (RenamedPart-sym R S e) s.goals t.goals h.2.0, RenamedAll-sym R S e s.tuple t.tuple h.2.1, sym h.2.2, sym h.2.3))
 
 pub SameState-trans : (s t u : State) → SameState s t → SameState t u → SameState s u
 SameState-trans s t u h j =
@@ -112,6 +112,7 @@ SameState-trans s t u h j =
         AllZip-trans (RenamedPart R) (RenamedPart S) (RenamedPart Q) (RenamedPart-trans R S Q e) s.goals t.goals u.goals h.2.0 j.2.0,
         RenamedAll-trans R S Q e s.tuple t.tuple u.tuple h.2.1 j.2.1,
         h.2.2 ∙ j.2.2,
+        h.2.3 ∙ j.2.3,
       ),
     )
 

@@ -2,7 +2,7 @@
 use Rattle.std.proofs.Common.{◌≡◌, ℕ, zero, suc, ◌+◌, ◌-◌, List, [], ◌∷◌, ◌++◌, refl, ap, ap₂, sym, ◌∙◌, subst, arith, le_refl, add-zero, add-suc}
 use Rattle.std.specs.List.{flat_map, AllByRecursion}
 use Rattle.ap_term.specs.Tree.{Tree, Trees, none, more}
-use Rattle.ap_laws.specs.Plain.{Plain, state, PlainWay, way, Ways, goals_left, steps_of, plain_children_by, plain_children, Renames, Locals}
+use Rattle.ap_laws.specs.Plain.{Plain, state, faulted, PlainWay, way, fault_way, Ways, IsEnded, steps_of, plain_children_by, plain_children, Renames, Locals}
 use Rattle.ap_laws.specs.Trace.{Action, called, cut, answered, trace, trace_to, answers_in, calls_in, AllAnswers, NoAnswers}
 use Rattle.ap_laws.specs.Graft.{IsOf, AreOf}
 use Rattle.ap_laws.proofs.Graft.{plain_children-graft}
@@ -38,6 +38,7 @@ AllAnswers-and P Q (answered s l ∷ es) h k = ((h.0, k.0), AllAnswers-and P Q e
 pub AllByRecursion-plain_children_by : (G T : Trees) (n k : ℕ) (l : List PlainWay) → AllByRecursion (λ s. steps_of s ≡ k + 1) (plain_children_by G T n k l)
 AllByRecursion-plain_children_by G T n k [] = tt
 AllByRecursion-plain_children_by G T n k (way s b u ∷ l) = (refl, AllByRecursion-plain_children_by G T n k l)
+AllByRecursion-plain_children_by G T n k (fault_way e ∷ l) = (refl, AllByRecursion-plain_children_by G T n k l)
 
 pub AllByRecursion-any : (Q : Plain → Type 0) → ((s : Plain) → Q s) → (l : List Plain) → AllByRecursion Q l
 AllByRecursion-any Q e [] = tt
@@ -48,37 +49,62 @@ pub AllAnswers-left_over : (A : Ways) (r : ℕ) (s : Plain) (k : ℕ) → steps_
 unfolding trace
 AllAnswers-left_over A zero (state none T n k) j e = (ap (λ z. zero + z) e, tt)
 AllAnswers-left_over A (suc r) (state none T n k) j e = (ap (λ z. suc r + z) e, tt)
+AllAnswers-left_over A zero (faulted f k) j e = (ap (λ z. zero + z) e, tt)
+AllAnswers-left_over A (suc r) (faulted f k) j e = (ap (λ z. suc r + z) e, tt)
 AllAnswers-left_over A zero (state (more g G) T n k) j e = tt
 AllAnswers-left_over A (suc r) (state (more g G) T n k) j e =
     AllAnswers-flat_map (λ a l. l + steps_of a ≡ suc r + j) (λ s. steps_of s ≡ k + 1) (λ s. trace A r s)
     (λ s q. subst (λ z. AllAnswers (λ a l. l + steps_of a ≡ z) (trace A r s)) (omega (arith, e)) (AllAnswers-left_over A r s (k + 1) q))
     (plain_children_by G T n k (A g n)) (AllByRecursion-plain_children_by G T n k (A g n))
 
-pub AllAnswers-done : (A : Ways) (r : ℕ) (s : Plain) → AllAnswers (λ a l. goals_left a ≡ none) (trace A r s)
+pub AllAnswers-done : (A : Ways) (r : ℕ) (s : Plain) → AllAnswers (λ a l. IsEnded a) (trace A r s)
 unfolding trace
-AllAnswers-done A zero (state none T n k) = (refl, tt)
-AllAnswers-done A (suc r) (state none T n k) = (refl, tt)
+AllAnswers-done A zero (state none T n k) = (tt, tt)
+AllAnswers-done A (suc r) (state none T n k) = (tt, tt)
+AllAnswers-done A zero (faulted e k) = (tt, tt)
+AllAnswers-done A (suc r) (faulted e k) = (tt, tt)
 AllAnswers-done A zero (state (more g G) T n k) = tt
 AllAnswers-done A (suc r) (state (more g G) T n k) =
-    AllAnswers-flat_map (λ a l. goals_left a ≡ none) (λ s. Unit {0}) (λ s. trace A r s) (λ s q. AllAnswers-done A r s) (plain_children_by G T n k (A g n)) (AllByRecursion-any (λ s. Unit {0}) (λ s. tt) (plain_children_by G T n k (A g n)))
+    AllAnswers-flat_map (λ a l. IsEnded a) (λ s. Unit {0}) (λ s. trace A r s) (λ s q. AllAnswers-done A r s) (plain_children_by G T n k (A g n)) (AllByRecursion-any (λ s. Unit {0}) (λ s. tt) (plain_children_by G T n k (A g n)))
 
--- without an answer at some depth, none at a smaller one
-pub NoAnswers-flat_map : (f g : Plain → List Action) → ((s : Plain) → NoAnswers (f s) → NoAnswers (g s)) → (l : List Plain) → NoAnswers (flat_map f l) → NoAnswers (flat_map g l)
-NoAnswers-flat_map f g e [] h = tt
-NoAnswers-flat_map f g e (s ∷ l) h =
-    AllAnswers-append (λ a m. ⊥) (g s) (flat_map g l) (e s (AllAnswers-left (λ a m. ⊥) (f s) (flat_map f l) h)) (NoAnswers-flat_map f g e l (AllAnswers-right (λ a m. ⊥) (f s) (flat_map f l) h))
+-- what holds of each answer at some depth holds of each at a smaller one
+module _ (P : Plain → Type 0) where
+  abbrev pub Every : List Action → Type 0
+  Every es = AllAnswers (λ a l. P a) es
 
-pub NoAnswers-less : (A : Ways) (r : ℕ) (s : Plain) → NoAnswers (trace A (suc r) s) → NoAnswers (trace A r s)
-unfolding trace
-NoAnswers-less A zero (state none T n k) h = h
-NoAnswers-less A (suc r) (state none T n k) h = h
-NoAnswers-less A zero (state (more g G) T n k) h = tt
-NoAnswers-less A (suc r) (state (more g G) T n k) h =
-    NoAnswers-flat_map (λ s. trace A (suc r) s) (λ s. trace A r s) (NoAnswers-less A r) (plain_children_by G T n k (A g n)) h
+  Every-flat_map : (f g : Plain → List Action) → ((s : Plain) → Every (f s) → Every (g s)) → (l : List Plain) → Every (flat_map f l) → Every (flat_map g l)
+  Every-flat_map f g e [] h = tt
+  Every-flat_map f g e (s ∷ l) h =
+      AllAnswers-append (λ a m. P a) (g s) (flat_map g l) (e s (AllAnswers-left (λ a m. P a) (f s) (flat_map f l) h)) (Every-flat_map f g e l (AllAnswers-right (λ a m. P a) (f s) (flat_map f l) h))
+
+  Every-less : (A : Ways) (r : ℕ) (s : Plain) → Every (trace A (suc r) s) → Every (trace A r s)
+  unfolding trace
+  Every-less A zero (state none T n k) h = h
+  Every-less A (suc r) (state none T n k) h = h
+  Every-less A zero (faulted e k) h = h
+  Every-less A (suc r) (faulted e k) h = h
+  Every-less A zero (state (more g G) T n k) h = tt
+  Every-less A (suc r) (state (more g G) T n k) h =
+      Every-flat_map (λ s. trace A (suc r) s) (λ s. trace A r s) (Every-less A r) (plain_children_by G T n k (A g n)) h
+
+  pub Every-below : (A : Ways) (r e : ℕ) (s : Plain) → Every (trace A (r + e) s) → Every (trace A r s)
+  Every-below A r zero s h = subst (λ z. Every (trace A z s)) (add-zero r) h
+  Every-below A r (suc e) s h = Every-below A r e s (Every-less A (r + e) s (subst (λ z. Every (trace A z s)) (add-suc r e) h))
+
+pub Every-answers_in : (P : Plain → Type 0) (es : List Action) → AllByRecursion P (answers_in es) → AllAnswers (λ a l. P a) es
+Every-answers_in P [] h = tt
+Every-answers_in P (called ∷ es) h = Every-answers_in P es h
+Every-answers_in P (cut ∷ es) h = Every-answers_in P es h
+Every-answers_in P (answered s l ∷ es) h = (h.0, Every-answers_in P es h.1)
+
+pub answers_in-Every : (P : Plain → Type 0) (es : List Action) → AllAnswers (λ a l. P a) es → AllByRecursion P (answers_in es)
+answers_in-Every P [] h = tt
+answers_in-Every P (called ∷ es) h = answers_in-Every P es h
+answers_in-Every P (cut ∷ es) h = answers_in-Every P es h
+answers_in-Every P (answered s l ∷ es) h = (h.0, answers_in-Every P es h.1)
 
 pub NoAnswers-below : (A : Ways) (r e : ℕ) (s : Plain) → NoAnswers (trace A (r + e) s) → NoAnswers (trace A r s)
-NoAnswers-below A r zero s h = subst (λ z. NoAnswers (trace A z s)) (add-zero r) h
-NoAnswers-below A r (suc e) s h = NoAnswers-below A r e s (NoAnswers-less A (r + e) s (subst (λ z. NoAnswers (trace A z s)) (add-suc r e) h))
+NoAnswers-below A r e s h = Every-below (λ a. ⊥) A r e s h
 
 module _ (A : Ways) (renames : Renames A) (locals : Locals A) where
   pub AreOf-plain_children : (g : Tree) (b : ℕ) (t : Tree) (G U : Trees) (m j : ℕ) → IsOf g b (state (more t G) U m j) → AreOf g b (plain_children_by G U m j (A t m))
@@ -92,6 +118,8 @@ module _ (A : Ways) (renames : Renames A) (locals : Locals A) where
   unfolding trace
   AllAnswers-IsOf g b zero (state none T n k) h = (h, tt)
   AllAnswers-IsOf g b (suc r) (state none T n k) h = (h, tt)
+  AllAnswers-IsOf g b zero (faulted e k) h = (tt, tt)
+  AllAnswers-IsOf g b (suc r) (faulted e k) h = (tt, tt)
   AllAnswers-IsOf g b zero (state (more t G) T n k) h = tt
   AllAnswers-IsOf g b (suc r) (state (more t G) T n k) h = AllAnswers-flat_map_AreOf (λ a l. IsOf g b a) g b (λ s. trace A r s) (AllAnswers-IsOf g b r) (plain_children_by G T n k (A t n)) (AreOf-plain_children g b t G T n k h)
 

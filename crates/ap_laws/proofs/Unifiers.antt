@@ -102,6 +102,7 @@ SameState-unifiers s rest body takes a b u v hu hv lu lv lp lt = (
     RenamedParts-both (λ x. x < n) R (IsOneToOne-Linked q.0 q.1 n n) (value u) (value v) each (body ++ rest) lp,
     RenamedAll-both (λ x. x < n) R (value u) (value v) each s.tuple lt,
     refl,
+    refl,
   ),
 )
   where

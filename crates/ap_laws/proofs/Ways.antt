@@ -11,12 +11,14 @@ use Rattle.ap_term.specs.Goals.{Part, call, group, Clause, Program, instance_che
 use Rattle.ap_term.specs.Vars.{vars}
 use Rattle.ap_term.specs.WellFormed.{in_range, numbered, numbered_all, callable, all_callable, numbered_check, well_formed_part, IsClause, IsProgram}
 use Rattle.ap_term.specs.Builtins.{builtin}
-use Rattle.ap_term.specs.Search.{State, Way, way_if, clause_way, ways_by, ways, child, children_by, children}
+use Rattle.ap_term.specs.Search.{State, Way, way_if, clause_way, ways_by, ways_unless, ways, unless, child, children_by, children}
+use Rattle.ap_term.specs.Faults.{fault_of}
+use Rattle.ap_term.specs.declared.faults.Fault.{Fault}
 use Rattle.ap_laws.specs.Renaming.{OptionZip, OptionAll, Renamed, RenamedAll, RenamedSubst, RenamedCheck, RenamedPart, RenamedParts, Linked, RenamedWay, RenamedBy, SameState, Local, LocalAll, LocalSubst, LocalCheck, LocalPart, LocalParts, LocalWay}
 use Rattle.ap_laws.proofs.Zips.{AllZip-append, AllZip-map, AllZip-flat_map, AllZip-both, AllZip-flat_map_both, AllByRecursion-append, AllByRecursion-weaken}
 use Rattle.ap_laws.proofs.Renamed.{IsOneToOne, Renamed-weaken, RenamedAll-weaken, RenamedParts-weaken, Renamed-opened, Renamed-value, RenamedAll-instance_all, Renamed-mgu, Renamed-add_vars, RenamedParts-instance_part}
 use Rattle.ap_laws.proofs.Local.{Local-mgu, Local-weaken, LocalAll-weaken, Local-instance, LocalParts-instance_part}
-use Rattle.ap_laws.proofs.Builtins.{Renamed-builtin, Local-builtin}
+use Rattle.ap_laws.proofs.Builtins.{Renamed-builtin, Renamed-fault_of, Local-builtin}
 use Rattle.ap_term.proofs.Solutions.{same_var, same_test}
 
 -- ---- the variables of a clause
@@ -146,7 +148,7 @@ module _ (P : ℕ → Type 0) (R : ℕ → ℕ → Type 0) (one_one : IsOneToOne
 Renamed-way_if : (f g : ℕ → ℕ) (n m k : ℕ) (o p : Option Subst) (b c : List Part) → OptionZip (RenamedSubst (Linked f g (n + k) (m + k))) o p → RenamedParts (Linked f g (n + k) (m + k)) b c
     → AllZip (RenamedWay f g n m) (way_if o b k) (way_if p c k)
 Renamed-way_if f g n m k None None b c h j = tt
-Renamed-way_if f g n m k (Some s) (Some r) b c h j = ((refl, h, j), tt)
+Renamed-way_if f g n m k (Some s) (Some r) b c h j = ((refl, h, j, refl), tt)
 Renamed-way_if f g n m k None (Some _) b c h j = absurd h
 Renamed-way_if f g n m k (Some _) None b c h j = absurd h
 
@@ -177,11 +179,18 @@ module _ (f g : ℕ → ℕ) (n m : ℕ) (forth : Continues f n m) (back : Conti
   Renamed-ways_by p good t u h None (Some _) k = absurd k
   Renamed-ways_by p good t u h (Some _) None k = absurd k
 
+  Renamed-ways_unless : (e i : Option Fault) → e ≡ i → (v w : List Way) → AllZip (RenamedWay f g n m) v w → AllZip (RenamedWay f g n m) (ways_unless e v) (ways_unless i w)
+  Renamed-ways_unless None None q v w h = h
+  Renamed-ways_unless (Some e) (Some i) q v w h = ((refl, tt, tt, q), tt)
+  Renamed-ways_unless None (Some i) q v w h = cc
+  Renamed-ways_unless (Some e) None q v w h = cc
+
   -- related goals have related ways on
   pub Renamed-ways : (p : Program) → IsProgram p → (t u : Tree) → Renamed (Linked f g n m) t u → AllZip (RenamedWay f g n m) (ways p n t) (ways p m u)
   Renamed-ways p good t u h =
-      Renamed-ways_by p good t u h (builtin t) (builtin u)
-      (Renamed-builtin (Linked f g (n + 0) (m + 0)) (IsOneToOne-Linked f g (n + 0) (m + 0)) t u (Renamed-weaken (Linked f g n m) (Linked f g (n + 0) (m + 0)) (Linked-more f g n m 0 0) t u h))
+      Renamed-ways_unless (fault_of t) (fault_of u) (Renamed-fault_of (Linked f g n m) t u h) (ways_by p n t (builtin t)) (ways_by p m u (builtin u))
+      (Renamed-ways_by p good t u h (builtin t) (builtin u)
+      (Renamed-builtin (Linked f g (n + 0) (m + 0)) (IsOneToOne-Linked f g (n + 0) (m + 0)) t u (Renamed-weaken (Linked f g n m) (Linked f g (n + 0) (m + 0)) (Linked-more f g n m 0 0) t u h)))
 
 -- ---- what a way binds and mentions
 
@@ -205,9 +214,13 @@ module _ (P : ℕ → Type 0) where
   Local-ways_by p good n t h new None k = Local-clause_ways n t h new p good
   Local-ways_by p good n t h new (Some a) k = Local-way_if a [] 0 k tt
 
+  Local-ways_unless : (e : Option Fault) (ws : List Way) → AllByRecursion (LocalWay P) ws → AllByRecursion (LocalWay P) (ways_unless e ws)
+  Local-ways_unless None ws h = h
+  Local-ways_unless (Some e) ws h = ((tt, tt), tt)
+
   -- the goal's variables and new ones
   pub Local-ways : (p : Program) → IsProgram p → (n : ℕ) (t : Tree) → Local P t → ((x : ℕ) → n ≤ x → P x) → AllByRecursion (LocalWay P) (ways p n t)
-  Local-ways p good n t h new = Local-ways_by p good n t h new (builtin t) (Local-builtin P t h)
+  Local-ways p good n t h new = Local-ways_unless (fault_of t) (ways_by p n t (builtin t)) (Local-ways_by p good n t h new (builtin t) (Local-builtin P t h))
 
 -- ---- children
 
@@ -217,16 +230,23 @@ module _ (f g : ℕ → ℕ) (s t : State) (same : RenamedBy f g s t) where
     f,
     g,
     (
-      RenamedParts-instance_part R R one_one (value v.binds) (value w.binds) values (v.body ++ ps) (w.body ++ qs)
-          (AllZip-append (RenamedPart R) v.body ps w.body qs k.2 (RenamedParts-weaken (Linked f g s.next t.next) R (Linked-more f g s.next t.next v.takes w.takes) ps qs h)),
+      Renamed-unless v.fault w.fault k.3 _ _ (RenamedParts-instance_part R R one_one (value v.binds) (value w.binds) values (v.body ++ ps) (w.body ++ qs)
+          (AllZip-append (RenamedPart R) v.body ps w.body qs k.2 (RenamedParts-weaken (Linked f g s.next t.next) R (Linked-more f g s.next t.next v.takes w.takes) ps qs h))),
       RenamedAll-instance_all R R (value v.binds) (value w.binds) values s.tuple t.tuple
           (RenamedAll-weaken (Linked f g s.next t.next) R (Linked-more f g s.next t.next v.takes w.takes) s.tuple t.tuple same.1),
       ap (λ n. n + 1) same.2,
+      k.3,
     ),
   )
     where
       R : ℕ → ℕ → Type 0
       R = Linked f g (s.next + v.takes) (t.next + w.takes)
+
+      Renamed-unless : (e i : Option Fault) → e ≡ i → (ps qs : List Part) → RenamedParts R ps qs → RenamedParts R (unless e ps) (unless i qs)
+      Renamed-unless None None q ps qs h = h
+      Renamed-unless (Some e) (Some i) q ps qs h = tt
+      Renamed-unless None (Some i) q ps qs h = cc
+      Renamed-unless (Some e) None q ps qs h = cc
 
       one_one : IsOneToOne R
       one_one = IsOneToOne-Linked f g (s.next + v.takes) (t.next + w.takes)
@@ -252,7 +272,7 @@ module _ (f g : ℕ → ℕ) (s t : State) (same : RenamedBy f g s t) where
 RenamedBy-continued : (f g : ℕ → ℕ) (s t : State) → RenamedBy f g s t → RenamedBy (continued f s.next t.next) (continued g t.next s.next) s t
 RenamedBy-continued f g s t h =
     let e : (x y : ℕ) → Linked f g s.next t.next x y → Linked (continued f s.next t.next) (continued g t.next s.next) s.next t.next x y = Linked-continued f g s.next t.next in
-    (RenamedParts-weaken _ _ e s.goals t.goals h.0, RenamedAll-weaken _ _ e s.tuple t.tuple h.1, h.2)
+    (RenamedParts-weaken _ _ e s.goals t.goals h.0, RenamedAll-weaken _ _ e s.tuple t.tuple h.1, h.2, h.3)
 
 -- states that are equal up to names have children that are
 pub SameState-children : (p : Program) → IsProgram p → (s t : State) → SameState s t → AllZip SameState (children p s) (children p t)

@@ -25,7 +25,7 @@ use Rattle.ap_laws.proofs.Ways.{LocalParts-body}
 use Rattle.ap_laws.proofs.Plain.{instance_all-append_trees}
 use Rattle.ap_laws.proofs.Graft.{state-eq, Local-at}
 use Rattle.ap_laws.proofs.Unifiers.{SameState-unifiers}
-use Rattle.ap_laws.proofs.Views.{plain_goals-append, plain_goals-instance, plain_goals-calls}
+use Rattle.ap_laws.proofs.Views.{plain_by-None, plain_goals-append, plain_goals-instance, plain_goals-calls}
 use Rattle.ap_laws.proofs.TraceNames.{trace_renaming}
 use Rattle.ap_lifting.specs.Lifted.{applied, lifted_goal, lifted_clause}
 use Rattle.ap_lifting.specs.LiftingLaws.{is_named, clauses_named, entered, LiftedCallLaw}
@@ -50,9 +50,10 @@ module _ (p : Program) (good : IsProgram p) (h : Tree) (vars : ℕ) (f : ℕ →
   new : (x : ℕ) → x ≤ vars → P (x + n)
   new x l = omega arith
 
-  child_is : (s : Subst) (ps : List Part) → plain_of (child (as_state (state (more g G) T n k)) (calls G) (record { binds = s; body = ps; takes = vars + 1 })) ≡ plain_child G T n k (way s (plain_goals ps) (vars + 1))
+  child_is : (s : Subst) (ps : List Part) → plain_of (child (as_state (state (more g G) T n k)) (calls G) (record { binds = s; body = ps; takes = vars + 1; fault = None })) ≡ plain_child G T n k (way s (plain_goals ps) (vars + 1))
   child_is s ps =
-      state-eq (plain_goals-instance (value s) (ps ++ calls G) ∙ ap (instance_all (value s)) (plain_goals-append ps (calls G) ∙ ap (append_trees (plain_goals ps)) (plain_goals-calls G))) refl refl refl
+      plain_by-None _ _ _ _
+      ∙ state-eq (plain_goals-instance (value s) (ps ++ calls G) ∙ ap (instance_all (value s)) (plain_goals-append ps (calls G) ∙ ap (append_trees (plain_goals ps)) (plain_goals-calls G))) refl refl refl
 
   entered_is : (ps : List Part) → LocalAll (InRange vars) (plain_goals ps) → plain_child G T n k (way (binds f n vars) (plain_goals (map (instance_part (shift n)) ps)) (vars + 1)) ≡ entered vars f G T n k ps
   entered_is ps local =
@@ -78,14 +79,14 @@ module _ (p : Program) (good : IsProgram p) (h : Tree) (vars : ℕ) (f : ℕ →
       go (Some s) most bound =
           let body = map (instance_part (shift n)) ps in
           let S = as_state (state (more g G) T n k) in
-          let same : SameState (child S (calls G) (record { binds = s; body = body; takes = vars + 1 })) (child S (calls G) (record { binds = binds f n vars; body = body; takes = vars + 1 }))
+          let same : SameState (child S (calls G) (record { binds = s; body = body; takes = vars + 1; fault = None })) (child S (calls G) (record { binds = binds f n vars; body = body; takes = vars + 1; fault = None }))
           = SameState-unifiers S (calls G) body (vars + 1) g (instance (shift n) h) s (binds f n vars) most unifier bound
           (LocalSubst-binds f n P vars (λ x l m. (Local-weaken Q P wider (f x) (Local-at Q f h below.0.0 x (all x l m)), new x m)))
           (AllByRecursion-append (LocalPart P) body (calls G) (LocalParts-instance_part (λ x. x ≤ vars) P (shift n) new ps parts) (LocalAll-calls P G (LocalAll-weaken Q P wider G below.0.1)))
           (LocalAll-weaken Q P wider T below.1)
           in
           let plain = (trace_renaming p good).0 _ _ same in
-          (subst (λ u. SamePlain u (entered vars f G T n k ps)) (child_is s body) (subst (SamePlain (plain_of (child S (calls G) (record { binds = s; body = body; takes = vars + 1 })))) (child_is (binds f n vars) body ∙ entered_is ps local) plain), tt)
+          (subst (λ u. SamePlain u (entered vars f G T n k ps)) (child_is s body) (subst (SamePlain (plain_of (child S (calls G) (record { binds = s; body = body; takes = vars + 1; fault = None })))) (child_is (binds f n vars) body ∙ entered_is ps local) plain), tt)
 
 -- ---- a goal's own clauses
 

@@ -1,5 +1,5 @@
 -- A query behind a lifted program.
-use Rattle.std.proofs.Common.{◌≡◌, ℕ, zero, suc, ◌+◌, ◌<◌, ◌≤◌, Bool, true, false, if◌then◌else◌, List, [], ◌∷◌, ◌++◌, map, refl, ap, sym, ◌∙◌, subst, append-nil, append_assoc, arith}
+use Rattle.std.proofs.Common.{◌≡◌, ℕ, zero, suc, ◌+◌, ◌<◌, ◌≤◌, Bool, true, false, if◌then◌else◌, List, [], ◌∷◌, ◌++◌, map, refl, ap, sym, ◌∙◌, subst, append-nil, append_assoc, arith, None}
 use Rattle.std.specs.List.{AllZip, AllByRecursion}
 use Rattle.std.proofs.lemmas.Bool.{false≢true}
 use Rattle.std.proofs.lemmas.List.Elements.{All-cons, All-append}
@@ -8,13 +8,13 @@ use Rattle.ap_term.specs.WellFormed.{IsClause, IsProgram}
 use Rattle.ap_term.specs.Search.{start, variables}
 use Rattle.ap_term.specs.UpToNames.{SameUpToNames}
 use Rattle.ap_laws.specs.Renaming.{LocalAll}
-use Rattle.ap_laws.specs.Laws.{SameFound}
-use Rattle.ap_laws.specs.Plain.{Plain, state, tuple_of, plain_goals, plain_of, plain_ways, SamePlain, HasFullGroups}
+use Rattle.ap_laws.specs.Laws.{SameOutcome, SameFound}
+use Rattle.ap_laws.specs.Plain.{Plain, state, faulted, outcome, plain_goals, plain_by, plain_of, plain_ways, SamePlain, HasFullGroups}
 use Rattle.ap_laws.specs.Trace.{Action, called, cut, answered, trace, trace_to, answers_in, found_upto, SameAction}
 use Rattle.ap_laws.proofs.Zips.{AllByRecursion-weaken}
 use Rattle.ap_laws.proofs.Local.{LocalAll-weaken}
 use Rattle.ap_laws.proofs.Names.{SameUpToNames-SameTuple}
-use Rattle.ap_laws.proofs.Views.{AreGroups-well_formed, answers_to_depth-trace, search-trace}
+use Rattle.ap_laws.proofs.Views.{AreGroups-well_formed, plain_by-None, trace_to-plain_of, answers_to_depth-trace, search-trace}
 use Rattle.ap_lifting.specs.Rule.{Rule, IsRule}
 use Rattle.ap_lifting.specs.Lifted.{Lifted, clause_of, lifted_rule, lifted_rules, lifted_program}
 use Rattle.ap_lifting.specs.LiftingLaws.{is_named, clauses_named, AreFresh, supply, KeepsMeaning, MeaningLaw, AvoidsIf}
@@ -32,14 +32,17 @@ use Rattle.ap_lifting.proofs.Meaning.{rule_clause, main_kept, all_kept, rules_nu
 
 -- ---- two views of traces that are the same
 
-tuples_zip : (es fs : List Action) → AllZip SameAction es fs → AllZip SameUpToNames (map tuple_of (answers_in es)) (map tuple_of (answers_in fs))
+tuples_zip : (es fs : List Action) → AllZip SameAction es fs → AllZip SameOutcome (map outcome (answers_in es)) (map outcome (answers_in fs))
 tuples_zip [] [] h = tt
 tuples_zip (called ∷ es) (called ∷ fs) h = tuples_zip es fs h.1
 tuples_zip (cut ∷ es) (cut ∷ fs) h = tuples_zip es fs h.1
 tuples_zip (answered s l ∷ es) (answered t m ∷ fs) h = (same_tuple s t h.0.0, tuples_zip es fs h.1)
   where
-    same_tuple : (s t : Plain) → SamePlain s t → SameUpToNames (tuple_of s) (tuple_of t)
+    same_tuple : (s t : Plain) → SamePlain s t → SameOutcome (outcome s) (outcome t)
     same_tuple (state G T n k) (state H U m j) e = SameUpToNames-SameTuple T U (e.0, e.1, n, m, e.2.1)
+    same_tuple (faulted i k) (faulted h j) e = e.2.0
+    same_tuple (state G T n k) (faulted h j) e = absurd e.2
+    same_tuple (faulted i k) (state H U m j) e = absurd e.2
 tuples_zip [] (_ ∷ _) h = absurd h
 tuples_zip (_ ∷ _) [] h = absurd h
 tuples_zip (called ∷ _) (cut ∷ _) h = absurd h.0
@@ -56,8 +59,11 @@ found_zip (suc n) (called ∷ es) (called ∷ fs) h = found_zip n es fs h.1
 found_zip n (cut ∷ es) (cut ∷ fs) h = (tt, refl)
 found_zip n (answered s l ∷ es) (answered t m ∷ fs) h = ((same_tuple s t h.0.0, (found_zip n es fs h.1).0), (found_zip n es fs h.1).1)
   where
-    same_tuple : (s t : Plain) → SamePlain s t → SameUpToNames (tuple_of s) (tuple_of t)
+    same_tuple : (s t : Plain) → SamePlain s t → SameOutcome (outcome s) (outcome t)
     same_tuple (state G T n k) (state H U m j) e = SameUpToNames-SameTuple T U (e.0, e.1, n, m, e.2.1)
+    same_tuple (faulted i k) (faulted h j) e = e.2.0
+    same_tuple (state G T n k) (faulted h j) e = absurd e.2
+    same_tuple (faulted i k) (state H U m j) e = absurd e.2
 found_zip n [] (_ ∷ _) h = absurd h
 found_zip n (_ ∷ _) [] h = absurd h
 found_zip n (called ∷ _) (cut ∷ _) h = absurd h.0
@@ -185,12 +191,12 @@ module _ (ps : List Rule) (q : Rule) (names : ℕ → ℕ) (count : ℕ) (query 
       in (
         plain_goals x.parts,
         items_show_if names count p q.body (plain_goals x.parts) question_shows,
-        subst (λ d. SamePlain (state (plain_goals x.parts) (variables v) (v + 1) 0) (state (plain_goals d.body) (variables d.vars) (d.vars + 1) 0)) (sym asked)
-            (later (plain_goals x.parts) (variables v) (v + 1) (v + 1) 0 (omega arith) goals tuple),
+        subst (λ d. SamePlain (state (plain_goals x.parts) (variables v) (v + 1) 0) (plain_by None (plain_goals d.body) (variables d.vars) (d.vars + 1) 0)) (sym asked)
+            (subst (SamePlain (state (plain_goals x.parts) (variables v) (v + 1) 0)) (sym (plain_by-None (plain_goals x.parts) (variables v) (v + 1) 0)) (later (plain_goals x.parts) (variables v) (v + 1) (v + 1) 0 (omega arith) goals tuple)),
       )
 
   full : HasFullGroups (start query)
-  full = subst (λ d. HasFullGroups (record { goals = d.body; tuple = variables d.vars; next = d.vars + 1; steps = 0 })) (sym asked) (AreGroups-well_formed q.vars x.parts (rule_clause names q (predicates_in ps) first_ok.1).body)
+  full = subst (λ d. HasFullGroups (record { goals = d.body; tuple = variables d.vars; next = d.vars + 1; steps = 0; fault = None })) (sym asked) (AreGroups-well_formed q.vars x.parts (rule_clause names q (predicates_in ps) first_ok.1).body)
 
   same_traces : (r : ℕ) → AllZip SameAction (written_trace rs r (written_start q)) (trace (plain_ways p) r (plain_of (start query)))
   same_traces r = follows_trace names count rs p from r (written_start q) (plain_of (start query)) start_follows
@@ -200,13 +206,13 @@ module _ (ps : List Rule) (q : Rule) (names : ℕ → ℕ) (count : ℕ) (query 
     program = good;
     traces = same_traces;
     answers = λ d.
-        subst (AllZip SameUpToNames (map tuple_of (answers_in (written_trace rs d (written_start q)))))
-        (sym (answers_to_depth-trace p good d (start query) full ∙ ap (λ k. map tuple_of (answers_in (trace (plain_ways p) k (plain_of (start query))))) (omega arith)))
+        subst (AllZip SameOutcome (map outcome (answers_in (written_trace rs d (written_start q)))))
+        (sym (answers_to_depth-trace p good d (start query) full ∙ ap (λ es. map outcome (answers_in es)) (trace_to-plain_of (plain_ways p) d (start query) ∙ ap (λ k. trace (plain_ways p) k (plain_of (start query))) (omega arith))))
         (tuples_zip (written_trace rs d (written_start q)) (trace (plain_ways p) d (plain_of (start query))) (same_traces d));
     budgets = λ n d l.
         subst (SameFound (found_upto n (written_trace rs d (written_start q))))
         (sym (search-trace p good d n (start query ∷ []) (full, tt) (omega arith, tt)
-        ∙ ap (found_upto n) (append-nil (trace_to (plain_ways p) d (plain_of (start query))) ∙ ap (λ k. trace (plain_ways p) k (plain_of (start query))) (omega arith))))
+        ∙ ap (found_upto n) (append-nil (trace_to (plain_ways p) d (plain_of (start query))) ∙ trace_to-plain_of (plain_ways p) d (start query) ∙ ap (λ k. trace (plain_ways p) k (plain_of (start query))) (omega arith))))
         (found_zip n (written_trace rs d (written_start q)) (trace (plain_ways p) d (plain_of (start query))) (same_traces d));
   }
 

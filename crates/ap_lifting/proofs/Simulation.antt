@@ -40,7 +40,10 @@ RenamedParts-calls R none (more _ _) h = absurd h
 RenamedParts-calls R (more _ _) none h = absurd h
 
 as_states : (s t : Plain) → SamePlain s t → SameState (as_state s) (as_state t)
-as_states (state G T n k) (state H U m j) h = (h.0, h.1, (RenamedParts-calls (Linked h.0 h.1 n m) G H h.2.0, h.2.1, h.2.2))
+as_states (state G T n k) (state H U m j) h = (h.0, h.1, (RenamedParts-calls (Linked h.0 h.1 n m) G H h.2.0, h.2.1, h.2.2, refl))
+as_states (forms.faulted e k) (forms.faulted i j) h = (h.0, h.1, (tt, tt, h.2.1, ap Some h.2.0))
+as_states (state G T n k) (forms.faulted i j) h = absurd h.2
+as_states (forms.faulted e k) (state H U m j) h = absurd h.2
 
 module _ (p : Program) (good : IsProgram p) where
   plains : (s t : Plain) → SameState (as_state s) (as_state t) → SamePlain s t
@@ -103,6 +106,7 @@ module _ (names : ℕ → ℕ) (count : ℕ) (rs : List Rule) (p : Program) (fro
 
   abbrev WayShows : WrittenWay → PlainWay → Type 0
   WayShows (way s is takes) (forms.way r b v) = (s ≡ r) × Shown is b × (takes ≡ v)
+  WayShows (way s is takes) (forms.fault_way e) = ⊥
 
   way_shows : (o : Option Subst) (is : List Item) (ps : List Part) (v w : ℕ) → v ≡ w → Shown is (plain_goals ps) → AllZip WayShows (written_way_if o is v) (map plain_way (way_if o ps w))
   way_shows None is ps v w e h = tt
@@ -130,6 +134,7 @@ module _ (names : ℕ → ℕ) (count : ℕ) (rs : List Rule) (p : Program) (fro
   -- with the same variables
   abbrev Exactly : Written → Plain → Type 0
   Exactly (written is T n k) (state G U m j) = Shown is G × (T ≡ U) × (n ≡ m) × (k ≡ j)
+  Exactly (written is T n k) (forms.faulted e j) = ⊥
 
   child_shows : (is : List Item) (G T : Trees) (n k : ℕ) → Shown is G → (w : WrittenWay) (v : PlainWay) → WayShows w v → Exactly (written_child is T n k w) (plain_child G T n k v)
   child_shows is G T n k h (way s js takes) (forms.way r b v) e = (
@@ -138,6 +143,7 @@ module _ (names : ℕ → ℕ) (count : ℕ) (rs : List Rule) (p : Program) (fro
     ap (λ z. n + z) e.2,
     refl,
   )
+  child_shows is G T n k h (way s js takes) (forms.fault_way e) q = absurd q
 
   children_show : (is : List Item) (G T : Trees) (n k : ℕ) → Shown is G → (ws : List WrittenWay) (vs : List PlainWay) → AllZip WayShows ws vs
       → AllZip Exactly (map (written_child is T n k) ws) (plain_children_by G T n k vs)
@@ -148,6 +154,7 @@ module _ (names : ℕ → ℕ) (count : ℕ) (rs : List Rule) (p : Program) (fro
 
   exactly_then : (x : Written) (y z : Plain) → Exactly x y → SamePlain y z → Follows x z
   exactly_then (written is T n k) (state G U m j) z h e = (G, h.0, subst (λ u. SamePlain u z) (state-eq refl (sym h.1) (sym h.2) (sym h.3)) e)
+  exactly_then (written is T n k) (forms.faulted i j) z h e = absurd h
 
   follows_then : (x : Written) (y z : Plain) → Follows x y → SamePlain y z → Follows x z
   follows_then (written is T n k) y z h e = (h.0, h.1, SamePlain-trans p from.program (state h.0 T n k) y z h.2 e)
@@ -226,6 +233,8 @@ module _ (names : ℕ → ℕ) (count : ℕ) (rs : List Rule) (p : Program) (fro
   finished (suc r) T n k (state none U m j) none h e = ((e, refl), tt)
   finished zero T n k (state (more _ _) U m j) none h e = absurd e.2.0
   finished (suc r) T n k (state (more _ _) U m j) none h e = absurd e.2.0
+  finished zero T n k (forms.faulted i j) none h e = absurd e.2
+  finished (suc r) T n k (forms.faulted i j) none h e = absurd e.2
   finished r T n k z (more _ _) h e = absurd h
 
   stopped : (i : Item) (is : List Item) (T : Trees) (n k : ℕ) (z : Plain) (G : Trees) → Shown (i ∷ is) G → SamePlain (state G T n k) z
@@ -233,6 +242,7 @@ module _ (names : ℕ → ℕ) (count : ℕ) (rs : List Rule) (p : Program) (fro
   unfolding written_trace trace
   stopped i is T n k (state (more _ _) U m j) (more t G) h e = (tt, tt)
   stopped i is T n k (state none U m j) (more t G) h e = absurd e.2.0
+  stopped i is T n k (forms.faulted _ _) (more t G) h e = absurd e.2
   stopped i is T n k z none h e = absurd h
 
   running : (r : ℕ) (i : Item) (is : List Item) (T : Trees) (n k : ℕ) (z : Plain) (G : Trees) → Shown (i ∷ is) G → SamePlain (state G T n k) z
@@ -246,6 +256,7 @@ module _ (names : ℕ → ℕ) (count : ℕ) (rs : List Rule) (p : Program) (fro
         (SamePlain-children p from.program (state (more t G) T n k) (state (more b H) U m j) e)),
   )
   running r i is T n k (state none U m j) (more t G) h e rest = absurd e.2.0
+  running r i is T n k (forms.faulted _ _) (more t G) h e rest = absurd e.2
   running r i is T n k z none h e rest = absurd h
 
   -- the traces have the same calls and stops, and answers that are equal up to names

@@ -6,11 +6,11 @@ use Rattle.ap_term.specs.Tree.{Tree, Trees, var, int, atom, node, more}
 use Rattle.ap_term.specs.Substitution.{instance, instance_all}
 use Rattle.ap_term.specs.Goals.{Part, Program, Query, joined}
 use Rattle.ap_term.specs.WellFormed.{IsProgram}
-use Rattle.ap_term.specs.Search.{start, answers_to_depth, search}
+use Rattle.ap_term.specs.Search.{start, outcomes_to_depth, meets}
 use Rattle.ap_term.specs.UpToNames.{SameUpToNames}
-use Rattle.ap_laws.specs.Plain.{Plain, state, append_trees, tuple_of, plain_goals, plain_of, plain_ways, plain_children, IsPlainBelow, SamePlain}
+use Rattle.ap_laws.specs.Plain.{Plain, state, append_trees, outcome, plain_goals, plain_of, plain_ways, plain_children, IsPlainBelow, SamePlain}
 use Rattle.ap_laws.specs.Trace.{trace, answers_in, found_upto, SameAction}
-use Rattle.ap_laws.specs.Laws.{SameFound}
+use Rattle.ap_laws.specs.Laws.{SameOutcome, SameFound}
 use Rattle.ap_lifting.specs.Body.{Body, goal, conjunction, disjunction, parallel, conditional}
 use Rattle.ap_lifting.specs.Rule.{Rule, IsRule}
 use Rattle.ap_lifting.specs.Lifted.{lifted_goal, lifted_clause, clause_of, lifted_rule, lifted_program}
@@ -73,8 +73,8 @@ supply n names own i = if nat_lt i n then names i else own (i - n)
 pub record KeepsMeaning (rs : List Rule) (q : Rule) (lifted : Program) (query : Query) : Type 0 where
   pub program : IsProgram (joined lifted query)
   pub traces : (r : ℕ) → AllZip SameAction (written_trace rs r (written_start q)) (trace (plain_ways (joined lifted query)) r (plain_of (start query)))
-  pub answers : (d : ℕ) → AllZip SameUpToNames (map tuple_of (answers_in (written_trace rs d (written_start q)))) (answers_to_depth (joined lifted query) (start query) d)
-  pub budgets : (n d : ℕ) → n ≤ d → SameFound (found_upto n (written_trace rs d (written_start q))) (search (joined lifted query) n (start query ∷ []))
+  pub answers : (d : ℕ) → AllZip SameOutcome (map outcome (answers_in (written_trace rs d (written_start q)))) (outcomes_to_depth (joined lifted query) (start query) d)
+  pub budgets : (n d : ℕ) → n ≤ d → SameFound (found_upto n (written_trace rs d (written_start q))) (meets (joined lifted query) n (start query ∷ []))
 
 -- lifting by fresh names keeps the meaning of a program `ps` and a query q
 abbrev pub MeaningLaw : Type 0

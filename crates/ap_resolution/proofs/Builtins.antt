@@ -35,10 +35,10 @@ children-by : (p : Program) (s : State) (f : Tree) (rest : List Part) → opened
 children-by p s f rest e = ap (children_by p s) e
 
 -- a goal that binds nothing
-behind : (s : State) (f : Tree) (rest : List Part) → opened s.goals ≡ call f ∷ rest → IsSetOf (Behind (Inst s)) (child s rest (record { binds = []; body = []; takes = 0 }) ∷ [])
+behind : (s : State) (f : Tree) (rest : List Part) → opened s.goals ≡ call f ∷ rest → IsSetOf (Behind (Inst s)) (child s rest (record { binds = []; body = []; takes = 0; fault = None }) ∷ [])
 behind s f rest opens =
     IsSetOf-same (Meets s (int (pos 0)) (int (pos 0)) rest) (Behind (Inst s)) (λ gs t. (there gs t, back gs t))
-    (child s rest (record { binds = []; body = []; takes = 0 }) ∷ []) (by_unifier s rest [] 0 (int (pos 0)) (int (pos 0)) (Some []) (refl, λ h e x. refl))
+    (child s rest (record { binds = []; body = []; takes = 0; fault = None }) ∷ []) (by_unifier s rest [] 0 (int (pos 0)) (int (pos 0)) (Some []) (refl, λ h e x. refl))
   where
     there : (gs t : Trees) → Meets s (int (pos 0)) (int (pos 0)) rest gs t → Behind (Inst s) gs t
     there gs t m = (instance m.0 f, (m.0, ap (more (instance m.0 f)) m.2 ∙ ap (instance_all m.0) (sym (goals-opened s f rest opens)), m.3))

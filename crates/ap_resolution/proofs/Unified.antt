@@ -37,7 +37,7 @@ by_unifier s rest body takes a b (Some u) general = (λ gs t. (there gs t, back 
     goals_of : (f : ℕ → Tree) → instance_all f (plain_goals (map (instance_part (value u)) ps)) ≡ instance_all (λ x. instance f (value u x)) (plain_goals ps)
     goals_of f = ap (instance_all f) (plain_goals-instance (value u) ps) ∙ instance_all_twice (value u) f (plain_goals ps)
 
-    there : (gs t : Trees) → Meets s a b ps gs t → Inst (child s rest (record { binds = u; body = body; takes = takes })) gs t
+    there : (gs t : Trees) → Meets s a b ps gs t → Inst (child s rest (record { binds = u; body = body; takes = takes; fault = None })) gs t
     there gs t h =
         let same : (x : ℕ) → instance h.0 (value u x) ≡ h.0 x = general.1 h.0 h.1 in (
           h.0,
@@ -45,7 +45,7 @@ by_unifier s rest body takes a b (Some u) general = (λ gs t. (there gs t, back 
           h.3 ∙ sym (instance_all_twice (value u) h.0 s.tuple ∙ instance_all-same (λ x. instance h.0 (value u x)) h.0 same s.tuple),
         )
 
-    back : (gs t : Trees) → Inst (child s rest (record { binds = u; body = body; takes = takes })) gs t → Meets s a b ps gs t
+    back : (gs t : Trees) → Inst (child s rest (record { binds = u; body = body; takes = takes; fault = None })) gs t → Meets s a b ps gs t
     back gs t h = (
       λ x. instance h.0 (value u x),
       sym (instance_twice (value u) h.0 a) ∙ ap (instance h.0) general.0 ∙ instance_twice (value u) h.0 b,
