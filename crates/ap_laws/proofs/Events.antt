@@ -1,12 +1,12 @@
 -- Each event keeps the invariant.
 use Rattle.std.proofs.Common.{◌≡◌, ℕ, ◌+◌, ◌-◌, ◌<◌, ◌≤◌, ◌⊎◌, inl, inr, List, [], ◌∷◌, ◌++◌, refl, ap, ap₂, sym, ◌∙◌, subst, arith, append-nil, le_refl}
-use Rattle.ap_term.specs.Tree.{Tree, Trees, none, more}
+use Rattle.ap_term.specs.Tree.{Tree, Trees, none, more, append_trees}
 use Rattle.ap_term.specs.Independence.{IsApart, AreApart}
-use Rattle.ap_laws.specs.Renaming.{Local, LocalAll}
-use Rattle.ap_laws.specs.Plain.{Plain, state, faulted, Ways, append_trees, IsAnswer, IsEnded, next_of, steps_of, plain_children_by, Renames, Locals, IsPlainBelow}
+use Rattle.ap_term.specs.Vars.{Local, LocalAll}
+use Rattle.ap_term.proofs.Locals.{LocalAll-append_trees}
+use Rattle.ap_laws.specs.Plain.{Plain, state, faulted, Ways, IsAnswer, IsEnded, next_of, steps_of, plain_children_by, Renames, Locals, IsPlainBelow}
 use Rattle.ap_laws.specs.Trace.{answers_in, trace, trace_to, traces, AllAnswers, NoAnswers}
 use Rattle.ap_laws.specs.Graft.{alone, graft, grafts, IsOf, AreOf, IsDead, IsHarmless, IsBarren}
-use Rattle.ap_laws.proofs.Plain.{LocalAll-append_trees}
 use Rattle.ap_laws.specs.Gives.{Thins, GivesAt, Gives}
 use Rattle.ap_laws.specs.Tasks.{Round, first, later, closed, Task, task, Alternatives, exhausted, plain, frame, Slots, no_slot, fresh, stored, busy, held, redone, again, drained, joined_if, flat_task, flat_alternatives, flat_slots, left, edge_alternatives, edge_slots, slot_goals}
 use Rattle.ap_laws.specs.Events.{IsExhausted, plains, freshes, joined, IsFull, HasFailed, HasFailedSafely, HasFailedLater, HasNoAlternative, IsUntouched, IsUsedUp, resets, NextRedo, next_busy, next_redone, next_held, next_again, over_fresh, over_stored, over_busy, over_redone, over_held, over_again, Step, infer, fork, in_first, in_later, join_first, join_later, break_first, break_later, dropped, redo, Turn, start, given_back, forgets, replays, past_stored, inside, answers, past_fresh, past_busy, inside_drained, throws, past_drained, drain, Drains, drain_here, drain_past, Spin, inside_redone, answers_redone, forgets_right, Forgets, forget_here, forget_past_fresh, forget_past_stored, right_of, left_of}

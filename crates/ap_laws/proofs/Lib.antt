@@ -9,6 +9,7 @@ pub mod Plain
 pub mod Graft
 pub mod Traces
 pub mod Dead
+pub mod Quiet
 pub mod Gives
 pub mod Views
 pub mod Invariant

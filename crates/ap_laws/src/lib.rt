@@ -4,7 +4,7 @@
 #![tactic(auto)]
 
 ghost use Rattle.ap_laws.specs.Laws.{MguLaw, UniqueUnifierLaw, WaysLaw, ChildrenLaw, ChildByUnifierLaw, CopiedAnswerLaw, FittingLaw, SameStateLaw, RenamingLaw};
-ghost use Rattle.ap_laws.specs.SearchLaws.{QueryLaw, TraceLaw, GraftLaw, GraftStateLaw, SplitLaw, IndependenceLaw, DeadConjunctLaw, GivesLaw, TraceRenamingLaw};
+ghost use Rattle.ap_laws.specs.SearchLaws.{QueryLaw, TraceLaw, GraftLaw, GraftStateLaw, SplitLaw, IndependenceLaw, DeadConjunctLaw, QuietLaw, GivesLaw, TraceRenamingLaw};
 ghost use Rattle.ap_laws.specs.Rejoining.{EventLaw, MeaningLaw, RejoinLaw, EmittedLaw};
 ghost use Rattle.ap_laws.specs.Example.{ExampleLaw};
 
@@ -91,6 +91,11 @@ pub fn independence_law()
 /// A goal without answers leaves a conjunction none.
 pub fn dead_conjunct_law()
     ensures { DeadConjunctLaw }
+{}
+
+/// A goal that isn't loud meets no fault.
+pub fn quiet_law()
+    ensures { QuietLaw }
 {}
 
 /// What searches give can be put together.

@@ -1,16 +1,15 @@
 -- What a machine stands for that has a tuple's places in its argument registers, and nothing else.
 use Rattle.std.proofs.Common.{◌≡◌, ℕ, zero, suc, ◌+◌, ◌-◌, ◌<◌, ◌≤◌, List, [], ◌∷◌, length, Option, Some, slice_get, refl, ap, ap₂, sym, ◌∙◌, subst, arith}
 use Rattle.ap_term.specs.declared.fixed.TheConstants.{QUERY}
-use Rattle.ap_term.specs.Tree.{Tree, Trees, none, more, count_trees}
+use Rattle.ap_term.specs.Tree.{Tree, Trees, none, more, count_trees, append_trees}
 use Rattle.ap_term.specs.Substitution.{instance, instance_all, shift}
 use Rattle.ap_term.specs.WellFormed.{IsQuery}
-use Rattle.ap_term.specs.Goals.{Query}
+use Rattle.ap_term.specs.Goals.{Query, plain_goals}
 use Rattle.ap_term.specs.UpToNames.{SameUpToNames}
 use Rattle.ap_term.specs.Search.{variables, start}
 use Rattle.ap_term.proofs.Copies.{instance_all_twice}
-use Rattle.ap_laws.specs.Renaming.{Local, LocalAll}
-use Rattle.ap_laws.specs.Plain.{append_trees, plain_goals}
-use Rattle.ap_laws.proofs.Plain.{instance_all-same}
+use Rattle.ap_term.specs.Vars.{Local, LocalAll}
+use Rattle.ap_term.proofs.Locals.{instance_all-same}
 use Rattle.ap_laws.proofs.Conjunctions.{query}
 use Rattle.ap_cells.specs.declared.cells.Raw.{Raw}
 use Rattle.ap_cells.specs.Trees.{tree_at, trees, span}

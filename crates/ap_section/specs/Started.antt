@@ -7,7 +7,7 @@ use Rattle.ap_term.specs.Goals.{call, Clause, Program, Query}
 use Rattle.ap_term.specs.UpToNames.{SameUpToNames}
 use Rattle.ap_term.specs.WellFormed.{IsQuery}
 use Rattle.ap_term.specs.Search.{State, variables, start}
-use Rattle.ap_laws.specs.Renaming.{LocalAll}
+use Rattle.ap_term.specs.Vars.{LocalAll}
 use Rattle.ap_instr.specs.declared.compiled.Predicate.{Predicate}
 use Rattle.ap_instr.specs.Code.{Compiled}
 use Rattle.ap_instr.specs.Runs.{applied}

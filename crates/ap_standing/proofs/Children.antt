@@ -7,11 +7,11 @@ use Rattle.std.proofs.lemmas.List.{append-nil, map-append}
 use Rattle.std.proofs.lemmas.List.Elements.{All-head, All-tail}
 use Rattle.ap_term.specs.Tree.{Tree, Trees, var, int, atom, node, none, more, count_trees}
 use Rattle.ap_term.specs.Substitution.{instance, instance_all}
-use Rattle.ap_term.specs.Goals.{Part, call, Clause, Program, opened}
+use Rattle.ap_term.specs.Goals.{Part, call, Clause, Program, opened, plain_goals}
 use Rattle.ap_term.specs.WellFormed.{callable, numbered, IsClause, IsProgram}
 use Rattle.ap_term.specs.Builtins.{builtin}
 use Rattle.ap_term.specs.Search.{State, children, children_by, child, ways_by, clause_way}
-use Rattle.ap_laws.specs.Plain.{plain_goals, HasFullGroups}
+use Rattle.ap_laws.specs.Plain.{HasFullGroups}
 use Rattle.ap_laws.specs.Renaming.{IsBelow}
 use Rattle.ap_laws.proofs.Names.{IsBelow-children}
 use Rattle.ap_laws.proofs.Views.{HasFullGroups-children}

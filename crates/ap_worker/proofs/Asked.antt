@@ -3,17 +3,16 @@ use Rattle.std.proofs.Common.{◌≡◌, ℕ, zero, suc, ◌+◌, List, [], ◌�
 use Rattle.std.specs.List.{AllByRecursion, flat_map}
 use Rattle.std.proofs.lemmas.Grind.{flat_map-append}
 use Rattle.ap_term.specs.declared.fixed.TheConstants.{QUERY}
-use Rattle.ap_term.specs.Tree.{Tree, Trees, var, int, atom, node, none, more}
+use Rattle.ap_term.specs.Tree.{Tree, Trees, var, int, atom, node, none, more, append_trees}
 use Rattle.ap_term.specs.Substitution.{instance, instance_all, Subst, value, shift}
 use Rattle.ap_term.specs.Unification.{mgu}
 use Rattle.ap_term.specs.Unifier.{IsMostGeneral}
-use Rattle.ap_term.specs.Goals.{Part, call, group, Clause, Program, Query, joined, opened, instance_part}
+use Rattle.ap_term.specs.Goals.{Part, call, group, Clause, Program, Query, joined, opened, instance_part, plain_goals}
 use Rattle.ap_term.specs.Builtins.{builtin}
 use Rattle.ap_term.specs.WellFormed.{IsQuery}
 use Rattle.ap_term.specs.Search.{State, Way, search, start, done, open_states, by_goals, turn, with_answers, children, children_by, child, ways, ways_by, clause_way, way_if, variables}
 use Rattle.ap_term.proofs.Solvable.{mgu-general}
-use Rattle.ap_laws.specs.Plain.{plain_goals, append_trees}
-use Rattle.ap_laws.proofs.Views.{plain_goals-append, plain_goals-instance, plain_goals-opened}
+use Rattle.ap_term.proofs.GoalLists.{plain_goals-append, plain_goals-instance, plain_goals-opened}
 use Rattle.ap_instr.specs.Runs.{applied}
 use Rattle.ap_instr.specs.StandsFor.{asked, asked_query}
 use Rattle.ap_section.specs.Started.{HasName}

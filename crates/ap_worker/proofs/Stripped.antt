@@ -1,11 +1,10 @@
 -- Code that stands for a program without groups stands for the program.
 use Rattle.std.proofs.Common.{◌≡◌, ℕ, Bool, true, false, cond, List, [], ◌∷◌, ◌++◌, refl, ap, sym, ◌∙◌}
 use Rattle.std.specs.List.{AllZip, flat_map}
-use Rattle.ap_term.specs.Tree.{more}
+use Rattle.ap_term.specs.Tree.{more, append_trees}
 use Rattle.ap_term.specs.Substitution.{instance_all}
-use Rattle.ap_term.specs.Goals.{Part, call, group, Clause, Program, Query}
-use Rattle.ap_laws.specs.Plain.{append_trees, plain_goals}
-use Rattle.ap_laws.proofs.Views.{plain_goals-calls_append}
+use Rattle.ap_term.specs.Goals.{Part, call, group, Clause, Program, Query, plain_goals}
+use Rattle.ap_term.proofs.GoalLists.{plain_goals-calls_append}
 use Rattle.ap_cge.specs.Stripped.{stripped_part, stripped_clause, stripped}
 use Rattle.ap_instr.specs.declared.compiled.Predicate.{Predicate}
 use Rattle.ap_instr.specs.Code.{Compiled}
