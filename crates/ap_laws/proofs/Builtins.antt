@@ -16,7 +16,7 @@ use Rattle.ap_term.specs.declared.faults.Fault.TheVariants.{WrongType}
 use Rattle.ap_term.specs.Faults.{fault_of}
 use Rattle.ap_term.specs.Vars.{Local}
 use Rattle.ap_laws.specs.Renaming.{OptionZip, OptionAll, Renamed, RenamedAll, RenamedSubst, LocalSubst}
-use Rattle.ap_laws.proofs.Zips.{related-if}
+use Rattle.ap_term.proofs.Zips.{related-if}
 use Rattle.ap_laws.proofs.Renamed.{IsOneToOne, Renamed-mgu}
 use Rattle.ap_laws.proofs.Local.{Local-mgu}
 

@@ -60,13 +60,6 @@ pub false_of : (b : Bool) → (b ≡ true → ⊥) → b ≡ false
 false_of true h = absurd (h refl)
 false_of false h = refl
 
-pub occurs-above : (g : Tree) (n : ℕ) → Local (λ x. x < n) g → (y : ℕ) → n ≤ y → occurs y g ≡ false
-occurs-above g n h y l = false_of (occurs y g) (λ e. lem (Local-occurs (λ x. x < n) g h y e))
-  where
-    lem : y < n → ⊥
-    lem k = omega arith
-
--- where p has no variable of g, g has none of p
 pub Local-apart : (p g : Tree) → Local (λ x. occurs x g ≡ false) p → Local (λ x. occurs x p ≡ false) g
 Local-apart p g h =
     Local-each (λ x. occurs x p ≡ false) g (λ x o. false_of (occurs x p) (λ k. false≢true (sym (Local-occurs (λ y. occurs y g ≡ false) p h x k) ∙ o)))

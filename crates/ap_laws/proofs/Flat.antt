@@ -8,7 +8,7 @@ use Rattle.ap_term.proofs.Copies.{instance_all_twice}
 use Rattle.ap_term.proofs.Locals.{LocalAll-occurs_all, LocalAll-instance_all, LocalAll-append_trees}
 use Rattle.ap_laws.specs.Plain.{Plain, state, faulted, Ways, next_of, Renames, Locals, IsPlainBelow}
 use Rattle.ap_laws.specs.Graft.{arguments, alone, lifted, lifted_var, fitted, graft, grafts, IsOwn, IsOf, AreOf}
-use Rattle.ap_laws.proofs.Zips.{AllByRecursion-append}
+use Rattle.ap_term.proofs.Zips.{AllByRecursion-append}
 use Rattle.ap_laws.proofs.Plain.{LocalAll-arguments}
 use Rattle.ap_laws.specs.Gives.{Gives, Rejoins}
 use Rattle.ap_laws.specs.Tasks.{Round, first, later, closed, Task, task, Alternatives, exhausted, plain, frame, Slots, no_slot, fresh, stored, busy, held, redone, again, drained, joined_if, flat_task, flat_alternatives, flat_slots, left, edge_alternatives, edge_slots, slot_goals}

@@ -13,7 +13,7 @@ use Rattle.ap_laws.specs.Plain.{Plain, state, faulted, plain_by, plain_of, AreGr
 use Rattle.ap_laws.specs.Graft.{fit, fit_all, lifted, lifted_var, fitted, graft, graft_by, IsOwn, IsOf}
 use Rattle.ap_laws.specs.Laws.{FittingLaw}
 use Rattle.ap_laws.specs.SearchLaws.{GraftStateLaw}
-use Rattle.ap_laws.proofs.Zips.{AllByRecursion-append}
+use Rattle.ap_term.proofs.Zips.{AllByRecursion-append}
 use Rattle.ap_laws.proofs.Local.{LocalParts-instance_part, LocalParts-opened, LocalAll-calls}
 use Rattle.ap_laws.proofs.Graft.{state-eq, Linked-lifted}
 use Rattle.ap_laws.proofs.Dead.{Local-fitted}

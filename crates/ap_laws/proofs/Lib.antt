@@ -1,4 +1,3 @@
-pub mod Zips
 pub mod Renamed
 pub mod Local
 pub mod Builtins

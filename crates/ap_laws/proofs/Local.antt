@@ -1,19 +1,18 @@
 -- What is computed of trees has only variables of them.
-use Rattle.std.proofs.Common.{◌≡◌, ℕ, zero, suc, Bool, true, false, ◌||◌, ◌==◌, if◌then◌else◌, List, [], ◌∷◌, ◌++◌, map, length, Option, Some, None, option_and_then, option_map, refl, sym, subst}
+use Rattle.std.proofs.Common.{◌≡◌, ℕ, zero, suc, Bool, true, false, ◌==◌, if◌then◌else◌, List, [], ◌∷◌, ◌++◌, map, length, Option, Some, None, option_and_then, option_map, refl, subst}
 use Rattle.std.specs.List.{AllByRecursion}
 use Rattle.std.specs.Ordering.{int_eq}
-use Rattle.std.proofs.lemmas.Bool.{false≢true}
 use Rattle.ap_term.specs.declared.clauses.Check.{Check}
 use Rattle.ap_term.specs.declared.clauses.Check.TheVariants.{Ground, Indep}
 use Rattle.ap_term.specs.Tree.{Tree, Trees, var, int, atom, node, none, more}
-use Rattle.ap_term.specs.Vars.{has, add_vars, add_all_vars, vars, occurs, occurs_all, Local, LocalAll}
-use Rattle.ap_term.specs.Substitution.{instance, instance_all, Subst, value, one}
+use Rattle.ap_term.specs.Vars.{has, add_vars, add_all_vars, vars, occurs, Local, LocalAll}
+use Rattle.ap_term.specs.Substitution.{instance, Subst, value, one}
 use Rattle.ap_term.specs.Unification.{Equations, both, equate, apart, apart_all, replaced_by, grown, solve, mgu}
 use Rattle.ap_term.specs.Goals.{Part, call, group, instance_check, instance_part, calls, opened}
-use Rattle.ap_term.proofs.Solutions.{same_var, same_test, or_left, or_right}
+use Rattle.ap_term.proofs.Solutions.{same_var}
 use Rattle.ap_term.proofs.Locals.{Local-instance, LocalAll-instance_all}
 use Rattle.ap_laws.specs.Renaming.{OptionAll, LocalPair, LocalSubst, LocalCheck, LocalPart, LocalParts}
-use Rattle.ap_laws.proofs.Zips.{AllByRecursion-append, AllByRecursion-map, AllByRecursion-flat_map}
+use Rattle.ap_term.proofs.Zips.{AllByRecursion-append, AllByRecursion-map, AllByRecursion-flat_map}
 
 -- ---- unifiers
 

@@ -15,7 +15,7 @@ use Rattle.ap_term.proofs.Renamings.{renumbered-renamed}
 use Rattle.ap_term.proofs.Solutions.{same_var}
 use Rattle.ap_laws.specs.Renaming.{Renamed, RenamedAll, RenamedPart, RenamedParts, RenamedCheck, Linked, SameState, SameTuple, LocalPart, LocalCheck, IsBelow}
 use Rattle.ap_laws.specs.Laws.{SameOutcome, SameFound, RenamingLaw}
-use Rattle.ap_laws.proofs.Zips.{AllZip-append, AllZip-flat_map, AllZip-weaken}
+use Rattle.ap_term.proofs.Zips.{AllZip-append, AllZip-flat_map, AllZip-weaken}
 use Rattle.ap_laws.proofs.Local.{AllByRecursion-add_all_vars}
 use Rattle.ap_laws.proofs.Ways.{SameState-children}
 use Rattle.ap_term.specs.declared.clauses.Check.{Check}

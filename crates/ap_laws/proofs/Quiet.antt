@@ -23,7 +23,7 @@ use Rattle.ap_laws.specs.Graft.{alone}
 use Rattle.ap_laws.specs.SearchLaws.{QuietLaw}
 use Rattle.ap_laws.proofs.Ways.{and_both}
 use Rattle.ap_laws.proofs.Traces.{AllAnswers-flat_map}
-use Rattle.ap_laws.proofs.Zips.{AllByRecursion-append, AllByRecursion-map}
+use Rattle.ap_term.proofs.Zips.{AllByRecursion-append, AllByRecursion-map}
 
 abbrev EachGoal : (Tree → Type 0) → Trees → Type 0
 EachGoal P none = Unit {0}

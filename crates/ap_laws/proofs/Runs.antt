@@ -10,7 +10,7 @@ use Rattle.ap_term.proofs.Locals.{LocalAll-weaken}
 use Rattle.ap_laws.specs.Renaming.{IsBelow}
 use Rattle.ap_laws.specs.Plain.{Plain, state, Ways, IsAnswer, plain_by, plain_of, Renames, Locals}
 use Rattle.ap_laws.proofs.Plain.{LocalAll-plain_goals}
-use Rattle.ap_laws.proofs.Zips.{AllByRecursion-append}
+use Rattle.ap_term.proofs.Zips.{AllByRecursion-append}
 use Rattle.ap_laws.specs.Graft.{IsOwn, IsOf}
 use Rattle.std.specs.List.{AllByRecursion}
 use Rattle.ap_laws.specs.Gives.{Gives, Rejoins}

@@ -11,7 +11,7 @@ use Rattle.ap_laws.specs.Plain.{Plain, state, faulted, PlainWay, way, fault_way,
 use Rattle.ap_laws.specs.Trace.{trace, SameAction}
 use Rattle.ap_laws.specs.Graft.{arguments}
 use Rattle.ap_laws.specs.SearchLaws.{TraceRenamingLaw}
-use Rattle.ap_laws.proofs.Zips.{AllZip-flat_map}
+use Rattle.ap_term.proofs.Zips.{AllZip-flat_map}
 use Rattle.ap_laws.proofs.Renamed.{Renamed-weaken, RenamedAll-weaken, Renamed-value, RenamedAll-instance_all}
 use Rattle.ap_laws.proofs.Ways.{IsOneToOne-Linked, Linked-more, continued, Continues-continued, Linked-continued}
 use Rattle.ap_laws.proofs.Plain.{RenamedAll-append_trees, RenamedAll-plain_goals, Renames-plain_ways}

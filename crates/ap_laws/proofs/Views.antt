@@ -5,8 +5,8 @@ use Rattle.std.proofs.lemmas.Bool.{false≢true}
 use Rattle.std.proofs.lemmas.Grind.{flat_map-append}
 use Rattle.std.proofs.lemmas.List.{map-append}
 use Rattle.std.proofs.lemmas.List.Elements.{All-head, All-tail}
-use Rattle.ap_term.specs.Tree.{Tree, Trees, none, more, append_trees}
-use Rattle.ap_term.specs.Substitution.{instance, instance_all, Subst, value, shift}
+use Rattle.ap_term.specs.Tree.{Tree, Trees, none, more}
+use Rattle.ap_term.specs.Substitution.{instance_all, Subst, value, shift}
 use Rattle.ap_term.specs.Goals.{Part, call, group, Program, instance_part, calls, opened, plain_goals}
 use Rattle.ap_term.specs.Builtins.{builtin}
 use Rattle.ap_term.specs.WellFormed.{well_formed_part, numbered_check, IsClause, IsProgram}
@@ -15,11 +15,10 @@ use Rattle.ap_term.specs.Faults.{fault_of}
 use Rattle.ap_term.specs.Search.{by_goals, State, Outcome, outcome_by, outcome_of, Way, way_if, clause_way, ways_by, ways_unless, ways, unless, child, children_by, children, outcomes_below, outcomes_to_depth, done, open_states, with_outcomes, turn, meets}
 use Rattle.ap_term.specs.Laws.{HasGoals}
 use Rattle.ap_term.proofs.SearchLaws.{AllSteps, children-steps, open-first}
-use Rattle.ap_term.proofs.TreeLists.{instance_all-append_trees}
 use Rattle.ap_term.proofs.GoalLists.{plain_goals-append, plain_goals-instance, plain_goals-calls, plain_goals-opened}
 use Rattle.ap_laws.specs.Plain.{Plain, state, faulted, Ways, outcome, steps_of, plain_by, plain_of, as_state, AreGroups, HasFullGroups, way_by, plain_way, plain_ways, plain_child, plain_children_by, plain_children}
 use Rattle.ap_laws.specs.Trace.{Action, called, trace, trace_to, traces, answers_in, found_before, found_upto}
-use Rattle.ap_laws.proofs.Zips.{AllByRecursion-append}
+use Rattle.ap_term.proofs.Zips.{AllByRecursion-append}
 use Rattle.ap_laws.proofs.Ways.{and_both}
 use Rattle.ap_laws.proofs.Graft.{state-eq}
 use Rattle.ap_laws.proofs.Traces.{answers_in-append, trace-more}

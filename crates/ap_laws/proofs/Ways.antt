@@ -16,7 +16,7 @@ use Rattle.ap_term.specs.Faults.{fault_of}
 use Rattle.ap_term.specs.declared.faults.Fault.{Fault}
 use Rattle.ap_term.proofs.Locals.{Local-weaken, LocalAll-weaken, Local-instance}
 use Rattle.ap_laws.specs.Renaming.{OptionZip, OptionAll, Renamed, RenamedAll, RenamedSubst, RenamedCheck, RenamedPart, RenamedParts, Linked, RenamedWay, RenamedBy, SameState, LocalSubst, LocalCheck, LocalPart, LocalParts, LocalWay}
-use Rattle.ap_laws.proofs.Zips.{AllZip-append, AllZip-map, AllZip-flat_map, AllZip-both, AllZip-flat_map_both, AllByRecursion-append, AllByRecursion-weaken}
+use Rattle.ap_term.proofs.Zips.{AllZip-append, AllZip-map, AllZip-flat_map, AllZip-both, AllZip-flat_map_both, AllByRecursion-append, AllByRecursion-weaken}
 use Rattle.ap_laws.proofs.Renamed.{IsOneToOne, Renamed-weaken, RenamedAll-weaken, RenamedParts-weaken, Renamed-opened, Renamed-value, RenamedAll-instance_all, Renamed-mgu, Renamed-add_vars, RenamedParts-instance_part}
 use Rattle.ap_laws.proofs.Local.{Local-mgu, LocalParts-instance_part}
 use Rattle.ap_laws.proofs.Builtins.{Renamed-builtin, Renamed-fault_of, Local-builtin}

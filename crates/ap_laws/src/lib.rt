@@ -88,7 +88,7 @@ pub fn independence_law()
     ensures { IndependenceLaw }
 {}
 
-/// A goal without answers leaves a conjunction none.
+/// Behind goals that are apart and meet no fault, a goal with neither answers nor a fault leaves the conjunction none.
 pub fn dead_conjunct_law()
     ensures { DeadConjunctLaw }
 {}
@@ -118,7 +118,8 @@ pub fn rejoin_law()
     ensures { RejoinLaw }
 {}
 
-/// What a parallel search emits begins the answers of sequential search, and is all where nothing is left.
+/// What a parallel search emits begins the answers of sequential search, is all where nothing is left, and all before a
+/// fault that it has met.
 pub fn emitted_law()
     ensures { EmittedLaw }
 {}

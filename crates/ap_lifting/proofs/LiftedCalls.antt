@@ -22,7 +22,7 @@ use Rattle.ap_term.proofs.TreeLists.{instance_all-append_trees}
 use Rattle.ap_term.proofs.GoalLists.{plain_goals-append, plain_goals-instance, plain_goals-calls}
 use Rattle.ap_laws.specs.Renaming.{OptionAll, SameState, LocalSubst, LocalPart, LocalParts}
 use Rattle.ap_laws.specs.Plain.{state, PlainWay, way, plain_of, as_state, plain_way, plain_child, plain_children_by, IsPlainBelow, SamePlain}
-use Rattle.ap_laws.proofs.Zips.{AllByRecursion-append, AllZip-append}
+use Rattle.ap_term.proofs.Zips.{AllByRecursion-append, AllZip-append}
 use Rattle.ap_laws.proofs.Local.{Local-mgu, LocalParts-instance_part, LocalAll-calls}
 use Rattle.ap_laws.proofs.Ways.{LocalParts-body}
 use Rattle.ap_laws.proofs.Graft.{state-eq, Local-at}

@@ -13,7 +13,7 @@ use Rattle.ap_term.specs.Search.{variables}
 use Rattle.ap_term.proofs.Copies.{instance_var, instance_all_var}
 use Rattle.ap_term.proofs.Solutions.{same_var}
 use Rattle.ap_term.proofs.GoalLists.{plain_goals-append}
-use Rattle.ap_laws.proofs.Zips.{AllByRecursion-append, AllByRecursion-weaken}
+use Rattle.ap_term.proofs.Zips.{AllByRecursion-append, AllByRecursion-weaken}
 use Rattle.ap_lifting.specs.Body.{Body, goal, conjunction, disjunction, parallel, conditional, numbered_condition, well_formed}
 use Rattle.ap_lifting.specs.Lifted.{Lifted, stays, number_inside, raised_unless, lifted, lifted_goal, lifted_clause, checks_of, lifted_if}
 use Rattle.ap_lifting.specs.LiftingLaws.{is_named, clauses_named, Avoids, AvoidsIf}

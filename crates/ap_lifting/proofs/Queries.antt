@@ -12,7 +12,7 @@ use Rattle.ap_term.proofs.Locals.{LocalAll-weaken}
 use Rattle.ap_laws.specs.Laws.{SameOutcome, SameFound}
 use Rattle.ap_laws.specs.Plain.{Plain, state, faulted, outcome, plain_by, plain_of, plain_ways, SamePlain, HasFullGroups}
 use Rattle.ap_laws.specs.Trace.{Action, called, cut, answered, trace, trace_to, answers_in, found_upto, SameAction}
-use Rattle.ap_laws.proofs.Zips.{AllByRecursion-weaken}
+use Rattle.ap_term.proofs.Zips.{AllByRecursion-weaken}
 use Rattle.ap_laws.proofs.Names.{SameUpToNames-SameTuple}
 use Rattle.ap_laws.proofs.Views.{AreGroups-well_formed, plain_by-None, trace_to-plain_of, answers_to_depth-trace, search-trace}
 use Rattle.ap_lifting.specs.Rule.{Rule, IsRule}

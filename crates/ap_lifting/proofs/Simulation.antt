@@ -16,7 +16,7 @@ use Rattle.ap_laws.specs.Renaming.{Renamed, RenamedAll, RenamedParts, Linked, Sa
 use Rattle.ap_laws.specs.Plain.{Plain, state, PlainWay, plain_of, as_state, plain_way, plain_ways, plain_child, plain_children_by, plain_children, IsPlainBelow, SamePlain}
 use Rattle.ap_laws.specs.Plain as forms
 use Rattle.ap_laws.specs.Trace.{trace, SameAction}
-use Rattle.ap_laws.proofs.Zips.{AllZip-append, AllZip-map, AllZip-flat_map}
+use Rattle.ap_term.proofs.Zips.{AllZip-append, AllZip-map, AllZip-flat_map}
 use Rattle.ap_laws.proofs.Ways.{SameState-children}
 use Rattle.ap_laws.proofs.Graft.{state-eq, LocalAll-below, Local-at}
 use Rattle.ap_laws.proofs.SameStates.{SameState-sym, SameState-trans}

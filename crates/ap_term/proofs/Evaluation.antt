@@ -8,7 +8,7 @@ use Rattle.ap_term.specs.declared.builtins.Operation.{Operation}
 use Rattle.ap_term.specs.declared.builtins.Relation.{Relation}
 use Rattle.ap_term.specs.declared.builtins.Relation.TheVariants.{Unify, NotUnify, Same, NotSame, Is, Compare}
 use Rattle.ap_term.specs.Tree.{Tree, var, int, atom, node, none, more}
-use Rattle.ap_term.specs.Arithmetic.{applied, value_of, operation_named, evaluated, eval, fault_in}
+use Rattle.ap_term.specs.Arithmetic.{value_of, operation_named, evaluated}
 use Rattle.ap_term.specs.Builtins.{relation_named}
 use Rattle.ap_term.specs.Faults.{relation_fault}
 use Rattle.ap_term.specs.Loud.{evaluates}

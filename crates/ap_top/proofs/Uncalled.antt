@@ -14,7 +14,7 @@ use Rattle.ap_term.specs.Tree.{Tree, Trees, var, int, atom, node, none, more, co
 use Rattle.ap_term.specs.Goals.{Part, Clause, Program, Query, plain_goals}
 use Rattle.ap_term.specs.Search.{variables}
 use Rattle.ap_term.proofs.GoalLists.{plain_goals-append}
-use Rattle.ap_laws.proofs.Zips.{AllByRecursion-append}
+use Rattle.ap_term.proofs.Zips.{AllByRecursion-append}
 use Rattle.ap_reader.specs.declared.written.TheConstants.{MAX_OPEN}
 use Rattle.ap_reader.specs.declared.depth.TheConstants.{MAX_DEPTH}
 use Rattle.ap_reader.specs.Bracket.{most_open}
