@@ -1,5 +1,5 @@
 -- Search to a depth: what a turn keeps, and that the turns end.
-use Rattle.std.proofs.Common.{◌≡◌, ℕ, zero, suc, ◌+◌, ◌-◌, ◌*◌, ◌<◌, ◌≤◌, Bool, true, false, if◌then◌else◌, List, [], ◌∷◌, ◌++◌, append_assoc, append-nil, Option, Some, None, refl, ap, ap₂, sym, ◌∙◌, subst, arith}
+use Rattle.std.proofs.Common.{◌≡◌, ℕ, zero, suc, ◌+◌, ◌-◌, ◌*◌, ◌<◌, ◌≤◌, Bool, true, false, if◌then◌else◌, List, [], ◌∷◌, ◌++◌, append_assoc, append-nil, Option, Some, None, refl, ap, sym, ◌∙◌, arith}
 use Rattle.std.specs.List.{All, flat_map}
 use Rattle.std.proofs.lemmas.Bool.{false≢true}
 use Rattle.std.proofs.lemmas.Grind.{flat_map-append}
@@ -9,10 +9,10 @@ use Rattle.ap_term.specs.Tree.{Trees}
 use Rattle.ap_term.specs.Goals.{Part, Program}
 use Rattle.ap_term.specs.WellFormed.{IsProgram}
 use Rattle.ap_term.specs.Laws.{HasGoals}
-use Rattle.ap_term.specs.Search.{State, Outcome, outcome_by, outcome_of, Answers, cut, children, by_goals, outcomes_to_depth}
+use Rattle.ap_term.specs.Search.{State, outcome_by, Answers, cut, children, by_goals, outcomes_to_depth}
 use Rattle.ap_term.proofs.SearchLaws.{AllSteps, children-steps, answers-turn, answers-cut, depths}
 use Rattle.ap_spec.specs.Searches.{IsWithin, IsShallow, has_goals, is_answer, answers_first, behind_answers, with_tuples, answers_of_all}
-use Rattle.ap_spec.proofs.Turns.{children-within, answer-is, fault-is, taken-all, taken-none}
+use Rattle.ap_spec.proofs.Turns.{children-within, answer-is, fault-is, taken-none}
 
 -- ---- the answers
 

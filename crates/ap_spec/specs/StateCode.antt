@@ -9,16 +9,16 @@ use Rattle.ap_term.specs.Goals.{Part}
 use Rattle.ap_term.specs.GoalCode.{body_code}
 use Rattle.ap_term.specs.Search.{State}
 
-abbrev of_fault : Fault → Bool × Bool
+abbrev pub of_fault : Fault → Bool × Bool
 of_fault Instantiation = (false, false)
 of_fault WrongType = (false, true)
 of_fault ZeroDivisor = (true, false)
 of_fault Overflow = (true, true)
 
-abbrev to_fault : Bool × Bool → Fault
+abbrev pub to_fault : Bool × Bool → Fault
 to_fault p = if p.0 then (if p.1 then Overflow else ZeroDivisor) else (if p.1 then WrongType else Instantiation)
 
-fault_back : (e : Fault) → to_fault (of_fault e) ≡ e
+pub fault_back : (e : Fault) → to_fault (of_fault e) ≡ e
 fault_back Instantiation = refl
 fault_back WrongType = refl
 fault_back ZeroDivisor = refl

@@ -164,7 +164,12 @@ pub fn search(alloc: Global, p: &Program, query: &Query, n: u64) -> Result<Found
     Ok(found)
 }
 
-fn answers_from(alloc: Global, rules: &Rules, mut stack: States, d: u64) -> Result<Answers, NoMemory>
+fn answers_from(
+    alloc: Global,
+    rules: &Rules,
+    mut stack: States,
+    d: u64,
+) -> Result<Answers, NoMemory>
     requires clauses { IsProgram (rules_of rules.now) }
     requires depth { d ≤ 2 ^ 54 }
     requires small { All (IsShallow d) stack }

@@ -15,8 +15,8 @@ use crate::builtins::{Called, builtin};
 use crate::substitutions::{Shift, Subst};
 use crate::unification::unify;
 use ap_term::{
-    Args, Bindings, Body, Clause, Fault, NoMemory, Part, Program, Query, Term, add_instances, instance,
-    instances,
+    Args, Bindings, Body, Clause, Fault, NoMemory, Part, Program, Query, Term, add_instances,
+    instance, instances,
 };
 use std::alloc::Global;
 use std::collections::VecDeque;

@@ -2,7 +2,7 @@ use Rattle.std.proofs.Common.{ap, sym, subst, ◌∙◌, map}
 use Rattle.ap_term.specs.Goals.{joined}
 use Rattle.ap_term.specs.Search.{start}
 use Rattle.ap_term.specs.Blocks.{Begins, IsAllUpTo}
-use Rattle.ap_term.proofs.SearchLaws.{search-Begins, search-IsAllUpTo}
+use Rattle.ap_term.proofs.SearchLaws.{search-Begins, search-IsAll}
 use Rattle.ap_spec.proofs.searches.search.Goals as goal
 
 pub returns-clause-begins : goal.returns-clause-begins
