@@ -15,7 +15,7 @@ mod unification;
 pub use arithmetic::{applied, compares, eval};
 pub use builtins::{Called, builtin};
 pub use identity::identical;
-pub use searches::{Found, answers_to_depth, search, start};
+pub use searches::{Answers, Found, answers_to_depth, search, start};
 pub use states::{Behind, State, States, add_calls, children, first_goal};
 pub use substitutions::Subst;
 pub use tuples::Tuples;
