@@ -1,4 +1,4 @@
-//! From clauses to instructions.
+//! Floor: code. From clauses to instructions.
 //!
 //! Stands on `ap_certify` for programs, on `ap_instr` for instructions and what they mean, on `ap_codecheck` for the rules
 //! of code, on `ap_term` for clauses, on `indexmap` for the tables. The one contract used above: the code that `compile` makes

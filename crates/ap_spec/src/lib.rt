@@ -1,4 +1,4 @@
-//! The definitions of unification, of the built-in goals and of sequential search, as functions that can be run.
+//! Floor: model. The definitions of unification, of the built-in goals and of sequential search, as functions that can be run.
 //!
 //! Stands on `ap_term`. What the crates above use: each function equals the definition of its name.
 #![tactic(auto)]
