@@ -85,7 +85,7 @@ same_child : (s : Tracked) (rest : List Goal) (o : Option Subst) (body : List Go
     → map untracked (child_if s rest o body takes) ≡ map (search.child (untracked s) (map untracked_goal rest)) (search.way_if o parts takes)
 same_child s rest None body parts takes e = refl
 same_child s rest (Some b) body parts takes e =
-    ap (λ l. record { goals = l; tuple = instance_all (value b) s.tuple; next = s.next + takes; steps = s.steps + 1 } ∷ [])
+    ap (λ l. record { goals = l; tuple = instance_all (value b) s.tuple; next = s.next + takes; steps = s.steps + 1; fault = None } ∷ [])
     (all_moved (value b) (body ++ rest) ∙ ap (map (instance_part (value b))) (map_both untracked_goal body rest ∙ ap (λ l. l ++ map untracked_goal rest) e))
 
 by_clauses : (s : Tracked) (g : Tree) (rest : List Goal) (p : Program) → IsProgram p

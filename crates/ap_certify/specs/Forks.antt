@@ -63,7 +63,7 @@ pub record Tracked : Type 0 where
   pub steps : ℕ
 
 abbrev pub untracked : Tracked → State
-untracked s = record { goals = map untracked_goal s.goals; tuple = s.tuple; next = s.next; steps = s.steps }
+untracked s = record { goals = map untracked_goal s.goals; tuple = s.tuple; next = s.next; steps = s.steps; fault = None }
 
 abbrev pub child_if : Tracked → List Goal → Option Subst → List Goal → ℕ → List Tracked
 child_if s rest None body takes = []
