@@ -116,7 +116,7 @@ module _ (code : Compiled) (cs : List Raw) (base first count : ℕ) (ts : Trees)
       called q.name ts next ∷ [],
       [],
       (subst (λ (o : Option Predicate). SameSet (AtCallOf code here x o) (Inst (called q.name ts next))) (sym known) at-call, refl),
-      ((((Local-applied (λ v. v < next) q.name ts below, tt), below), tt), tt),
+      ((((Local-applied (λ v. v < next) q.name ts below, tt), below), tt, refl), tt),
       tt,
       tt,
       refl,
@@ -162,4 +162,4 @@ module _ (code : Compiled) (cs : List Raw) (base first count : ℕ) (ts : Trees)
     pub holds-question : IsQuery q → Holds code (machine cs x y [] roots [] (inside at)) (start q ∷ [])
     holds-question good =
         let l = query q good in
-        (start q ∷ [], [], (in-question, refl), ((l.0, l.1), tt), reads.openly, tt, refl, refl)
+        (start q ∷ [], [], (in-question, refl), ((l.0, l.1, refl), tt), reads.openly, tt, refl, refl)
