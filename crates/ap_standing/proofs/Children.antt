@@ -1,18 +1,19 @@
 -- Children of a state by some clauses of a program.
-use Rattle.std.proofs.Common.{◌≡◌, ℕ, ◌+◌, ◌==◌, ◌&&◌, Bool, true, false, cond, List, [], ◌∷◌, ◌++◌, map, Option, Some, None, refl, ap, ap₂, sym, ◌∙◌, subst}
+use Rattle.std.proofs.Common.{◌≡◌, ℕ, ◌+◌, ◌==◌, ◌&&◌, Bool, true, false, cond, List, [], ◌∷◌, ◌++◌, map, None, refl, ap, ap₂, sym, ◌∙◌, subst}
 use Rattle.std.specs.List.{AllByRecursion, flat_map}
 use Rattle.std.proofs.lemmas.Bool.{false≢true}
 use Rattle.std.proofs.lemmas.Bool.Decides.{Decides-eqb}
 use Rattle.std.proofs.lemmas.List.{append-nil, map-append}
 use Rattle.std.proofs.lemmas.List.Elements.{All-head, All-tail}
 use Rattle.ap_term.specs.Tree.{Tree, Trees, var, int, atom, node, none, more, count_trees}
-use Rattle.ap_term.specs.Substitution.{Subst, instance, instance_all}
-use Rattle.ap_term.specs.Goals.{Part, call, group, Clause, Program, opened, plain_goals}
+use Rattle.ap_term.specs.Substitution.{instance, instance_all}
+use Rattle.ap_term.specs.Goals.{Part, call, Clause, Program, opened, plain_goals}
 use Rattle.ap_term.specs.WellFormed.{callable, numbered, IsClause, IsProgram}
 use Rattle.ap_term.specs.Builtins.{builtin}
-use Rattle.ap_term.specs.Search.{State, Way, children, children_by, child, ways, ways_by, way_if, clause_way}
+use Rattle.ap_term.specs.Search.{State, children, children_by, child, ways_by, clause_way}
 use Rattle.ap_laws.specs.Plain.{HasFullGroups}
 use Rattle.ap_laws.specs.Renaming.{IsBelow}
+use Rattle.ap_term.proofs.NoFaults.{children-none as children-unfaulted}
 use Rattle.ap_laws.proofs.Names.{IsBelow-children}
 use Rattle.ap_laws.proofs.Views.{HasFullGroups-children}
 use Rattle.ap_laws.proofs.Ways.{and_both}
@@ -44,46 +45,10 @@ module _ (s : State) (g : Tree) (rest : List Part) (opens : opened s.goals ≡ c
   pub resolves : (c : Clause) → IsBelow s → IsSetOf (Resolved (Inst s) c) (children (c ∷ []) s)
   resolves c below = subst (IsSetOf (Resolved (Inst s) c)) (sym (children-one c)) (resolution s g rest c below opens)
 
--- ---- no call meets a fault
-
-abbrev Unfaulted : State → Type 0
-Unfaulted s = s.fault ≡ None
-
-abbrev UnfaultedWay : Way → Type 0
-UnfaultedWay w = w.fault ≡ None
-
-way_if-unfaulted : (o : Option Subst) (body : List Part) (takes : ℕ) → AllByRecursion UnfaultedWay (way_if o body takes)
-way_if-unfaulted None body takes = tt
-way_if-unfaulted (Some u) body takes = (refl, tt)
-
-both-unfaulted : (vs ws : List Way) → AllByRecursion UnfaultedWay vs → AllByRecursion UnfaultedWay ws → AllByRecursion UnfaultedWay (vs ++ ws)
-both-unfaulted [] ws h k = k
-both-unfaulted (v ∷ vs) ws h k = (h.0, both-unfaulted vs ws h.1 k)
-
-clauses-unfaulted : (next : ℕ) (g : Tree) (p : Program) → AllByRecursion UnfaultedWay (flat_map (clause_way next g) p)
-clauses-unfaulted next g [] = tt
-clauses-unfaulted next g (c ∷ cs) = both-unfaulted (clause_way next g c) (flat_map (clause_way next g) cs) (way_if-unfaulted _ _ _) (clauses-unfaulted next g cs)
-
-ways-unfaulted : (p : Program) (next : ℕ) (g : Tree) (o : Option (Option Subst)) → AllByRecursion UnfaultedWay (ways_by p next g o)
-ways-unfaulted p next g None = clauses-unfaulted next g p
-ways-unfaulted p next g (Some o) = way_if-unfaulted o [] 0
-
-pub children-unfaulted : (p : Program) (s : State) → AllByRecursion Unfaulted (children p s)
-children-unfaulted p s = parts (opened s.goals)
-  where
-    each : (rest : List Part) (ws : List Way) → AllByRecursion UnfaultedWay ws → AllByRecursion Unfaulted (map (child s rest) ws)
-    each rest [] h = tt
-    each rest (w ∷ ws) h = (h.0, each rest ws h.1)
-
-    parts : (ps : List Part) → AllByRecursion Unfaulted (children_by p s ps)
-    parts [] = tt
-    parts (call g ∷ rest) = each rest (ways p s.next g) (ways-unfaulted p s.next g (builtin g))
-    parts (group cs ts ∷ rest) = tt
-
 pub plain-children : (p : Program) → IsProgram p → (s : State) → IsPlain s → AllByRecursion IsPlain (children p s)
 plain-children p good s plain = both (children p s) (IsBelow-children p good s plain.0) (HasFullGroups-children p good s plain.1) (children-unfaulted p s)
   where
-    both : (ss : List State) → AllByRecursion IsBelow ss → AllByRecursion HasFullGroups ss → AllByRecursion Unfaulted ss → AllByRecursion IsPlain ss
+    both : (ss : List State) → AllByRecursion IsBelow ss → AllByRecursion HasFullGroups ss → AllByRecursion (λ t. t.fault ≡ None) ss → AllByRecursion IsPlain ss
     both [] h k f = tt
     both (t ∷ ts) h k f = ((h.0, k.0, f.0), both ts h.1 k.1 f.1)
 
