@@ -1,0 +1,6 @@
+pub mod Tracked
+pub mod Forks
+pub mod Marks
+pub mod Safe
+pub mod Kept
+pub mod Laws
