@@ -52,7 +52,7 @@ untracked_calls : (f : ℕ → Tree) (ts : Trees) → map untracked_goal (calls 
 untracked_calls f none = refl
 untracked_calls f (more t ts) = ap (λ l. goals.call (instance f t) ∷ l) (untracked_calls f ts)
 
-untracked_opened : (gs : List Goal) → map untracked_goal (opened gs) ≡ goals.opened (map untracked_goal gs)
+pub untracked_opened : (gs : List Goal) → map untracked_goal (opened gs) ≡ goals.opened (map untracked_goal gs)
 untracked_opened [] = refl
 untracked_opened (call t ∷ gs) = refl
 untracked_opened (fork cs none f now ∷ gs) = untracked_opened gs
@@ -63,7 +63,7 @@ untracked_moved : (u : ℕ → Tree) (g : Goal) → untracked_goal (moved u g) �
 untracked_moved u (call t) = refl
 untracked_moved u (fork cs ts f now) = ap (goals.group (flat_map (instance_check u) now)) (sym (instance_all_twice f u ts))
 
-all_moved : (u : ℕ → Tree) (gs : List Goal) → map untracked_goal (map (moved u) gs) ≡ map (instance_part u) (map untracked_goal gs)
+pub all_moved : (u : ℕ → Tree) (gs : List Goal) → map untracked_goal (map (moved u) gs) ≡ map (instance_part u) (map untracked_goal gs)
 all_moved u [] = refl
 all_moved u (g ∷ gs) = ap₂ (λ a l. a ∷ l) (untracked_moved u g) (all_moved u gs)
 
