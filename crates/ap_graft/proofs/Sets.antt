@@ -24,24 +24,11 @@ use Rattle.ap_graft.specs.Variables.{LocalGoals, IsTrackedBelow, IsOwnOf}
 use Rattle.ap_graft.specs.Grafts.{tracked_graft, tracked_grafts}
 use Rattle.ap_graft.specs.Joins.{AreAnswers, AllMet}
 use Rattle.ap_graft.specs.Laws.{JoinedSetLaw}
-use Rattle.ap_graft.proofs.Variables.{over-opened, below_from, of_from, goals_local}
+use Rattle.ap_graft.proofs.Variables.{marked-over, over-opened, below_from, of_from, goals_local}
 use Rattle.ap_graft.proofs.Grafts.{kept_graft, first-put}
 use Rattle.ap_graft.proofs.Joins.{untouched, calls_of, calls-are, goals_behind}
 
--- ---- variables of marked goals
-
-check-marks-over : (P : ℕ → Type 0) (own : ℕ → Tree) → ((x : ℕ) → Local P (own x)) → (cs : List Check) (ts : Trees) → LocalAll P ts → LocalAll P (check_marks own cs ts)
-check-marks-over P own h [] ts k = k
-check-marks-over P own h (Ground x ∷ cs) ts k = (tt, (h x, check-marks-over P own h cs ts k))
-check-marks-over P own h (Indep x y ∷ cs) ts k = (tt, (h x, (h y, check-marks-over P own h cs ts k)))
-
-marked-over : (P : ℕ → Type 0) (gs : List Goal) → LocalGoals P gs → LocalAll P (marked gs)
-marked-over P [] h = tt
-marked-over P (call t ∷ gs) h = (h.0, marked-over P gs h.1)
-marked-over P (fork cs none own now ∷ gs) h = absurd h.0
-marked-over P (fork cs (more t ts) own now ∷ gs) h =
-    check-marks-over P own h.0 cs (more (group_mark (count_trees (more t ts))) (append_trees (instance_all own (more t ts)) (marked gs)))
-    (tt, LocalAll-append_trees P (instance_all own (more t ts)) (marked gs) (goals_local P own (more t ts) h.0) (marked-over P gs h.1))
+-- ---- goals behind others
 
 goals-over_left : (P : ℕ → Type 0) (gs hs : List Goal) → LocalGoals P (gs ++ hs) → LocalGoals P hs
 goals-over_left P [] hs h = h

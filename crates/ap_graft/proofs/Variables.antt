@@ -15,7 +15,10 @@ use Rattle.ap_term.specs.Goals as goals
 use Rattle.ap_term.specs.Goals.{Clause, Program}
 use Rattle.ap_term.proofs.Copies.{instance_all_var, instance_all_twice}
 use Rattle.ap_laws.specs.Renaming.{OptionAll, Local, LocalAll, LocalSubst}
-use Rattle.ap_laws.specs.Plain.{plain_goals, plain_by, plain_of}
+use Rattle.ap_laws.specs.Plain.{append_trees, plain_goals, plain_by, plain_of}
+use Rattle.ap_tracked.specs.Marks.{check_marks, group_mark, marked}
+use Rattle.ap_term.specs.declared.clauses.Check.{Check}
+use Rattle.ap_term.specs.declared.clauses.Check.TheVariants.{Ground, Indep}
 use Rattle.ap_laws.specs.Graft.{arguments, IsOwn, IsOf}
 use Rattle.ap_laws.proofs.Zips.{AllByRecursion-append, AllByRecursion-map, AllByRecursion-weaken}
 use Rattle.ap_laws.proofs.Local.{Local-each, LocalAll-each, Local-weaken, LocalAll-weaken, Local-instance, LocalAll-instance_all, Local-value, Local-mgu}
@@ -78,6 +81,21 @@ over-same P (fork cs (more t ts) f now ∷ gs) (fork ds none g later ∷ hs) e h
 over-same P (fork cs (more t ts) f now ∷ gs) (fork ds (more u us) g later ∷ hs) e h = ((λ x. subst (λ k. Local P (k x)) e.0.2 (h.0 x)), over-same P gs hs e.1 h.1)
 over-same P [] (_ ∷ _) e h = absurd e
 over-same P (_ ∷ _) [] e h = absurd e
+
+-- ---- variables of marked goals
+
+check-marks-over : (P : ℕ → Type 0) (own : ℕ → Tree) → ((x : ℕ) → Local P (own x)) → (cs : List Check) (ts : Trees) → LocalAll P ts → LocalAll P (check_marks own cs ts)
+check-marks-over P own h [] ts k = k
+check-marks-over P own h (Ground x ∷ cs) ts k = (tt, (h x, check-marks-over P own h cs ts k))
+check-marks-over P own h (Indep x y ∷ cs) ts k = (tt, (h x, (h y, check-marks-over P own h cs ts k)))
+
+pub marked-over : (P : ℕ → Type 0) (gs : List Goal) → LocalGoals P gs → LocalAll P (marked gs)
+marked-over P [] h = tt
+marked-over P (call t ∷ gs) h = (h.0, marked-over P gs h.1)
+marked-over P (fork cs none own now ∷ gs) h = absurd h.0
+marked-over P (fork cs (more t ts) own now ∷ gs) h =
+    check-marks-over P own h.0 cs (more (group_mark (count_trees (more t ts))) (append_trees (instance_all own (more t ts)) (marked gs)))
+    (tt, LocalAll-append_trees P (instance_all own (more t ts)) (marked gs) (goals_local P own (more t ts) h.0) (marked-over P gs h.1))
 
 -- ---- a clause's body
 
