@@ -4,7 +4,7 @@ use Rattle.std.specs.List.{AllByRecursion, AllZip, flat_map}
 use Rattle.std.proofs.lemmas.List.{map-append, append_assoc}
 use Rattle.std.proofs.lemmas.List.Elements.{All-head, All-tail}
 use Rattle.ap_term.specs.Tree.{Tree, Trees, var, atom, none, more}
-use Rattle.ap_term.specs.Vars.{occurs_all}
+use Rattle.ap_term.specs.Vars.{occurs_all, Local, LocalAll}
 use Rattle.ap_term.specs.Substitution.{instance, instance_all, Subst, value, shift}
 use Rattle.ap_term.specs.Unification.{mgu}
 use Rattle.ap_term.specs.declared.faults.Fault.{Fault}
@@ -14,14 +14,15 @@ use Rattle.ap_term.specs.WellFormed.{in_range, IsClause, IsProgram}
 use Rattle.ap_term.specs.Goals as goals
 use Rattle.ap_term.specs.Goals.{Clause, Program, instance_check}
 use Rattle.ap_term.proofs.Copies.{instance_var, instance_all_var, instance_twice, instance_all_twice}
-use Rattle.ap_laws.specs.Renaming.{OptionZip, OptionAll, Renamed, RenamedSubst, Linked, Local, LocalAll, LocalSubst}
+use Rattle.ap_term.proofs.Zips.{AllZip-append}
+use Rattle.ap_term.proofs.Locals.{Local-weaken, LocalAll-weaken, Local-instance, instance-Local, instance_all-LocalAll}
+use Rattle.ap_laws.specs.Renaming.{OptionZip, OptionAll, Renamed, RenamedSubst, Linked, LocalSubst}
 use Rattle.ap_laws.specs.Graft.{arguments, lifted, lifted_var, lowered, fitted, IsOwn}
-use Rattle.ap_laws.proofs.Zips.{AllZip-append}
 use Rattle.ap_laws.proofs.Renamed.{Renamed-weaken, Renamed-mgu}
-use Rattle.ap_laws.proofs.Local.{Local-weaken, LocalAll-weaken, Local-instance, Local-mgu}
+use Rattle.ap_laws.proofs.Local.{Local-mgu}
 use Rattle.ap_laws.proofs.Builtins.{Renamed-builtin, Local-builtin, Renamed-fault_of}
 use Rattle.ap_laws.proofs.Ways.{IsOneToOne-Linked, Linked-more, Renamed-both, Local-head}
-use Rattle.ap_laws.proofs.Plain.{instance-Local, instance_all-LocalAll, LocalAll-arguments}
+use Rattle.ap_laws.proofs.Plain.{LocalAll-arguments}
 use Rattle.ap_laws.proofs.Graft.{LocalAll-at, lifted-old, lifted-new, lowered-new, below_or_not, Renamed-lifted, instance-lifted, instance-fitted, fitted-value, LocalAll-IsOwn_below}
 use Rattle.ap_tracked.specs.Tracked.{Goal, call, fork, moved, placed, renamed, calls as goal_calls, opened, Tracked, IsOneOf, child_if, clause_children, call_children, faulted_child, children_unless, children_by, children}
 use Rattle.ap_tracked.specs.Forks.{alone}

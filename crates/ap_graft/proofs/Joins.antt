@@ -2,18 +2,17 @@
 use Rattle.std.proofs.Common.{◌≡◌, ℕ, ◌+◌, ◌-◌, ◌<◌, ◌≤◌, Bool, true, false, ◌||◌, cond, List, [], ◌∷◌, ◌++◌, map, None, refl, ap, ap₂, sym, ◌∙◌, subst, arith}
 use Rattle.std.proofs.lemmas.Bool.{false≢true}
 use Rattle.ap_term.specs.Tree.{Tree, Trees, var, int, atom, node, none, more}
-use Rattle.ap_term.specs.Vars.{occurs, occurs_all}
+use Rattle.ap_term.specs.Vars.{occurs, occurs_all, Local, LocalAll}
 use Rattle.ap_term.specs.Substitution.{instance, instance_all}
 use Rattle.ap_term.specs.Independence.{IsApart, AreApart, SharesNoVariable}
 use Rattle.ap_term.specs.WellFormed.{IsProgram}
 use Rattle.ap_term.specs.Goals as goals
-use Rattle.ap_term.specs.Goals.{Program, instance_check, instance_part}
+use Rattle.ap_term.specs.Goals.{Program, instance_check, instance_part, plain_goals}
 use Rattle.ap_term.specs.Search.{State}
 use Rattle.ap_term.proofs.Copies.{instance_var}
-use Rattle.ap_laws.specs.Renaming.{Local, LocalAll}
-use Rattle.ap_laws.specs.Plain.{state, plain_goals, plain_by, plain_of}
+use Rattle.ap_term.proofs.Locals.{instance-Local, Local-each}
+use Rattle.ap_laws.specs.Plain.{state, plain_by, plain_of}
 use Rattle.ap_laws.specs.Graft.{arguments, lifted_var, fitted, graft_by, graft_state}
-use Rattle.ap_laws.proofs.Plain.{instance-Local, Local-self}
 use Rattle.ap_laws.proofs.Graft.{fitted-value}
 use Rattle.ap_tracked.specs.Tracked.{Goal, call, fork, moved, calls as goal_calls, opened, Tracked, untracked, untracked_goal}
 use Rattle.ap_tracked.specs.Kept.{IsKept}
@@ -64,7 +63,7 @@ in_arguments x (atom a) h = h
 in_arguments x (node a ts) h = h
 
 pub untouched : (g : Tree) (b n : ℕ) (U : Trees) (f : ℕ → Tree) → U ≡ instance_all f (arguments g) → (h : Tree) → SharesNoVariable g h → instance (fitted g b n U) h ≡ h
-untouched g b n U f e h k = instance-Local (λ x. occurs x h ≡ true) (fitted g b n U) var at h (Local-self h) ∙ instance_var h
+untouched g b n U f e h k = instance-Local (λ x. occurs x h ≡ true) (fitted g b n U) var at h (Local-each (λ x. occurs x h ≡ true) h (λ x o. o)) ∙ instance_var h
   where
     at : (x : ℕ) → occurs x h ≡ true → fitted g b n U x ≡ var x
     at x i = fitted-value g b n f U e x ∙ go (occurs_all x (arguments g)) refl

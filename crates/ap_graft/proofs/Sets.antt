@@ -1,22 +1,20 @@
 -- Joined states as sets of instances.
 use Rattle.std.proofs.Common.{◌≡◌, ℕ, ◌<◌, ◌≤◌, List, [], ◌∷◌, ◌++◌, map, refl, ap, sym, ◌∙◌, subst, arith}
 use Rattle.std.specs.Prelude.{◌↔◌}
-use Rattle.ap_term.specs.declared.clauses.Check.{Check}
-use Rattle.ap_term.specs.declared.clauses.Check.TheVariants.{Ground, Indep}
-use Rattle.ap_term.specs.Tree.{Tree, Trees, var, int, atom, node, none, more, count_trees}
+use Rattle.ap_term.specs.Tree.{Tree, Trees, var, int, atom, node, none, more}
 use Rattle.ap_term.specs.Substitution.{instance, instance_all}
 use Rattle.ap_term.specs.Independence.{IsApart, AreApart}
 use Rattle.ap_term.specs.WellFormed.{IsProgram}
 use Rattle.ap_term.specs.Goals.{Program}
 use Rattle.ap_term.proofs.Copies.{instance_all_twice}
-use Rattle.ap_laws.specs.Renaming.{Local, LocalAll}
-use Rattle.ap_laws.specs.Plain.{state, append_trees}
+use Rattle.ap_term.specs.Vars.{Local, LocalAll}
+use Rattle.ap_term.proofs.Locals.{LocalAll-weaken}
+use Rattle.ap_laws.specs.Plain.{state}
 use Rattle.ap_laws.specs.Graft.{arguments, lifted, fitted, IsOf}
-use Rattle.ap_laws.proofs.Local.{LocalAll-weaken}
-use Rattle.ap_laws.proofs.Plain.{LocalAll-append_trees, LocalAll-arguments}
-use Rattle.ap_tracked.specs.Tracked.{Goal, call, fork, moved, opened, Tracked}
+use Rattle.ap_laws.proofs.Plain.{LocalAll-arguments}
+use Rattle.ap_tracked.specs.Tracked.{Goal, call, moved, opened, Tracked}
 use Rattle.ap_tracked.specs.Kept.{IsKept}
-use Rattle.ap_tracked.specs.Marks.{check_marks, group_mark, marked}
+use Rattle.ap_tracked.specs.Marks.{marked}
 use Rattle.ap_tracked.proofs.Marks.{marks}
 use Rattle.ap_tracked.specs.Instances.{Inst}
 use Rattle.ap_graft.proofs.Fitted.{met-fitted, both, instances}

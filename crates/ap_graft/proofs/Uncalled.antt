@@ -2,7 +2,7 @@
 use Rattle.std.proofs.Common.{◌≡◌, ℕ, ◌+◌, inl, inr, List, [], ◌∷◌, ◌++◌, map, Option, Some, None, refl, ap, sym, ◌∙◌, subst}
 use Rattle.std.specs.List.{AllByRecursion, flat_map}
 use Rattle.std.proofs.lemmas.Grind.{flat_map-append}
-use Rattle.ap_term.specs.Tree.{Tree, Trees, var, int, atom, node, none, more}
+use Rattle.ap_term.specs.Tree.{Tree, Trees, var, int, atom, node, none, more, append_trees}
 use Rattle.ap_term.specs.Substitution.{instance, Subst, value, shift}
 use Rattle.ap_term.specs.Unification.{mgu}
 use Rattle.ap_term.specs.Unifier.{IsMostGeneral}
@@ -10,9 +10,8 @@ use Rattle.ap_term.specs.declared.faults.Fault.{Fault}
 use Rattle.ap_term.specs.Faults.{fault_of}
 use Rattle.ap_term.specs.Builtins.{builtin}
 use Rattle.ap_term.specs.Goals as goals
-use Rattle.ap_term.specs.Goals.{Clause, Program, Query, joined, instance_check, instance_part}
+use Rattle.ap_term.specs.Goals.{Clause, Program, Query, joined, instance_check, instance_part, plain_goals}
 use Rattle.ap_term.proofs.Solvable.{mgu-general}
-use Rattle.ap_laws.specs.Plain.{append_trees, plain_goals}
 use Rattle.ap_tracked.specs.Tracked.{Goal, call, fork, moved, placed, renamed, calls as goal_calls, opened, Tracked, IsOneOf, child_if, clause_children, call_children, children_unless, children_by, children}
 use Rattle.ap_tracked.specs.Forks.{Fork, Forks, here, below, beside, alone, IsGoalOf, ComesFirst}
 use Rattle.ap_graft.specs.Uncalled.{IsOther, AreOthers, BodyIsOther, NeverCalls, HasName}

@@ -1,10 +1,10 @@
 -- The variables of the states that a search comes to.
 use Rattle.std.proofs.Common.{◌≡◌, ℕ, ◌+◌, ◌<◌, ◌≤◌, inl, inr, Bool, true, false, ◌&&◌, nat_le, if◌then◌else◌, List, [], ◌∷◌, ◌++◌, map, Option, Some, None, refl, ap, sym, ◌∙◌, subst, arith}
 use Rattle.std.specs.List.{AllByRecursion, AllZip, flat_map, list_all}
-use Rattle.std.proofs.lemmas.Bool.{false≢true, leb-true}
+use Rattle.std.proofs.lemmas.Bool.{false≢true, and_parts, leb-true}
 use Rattle.std.proofs.lemmas.List.Elements.{All-head, All-tail}
-use Rattle.ap_term.specs.Tree.{Tree, Trees, var, atom, none, more, count_trees}
-use Rattle.ap_term.specs.Vars.{occurs_all}
+use Rattle.ap_term.specs.Tree.{Tree, Trees, var, atom, none, more, count_trees, append_trees}
+use Rattle.ap_term.specs.Vars.{occurs_all, Local, LocalAll}
 use Rattle.ap_term.specs.Substitution.{instance, instance_all, Subst, value, shift}
 use Rattle.ap_term.specs.Unification.{mgu}
 use Rattle.ap_term.specs.declared.faults.Fault.{Fault}
@@ -12,19 +12,20 @@ use Rattle.ap_term.specs.Faults.{fault_of}
 use Rattle.ap_term.specs.Builtins.{builtin}
 use Rattle.ap_term.specs.WellFormed.{in_range, numbered_check, all_callable, numbered_all, well_formed_part, IsClause, IsProgram}
 use Rattle.ap_term.specs.Goals as goals
-use Rattle.ap_term.specs.Goals.{Clause, Program}
+use Rattle.ap_term.specs.Goals.{Clause, Program, plain_goals}
 use Rattle.ap_term.proofs.Copies.{instance_all_var, instance_all_twice}
-use Rattle.ap_laws.specs.Renaming.{OptionAll, Local, LocalAll, LocalSubst}
-use Rattle.ap_laws.specs.Plain.{append_trees, plain_goals, plain_by, plain_of}
+use Rattle.ap_term.proofs.Zips.{AllByRecursion-append, AllByRecursion-map, AllByRecursion-weaken}
+use Rattle.ap_term.proofs.Locals.{Local-each, LocalAll-each, Local-weaken, LocalAll-weaken, Local-instance, LocalAll-instance_all, Local-and, LocalAll-append_trees}
+use Rattle.ap_laws.specs.Renaming.{OptionAll, LocalSubst}
+use Rattle.ap_laws.specs.Plain.{plain_by, plain_of}
 use Rattle.ap_tracked.specs.Marks.{check_marks, group_mark, marked}
 use Rattle.ap_term.specs.declared.clauses.Check.{Check}
 use Rattle.ap_term.specs.declared.clauses.Check.TheVariants.{Ground, Indep}
 use Rattle.ap_laws.specs.Graft.{arguments, IsOwn, IsOf}
-use Rattle.ap_laws.proofs.Zips.{AllByRecursion-append, AllByRecursion-map, AllByRecursion-weaken}
-use Rattle.ap_laws.proofs.Local.{Local-each, LocalAll-each, Local-weaken, LocalAll-weaken, Local-instance, LocalAll-instance_all, Local-value, Local-mgu}
+use Rattle.ap_laws.proofs.Local.{Local-value, Local-mgu}
 use Rattle.ap_laws.proofs.Builtins.{Local-builtin}
-use Rattle.ap_laws.proofs.Ways.{and_both, Local-head}
-use Rattle.ap_laws.proofs.Plain.{Local-and, LocalAll-append_trees, Local-arguments_self, LocalAll-arguments}
+use Rattle.ap_laws.proofs.Ways.{Local-head}
+use Rattle.ap_laws.proofs.Plain.{Local-arguments_self, LocalAll-arguments}
 use Rattle.ap_tracked.specs.Tracked.{Goal, call, fork, moved, placed, renamed, calls as goal_calls, opened, Tracked, untracked, untracked_goal, IsOneOf, child_if, clause_children, call_children, children_unless, children_by, children}
 use Rattle.ap_tracked.specs.Forks.{alone}
 use Rattle.ap_tracked.specs.Kept.{SameText, IsFrom, itself, calls, opens, reads}
@@ -103,19 +104,19 @@ pub renamed-over : (Q : ℕ → Type 0) (v n : ℕ) → ((x : ℕ) → x ≤ v �
 renamed-over Q v n e x = go (in_range v x) refl
   where
     go : (c : Bool) → in_range v x ≡ c → Local Q (if c then var (x + n) else atom 0)
-    go true h = e x (leb-true x v (and_both (nat_le 1 x) (nat_le x v) h).1)
+    go true h = e x (leb-true x v (and_parts (nat_le 1 x) (nat_le x v) h).1)
     go false h = tt
 
 pub over-placed : (Q : ℕ → Type 0) (v n : ℕ) → ((x : ℕ) → x ≤ v → Q (x + n)) → (ps : List goals.Part) → list_all (well_formed_part v) ps ≡ true → LocalGoals Q (map (placed (renamed v n)) ps)
 over-placed Q v n e [] h = tt
 over-placed Q v n e (goals.call t ∷ ps) h =
-    let r = and_both (well_formed_part v (goals.call t)) (list_all (well_formed_part v) ps) h in
+    let r = and_parts (well_formed_part v (goals.call t)) (list_all (well_formed_part v) ps) h in
     (Local-instance (λ x. Unit {0}) Q (renamed v n) (λ x _. renamed-over Q v n e x) t (any t), over-placed Q v n e ps r.1)
 over-placed Q v n e (goals.group cs none ∷ ps) h =
-    let r = and_both (well_formed_part v (goals.group cs none)) (list_all (well_formed_part v) ps) h in
-    absurd (false≢true (and_both (nat_le 1 (count_trees none)) (all_callable none && numbered_all v none) (and_both (list_all (numbered_check v) cs) _ r.0).1).0)
+    let r = and_parts (well_formed_part v (goals.group cs none)) (list_all (well_formed_part v) ps) h in
+    absurd (false≢true (and_parts (nat_le 1 (count_trees none)) (all_callable none && numbered_all v none) (and_parts (list_all (numbered_check v) cs) _ r.0).1).0)
 over-placed Q v n e (goals.group cs (more t ts) ∷ ps) h =
-    let r = and_both (well_formed_part v (goals.group cs (more t ts))) (list_all (well_formed_part v) ps) h in
+    let r = and_parts (well_formed_part v (goals.group cs (more t ts))) (list_all (well_formed_part v) ps) h in
     (renamed-over Q v n e, over-placed Q v n e ps r.1)
 
 ends-opened : (e : Option Fault) (gs : List Goal) → NoneBehind e gs → NoneBehind e (opened gs)

@@ -6,7 +6,7 @@ use Rattle.ap_term.specs.Substitution.{instance_all}
 use Rattle.ap_term.specs.Independence.{AreApart}
 use Rattle.ap_term.specs.WellFormed.{IsProgram}
 use Rattle.ap_term.specs.Goals.{Program}
-use Rattle.ap_laws.specs.Renaming.{Local}
+use Rattle.ap_term.specs.Vars.{Local}
 use Rattle.ap_laws.specs.Plain.{plain_of}
 use Rattle.ap_laws.specs.Graft.{IsOf}
 use Rattle.ap_tracked.specs.Tracked.{Goal, call, fork, Tracked, untracked, opened}

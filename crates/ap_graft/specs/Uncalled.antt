@@ -2,8 +2,7 @@
 use Rattle.std.specs.Prelude.{◌≡◌, ℕ}
 use Rattle.std.specs.List.{AllByRecursion}
 use Rattle.ap_term.specs.Tree.{Tree, Trees, var, int, atom, node, none, more}
-use Rattle.ap_term.specs.Goals.{Clause, Program}
-use Rattle.ap_laws.specs.Plain.{plain_goals}
+use Rattle.ap_term.specs.Goals.{Clause, Program, plain_goals}
 
 -- a goal that has, whatever its variables are, another name
 abbrev pub IsOther : ℕ → Tree → Type 0

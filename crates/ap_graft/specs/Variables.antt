@@ -4,7 +4,7 @@ use Rattle.std.specs.List.{AllByRecursion}
 use Rattle.ap_term.specs.Tree.{Tree, none, more}
 use Rattle.ap_term.specs.Substitution.{instance_all}
 use Rattle.ap_term.specs.declared.faults.Fault.{Fault}
-use Rattle.ap_laws.specs.Renaming.{Local, LocalAll}
+use Rattle.ap_term.specs.Vars.{Local, LocalAll}
 use Rattle.ap_laws.specs.Graft.{arguments, IsOwn}
 use Rattle.ap_tracked.specs.Tracked.{Goal, call, fork, Tracked}
 

@@ -2,12 +2,11 @@
 use Rattle.std.proofs.Common.{◌≡◌, ℕ, List, [], ◌∷◌, ◌++◌, map, refl, ap, ap₂, sym, ◌∙◌, subst}
 use Rattle.ap_term.specs.declared.clauses.Check.{Check}
 use Rattle.ap_term.specs.declared.clauses.Check.TheVariants.{Ground, Indep}
-use Rattle.ap_term.specs.Tree.{Tree, Trees, none, more, count_trees}
+use Rattle.ap_term.specs.Tree.{Tree, Trees, none, more, count_trees, append_trees}
 use Rattle.ap_term.specs.Substitution.{instance, instance_all}
 use Rattle.ap_term.specs.Goals as goals
 use Rattle.ap_term.proofs.Copies.{instance_twice, instance_all_twice}
-use Rattle.ap_laws.specs.Plain.{append_trees}
-use Rattle.ap_laws.proofs.Plain.{append_trees-assoc, instance_all-append_trees}
+use Rattle.ap_term.proofs.TreeLists.{append_trees-assoc, instance_all-append_trees}
 use Rattle.ap_tracked.specs.Tracked.{Goal, call, fork, moved, placed, calls, opened}
 use Rattle.ap_tracked.specs.Marks.{ground_mark, apart_mark, group_mark, check_marks, marked, Unmarked, past_ground, past_apart, past_group}
 use Rattle.ap_tracked.specs.Laws.{MarksLaw}

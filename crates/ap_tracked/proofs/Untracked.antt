@@ -1,7 +1,7 @@
 -- Without what a state keeps beside its groups the search is the search.
-use Rattle.std.proofs.Common.{◌≡◌, ℕ, ◌+◌, ◌⊎◌, inl, inr, Bool, true, false, ◌&&◌, ◌||◌, if◌then◌else◌, IsTrue, nat_le, List, [], ◌∷◌, ◌++◌, map, Option, Some, None, refl, ap, ap₂, sym, ◌∙◌}
+use Rattle.std.proofs.Common.{◌≡◌, ℕ, ◌+◌, inl, inr, true, ◌&&◌, if◌then◌else◌, IsTrue, nat_le, List, [], ◌∷◌, ◌++◌, map, Option, Some, None, refl, ap, ap₂, sym, ◌∙◌}
 use Rattle.std.specs.List.{flat_map, list_all}
-use Rattle.std.proofs.lemmas.Bool.{false≢true, and_parts}
+use Rattle.std.proofs.lemmas.Bool.{false≢true, and_parts, or_cases}
 use Rattle.std.proofs.lemmas.List.Elements.{All-head, All-tail}
 use Rattle.ap_term.specs.declared.clauses.Check.{Check}
 use Rattle.ap_term.specs.declared.clauses.Check.TheVariants.{Ground, Indep}
@@ -28,10 +28,6 @@ map_both g [] ys = refl
 map_both g (x ∷ xs) ys = ap (λ l. g x ∷ l) (map_both g xs ys)
 
 -- ---- variables of what is numbered
-
-or_cases : (a b : Bool) → (a || b) ≡ true → (a ≡ true) ⊎ (b ≡ true)
-or_cases true b h = inl refl
-or_cases false b h = inr h
 
 mutual
   pub numbered-range : (n : ℕ) (t : Tree) → IsTrue (numbered n t) → (x : ℕ) → occurs x t ≡ true → in_range n x ≡ true

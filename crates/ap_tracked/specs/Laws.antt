@@ -2,12 +2,11 @@
 use Rattle.std.specs.Prelude.{◌≡◌, ℕ, List, ◌∷◌, ◌++◌, map}
 use Rattle.std.specs.List.{AllByRecursion}
 use Rattle.ap_term.specs.declared.clauses.Check.{Check}
-use Rattle.ap_term.specs.Tree.{Tree, Trees, more}
+use Rattle.ap_term.specs.Tree.{Tree, Trees, more, append_trees}
 use Rattle.ap_term.specs.Substitution.{instance, instance_all}
 use Rattle.ap_term.specs.Goals.{Part, Program}
 use Rattle.ap_term.specs.WellFormed.{IsProgram}
 use Rattle.ap_term.specs.Search as search
-use Rattle.ap_laws.specs.Plain.{append_trees}
 use Rattle.ap_tracked.specs.Tracked.{Goal, fork, moved, placed, Tracked, untracked, IsOneOf, children, opened}
 use Rattle.ap_tracked.specs.Forks.{Fork, alone, IsUnused, IsGoalOf, ComesFirst}
 use Rattle.ap_tracked.specs.Marks.{marked, Unmarked}

@@ -4,9 +4,8 @@
 use Rattle.std.specs.Prelude.{ℕ, ◌+◌, List, [], ◌∷◌, pos}
 use Rattle.ap_term.specs.declared.clauses.Check.{Check}
 use Rattle.ap_term.specs.declared.clauses.Check.TheVariants.{Ground, Indep}
-use Rattle.ap_term.specs.Tree.{Tree, Trees, int, none, more, count_trees}
+use Rattle.ap_term.specs.Tree.{Tree, Trees, int, none, more, count_trees, append_trees}
 use Rattle.ap_term.specs.Substitution.{instance_all}
-use Rattle.ap_laws.specs.Plain.{append_trees}
 use Rattle.ap_tracked.specs.Tracked.{Goal, call, fork, Tracked, opened}
 
 -- integers are no goals
