@@ -1,24 +1,18 @@
--- The groups that a search comes to. A state of the search keeps beside each group its clause's text and the instances
--- of its clause's variables; without these it is a state of the search.
-use Rattle.std.specs.Prelude.{◌≡◌, ℕ, ◌+◌, ◌<◌, ◌≤◌, true, ◌⊎◌, List, [], ◌∷◌, ◌++◌, map, if◌then◌else◌, Option, Some, None}
+-- States of the search that keep beside each group its clause's text and the instances of its clause's variables. Without
+-- these it is a state of the search.
+use Rattle.std.specs.Prelude.{◌≡◌, ℕ, ◌+◌, ◌⊎◌, List, [], ◌∷◌, ◌++◌, map, if◌then◌else◌, Option, Some, None}
 use Rattle.std.specs.List.{flat_map}
 use Rattle.ap_term.specs.declared.clauses.Check.{Check}
 use Rattle.ap_term.specs.Tree.{Tree, Trees, var, atom, none, more}
-use Rattle.ap_term.specs.Vars.{occurs}
 use Rattle.ap_term.specs.Substitution.{instance, instance_all, Subst, value, shift}
 use Rattle.ap_term.specs.Unification.{mgu}
 use Rattle.ap_term.specs.WellFormed.{in_range}
 use Rattle.ap_term.specs.Builtins.{builtin}
 use Rattle.ap_term.specs.Goals as goals
 use Rattle.ap_term.specs.Goals.{Clause, Program, instance_check}
+use Rattle.ap_term.specs.declared.faults.Fault.{Fault}
+use Rattle.ap_term.specs.Faults.{fault_of}
 use Rattle.ap_term.specs.Search.{State}
-use Rattle.ap_patterns.specs.Places.{arguments}
-
--- a group as its clause has it, and the instances of the clause's variables
-pub record Fork : Type 0 where
-  pub checks : List Check
-  pub goals : Trees
-  pub own : ℕ → Tree
 
 -- a goal, or a group's checks and goals as its clause has them, the instances of the clause's variables, and what has
 -- become of the checks
@@ -55,15 +49,17 @@ opened (call t ∷ gs) = call t ∷ gs
 opened (fork cs none f now ∷ gs) = opened gs
 opened (fork cs (more t ts) f now ∷ gs) = call (instance f t) ∷ (calls f ts ++ gs)
 
--- a state of the search
+-- the goals left, the instance of the query's variables, the first unused variable, the calls made on the way, and the
+-- fault that the last of them met
 pub record Tracked : Type 0 where
   pub goals : List Goal
   pub tuple : Trees
   pub next : ℕ
   pub steps : ℕ
+  pub fault : Option Fault
 
 abbrev pub untracked : Tracked → State
-untracked s = record { goals = map untracked_goal s.goals; tuple = s.tuple; next = s.next; steps = s.steps; fault = None }
+untracked s = record { goals = map untracked_goal s.goals; tuple = s.tuple; next = s.next; steps = s.steps; fault = s.fault }
 
 abbrev pub child_if : Tracked → List Goal → Option Subst → List Goal → ℕ → List Tracked
 child_if s rest None body takes = []
@@ -72,6 +68,7 @@ child_if s rest (Some b) body takes = record {
   tuple = instance_all (value b) s.tuple;
   next = s.next + takes;
   steps = s.steps + 1;
+  fault = None;
 } ∷ []
 
 abbrev pub clause_children : Tracked → Tree → List Goal → Clause → List Tracked
@@ -81,9 +78,17 @@ abbrev pub call_children : Program → Tracked → Tree → List Goal → Option
 call_children p s g rest None = flat_map (clause_children s g rest) p
 call_children p s g rest (Some answer) = child_if s rest answer [] 0
 
+-- the state to which a goal's fault leads
+abbrev pub faulted_child : Fault → Tracked → Tracked
+faulted_child e s = record { goals = []; tuple = instance_all (value []) s.tuple; next = s.next + 0; steps = s.steps + 1; fault = Some e }
+
+abbrev pub children_unless : Option Fault → Tracked → List Tracked → List Tracked
+children_unless None s ss = ss
+children_unless (Some e) s ss = faulted_child e s ∷ []
+
 abbrev pub children_by : Program → Tracked → List Goal → List Tracked
 children_by p s [] = []
-children_by p s (call g ∷ rest) = call_children p s g rest (builtin g)
+children_by p s (call g ∷ rest) = children_unless (fault_of g) s (call_children p s g rest (builtin g))
 children_by p s (fork cs ts f now ∷ rest) = []
 
 -- the states that the first goal's call leads to; groups that come first are read as conjunctions
@@ -94,29 +99,3 @@ children p s = children_by p s (opened s.goals)
 abbrev pub IsOneOf : {A : Type 0} → A → List A → Type 0
 IsOneOf x [] = ⊥
 IsOneOf x (y ∷ ys) = (x ≡ y) ⊎ IsOneOf x ys
-
-abbrev pub IsGoalOf : Tree → Trees → Type 0
-IsGoalOf g none = ⊥
-IsGoalOf g (more t ts) = (g ≡ t) ⊎ IsGoalOf g ts
-
--- the group comes first
-abbrev pub ComesFirst : Fork → List Goal → Type 0
-ComesFirst f [] = ⊥
-ComesFirst f (call t ∷ gs) = ⊥
-ComesFirst f (fork cs ts own now ∷ gs) = f ≡ record { checks = cs; goals = ts; own = own }
-
--- n is above each variable of the goal
-abbrev pub IsUnused : ℕ → Tree → Type 0
-IsUnused n g = (x : ℕ) → occurs x g ≡ true → x < n
-
--- a goal alone, whose first unused variable is n
-abbrev pub alone : Tree → ℕ → Tracked
-alone g n = record { goals = call g ∷ []; tuple = arguments g; next = n; steps = 0 }
-
--- the groups that the search to depth d comes to from a state, and those that a goal of such a group comes to when it
--- is searched alone to that depth: so it runs beside a left neighbour that fails later
-pub data Forks (p : Program) : Tracked → ℕ → Fork → Type 0 where
-  here : {s : Tracked} {d : ℕ} {f : Fork} → s.steps ≤ d → ComesFirst f s.goals → Forks p s d f
-  below : {s : Tracked} {d : ℕ} {f : Fork} (t : Tracked) → s.steps < d → IsOneOf t (children p s) → Forks p t d f → Forks p s d f
-  beside : {s : Tracked} {d : ℕ} {f : Fork} (e : Fork) (g : Tree) (n : ℕ) → Forks p s d e → IsGoalOf g e.goals → IsUnused n (instance e.own g)
-      → Forks p (alone (instance e.own g) n) d f → Forks p s d f
