@@ -1,9 +1,9 @@
 //! What an expression comes to: its value, or the first fault that it meets (ISO 13211-1, section 9.1).
 #![tactic(auto, using(crate::proofs::Values::rules_of_values))]
 
-ghost use Rattle.std.specs.Prelude.{◌≡◌, int_div, int_rem};
+ghost use Rattle.std.specs.Prelude.{◌≡◌, Ok, int_div, int_rem};
 ghost use Rattle.ap_term.specs.TermView.{tree_of};
-ghost use Rattle.ap_term.specs.Arithmetic.{evaluated, eval, applied, divided, compares, compare_values, modulo, operation_named};
+ghost use Rattle.ap_term.specs.Arithmetic.{evaluated, eval, applied, negated, divided, compares, compare_values, modulo, operation_named};
 
 use ap_term::{Fault, Op, Operation, Term, fixed};
 
@@ -56,6 +56,13 @@ pub fn applied(operation: Operation, x: i64, y: i64) -> Result<i64, Fault>
     }
 }
 
+/// The negated value, or `Overflow` where 64 bits don't hold it.
+pub fn negated(x: i64) -> Result<i64, Fault>
+    ensures { result ≡ negated (Ok x) }
+{
+    x.checked_neg().ok_or(Fault::Overflow)
+}
+
 /// The value of an expression, or the first fault that it meets (ISO 13211-1, section 9.1).
 pub fn evaluated(t: &Term) -> Result<i64, Fault>
     ensures { result ≡ evaluated (tree_of t.now) }
@@ -69,9 +76,7 @@ pub fn evaluated(t: &Term) -> Result<i64, Fault>
                 if name.number() != fixed::MINUS {
                     return Err(Fault::WrongType);
                 }
-                evaluated(operand)?
-                    .checked_neg()
-                    .ok_or(Fault::Overflow)
+                negated(evaluated(operand)?)
             }
             [left, right] => {
                 let Some(operation) = Operation::named(*name) else {

@@ -12,7 +12,7 @@ mod substitutions;
 mod tuples;
 mod unification;
 
-pub use arithmetic::{applied, compares, eval, evaluated};
+pub use arithmetic::{applied, compares, eval, evaluated, negated};
 pub use builtins::{Called, builtin};
 pub use identity::identical;
 pub use searches::{Answers, Found, answers_to_depth, search, start};
