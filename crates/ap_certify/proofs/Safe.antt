@@ -1,5 +1,4 @@
 -- Queries for which a program is certified.
-use Rattle.ap_certify.specs.Certificate.{Certificate, IsCertified}
 use Rattle.ap_certify.specs.Laws.{SafeLaw}
 use Rattle.ap_certify.proofs.Strict.{strict}
 

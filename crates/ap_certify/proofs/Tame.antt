@@ -4,9 +4,9 @@ use Rattle.std.proofs.lemmas.Bool.{false≢true, and_parts, leb-true}
 use Rattle.ap_term.specs.declared.fixed.TheConstants.{TRUE, FAIL}
 use Rattle.ap_term.specs.declared.builtins.Relation.{Relation}
 use Rattle.ap_term.specs.declared.builtins.Relation.TheVariants.{Unify, NotUnify, Same, NotSame, Is, Compare}
-use Rattle.ap_term.specs.Tree.{Tree, Trees, var, int, atom, node, none, more}
-use Rattle.ap_term.specs.Vars.{occurs, occurs_all}
-use Rattle.ap_term.specs.WellFormed.{in_range, numbered, numbered_all}
+use Rattle.ap_term.specs.Tree.{Tree, var, int, atom, node, none, more}
+use Rattle.ap_term.specs.Vars.{occurs}
+use Rattle.ap_term.specs.WellFormed.{in_range, numbered}
 use Rattle.ap_term.specs.Substitution.{instance, Subst, value, shift}
 use Rattle.ap_term.specs.Unification.{mgu}
 use Rattle.ap_term.specs.Unifier.{IsMostGeneral}
@@ -18,7 +18,7 @@ use Rattle.ap_term.proofs.Solvable.{mgu-general}
 use Rattle.ap_term.proofs.Solutions.{same_var}
 use Rattle.ap_sharing.proofs.Elements.{clash}
 use Rattle.ap_absunify.specs.MostGeneral.{MostGeneral}
-use Rattle.ap_absunify.proofs.Vars.{or_cases, decide, refuted, any_some, occurs_instance}
+use Rattle.ap_absunify.proofs.Vars.{decide, refuted, any_some, occurs_instance}
 use Rattle.ap_absunify.proofs.Unifier.{stays, none_new}
 use Rattle.ap_tracked.specs.Tracked.{IsOneOf}
 use Rattle.ap_tracked.proofs.Untracked.{numbered-range}
