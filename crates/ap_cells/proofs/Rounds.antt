@@ -1,6 +1,6 @@
 -- What cells stand for is one list of trees, which `trees` finds.
 pub use Rattle.std.proofs.lemmas.Bool.{or_cases as or_split}
-use Rattle.std.proofs.Common.{◌≡◌, ℕ, zero, suc, ◌+◌, ◌<◌, ◌≤◌, Bool, true, false, ◌||◌, List, [], ◌∷◌, length, get_or, refl, sym, ap, ◌∙◌, subst, arith, inl, inr, ◌⊎◌}
+use Rattle.std.proofs.Common.{◌≡◌, ℕ, zero, suc, ◌+◌, ◌<◌, ◌≤◌, Bool, true, List, [], ◌∷◌, length, get_or, refl, sym, ap, ◌∙◌, subst, arith, inl, inr, ◌⊎◌}
 use Rattle.std.proofs.Math.Bool.{or-true}
 use Rattle.std.proofs.lemmas.List.{get_or-map, get_or_default, length-map, same_lists, get_or_past}
 use Rattle.std.proofs.lemmas.Bool.{cases_lt, cases_eq}

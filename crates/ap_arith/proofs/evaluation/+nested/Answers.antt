@@ -1,7 +1,7 @@
 use Rattle.std.proofs.Common.{sym, ◌∙◌, ap, arith}
 use Rattle.ap_term.specs.Arithmetic.{evaluated}
 use Rattle.ap_cells.specs.Trees.{trees}
-use Rattle.ap_arith.proofs.Values.{evaluated-one, evaluated-two, evaluated-other}
+use Rattle.ap_arith.proofs.Values.{evaluated-other}
 use Rattle.ap_arith.proofs.evaluation.+nested.Goals as goal
 
 pub operation-overflow_add-first : goal.operation-overflow_add-first
