@@ -43,7 +43,8 @@ IsLastCall p q budget c stopped = Unit {0}
 IsLastCall p q budget c (error e) = (search p c (q ∷ [])).fault ≡ Some e
 
 -- So many calls were charged for these answers: with fewer the search is on its way to them. It ends with so many where
--- the answers end by `no_more`, and the budget is so many where they end by `budget_spent`.
+-- the answers end by `no_more`, has met the fault where they end by `error`, and the budget is so many where they end by
+-- `budget_spent`.
 pub record IsCharge (p : Program) (q : State) (budget limit c : ℕ) (end : End) : Type 0 where
   pub few : c ≤ budget
   pub before : (n : ℕ) → n < c → IsOnTheWay (search p n (q ∷ [])) (take limit (search p budget (q ∷ [])).answers)
