@@ -7,7 +7,7 @@ use Rattle.ap_term.specs.Tree.{Trees}
 use Rattle.ap_term.specs.Goals.{Program}
 use Rattle.ap_term.specs.declared.faults.Fault.{Fault}
 use Rattle.ap_term.specs.Search.{State, meets, or_ended, search}
-use Rattle.ap_term.specs.Blocks.{End, no_more, budget_spent, stopped, error, IsBlock, Begins, IsAllUpTo, IsPrefix}
+use Rattle.ap_term.specs.Blocks.{End, stopped, IsBlock, Begins, IsAllUpTo, IsPrefix}
 use Rattle.ap_term.proofs.SearchLaws.{search-Begins, search-IsAll}
 use Rattle.ap_worker.specs.Reached.{end_for, end_by, IsSolved}
 use Rattle.ap_worker.proofs.Solving.{length_map, take_all, not-eq}
