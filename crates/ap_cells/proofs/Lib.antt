@@ -4,3 +4,4 @@ pub mod Stores
 pub mod Walks
 pub mod Built
 pub mod Leaves
+mod Settled

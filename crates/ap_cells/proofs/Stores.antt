@@ -46,7 +46,7 @@ freed-take n [] cs = refl
 freed-take n (x ∷ xs) cs = take-set-any n (freed xs cs) x Free ∙ ap (λ ds. set ds x Free) (freed-take n xs cs)
 
 -- freed places lead nowhere
-freed-closed : (n : ℕ) (xs : List ℕ) (cs : List Raw) → Closed n cs → n ≤ length cs → Closed n (freed xs cs)
+pub freed-closed : (n : ℕ) (xs : List ℕ) (cs : List Raw) → Closed n cs → n ≤ length cs → Closed n (freed xs cs)
 freed-closed n [] cs k h i d l = k i d l
 freed-closed n (x ∷ xs) cs k h i d l = elim (cases_eq i x) [
   | inl e ↦ rw (e, get_or-set_same (freed xs cs) x Free d (omega (arith, freed-length xs cs))) tt

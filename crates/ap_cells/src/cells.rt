@@ -1,10 +1,10 @@
 //! The store: cells, and the trail of the places that were bound.
 
-ghost use Rattle.std.specs.Prelude.{◌≡◌, ℕ, ◌+◌, ◌-◌, ◌<◌, ◌≤◌, [], ◌∷◌, ◌++◌, map, length, take, drop, slice_index_or, Bool, false, is_ok, if◌then◌else◌, IfOk, OnOk, OnErr};
+ghost use Rattle.std.specs.Prelude.{◌≡◌, ℕ, ◌+◌, ◌-◌, ◌<◌, ◌≤◌, [], ◌∷◌, ◌++◌, map, length, take, drop, slice_index_or, Bool, true, false, is_ok, if◌then◌else◌, IfOk, OnOk, OnErr};
 ghost use Rattle.ap_term.specs.Tree.{Tree, var};
 ghost use Rattle.ap_term.specs.Substitution.{instance, value, one};
-ghost use Rattle.ap_term.specs.Vars.{occurs};
-ghost use Rattle.ap_cells.specs.Trees.{tree_at, trees, step, Within, IsEnd, link, frees};
+ghost use Rattle.ap_term.specs.Vars.{occurs, occurs_all};
+ghost use Rattle.ap_cells.specs.Trees.{tree_at, trees, span, step, Within, IsEnd, link, frees};
 ghost use Rattle.ap_cells.specs.Raws.{raw_of};
 ghost use Rattle.ap_cells.specs.declared.cells.Raw.{Raw};
 ghost use Rattle.ap_cells.specs.declared.cells.Raw.TheVariants.{Free};
@@ -47,11 +47,16 @@ pub struct CellMark {
 }
 
 /// Cells that stand for finite terms. Room for `limit` cells, and for as many bindings, is there already.
+///
+/// The first `settled` cells lead to each other only, so that no later variable stands in their terms: that spares the occurs
+/// check its walks. `is_stale` tells that the number is worth raising; neither changes what the cells stand for.
 #[derive(Drop)]
 pub struct Cells {
     cells: Vec<Raw>,
     trail: Vec<u32>,
     limit: usize,
+    settled: usize,
+    is_stale: bool,
 }
 
 impl Model for Cells {
@@ -110,6 +115,27 @@ fn linked(end: usize, raw: Raw) -> Raw
     }
 }
 
+/// How many cells lead to each other only once a place has this cell: as many as before, or none where it leads past them.
+#[inline]
+fn settled_with(settled: usize, place: usize, cell: &Raw) -> usize
+    ensures same { 0 < result → result ≡ settled }
+    ensures within { (n : ℕ) → Within n place cell.now → place < result → Within result place cell.now }
+{
+    if place >= settled {
+        return settled;
+    }
+    match cell {
+        Raw::Node(_, first, count) => {
+            if *first as usize + *count as usize <= settled {
+                settled
+            } else {
+                0
+            }
+        }
+        Raw::Free | Raw::Same(_) | Raw::Int(_) | Raw::Atom(_) => settled,
+    }
+}
+
 /// The least of three numbers.
 fn least(a: usize, b: usize, c: usize) -> usize
     ensures first { result ≤ a }
@@ -152,6 +178,8 @@ impl Cells {
             cells: Vec::new(alloc),
             trail: Vec::new(alloc),
             limit: 0,
+            settled: 0,
+            is_stale: true,
         }
     }
 
@@ -251,6 +279,56 @@ impl Cells {
         self.push_raw(packed(cell, places, places))
     }
 
+    /// Puts an unbound variable at a new place, for a goal. It takes no memory. Where walks were needed lately, all cells before
+    /// it are settled: the terms that are bound to it, and to those after it, are mostly made of older ones.
+    #[inline]
+    pub fn push_variable(&mut self) -> usize
+        requires room { 0 < self.old.spare }
+        ensures place { result ≡ length self.old.cells }
+        ensures cells { self.new.cells ≡ self.old.cells ++ Free ∷ [] }
+        ensures trees { trees self.new.cells ≡ trees self.old.cells ++ var (length self.old.cells) ∷ [] }
+        ensures trail { self.new.trail ≡ self.old.trail }
+        ensures spare { self.new.spare + 1 ≡ self.old.spare }
+        ensures keeps { Keeps self.old self.new }
+    {
+        if self.is_stale {
+            self.settle();
+        }
+        self.push_raw(Raw::Free)
+    }
+
+    /// Settles all cells.
+    fn settle(&mut self)
+        ensures { self.new ≡ self.old }
+    {
+        self.settled = self.cells.len();
+        self.is_stale = false;
+    }
+
+    /// Notes that a term had to be walked over: the next goal's variable settles all cells.
+    #[inline]
+    pub fn note_walk(&mut self)
+        ensures { self.new ≡ self.old }
+    {
+        self.is_stale = true;
+    }
+
+    /// Whether these places are settled and x came later, so that it stands in none of their terms.
+    #[inline]
+    pub fn are_settled_before(&self, x: usize, first: usize, count: u32) -> bool
+        requires { first + count ≤ length self.now.cells }
+        ensures { result ≡ true → occurs_all x (span (trees self.now.cells) first count) ≡ false }
+    {
+        let _places = self.len();
+        if self.settled < first + count as usize {
+            return false;
+        }
+        if x < self.settled {
+            return false;
+        }
+        true
+    }
+
     /// Puts a cell at a new place that has the term of another. It takes no memory. What stands at the end of that one's chain
     /// is copied, so that chains don't grow.
     #[inline]
@@ -324,6 +402,9 @@ impl Cells {
         ensures spare { self.new.spare ≡ self.old.spare }
         ensures keeps { Keeps self.old self.new }
     {
+        let settled = settled_with(self.settled, place, &cell);
+        self.is_stale = self.is_stale || settled < self.settled;
+        self.settled = settled;
         self.cells[place] = cell;
         self.trail.push_reserved(place as u32);
     }
@@ -375,5 +456,6 @@ impl Cells {
     {
         unwind(&mut self.cells, &mut self.trail, mark.trail);
         self.cells.truncate(mark.cells);
+        self.settled = self.settled.min(mark.cells);
     }
 }

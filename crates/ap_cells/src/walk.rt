@@ -82,7 +82,7 @@ impl Walk {
     }
 }
 
-/// Looks for a variable, as `next_of` does for the next one.
+/// Looks for a variable, as `next_of` does for the next one, and passes over arguments that were settled before it came.
 fn found(cells: &Cells, x: usize, place: usize, ranges: &mut Vec<Range>) -> Result<bool, NoMemory>
     requires inside { place < length cells.now.cells }
     requires empty { ranges.old.items ≡ [] }
@@ -109,8 +109,12 @@ fn found(cells: &Cells, x: usize, place: usize, ranges: &mut Vec<Range>) -> Resu
                     run = behind(run);
                 }
                 Top::Node(_, first, count) => {
-                    leave(run, ranges)?;
-                    run = Range { first, count };
+                    if cells.are_settled_before(x, first, count) {
+                        run = behind(run);
+                    } else {
+                        leave(run, ranges)?;
+                        run = Range { first, count };
+                    }
                 }
                 Top::Int(_) => run = behind(run),
                 Top::Atom(_) => run = behind(run),

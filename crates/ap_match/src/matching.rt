@@ -32,6 +32,22 @@ pub fn push_new(cells: &mut Cells, cell: Cell) -> usize
     cells.push(cell)
 }
 
+/// A new unbound place, for a goal's variable. It takes no memory.
+#[inline]
+pub fn push_variable(cells: &mut Cells) -> usize
+    requires room { 0 < cells.old.spare }
+    ensures place { result ≡ length cells.old.cells }
+    ensures becomes { Becomes cells.old.cells cells.new.cells (λ k. Unit {0}) (λ k. k result ≡ cell_tree k result Free) }
+    ensures fits { (k : ℕ → Tree) → Fits cells.old.cells k → k result ≡ cell_tree k result Free → Fits cells.new.cells k }
+    ensures trees { trees cells.new.cells ≡ trees cells.old.cells ++ var (length cells.old.cells) ∷ [] }
+    ensures len { length cells.new.cells ≡ length cells.old.cells + 1 }
+    ensures spare { cells.new.spare + 1 ≡ cells.old.spare }
+    ensures keeps { Keeps cells.old cells.new }
+{
+    cells.is_store();
+    cells.push_variable()
+}
+
 /// A new place with the term of another. It takes no memory.
 #[inline]
 pub fn push_value(cells: &mut Cells, to: usize) -> usize
@@ -116,7 +132,7 @@ pub fn match_integer(cells: &mut Cells, place: usize, value: i64) -> bool
     }
 }
 
-/// Whether a place's term is a constant, or a variable other than x.
+/// Whether a place's term is a constant, a variable other than x, or was settled before x came.
 fn is_apart(cells: &Cells, x: usize, place: usize) -> bool
     requires { place < length cells.now.cells }
     ensures { result ≡ true → occurs x (tree_at (trees cells.now.cells) place) ≡ false }
@@ -125,11 +141,11 @@ fn is_apart(cells: &Cells, x: usize, place: usize) -> bool
         Top::Free(variable) => variable != x,
         Top::Int(_) => true,
         Top::Atom(_) => true,
-        Top::Node(_, _, _) => false,
+        Top::Node(_, first, count) => cells.are_settled_before(x, first, count),
     }
 }
 
-/// Whether each of these places' terms is a constant, or a variable other than x.
+/// Whether each of these places' terms is a constant, a variable other than x, or was settled before x came.
 fn are_apart(cells: &Cells, x: usize, first: usize, count: u32) -> bool
     requires { first + count ≤ length cells.now.cells }
     ensures { result ≡ true → occurs_all x (span (trees cells.now.cells) first count) ≡ false }
@@ -144,7 +160,7 @@ fn are_apart(cells: &Cells, x: usize, first: usize, count: u32) -> bool
 }
 
 /// Whether the term of `to` can be bound to a place x as it stands: it is a constant, a variable of an earlier place, or a
-/// compound term of constants and other variables alone.
+/// compound term of constants, other variables and terms that were settled before x came.
 fn is_flat(cells: &Cells, x: usize, to: usize) -> bool
     requires { to < length cells.now.cells }
     ensures absent { result ≡ true → occurs x (tree_at (trees cells.now.cells) to) ≡ false }
@@ -154,7 +170,9 @@ fn is_flat(cells: &Cells, x: usize, to: usize) -> bool
         Top::Free(variable) => variable < x,
         Top::Int(_) => true,
         Top::Atom(_) => true,
-        Top::Node(_, first, count) => are_apart(cells, x, first, count),
+        Top::Node(_, first, count) => {
+            cells.are_settled_before(x, first, count) || are_apart(cells, x, first, count)
+        }
     }
 }
 

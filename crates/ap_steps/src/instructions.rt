@@ -13,7 +13,7 @@ ghost use Rattle.ap_steps.specs.Moves.{held, HoldPlaces, HasRegister, Taken, con
 use crate::registers::{argument, place_in, put, read, register, write};
 use ap_cells::{Cell, Cells};
 use ap_instr::Slot;
-use ap_match::{equate, match_atom, match_integer, push_new};
+use ap_match::{equate, match_atom, match_integer, push_new, push_variable};
 use ap_term::{Atom, NoMemory};
 use ap_unify::Work;
 
@@ -158,7 +158,7 @@ pub fn put_variable(cells: &mut Cells, x: &mut [u32], y: &mut [u32], v: Slot, a:
     ensures keeps { Keeps cells.old cells.new }
 {
     let places = cells.len();
-    let place = push_new(cells, Cell::Free);
+    let place = push_variable(cells);
     prove!(place == places);
     write(x, y, v, place as u32);
     put(x, a as usize, place as u32);

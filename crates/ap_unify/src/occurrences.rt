@@ -16,15 +16,28 @@ pub fn occurs(cells: &Cells, x: usize, place: usize, walk: &mut Walk) -> Result<
     walk.finds(cells, x, place)
 }
 
-/// The same, without a walk where the term is a number or an atom.
-pub fn stands_in(cells: &Cells, x: usize, place: usize, walk: &mut Walk) -> Result<bool, NoMemory>
-    requires { place < length cells.now.cells }
-    ensures { IfOk result (λ b. b ≡ occurs x (tree_at (trees cells.now.cells) place)) }
+/// The same, without a walk where the term is a number or an atom, or its arguments were settled before the variable came. A
+/// walk is noted.
+pub fn stands_in(
+    cells: &mut Cells,
+    x: usize,
+    place: usize,
+    walk: &mut Walk,
+) -> Result<bool, NoMemory>
+    requires { place < length cells.old.cells }
+    ensures answer { IfOk result (λ b. b ≡ occurs x (tree_at (trees cells.old.cells) place)) }
+    ensures same { cells.new ≡ cells.old }
 {
     match cells.top(place) {
         Top::Int(_) => Ok(false),
         Top::Atom(_) => Ok(false),
         Top::Free(variable) => Ok(variable == x),
-        Top::Node(_, _, _) => occurs(cells, x, place, walk),
+        Top::Node(_, first, count) => {
+            if cells.are_settled_before(x, first, count) {
+                return Ok(false);
+            }
+            cells.note_walk();
+            occurs(cells, x, place, walk)
+        }
     }
 }

@@ -1,5 +1,5 @@
 use Rattle.std.proofs.Common.{◌<◌, ◌||◌, length, refl, ap, subst, sym, ◌∙◌, arith}
-use Rattle.ap_term.specs.Tree.{var, int, atom}
+use Rattle.ap_term.specs.Tree.{var, int, atom, node}
 use Rattle.ap_term.specs.Vars.{occurs_all}
 use Rattle.ap_cells.specs.Trees.{trees, span}
 use Rattle.ap_cells.specs.Walks.{AreRanges, IsRange, stands, weight_in}
@@ -45,8 +45,25 @@ loop-run-preserved-in-Free c =
       inside = o.inside;
     }
 
-pub loop-run-preserved-in-Node : goal.loop-run-preserved-in-Node
-loop-run-preserved-in-Node c =
+pub loop-run-preserved-then-are_settled_before : goal.loop-run-preserved-then-are_settled_before
+loop-run-preserved-then-are_settled_before c =
+    let ts = trees c.args.cells.now.cells in
+    let n = length c.args.cells.now.cells in
+    let x = c.args.x in
+    let run = c.loop-run.run in
+    let o = c.loop-run.invariant in
+    let l = o.run in
+    let some : 0 < run.count = omega arith in
+    let rest = stands x ts c.loop-run.ranges.items in
+    record {
+      found = ap (λ r. occurs_all x (span ts r.first r.count) || rest) c.behind-run-then-are_settled_before.ensures
+          ∙ sym (stands-passed x ts run.first run.count (node c.in-Node.field-0 (span ts c.in-Node.first c.in-Node.count)) rest some c.in-Node.ensures.tree (c.are_settled_before.ensures c.if-are_settled_before.true)) ∙ o.found;
+      run = subst (IsRange n) (sym c.behind-run-then-are_settled_before.ensures) (omega arith);
+      inside = o.inside;
+    }
+
+pub loop-run-preserved-else-are_settled_before : goal.loop-run-preserved-else-are_settled_before
+loop-run-preserved-else-are_settled_before c =
     let ts = trees c.args.cells.now.cells in
     let n = length c.args.cells.now.cells in
     let x = c.args.x in

@@ -12,6 +12,8 @@ invariant_of-self-2 c =
       room = omega arith;
       trail_room = omega arith;
       few = omega arith;
+      settled = rw c.in_ok-reserve.ensures.items o.settled;
+      settled_few = rw c.in_ok-reserve.ensures.items o.settled_few;
     }
 
 fits : (most l n : ℕ) → l ≤ most → n ≤ most - l → l + n ≤ most

@@ -9,4 +9,6 @@ invariant_of-result c = record {
   room = omega arith;
   trail_room = omega arith;
   few = omega arith;
+  settled = λ i d h. absurd (omega arith);
+  settled_few = rw c.new.ensures.items (omega arith);
 }

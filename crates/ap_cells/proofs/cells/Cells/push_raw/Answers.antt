@@ -3,6 +3,7 @@ use Rattle.std.proofs.lemmas.List.{length_push}
 use Rattle.ap_cells.specs.Trees.{trees, Within}
 use Rattle.ap_cells.specs.Store.{Store, IsStore}
 use Rattle.ap_cells.proofs.Stores.{IsStore-push, trees-push, Keeps-push}
+use Rattle.ap_cells.proofs.Settled.{Closed-push}
 use Rattle.ap_cells.proofs.cells.Cells.push_raw.Goals as goal
 
 pub invariant_of-self : goal.invariant_of-self
@@ -16,6 +17,8 @@ invariant_of-self c =
       room = omega arith;
       trail_room = omega arith;
       few = omega arith;
+      settled = rw c.push_reserved.ensures.items (Closed-push c.self.inside.settled c.self.inside.cells.items c.args.cell c.self.invariant.settled_few c.self.invariant.settled);
+      settled_few = rw c.push_reserved.ensures.items (omega (arith, l, c.self.invariant.settled_few));
     }
 
 pub returns-clause-trees : goal.returns-clause-trees

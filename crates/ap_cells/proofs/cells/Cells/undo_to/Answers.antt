@@ -2,6 +2,7 @@ use Rattle.std.proofs.Common.{◌≡◌, length, take, drop, sym, ap, ◌∙◌,
 use Rattle.std.proofs.lemmas.List.{length-take}
 use Rattle.ap_cells.specs.Store.{Store, freed, IsMark}
 use Rattle.ap_cells.proofs.Stores.{IsStore-undo, freed-length, IsMark-older, undone-older}
+use Rattle.ap_cells.proofs.Settled.{Closed-back}
 use Rattle.ap_cells.proofs.cells.Cells.undo_to.Goals as goal
 
 pub invariant_of-self : goal.invariant_of-self
@@ -11,12 +12,15 @@ invariant_of-self c =
     let m : IsMark c.self.inside.cells.items c.self.inside.trail.items c.args.mark.cells c.args.mark.trail = subst (λ (v : Store). IsMark v.cells v.trail c.args.mark.cells c.args.mark.trail) (sym c.self.view_is) c.requires in
     let l = length-take c.args.mark.cells (freed (drop c.args.mark.trail c.self.inside.trail.items) c.self.inside.cells.items) in
     let k = freed-length (drop c.args.mark.trail c.self.inside.trail.items) c.self.inside.cells.items in
+    let b = Closed-back c.self.inside.settled c.self.inside.cells.items c.self.inside.trail.items c.args.mark.cells c.args.mark.trail c.min-self-inside.result c.self.invariant.settled_few c.self.invariant.settled m c.min-self-inside.ensures in
     record {
       store = rw (c.truncate.ensures.items, c.unwind.ensures.cells, c.unwind.ensures.trail) (IsStore-undo c.self.inside.cells.items c.self.inside.trail.items c.args.mark.cells c.args.mark.trail c.self.invariant.store m);
       used = rw (c.truncate.ensures.items, c.unwind.ensures.cells) (omega (arith, l, k));
       room = omega arith;
       trail_room = omega arith;
       few = omega arith;
+      settled = rw (c.truncate.ensures.items, c.unwind.ensures.cells) b.0;
+      settled_few = rw (c.truncate.ensures.items, c.unwind.ensures.cells) b.1;
     }
 
 pub returns-clause-spare : goal.returns-clause-spare
