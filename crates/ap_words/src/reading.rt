@@ -84,6 +84,9 @@ pub fn read<'a>(alloc: Global, words: &'a [&'a str]) -> Result<Reading<'a>, Allo
 
     // A plain line is never refused.
     ensures plain { (what : What) → IsPlain (map (λ w. w.now) words.now) what → IfOk result (λ r. reading_of r ≡ asks what) }
+
+    // A line that asks for something is read as that and as nothing else.
+    ensures alone { (what : What) → IsRead (map (λ w. w.now) words.now) (asks what) → IfOk result (λ r. reading_of r ≡ asks what) }
     ensures ranges { IfOk result (λ r. InRange (reading_of r)) }
 {
     match by_itself(alloc, words)? {
