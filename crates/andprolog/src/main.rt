@@ -1,4 +1,4 @@
-//! The program: makes the real outside, reads the command line, runs it, and ends with the status's number.
+//! Floor: program. The program: makes the real outside, reads the command line, runs it, and ends with the status's number.
 //!
 //! It stands on the top call and on the outside over the system. Nothing stands above it.
 #![tactic(auto)]

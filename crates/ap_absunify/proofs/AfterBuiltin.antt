@@ -1,6 +1,8 @@
 -- The state after a built-in goal covers.
 use Rattle.std.proofs.Common.{◌≡◌, ℕ, ℤ, zero, suc, ◌⊎◌, inl, inr, Bool, true, false, not, ◌||◌, ◌==◌, if◌then◌else◌, nat_eq, is_none, [], ◌∷◌, Option, Some, None, IsTrue, refl, ap, ap₂, sym, ◌∙◌, subst}
 use Rattle.std.proofs.lemmas.Bool.{false≢true}
+use Rattle.std.specs.Prelude.{Result, Ok, Err}
+use Rattle.std.specs.Result.{result_ok}
 use Rattle.ap_term.specs.declared.builtins.Op.{Op}
 use Rattle.ap_term.specs.declared.builtins.Operation.{Operation}
 use Rattle.ap_term.specs.declared.builtins.Relation.{Relation}
@@ -27,7 +29,9 @@ use Rattle.ap_sharing.proofs.Elements.{clash, has-union}
 use Rattle.ap_term.proofs.Copies.{instance_var}
 use Rattle.ap_term.proofs.Solutions.{same_var}
 use Rattle.ap_term.proofs.Solvable.{mgu-general}
-use Rattle.ap_term.specs.Arithmetic.{eval, negated, value_of, operation_named, compare_values}
+use Rattle.ap_term.specs.declared.faults.Fault.{Fault}
+use Rattle.ap_term.specs.declared.faults.Fault.TheVariants.{WrongType}
+use Rattle.ap_term.specs.Arithmetic.{evaluated, eval, negated, value_of, operation_named, compare_values}
 use Rattle.ap_term.specs.Builtins.{relation_named, succeeds_if, unified_value, named_answer, builtin}
 use Rattle.ap_term.specs.Identical.{identical}
 use Rattle.ap_term.specs.WellFormed.{callable}
@@ -37,16 +41,16 @@ abbrev pub HasValue : Option ℤ → Type 0
 HasValue None = ⊥
 HasValue (Some z) = Unit {0}
 
-negated-value : (b : Bool) (x : Option ℤ) → HasValue (if b then negated x else None) → HasValue x
-negated-value true None h = absurd h
-negated-value true (Some z) h = tt
+negated-value : (b : Bool) (x : Result ℤ Fault) → HasValue (result_ok (if b then negated x else Err WrongType)) → HasValue (result_ok x)
+negated-value true (Err e) h = absurd h
+negated-value true (Ok z) h = tt
 negated-value false x h = absurd h
 
-value_of-values : (o : Option Operation) (x y : Option ℤ) → HasValue (value_of o x y) → HasValue x × HasValue y
+value_of-values : (o : Option Operation) (x y : Result ℤ Fault) → HasValue (result_ok (value_of o x y)) → HasValue (result_ok x) × HasValue (result_ok y)
 value_of-values None x y h = absurd h
-value_of-values (Some o) None y h = absurd h
-value_of-values (Some o) (Some x) None h = absurd h
-value_of-values (Some o) (Some x) (Some y) h = (tt, tt)
+value_of-values (Some o) (Err e) y h = absurd h
+value_of-values (Some o) (Ok x) (Err e) h = absurd h
+value_of-values (Some o) (Ok x) (Ok y) h = (tt, tt)
 
 -- an expression that has a value has no variable
 eval-ground : (t : Tree) → HasValue (eval t) → (r : ℕ) → occurs r t ≡ false
@@ -55,9 +59,9 @@ eval-ground (int z) h r = refl
 eval-ground (atom a) h r = absurd h
 eval-ground (node a none) h r = absurd h
 eval-ground (node a (more t none)) h r =
-    or_false (occurs r t) false (eval-ground t (negated-value (a == MINUS) (eval t) h) r) refl
+    or_false (occurs r t) false (eval-ground t (negated-value (a == MINUS) (evaluated t) h) r) refl
 eval-ground (node a (more t (more u none))) h r =
-    let v = value_of-values (operation_named a) (eval t) (eval u) h in
+    let v = value_of-values (operation_named a) (evaluated t) (evaluated u) h in
     or_false (occurs r t) (occurs r u || false) (eval-ground t v.0 r) (or_false (occurs r u) false (eval-ground u v.1 r) refl)
 eval-ground (node a (more t (more u (more w ws)))) h r = absurd h
 

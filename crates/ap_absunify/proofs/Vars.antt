@@ -1,4 +1,5 @@
 -- Variables of trees and of their instances.
+pub use Rattle.std.proofs.lemmas.Bool.{or_cases, or_from as or_false, or_parts as or_none, and_parts as and_both, and_from as and_made, cases_Bool as decide, false_from_ne_true as refuted}
 use Rattle.std.proofs.Common.{◌≡◌, ℕ, ◌⊎◌, inl, inr, Bool, true, false, ◌||◌, ◌&&◌, nat_eq, refl, ap, ap₂, sym, ◌∙◌}
 use Rattle.std.proofs.lemmas.Bool.{false≢true}
 use Rattle.ap_term.specs.Tree.{Tree, Trees, var, int, atom, node, none, more}
@@ -6,36 +7,6 @@ use Rattle.ap_term.specs.Substitution.{instance, instance_all}
 use Rattle.ap_term.specs.Vars.{occurs, occurs_all}
 use Rattle.ap_term.proofs.Solutions.{same_var, or_left, or_right}
 use Rattle.ap_sharing.proofs.Elements.{same_test}
-
-pub or_cases : (a b : Bool) → (a || b) ≡ true → (a ≡ true) ⊎ (b ≡ true)
-or_cases true b h = inl refl
-or_cases false b h = inr h
-
-pub or_false : (a b : Bool) → a ≡ false → b ≡ false → (a || b) ≡ false
-or_false true b h k = absurd (false≢true (sym h))
-or_false false b h k = k
-
-pub or_none : (a b : Bool) → (a || b) ≡ false → (a ≡ false) × (b ≡ false)
-or_none true b h = absurd (false≢true (sym h))
-or_none false b h = (refl, h)
-
-pub and_both : (a b : Bool) → (a && b) ≡ true → (a ≡ true) × (b ≡ true)
-and_both true b h = (refl, h)
-and_both false b h = absurd (false≢true h)
-
-pub and_made : (a b : Bool) → a ≡ true → b ≡ true → (a && b) ≡ true
-and_made true b h k = k
-and_made false b h k = absurd (false≢true h)
-
--- a test is one or the other
-pub decide : (b : Bool) → (b ≡ true) ⊎ (b ≡ false)
-decide true = inl refl
-decide false = inr refl
-
--- a test that cannot be true
-pub refuted : (b : Bool) → (b ≡ true → ⊥) → b ≡ false
-refuted true h = absurd (h refl)
-refuted false h = refl
 
 -- whether a variable of the tree passes
 abbrev mutual

@@ -1,4 +1,4 @@
-//! Abstract states of a clause's variables, and what unification and the built-in goals make of them.
+//! Floor: analysis. Abstract states of a clause's variables, and what unification and the built-in goals make of them.
 //!
 //! Stands on ap_sharing and ap_freeness. What the crates above use: each operation gives exactly the state of its
 //! definition, and that state covers whatever the goal makes of an instance that was covered.

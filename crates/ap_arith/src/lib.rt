@@ -1,4 +1,4 @@
-//! The values of expressions that cells stand for.
+//! Floor: store. The values of expressions that cells stand for.
 //!
 //! Stands on `ap_cells`, and on `ap_spec` for the operations on two values. What the crates above use: `eval` and `test`
 //! have the value that the definition of arithmetic gives the term. What they take of the machine's stack has a bound, however

@@ -1,18 +1,11 @@
 -- The variables of a tree from left to right are those that occur in it.
 use Rattle.std.proofs.Common.{◌≡◌, ℕ, Bool, true, false, ◌||◌, nat_eq, List, [], ◌∷◌, ◌++◌, refl, sym, ap, ◌∙◌, inl, inr, ◌⊎◌, if◌then◌else◌}
-use Rattle.std.proofs.lemmas.Bool.{false≢true}
+use Rattle.std.proofs.Math.Bool.{or-false, or_assoc}
+use Rattle.std.proofs.lemmas.Bool.{false≢true, or_cases, or_left, or_right}
 use Rattle.ap_term.specs.Tree.{Tree, Trees, var, int, atom, node, none, more}
 use Rattle.ap_term.specs.Vars.{has, add_vars, add_all_vars, occurs, occurs_all}
 use Rattle.ap_term.proofs.Solutions.{same_var, same_test}
 use Rattle.ap_cells.specs.Walks.{leaves, leaves_all}
-
-or_none : (a : Bool) → (a || false) ≡ a
-or_none true = refl
-or_none false = refl
-
-or_assoc : (a b c : Bool) → ((a || b) || c) ≡ (a || (b || c))
-or_assoc true b c = refl
-or_assoc false b c = refl
 
 has-append : (xs ys : List ℕ) (x : ℕ) → has (xs ++ ys) x ≡ (has xs x || has ys x)
 has-append [] ys x = refl
@@ -28,7 +21,7 @@ eq-sym x y = go (nat_eq x y) (nat_eq y x) refl refl
 
 mutual
   pub has-leaves : (t : Tree) (x : ℕ) → has (leaves t) x ≡ occurs x t
-  has-leaves (var y) x = or_none (nat_eq y x) ∙ eq-sym y x
+  has-leaves (var y) x = or-false (nat_eq y x) ∙ eq-sym y x
   has-leaves (int z) x = refl
   has-leaves (atom a) x = refl
   has-leaves (node a ts) x = has-leaves_all ts x
@@ -36,18 +29,6 @@ mutual
   pub has-leaves_all : (ts : Trees) (x : ℕ) → has (leaves_all ts) x ≡ occurs_all x ts
   has-leaves_all none x = refl
   has-leaves_all (more t ts) x = has-append (leaves t) (leaves_all ts) x ∙ ap (λ b. b || has (leaves_all ts) x) (has-leaves t x) ∙ ap (λ b. occurs x t || b) (has-leaves_all ts x)
-
-or_cases : (a b : Bool) → (a || b) ≡ true → (a ≡ true) ⊎ (b ≡ true)
-or_cases true b h = inl refl
-or_cases false b h = inr h
-
-or_left : (a b : Bool) → a ≡ true → (a || b) ≡ true
-or_left true b h = refl
-or_left false b h = absurd (false≢true h)
-
-or_right : (a b : Bool) → b ≡ true → (a || b) ≡ true
-or_right true b h = refl
-or_right false b h = h
 
 mutual
   -- a variable that is found was there, or stands in the tree
@@ -58,7 +39,7 @@ mutual
       go true k = inl k
       go false k = elim (or_cases (has xs y) (has (x ∷ []) y) (sym (has-append xs (x ∷ []) y) ∙ k)) [
         | inl p ↦ inl p
-        | inr p ↦ inr (eq-sym y x ∙ sym (or_none (nat_eq x y)) ∙ p)
+        | inr p ↦ inr (eq-sym y x ∙ sym (or-false (nat_eq x y)) ∙ p)
       ]
   found-add_vars y (int z) xs h = inl h
   found-add_vars y (atom a) xs h = inl h

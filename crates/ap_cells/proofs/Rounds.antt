@@ -1,5 +1,7 @@
 -- What cells stand for is one list of trees, which `trees` finds.
-use Rattle.std.proofs.Common.{◌≡◌, ℕ, zero, suc, ◌+◌, ◌<◌, ◌≤◌, Bool, true, false, ◌||◌, List, [], ◌∷◌, length, get_or, refl, sym, ap, ◌∙◌, subst, arith, inl, inr, ◌⊎◌}
+pub use Rattle.std.proofs.lemmas.Bool.{or_cases as or_split}
+use Rattle.std.proofs.Common.{◌≡◌, ℕ, zero, suc, ◌+◌, ◌<◌, ◌≤◌, Bool, true, List, [], ◌∷◌, length, get_or, refl, sym, ap, ◌∙◌, subst, arith, inl, inr, ◌⊎◌}
+use Rattle.std.proofs.Math.Bool.{or-true}
 use Rattle.std.proofs.lemmas.List.{get_or-map, get_or_default, length-map, same_lists, get_or_past}
 use Rattle.std.proofs.lemmas.Bool.{cases_lt, cases_eq}
 use Rattle.ap_term.specs.Tree.{Tree, Trees, var, int, atom, node, none, more}
@@ -58,20 +60,12 @@ start cs ts s = record {
     at : (i : ℕ) (d : Raw) → i < length cs → tree_at (flat 0 cs) i ≡ step [] i (get_or cs i d)
     at i d h = flat-at 0 cs i d (var i) h ∙ (let e : 0 + i ≡ i = omega arith in ap (λ n. step [] n (get_or cs i d)) e)
 
-pub or_split : (a b : Bool) → (a || b) ≡ true → (a ≡ true) ⊎ (b ≡ true)
-or_split true b h = inl refl
-or_split false b h = inr h
-
 -- where a variable of an instance comes from
 abbrev pub From : (ℕ → Tree) → ℕ → (ℕ → Bool) → Type 0
 From f j p = (y : ℕ) × (p y ≡ true) × (occurs j (f y) ≡ true)
 
 nat_eq-self : (x : ℕ) → occurs x (var x) ≡ true
 nat_eq-self x = same_test x x refl
-
-or_true : (a : Bool) → (a || true) ≡ true
-or_true true = refl
-or_true false = refl
 
 mutual
   pub occurs-instance : (f : ℕ → Tree) (j : ℕ) (t : Tree) → occurs j (instance f t) ≡ true → From f j (λ y. occurs y t)
@@ -84,7 +78,7 @@ mutual
   occurs_all-instance f j none h = cc
   occurs_all-instance f j (more t ts) h = elim (or_split (occurs j (instance f t)) (occurs_all j (instance_all f ts)) h) [
     | inl p ↦ let q = occurs-instance f j t p in (q.0, rw q.1 refl, q.2)
-    | inr p ↦ let q = occurs_all-instance f j ts p in (q.0, rw q.1 (or_true (occurs q.0 t)), q.2)
+    | inr p ↦ let q = occurs_all-instance f j ts p in (q.0, rw q.1 (or-true (occurs q.0 t)), q.2)
   ]
 
 is_var : (x : ℕ) (t : Tree) → (t ≡ var x) ⊎ (t ≡ var x → ⊥)

@@ -1,6 +1,6 @@
 -- Lists of places that are still to be walked over.
-use Rattle.std.proofs.Common.{◌≡◌, ℕ, zero, suc, ◌+◌, ◌-◌, ◌*◌, ◌<◌, ◌≤◌, Bool, true, false, ◌||◌, nat_eq, List, [], ◌∷◌, ◌++◌, refl, sym, ap, ◌∙◌, arith, append_assoc, append-nil}
-use Rattle.std.specs.Prelude.{Option}
+use Rattle.std.proofs.Common.{◌≡◌, ℕ, zero, suc, ◌+◌, ◌-◌, ◌*◌, ◌<◌, Bool, true, false, ◌||◌, nat_eq, List, [], ◌∷◌, ◌++◌, refl, sym, ap, ◌∙◌, arith, append_assoc, append-nil}
+use Rattle.std.proofs.Math.Bool.{or_assoc}
 use Rattle.ap_term.specs.Tree.{Tree, var, int, atom, node, more}
 use Rattle.ap_term.specs.Vars.{occurs, occurs_all}
 use Rattle.ap_term.proofs.Solutions.{same_var}
@@ -47,10 +47,6 @@ or_swap : (a b c : Bool) → (a || (b || c)) ≡ (b || (a || c))
 or_swap true true c = refl
 or_swap true false c = refl
 or_swap false b c = refl
-
-or_assoc : (a b c : Bool) → ((a || b) || c) ≡ (a || (b || c))
-or_assoc true b c = refl
-or_assoc false b c = refl
 
 pub stands-push : (x : ℕ) (ts : List Tree) (rs : List Range) (r : Range) → stands x ts (rs ++ r ∷ []) ≡ (occurs_all x (span ts r.first r.count) || stands x ts rs)
 stands-push x ts [] r = refl

@@ -1,6 +1,6 @@
 -- Terms that are being built from cells, and what they will become.
 use Rattle.std.specs.Prelude.{ℕ, ◌+◌, ◌*◌, ◌<◌, ◌≤◌, List, [], ◌∷◌}
-use Rattle.ap_term.specs.Tree.{Tree, Trees, node, none, more, push_tree}
+use Rattle.ap_term.specs.Tree.{Tree, node, push_tree, append_trees}
 use Rattle.ap_term.specs.TermView.{tree_of}
 use Rattle.ap_cells.specs.Trees.{tree_at, span}
 use Rattle.ap_cells.specs.Walks.{weight, weight_all}
@@ -8,17 +8,13 @@ use Rattle.ap_cells.specs.declared.terms.Frame.{Frame}
 use Rattle.ap_cells.specs.declared.terms.Turn.{Turn}
 use Rattle.ap_cells.specs.declared.terms.Turn.TheVariants.{Open, Close}
 
-abbrev pub join_trees : Trees → Trees → Trees
-join_trees none us = us
-join_trees (more t ts) us = more t (join_trees ts us)
-
 -- the term of a frame, with the arguments that are still to come
 abbrev pub framed : List Tree → Frame → Tree
-framed ts f = node f.name (join_trees f.args (span ts f.next f.left))
+framed ts f = node f.name (append_trees f.args (span ts f.next f.left))
 
 -- the term of a frame that waits for the argument t
 abbrev pub with_argument : List Tree → Frame → Tree → Tree
-with_argument ts f t = node f.name (join_trees (push_tree f.args t) (span ts f.next f.left))
+with_argument ts f t = node f.name (append_trees (push_tree f.args t) (span ts f.next f.left))
 
 -- the term of all frames, the last one innermost
 abbrev pub closed : List Tree → List Frame → Tree → Tree

@@ -1,4 +1,4 @@
-//! The machine's data: a store of cells, each of which stands for a term, with a trail by which bindings are taken back.
+//! Floor: store. The machine's data: a store of cells, each of which stands for a term, with a trail by which bindings are taken back.
 //!
 //! Stands on `ap_term`. What the crates above use: `trees`, the trees that the cells stand for, and what each call makes
 //! of them; `spare`, the cells that can be pushed without memory; `Keeps`, by which `undo_to` leads back to a mark.

@@ -26,7 +26,8 @@ use Rattle.ap_patterns.specs.Given.{Patterns, call_at, to_call, to_success, afte
 use Rattle.ap_patterns.specs.Covered.{IsHeld, IsClosed}
 use Rattle.ap_patterns.proofs.Coverings.{covered-covers}
 use Rattle.ap_patterns.proofs.Marks.{marked-covers}
-use Rattle.ap_certify.specs.Forks.{Fork, IsOneOf, IsUnused, Tracked, Forks, here, below, beside}
+use Rattle.ap_tracked.specs.Tracked.{IsOneOf, Tracked}
+use Rattle.ap_tracked.specs.Forks.{Fork, IsUnused, Forks, here, below, beside}
 use Rattle.ap_certify.specs.Entered.{HasClause, IsEntered}
 use Rattle.ap_certify.specs.Certificate.{AreMissingGiven}
 use Rattle.ap_certify.specs.GroupsGiven.{AreGiven, AreWritten, IsReached, IsGivenAs, IsClauseGiven, AreGroupsGiven}

@@ -7,12 +7,15 @@ use Rattle.ap_term.specs.Substitution.{instance, Subst, value, shift}
 use Rattle.ap_term.specs.Unification.{mgu}
 use Rattle.ap_term.specs.Unifier.{IsMostGeneral}
 use Rattle.ap_term.specs.Builtins.{builtin}
+use Rattle.ap_term.specs.declared.faults.Fault.{Fault}
+use Rattle.ap_term.specs.Faults.{fault_of}
 use Rattle.ap_term.specs.Goals as goals
 use Rattle.ap_term.specs.Goals.{Clause, Program}
 use Rattle.ap_term.proofs.Copies.{instance_var, instance_twice}
 use Rattle.ap_term.proofs.Solvable.{mgu-general}
 use Rattle.ap_absunify.specs.MostGeneral.{MostGeneral}
-use Rattle.ap_certify.specs.Forks.{Fork, Goal, call, fork, moved, renamed, placed, calls, opened, Tracked, child_if, clause_children, call_children, children_by, IsOneOf, ComesFirst}
+use Rattle.ap_tracked.specs.Tracked.{Goal, call, fork, moved, renamed, placed, calls, opened, Tracked, child_if, clause_children, call_children, children_unless, children_by, IsOneOf}
+use Rattle.ap_tracked.specs.Forks.{Fork, ComesFirst}
 use Rattle.ap_certify.proofs.Runs.{after_head, Ans, answered, by, Body, done, goal, joined, within, BodyFork, first, sequence, past_group, in_goal, past_goal}
 
 pub data Item : Type 0 where
@@ -220,14 +223,23 @@ module _ (A : Program) (Good : Fork → Type 0) where
       let P : Tracked → Type 0 = λ x. IsSafe (bares x.goals) x.next in
       subst P (sym e) (subst (λ L. IsSafe L (s.next + 0)) (sym (bares_moved (value b) rest)) (λ d h r. safe (suc d) h (inr (inr (b, q, r)))))
 
+  -- behind a fault no goal is left
+  by_fault : (e : Option Fault) (s t : Tracked) (ss : List Tracked) → (IsOneOf t ss → IsSafe (bares t.goals) t.next) → IsOneOf t (children_unless e s ss) → IsSafe (bares t.goals) t.next
+  by_fault None s t ss safe k = safe k
+  by_fault (Some e) s t ss safe (inr k) = absurd k
+  by_fault (Some e) s t ss safe (inl q) =
+      let P : Tracked → Type 0 = λ x. IsSafe (bares x.goals) x.next in
+      subst P (sym q) (λ d h r. absurd (none_left A h d (s.next + 0) r))
+
   -- what a safe state leads to is safe
   pub child_safe : (s t : Tracked) (gs : List Goal) → IsSafe (bares gs) s.next → IsOneOf t (children_by A s (opened gs)) → IsSafe (bares t.goals) t.next
   child_safe s t [] safe k = absurd k
-  child_safe s t (call g ∷ rest) safe k = by_call s t g rest safe (builtin g) refl k
+  child_safe s t (call g ∷ rest) safe k = by_fault (fault_of g) s t (call_children A s g rest (builtin g)) (by_call s t g rest safe (builtin g) refl) k
   child_safe s t (fork cs none f now ∷ gs) safe k = child_safe s t gs (λ d h r. safe (suc d) h (inr r)) k
   child_safe s t (fork cs (more g gs) f now ∷ rest) safe k =
-      by_call s t (instance f g) (calls f gs ++ rest)
-      (λ d h r. safe (suc d) h (inr (subst (λ K. Reached A d (one (instance f g) ∷ K) s.next h) (bares_calls f gs rest) r))) (builtin (instance f g)) refl k
+      by_fault (fault_of (instance f g)) s t (call_children A s (instance f g) (calls f gs ++ rest) (builtin (instance f g)))
+      (by_call s t (instance f g) (calls f gs ++ rest)
+      (λ d h r. safe (suc d) h (inr (subst (λ K. Reached A d (one (instance f g) ∷ K) s.next h) (bares_calls f gs rest) r))) (builtin (instance f g)) refl) k
 
   pub first_good : (L : List Goal) (n : ℕ) (h : Fork) → IsSafe (bares L) n → ComesFirst h L → Good h
   first_good [] n h safe k = absurd k

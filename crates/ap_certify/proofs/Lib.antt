@@ -6,7 +6,7 @@ pub mod Sound
 pub mod Items
 pub mod Closed
 pub mod Strict
-pub mod Untracked
+pub mod Safe
 pub mod HeldGoals
 pub mod HeldParts
 pub mod HeldClauses

@@ -5,11 +5,14 @@ use Rattle.ap_term.specs.Tree.{Tree, Trees, none, more}
 use Rattle.ap_term.specs.Substitution.{instance, Subst, value, shift}
 use Rattle.ap_term.specs.Unification.{mgu}
 use Rattle.ap_term.specs.Builtins.{builtin}
+use Rattle.ap_term.specs.declared.faults.Fault.{Fault}
+use Rattle.ap_term.specs.Faults.{fault_of}
 use Rattle.ap_term.specs.Goals as goals
 use Rattle.ap_term.specs.Goals.{Clause, Program}
 use Rattle.ap_cge.specs.Stripped.{stripped_part, stripped}
 use Rattle.ap_certify.specs.declared.certified.Scope.TheVariants.{Every}
-use Rattle.ap_certify.specs.Forks.{Fork, Goal, call, fork, moved, renamed, placed, Tracked, child_if, clause_children, call_children, children_by, opened, IsOneOf, ComesFirst, Forks, here, below, beside}
+use Rattle.ap_tracked.specs.Tracked.{Goal, call, fork, moved, renamed, placed, Tracked, child_if, clause_children, call_children, children_unless, children_by, opened, IsOneOf}
+use Rattle.ap_tracked.specs.Forks.{Fork, ComesFirst, Forks, here, below, beside}
 use Rattle.ap_certify.specs.Certificate.{AreMissingGiven}
 
 abbrev pub AllCalls : List Goal → Type 0
@@ -77,9 +80,14 @@ by_call : (p : Program) (s t : Tracked) (g : Tree) (rest : List Goal) (o : Optio
 by_call p s t g rest None h b i = by_clauses p s t g rest h b i
 by_call p s t g rest (Some answer) h b i = child_calls s t rest answer [] 0 tt b i
 
+fault_calls : (e : Option Fault) (s t : Tracked) (ss : List Tracked) → (IsOneOf t ss → AllCalls t.goals) → IsOneOf t (children_unless e s ss) → AllCalls t.goals
+fault_calls None s t ss a i = a i
+fault_calls (Some e) s t ss a (inl q) = let P : Tracked → Type 0 = λ x. AllCalls x.goals in subst P (sym q) tt
+fault_calls (Some e) s t ss a (inr i) = absurd i
+
 below_calls : (p : Program) (s t : Tracked) (gs : List Goal) → NoGroups p → AllCalls gs → IsOneOf t (children_by p s (opened gs)) → AllCalls t.goals
 below_calls p s t [] h a i = absurd i
-below_calls p s t (call g ∷ rest) h a i = by_call p s t g rest (builtin g) h a i
+below_calls p s t (call g ∷ rest) h a i = fault_calls (fault_of g) s t (call_children p s g rest (builtin g)) (by_call p s t g rest (builtin g) h a) i
 below_calls p s t (fork cs ts f now ∷ rest) h a i = absurd a
 
 not_first : (f : Fork) (gs : List Goal) → AllCalls gs → ComesFirst f gs → ⊥

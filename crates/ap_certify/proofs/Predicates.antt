@@ -19,7 +19,7 @@ use Rattle.ap_patterns.specs.Given.{Patterns, to_call, any_pattern, given_by_hea
 use Rattle.ap_patterns.specs.Covered.{IsHeld, IsClosed}
 use Rattle.ap_patterns.proofs.Arguments.{callable-few}
 use Rattle.ap_patterns.proofs.Rows.{same_predicate-true}
-use Rattle.ap_certify.specs.Forks.{IsOneOf}
+use Rattle.ap_tracked.specs.Tracked.{IsOneOf}
 use Rattle.ap_certify.specs.Refused.{with_new, predicates_behind, call_of_any, entry_calls}
 use Rattle.ap_certify.specs.Scopes.{AreSameEntries}
 use Rattle.ap_certify.proofs.Closed.{left_all, right_all, arity_of}

@@ -6,7 +6,8 @@ use Rattle.ap_term.specs.Substitution.{instance, Subst, value, shift}
 use Rattle.ap_term.specs.Builtins.{builtin}
 use Rattle.ap_term.specs.Goals.{Part, call, group, calls, Clause, Program}
 use Rattle.ap_absunify.specs.MostGeneral.{MostGeneral}
-use Rattle.ap_certify.specs.Forks.{Fork, renamed, IsOneOf}
+use Rattle.ap_tracked.specs.Tracked.{renamed, IsOneOf}
+use Rattle.ap_tracked.specs.Forks.{Fork}
 
 -- the instances of a clause's variables once u has unified its head with a call
 abbrev pub after_head : Clause → ℕ → (ℕ → Tree) → ℕ → Tree

@@ -29,10 +29,12 @@ use Rattle.ap_patterns.proofs.CallPatterns.{call_pattern-covers}
 use Rattle.ap_patterns.proofs.Entering.{own-range, own-has, enter-covers}
 use Rattle.ap_conditions.proofs.Given.{given-holds}
 use Rattle.ap_certify.specs.Written.{is_written}
-use Rattle.ap_certify.specs.Forks.{Fork, IsOneOf, IsGoalOf}
+use Rattle.ap_tracked.specs.Tracked.{IsOneOf}
+use Rattle.ap_tracked.specs.Forks.{Fork, IsGoalOf}
 use Rattle.ap_certify.specs.Certificate.{MissingHold}
 use Rattle.ap_certify.proofs.Runs.{after_head, Ans, answered, by, Body, done, goal, joined, CallFork, within, BodyFork, first, sequence, past_group, in_goal, past_goal}
-use Rattle.ap_certify.proofs.Tame.{Tame, ans_tame, body_tame, own_wider, below, numbered-range, in_range-bounds}
+use Rattle.ap_certify.proofs.Tame.{Tame, ans_tame, body_tame, own_wider, below, in_range-bounds}
+use Rattle.ap_tracked.proofs.Untracked.{numbered-range}
 use Rattle.ap_certify.specs.declared.sights.Sight.{Sight}
 use Rattle.ap_certify.specs.declared.sights.Sight.TheVariants.{Known, Unknown}
 use Rattle.ap_certify.specs.Sights.{pattern_in, after, after_all, after_parts, entry_as, entry}

@@ -12,8 +12,9 @@ use Rattle.ap_term.proofs.Conditions.{full-condition}
 use Rattle.ap_term.proofs.Solutions.{same_var}
 use Rattle.ap_absunify.proofs.Vars.{or_cases, and_both, refuted}
 use Rattle.ap_certify.specs.Written.{same_check, is_written}
-use Rattle.ap_certify.specs.Forks.{Fork}
-use Rattle.ap_certify.specs.Certificate.{MissingHold, IsSafe}
+use Rattle.ap_tracked.specs.Forks.{Fork}
+use Rattle.ap_tracked.specs.Safe.{IsIndependent}
+use Rattle.ap_certify.specs.Certificate.{MissingHold}
 
 turned : (a b : Tree) → SharesNoVariable a b → SharesNoVariable b a
 turned a b h x o = refuted (occurs x a) (λ i. false≢true (sym (h x i) ∙ o))
@@ -40,7 +41,7 @@ written_holds f c (k ∷ cs) e h =
       | inr q ↦ written_holds f c cs q (All-tail (Holds f) k cs h)
     ]
 
-pub strict : (f : Fork) → MissingHold f → IsSafe f
+pub strict : (f : Fork) → MissingHold f → IsIndependent f
 strict f m h = full-condition f.own f.goals (λ c i. go c i (is_written c f.checks) refl)
   where
     go : (c : Check) → IsInFullCondition f.goals c → (b : Bool) → is_written c f.checks ≡ b → Holds f.own c

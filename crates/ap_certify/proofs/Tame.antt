@@ -4,9 +4,9 @@ use Rattle.std.proofs.lemmas.Bool.{false≢true, and_parts, leb-true}
 use Rattle.ap_term.specs.declared.fixed.TheConstants.{TRUE, FAIL}
 use Rattle.ap_term.specs.declared.builtins.Relation.{Relation}
 use Rattle.ap_term.specs.declared.builtins.Relation.TheVariants.{Unify, NotUnify, Same, NotSame, Is, Compare}
-use Rattle.ap_term.specs.Tree.{Tree, Trees, var, int, atom, node, none, more}
-use Rattle.ap_term.specs.Vars.{occurs, occurs_all}
-use Rattle.ap_term.specs.WellFormed.{in_range, numbered, numbered_all}
+use Rattle.ap_term.specs.Tree.{Tree, var, int, atom, node, none, more}
+use Rattle.ap_term.specs.Vars.{occurs}
+use Rattle.ap_term.specs.WellFormed.{in_range, numbered}
 use Rattle.ap_term.specs.Substitution.{instance, Subst, value, shift}
 use Rattle.ap_term.specs.Unification.{mgu}
 use Rattle.ap_term.specs.Unifier.{IsMostGeneral}
@@ -18,9 +18,10 @@ use Rattle.ap_term.proofs.Solvable.{mgu-general}
 use Rattle.ap_term.proofs.Solutions.{same_var}
 use Rattle.ap_sharing.proofs.Elements.{clash}
 use Rattle.ap_absunify.specs.MostGeneral.{MostGeneral}
-use Rattle.ap_absunify.proofs.Vars.{or_cases, decide, refuted, any_some, occurs_instance}
+use Rattle.ap_absunify.proofs.Vars.{decide, refuted, any_some, occurs_instance}
 use Rattle.ap_absunify.proofs.Unifier.{stays, none_new}
-use Rattle.ap_certify.specs.Forks.{IsOneOf}
+use Rattle.ap_tracked.specs.Tracked.{IsOneOf}
+use Rattle.ap_tracked.proofs.Untracked.{numbered-range}
 use Rattle.ap_certify.proofs.Runs.{after_head, Ans, answered, by, Body, done, goal, joined}
 
 -- of the variables below n, s binds those of V alone, to terms with variables of V and variables from n to m
@@ -90,19 +91,6 @@ in_range-bounds n x h =
     let a : 1 ≤ x = leb-true 1 x r.0 in
     let b : x ≤ n = leb-true x n r.1 in
     (omega arith, b)
-
-mutual
-  pub numbered-range : (n : ℕ) (t : Tree) → IsTrue (numbered n t) → (x : ℕ) → occurs x t ≡ true → in_range n x ≡ true
-  numbered-range n (var y) h x o = ap (in_range n) (same_var x y o) ∙ h
-  numbered-range n (int z) h x o = absurd (false≢true o)
-  numbered-range n (atom a) h x o = absurd (false≢true o)
-  numbered-range n (node a ts) h x o = numbered_all-range n ts h x o
-
-  numbered_all-range : (n : ℕ) (ts : Trees) → IsTrue (numbered_all n ts) → (x : ℕ) → occurs_all x ts ≡ true → in_range n x ≡ true
-  numbered_all-range n none h x o = absurd (false≢true o)
-  numbered_all-range n (more t ts) h x o =
-      let r = and_parts (numbered n t) (numbered_all n ts) h in
-      elim (or_cases (occurs x t) (occurs_all x ts) o) [ inl i ↦ numbered-range n t r.0 x i | inr i ↦ numbered_all-range n ts r.1 x i ]
 
 abbrev pub GoodHeads : Program → Type 0
 GoodHeads A = (c : Clause) → IsOneOf c A → IsTrue (numbered c.vars c.head)

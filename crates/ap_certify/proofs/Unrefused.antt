@@ -13,7 +13,7 @@ use Rattle.ap_patterns.specs.Covered.{IsHeld, IsClosed}
 use Rattle.ap_certify.specs.declared.faults.CertErr.{CertErr}
 use Rattle.ap_certify.specs.declared.faults.CertErr.TheVariants.{NotClosed, MissingCheck, NoMemory}
 use Rattle.ap_certify.specs.declared.sights.Sight.{Sight}
-use Rattle.ap_certify.specs.Forks.{IsOneOf}
+use Rattle.ap_tracked.specs.Tracked.{IsOneOf}
 use Rattle.ap_certify.specs.Sights.{given_in, after, after_part, entry}
 use Rattle.ap_certify.specs.Held.{IsGoalHeld, AreHeldAtFork, AreHeldInTurn, IsPartHeld, IsBodyHeld}
 use Rattle.ap_certify.specs.GroupsGiven.{AreGroupsGiven}

@@ -1,17 +1,17 @@
 -- What a certified program promises.
 use Rattle.std.specs.Prelude.{◌≡◌, ℕ, false, IsTrue}
-use Rattle.std.specs.List.{All}
 use Rattle.ap_term.specs.declared.clauses.Check.{Check}
 use Rattle.ap_term.specs.Tree.{Tree}
 use Rattle.ap_term.specs.WellFormed.{callable}
 use Rattle.ap_term.specs.Goals.{Program}
-use Rattle.ap_term.specs.Independence.{IsStrictlyIndependent, Holds, IsInFullCondition}
+use Rattle.ap_term.specs.Independence.{Holds, IsInFullCondition}
+use Rattle.ap_tracked.specs.Safe.{IsSafe}
 use Rattle.ap_cge.specs.Stripped.{stripped}
 use Rattle.ap_certify.specs.declared.certified.Scope.{Scope}
 use Rattle.ap_certify.specs.declared.certified.Scope.TheVariants.{Every, Of}
 use Rattle.ap_certify.specs.Entered.{IsEntered}
 use Rattle.ap_certify.specs.Written.{is_written}
-use Rattle.ap_certify.specs.Forks.{Fork, Forks, IsUnused, alone}
+use Rattle.ap_tracked.specs.Forks.{Fork, Forks, IsUnused, alone}
 
 -- an annotated program, and the queries for which it is certified
 pub record Certificate : Type 0 where
@@ -37,9 +37,9 @@ pub record IsSoundAnnotation (p a : Program) (scope : Scope) : Type 0 where
   pub same : stripped a ≡ stripped p
   pub given : AreMissingGiven a scope
 
--- where the written checks hold, the goals are strictly independent
-abbrev pub IsSafe : Fork → Type 0
-IsSafe f = All (Holds f.own) f.checks → IsStrictlyIndependent f.own f.goals
-
 pub record IsCertified (c : Certificate) : Type 0 where
   pub given : AreMissingGiven c.program c.scope
+
+-- the search of each query of the scope is safe: at each group that it comes to, the written checks are enough
+abbrev pub AreQueriesSafe : Program → Scope → Type 0
+AreQueriesSafe a scope = (goal : Tree) → IsWithin a scope goal → (n : ℕ) → IsUnused n goal → IsSafe a (alone goal n)

@@ -1,8 +1,7 @@
 -- What certified programs are worth.
-use Rattle.std.specs.Prelude.{◌≡◌, ◌≢◌, ℕ, map}
+use Rattle.std.specs.Prelude.{◌≡◌, ◌≢◌, ℕ}
 use Rattle.ap_term.specs.Goals.{Program}
 use Rattle.ap_term.specs.WellFormed.{IsProgram}
-use Rattle.ap_term.specs.Search as search
 use Rattle.ap_absunify.specs.declared.states.State.{State}
 use Rattle.ap_patterns.specs.declared.entries.Entries.{Entries}
 use Rattle.ap_patterns.specs.Given.{Patterns}
@@ -10,8 +9,9 @@ use Rattle.ap_patterns.specs.Covered.{IsClosed}
 use Rattle.ap_certify.specs.declared.certified.Scope.TheVariants.{Of}
 use Rattle.ap_certify.specs.declared.faults.CertErr.{CertErr}
 use Rattle.ap_certify.specs.declared.faults.CertErr.TheVariants.{NotClosed, NoMemory}
-use Rattle.ap_certify.specs.Forks.{Fork, Tracked, untracked, children}
-use Rattle.ap_certify.specs.Certificate.{MissingHold, IsSafe, AreMissingGiven}
+use Rattle.ap_tracked.specs.Forks.{Fork}
+use Rattle.ap_certify.specs.Certificate.{Certificate, IsCertified, MissingHold, AreMissingGiven, AreQueriesSafe}
+use Rattle.ap_tracked.specs.Safe.{IsIndependent}
 use Rattle.ap_certify.specs.GroupsGiven.{AreGroupsGiven}
 use Rattle.ap_certify.specs.Refused.{IsRefusedBy}
 
@@ -30,8 +30,8 @@ DifferLaw = (E : Entries) (A : Program) (t : Patterns) (clause place : ℕ) (was
 
 -- where the checks that aren't written hold, and the written ones do, the goals are strictly independent
 abbrev pub StrictLaw : Type 0
-StrictLaw = (f : Fork) → MissingHold f → IsSafe f
+StrictLaw = (f : Fork) → MissingHold f → IsIndependent f
 
--- without what a state keeps beside its groups the search is the search
-abbrev pub TrackedLaw : Type 0
-TrackedLaw = (p : Program) (s : Tracked) → IsProgram p → map untracked (children p s) ≡ search.children p (untracked s)
+-- the search of each query for which a program is certified is safe
+abbrev pub SafeLaw : Type 0
+SafeLaw = (c : Certificate) → IsCertified c → AreQueriesSafe c.program c.scope

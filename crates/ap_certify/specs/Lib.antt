@@ -1,4 +1,3 @@
-pub mod Forks
 pub mod Written
 pub mod Entered
 pub mod Certificate

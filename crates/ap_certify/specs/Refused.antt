@@ -17,7 +17,7 @@ use Rattle.ap_patterns.specs.Covered.{is_covered}
 use Rattle.ap_certify.specs.declared.faults.CertErr.{CertErr}
 use Rattle.ap_certify.specs.declared.faults.CertErr.TheVariants.{NotClosed, MissingCheck, NoMemory}
 use Rattle.ap_certify.specs.declared.sights.Sight.{Sight}
-use Rattle.ap_certify.specs.Forks.{IsOneOf}
+use Rattle.ap_tracked.specs.Tracked.{IsOneOf}
 use Rattle.ap_certify.specs.Written.{is_written}
 use Rattle.ap_certify.specs.Sights.{pattern_in, given_in, gives, after, after_part, after_parts, entry}
 

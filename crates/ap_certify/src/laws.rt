@@ -1,6 +1,6 @@
 //! Laws of the definitions. Each is the contract of a function that does nothing.
 
-ghost use Rattle.ap_certify.specs.Laws.{SoundLaw, UnrefusedLaw, DifferLaw, StrictLaw, TrackedLaw};
+ghost use Rattle.ap_certify.specs.Laws.{SoundLaw, UnrefusedLaw, DifferLaw, StrictLaw, SafeLaw};
 
 /// A table that covers all that is given to it, and gives what the groups leave out, makes the program sound.
 pub fn sound_law()
@@ -23,7 +23,7 @@ pub fn strict_law()
     ensures { StrictLaw }
 {}
 
-/// Without what a state keeps beside its groups the search is the search.
-pub fn tracked_law()
-    ensures { TrackedLaw }
+/// The search of each query for which a program is certified is safe.
+pub fn safe_law()
+    ensures { SafeLaw }
 {}

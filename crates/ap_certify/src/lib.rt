@@ -1,4 +1,4 @@
-//! Certified programs: annotated programs whose groups run side by side only where their goals are strictly independent.
+//! Floor: analysis. Certified programs: annotated programs whose groups run side by side only where their goals are strictly independent.
 //!
 //! Stands on `ap_patterns` for what a table says, and on `ap_cge` for annotated programs. The crates above use one
 //! contract: at each group that a search of a query within the scope comes to, each check of the group's full condition

@@ -1,4 +1,4 @@
-//! Annotated programs: programs whose groups carry checks, as text and without them.
+//! Floor: text. Annotated programs: programs whose groups carry checks, as text and without them.
 //!
 //! Stands on `ap_term`, on `ap_writer` for terms, on `ap_reader` for the table of operators, on `ap_lexer` for the law of
 //! what is read back, and on `ap_outside` for where lines are put. The crates above use one contract: what is put are the

@@ -59,12 +59,6 @@ apart_pairs ts old popped r h e n s =
     first : (u v : Tree) (us vs : Trees) → more u us ≡ more v vs → u ≡ v
     first u v us vs k = cc
 
--- an empty run taken off
-pub empty_pairs : (ts : List Tree) (old popped : List Pairs) (r : Pairs) → r.count ≡ 0 → old ≡ popped ++ r ∷ [] → AllSame ts popped ↔ AllSame ts old
-empty_pairs ts old popped r z e =
-    let same : AreSame ts r = ap (span ts r.left) z ∙ sym (ap (span ts r.right) z) in
-    (λ s. subst (AllSame ts) (sym e) ((AllSame-push ts popped r).1 (s, same)), λ s. ((AllSame-push ts popped r).0 (subst (AllSame ts) e s)).0)
-
 pub weight_turn : (ts : List Tree) (old popped rest new : List Pairs) (r : Pairs) → 0 < r.count → old ≡ popped ++ r ∷ []
     → weight_pairs ts rest ≤ weight_pairs ts popped + (2 * weight_all (span ts (r.left + 1) (r.count - 1)) + 1) → weight_pairs ts new < weight_pairs ts rest + 2 * weight (tree_at ts r.left)
     → weight_pairs ts new < weight_pairs ts old

@@ -1,4 +1,4 @@
-//! Checks on the terms that cells stand for: is a term ground, do two terms share no variable, are two terms the same.
+//! Floor: store. Checks on the terms that cells stand for: is a term ground, do two terms share no variable, are two terms the same.
 //!
 //! Stands on `ap_cells`. What the crates above use: `ground`, `indep` and `identical` are true exactly where the check
 //! holds.

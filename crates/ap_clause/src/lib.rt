@@ -1,4 +1,4 @@
-//! Reads the text of a program, and of a query, as clauses with their bodies lifted.
+//! Floor: text. Reads the text of a program, and of a query, as clauses with their bodies lifted.
 // What it is for: `program` and `query`. A text is read in one pass over its pieces, in time linear in its length but
 // for what the limits bound, and its bodies are lifted in a second one, when all its names are known.
 // What it stands on: ap_lexer and ap_reader for terms, ap_lifting for bodies, ap_term for the table of atoms.

@@ -1,4 +1,4 @@
-//! Whether code is sound, so that the machine runs it without a test of its own.
+//! Floor: code. Whether code is sound, so that the machine runs it without a test of its own.
 //!
 //! Stands on `ap_instr`. The one contract used above: code that is `Sound` keeps each rule of `specs/Rules` at each place,
 //! on every path to it; `laws` says what a machine has of that.

@@ -4,16 +4,15 @@ use Rattle.std.specs.List.{list_all}
 use Rattle.std.proofs.lemmas.Bool.Decides.{Decides-eqb}
 use Rattle.std.proofs.lemmas.List.{drop_more}
 use Rattle.ap_term.specs.declared.terms.Term.{Term}
-use Rattle.ap_term.specs.Tree.{Tree, Trees, none, more, count_trees, push_tree}
+use Rattle.ap_term.specs.Tree.{Tree, Trees, none, more, count_trees, push_tree, append_trees}
 use Rattle.ap_term.specs.TermView.{tree_of, trees_of}
 use Rattle.ap_term.specs.Vars.{add_vars, add_all_vars}
 use Rattle.ap_term.specs.declared.clauses.Part.{Part as Held}
 use Rattle.ap_term.specs.declared.clauses.Check.{Check}
 use Rattle.ap_term.specs.GoalView.{part_of}
-use Rattle.ap_term.specs.Goals.{Part, call, group, Clause}
+use Rattle.ap_term.specs.Goals.{Part, call, group, Clause, plain_goals}
 use Rattle.ap_term.specs.WellFormed.{callable, all_callable, numbered, numbered_all, numbered_check, well_formed_part, IsClause}
 use Rattle.ap_term.proofs.TermLists.{trees_of-drop_more}
-use Rattle.ap_laws.specs.Plain.{plain_goals, append_trees}
 use Rattle.ap_instr.specs.Step.{Step, execute}
 use Rattle.ap_instr.specs.Runs.{arguments}
 use Rattle.ap_codegen.specs.CodeOf.{IsCodeOf}

@@ -5,11 +5,10 @@ use Rattle.std.proofs.lemmas.Bool.Decides.{Decides-eqb}
 use Rattle.ap_term.specs.Tree.{Tree, Trees, var, int, atom, node, none, more, count_trees}
 use Rattle.ap_term.specs.Vars.{has, add_vars, add_all_vars, occurs, occurs_all}
 use Rattle.ap_term.specs.Substitution.{instance, instance_all}
-use Rattle.ap_term.specs.Goals.{Clause}
+use Rattle.ap_term.specs.Goals.{Clause, plain_goals}
 use Rattle.ap_term.specs.WellFormed.{callable, all_callable}
 use Rattle.ap_term.proofs.Solutions.{instance_agree, instance_all_agree, or_left, or_right, same_var, same_test}
 use Rattle.ap_term.proofs.Solvable.{has-add_vars, has-add_all_vars}
-use Rattle.ap_laws.specs.Plain.{plain_goals}
 use Rattle.ap_instr.specs.declared.instruction.Slot.TheVariants.{Y}
 use Rattle.ap_instr.specs.Step.{Step, get_variable, get_value, put_variable, put_value, put_structure, unify_variable, unify_value, call, execute, builtin}
 use Rattle.ap_instr.specs.Runs.{Runs, Reads, set, spread, lost, applied, arguments}

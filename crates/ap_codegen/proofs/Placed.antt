@@ -5,8 +5,7 @@ use Rattle.std.proofs.lemmas.List.{map-append}
 use Rattle.std.proofs.lemmas.Bool.Decides.{Decides-eqb}
 use Rattle.ap_term.specs.Tree.{Tree, Trees, var, none, more, count_trees}
 use Rattle.ap_term.specs.Substitution.{instance_all}
-use Rattle.ap_term.specs.Goals.{Clause}
-use Rattle.ap_laws.specs.Plain.{plain_goals}
+use Rattle.ap_term.specs.Goals.{Clause, plain_goals}
 use Rattle.ap_instr.specs.declared.instruction.Instr.{Instr}
 use Rattle.ap_instr.specs.declared.instruction.Instr.TheVariants.{Fail, Try}
 use Rattle.ap_instr.specs.Code.{Compiled}

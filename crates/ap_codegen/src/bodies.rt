@@ -1,10 +1,10 @@
 //! The code of a clause whose variables stand in its environment.
 
 ghost use Rattle.std.specs.Prelude.{◌≡◌, ◌+◌, ◌==◌, ◌&&◌, not, [], ◌∷◌, ◌++◌, map, IfOk, OnOk};
-ghost use Rattle.ap_term.specs.Tree.{count_trees};
+ghost use Rattle.ap_term.specs.Tree.{count_trees, append_trees};
 ghost use Rattle.ap_term.specs.TermView.{tree_of, trees_of};
 ghost use Rattle.ap_term.specs.Vars.{add_vars, add_all_vars};
-ghost use Rattle.ap_laws.specs.Plain.{plain_goals, append_trees};
+ghost use Rattle.ap_term.specs.Goals.{plain_goals};
 ghost use Rattle.ap_instr.specs.Step.{execute};
 ghost use Rattle.ap_instr.specs.Runs.{arguments};
 ghost use Rattle.ap_codegen.specs.CodeOf.{IsCodeOf};

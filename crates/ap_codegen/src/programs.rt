@@ -2,7 +2,7 @@
 
 ghost use Rattle.std.specs.Prelude.{◌≡◌, ◌+◌, false, map, length, slice_get, Some, None, IfOk, OnOk};
 ghost use Rattle.ap_term.specs.declared.fixed.TheConstants.{QUERY};
-ghost use Rattle.ap_term.specs.Goals.{Program};
+ghost use Rattle.ap_term.specs.Goals.{Program as Clauses};
 ghost use Rattle.ap_instr.specs.Code.{Compiled};
 ghost use Rattle.ap_instr.specs.StandsFor.{StandsForQuery};
 ghost use Rattle.ap_codecheck.specs.Rules.{IsSound};
@@ -18,9 +18,8 @@ use crate::layout::lay;
 use crate::permanent::{above, count};
 use crate::tables::Tables;
 use crate::temporary::clause_steps;
-use ap_certify::Certified;
 use ap_instr::{Code, Instr, Predicate};
-use ap_term::{Atom, Clause, NoMemory, Query, Term, fixed};
+use ap_term::{Atom, Clause, NoMemory, Program, Query, Term, fixed};
 use std::alloc::Global;
 
 /// The code of a clause.
@@ -86,7 +85,7 @@ fn add_predicate(
     requires { is_builtin_key (name, arity) ≡ false }
     ensures grows { OnOk result (Grows tables.old tables.new) }
     ensures count { OnOk result (length made.new.predicates.items ≡ length made.old.predicates.items + 1) }
-    ensures made { OnOk result ((p : Program) → Indexes index.now p → slice_get tables.old.predicates (length made.old.predicates.items) ≡ Some (name, arity) → IsMade tables.old made.old.instructions.items made.old.predicates.items p → IsMade tables.new made.new.instructions.items made.new.predicates.items p) }
+    ensures made { OnOk result ((p : Clauses) → Indexes index.now p → slice_get tables.old.predicates (length made.old.predicates.items) ≡ Some (name, arity) → IsMade tables.old made.old.instructions.items made.old.predicates.items p → IsMade tables.new made.new.instructions.items made.new.predicates.items p) }
 {
     let start = above(0, made.instructions.len())?;
     let codes = predicate_codes(alloc, tables, index, name, arity)?;
@@ -134,7 +133,7 @@ fn predicates(
 ) -> Result<Made, NoMemory>
     ensures grows { OnOk result (Grows tables.old tables.new) }
     ensures all { IfOk result (λ made. slice_get tables.new.predicates (length made.predicates.items) ≡ None) }
-    ensures made { IfOk result (λ made. (p : Program) → Indexes index.now p → IsMade tables.new made.instructions.items made.predicates.items p) }
+    ensures made { IfOk result (λ made. (p : Clauses) → Indexes index.now p → IsMade tables.new made.instructions.items made.predicates.items p) }
 {
     let mut made = Made {
         instructions: Vec::new(alloc),
@@ -177,11 +176,11 @@ fn compile_clauses(
 /// `?-` on the query's variables, and then those that are called and have no clause, whose code is `fail`. A clause's code is
 /// Warren's (An Abstract Prolog Instruction Set, 1983). A group is compiled as its goals one after another. A structure of more
 /// than 255 arguments, and more than 4,294,967,295 places or registers, are want of memory.
-pub fn compile(alloc: Global, program: &Certified, query: &Query) -> Result<Code, NoMemory>
-    ensures stands { IfOk result (λ code. StandsForQuery code program.now.program query.now) }
+pub fn compile(alloc: Global, program: &Program, query: &Query) -> Result<Code, NoMemory>
+    ensures stands { IfOk result (λ code. StandsForQuery code program.now query.now) }
     ensures sound { IfOk result (λ code. IsSound code) }
 {
-    let own = program.clauses();
+    let own = program.as_slice();
     let all = asked_program(alloc, own, query)?;
     let arity = query.question().vars() as u8;
     let code = compile_clauses(alloc, all.as_slice(), own, arity)?;

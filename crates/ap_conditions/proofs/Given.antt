@@ -1,7 +1,7 @@
 -- What a state gives holds, and what never holds there doesn't.
 use Rattle.std.proofs.Common.{◌≡◌, ℕ, Bool, true, false, not, List, [], ◌∷◌, if◌then◌else◌, ap, sym, ◌∙◌, refl}
 use Rattle.std.specs.List.{list_any}
-use Rattle.std.proofs.lemmas.Bool.{false≢true}
+use Rattle.std.proofs.lemmas.Bool.{false≢true, not-true}
 use Rattle.ap_term.specs.declared.clauses.Check.{Check}
 use Rattle.ap_term.specs.declared.clauses.Check.TheVariants.{Ground, Indep}
 use Rattle.ap_term.specs.Tree.{Tree}
@@ -18,14 +18,10 @@ use Rattle.ap_conditions.specs.Simplified.{gives, never, left, simplified}
 use Rattle.ap_conditions.specs.declared.simplifications.Simplified.TheVariants.{Keep, NeverTrue}
 use Rattle.ap_conditions.proofs.Numbers.{filter_none}
 
-not_true : (b : Bool) → not b ≡ true → b ≡ false
-not_true true h = absurd (false≢true h)
-not_true false h = refl
-
 pub given-holds : (s : State) (c : Check) (f : ℕ → Tree) → Covers s f → gives s c ≡ true → Holds f c
 given-holds Unreachable c f h g = absurd h
-given-holds (Reachable sh fr) (Ground x) f h g = surely_ground sh f x h.0 (not_true (has (nonground sh) x) g)
-given-holds (Reachable sh fr) (Indep x y) f h g = apart sh f x y h.0 (not_true (may_share sh x y) g)
+given-holds (Reachable sh fr) (Ground x) f h g = surely_ground sh f x h.0 (not-true (has (nonground sh) x) g)
+given-holds (Reachable sh fr) (Indep x y) f h g = apart sh f x y h.0 (not-true (may_share sh x y) g)
 
 pub never-holds : (s : State) (c : Check) (f : ℕ → Tree) → Covers s f → never s c ≡ true → Holds f c → ⊥
 never-holds Unreachable c f h g k = absurd h

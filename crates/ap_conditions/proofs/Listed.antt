@@ -1,7 +1,7 @@
 -- The list of the full condition has exactly its checks.
 use Rattle.std.proofs.Common.{◌≡◌, ℕ, zero, suc, ◌<◌, ◌≤◌, ◌⊎◌, inl, inr, Bool, true, false, not, ◌||◌, ◌&&◌, nat_eq, nat_lt, nat_le, if◌then◌else◌, IsTrue, List, [], ◌∷◌, ◌++◌, map, refl, ap, sym, ◌∙◌, subst, arith}
 use Rattle.std.specs.List.{filter, flat_map}
-use Rattle.std.proofs.lemmas.Bool.{false≢true, and_parts, leb-true, ltb-true, lt-ltb, eqb-false}
+use Rattle.std.proofs.lemmas.Bool.{false≢true, and_parts, leb-true, ltb-true, lt-ltb, eqb-false, not-true}
 use Rattle.ap_term.specs.declared.clauses.Check.{Check}
 use Rattle.ap_term.specs.declared.clauses.Check.TheVariants.{Ground, Indep}
 use Rattle.ap_term.specs.Tree.{Tree, Trees, var, int, atom, node, none, more}
@@ -116,10 +116,6 @@ one_of_numbers ts w x o =
 
 -- ---- the list
 
-not_true : (b : Bool) → not b ≡ true → b ≡ false
-not_true true h = absurd (false≢true h)
-not_true false h = refl
-
 pub listed-full : (goals : Trees) (c : Check) → IsIn c (full_condition goals) → IsInFullCondition goals c
 listed-full goals c h =
     elim (in_both c (grounds goals) (flat_map (indeps_of goals) (numbers 255)) h) [
@@ -130,7 +126,7 @@ listed-full goals c h =
           let a = and_both (nat_lt q.0 r.0) (not (shared q.0 goals) && (not (shared r.0 goals) && of_two_goals q.0 r.0 goals)) r.1 in
           let b = and_both (not (shared q.0 goals)) (not (shared r.0 goals) && of_two_goals q.0 r.0 goals) a.1 in
           let d = and_both (not (shared r.0 goals)) (of_two_goals q.0 r.0 goals) b.1 in
-          subst (IsInFullCondition goals) (sym r.2) (of_others q.0 r.0 (ltb-true q.0 r.0 a.0) (not_true (shared q.0 goals) b.0) (not_true (shared r.0 goals) d.0) d.1))
+          subst (IsInFullCondition goals) (sym r.2) (of_others q.0 r.0 (ltb-true q.0 r.0 a.0) (not-true (shared q.0 goals) b.0) (not-true (shared r.0 goals) d.0) d.1))
     ]
 
 pub full-listed : (goals : Trees) (c : Check) → IsTrue (numbered_all 255 goals) → IsInFullCondition goals c → IsIn c (full_condition goals)

@@ -1,5 +1,6 @@
 -- The sets of a group's goals say which variables its goals share.
 use Rattle.std.proofs.Common.{◌≡◌, ℕ, ◌+◌, ◌<◌, Bool, true, false, not, ◌||◌, ◌&&◌, nat_lt, if◌then◌else◌, ◌⊎◌, inl, inr, List, [], ◌∷◌, ◌++◌, map, take, drop, get_or, length, append_assoc, append-nil, refl, ap, ap₂, sym, ◌∙◌}
+use Rattle.std.proofs.Math.Bool.{or-false, and-false}
 use Rattle.std.specs.List.{filter, flat_map}
 use Rattle.std.proofs.lemmas.List.{drop_more}
 use Rattle.std.proofs.lemmas.Bool.{false≢true}
@@ -22,12 +23,8 @@ pub ruleset rules_of_sets = (trees_of-drop_more, append_assoc, append-nil)
 
 -- ---- one set more
 
-or_false_right : (b : Bool) → (b || false) ≡ b
-or_false_right true = refl
-or_false_right false = refl
-
 pub in_one-more : (ss : List ℕ) (s x : ℕ) → in_one (ss ++ s ∷ []) x ≡ (in_one ss x || has s x)
-in_one-more ss s x = list_any-append (λ r. has r x) ss (s ∷ []) ∙ ap (λ b. in_one ss x || b) (or_false_right (has s x))
+in_one-more ss s x = list_any-append (λ r. has r x) ss (s ∷ []) ∙ ap (λ b. in_one ss x || b) (or-false (has s x))
 
 pub in_two-more : (ss : List ℕ) (s x : ℕ) → in_two (ss ++ s ∷ []) x ≡ (in_two ss x || (in_one ss x && has s x))
 in_two-more [] s x = go (has s x)
@@ -84,10 +81,6 @@ pub in_two-goals : (ts : Trees) (x : ℕ) → in_two (goal_sets ts) x ≡ shared
 in_two-goals none x = refl
 in_two-goals (more t ts) x = ap₂ (λ a b. a || b) (ap₂ (λ a b. a && b) (has-var_set t x) (in_one-goals ts x)) (in_two-goals ts x)
 
-no_and : (b : Bool) → (b && false) ≡ false
-no_and true = refl
-no_and false = refl
-
 -- none of the sets has x
 others-all : (ts : Trees) (x y : ℕ) → occurs_all x ts ≡ false → has (others (goal_sets ts) x) y ≡ occurs_all y ts
 others-all none x y h = has-empty y
@@ -101,7 +94,7 @@ pub of_two-left : (ts : Trees) (x y : ℕ) → occurs_all x ts ≡ false → of_
 of_two-left none x y h = refl
 of_two-left (more t ts) x y h =
     let r = or_none (occurs x t) (occurs_all x ts) h in
-    ap₂ (λ a b. a || b) (ap (λ b. b && occurs_all y ts) r.0) (ap₂ (λ a b. a || b) (ap (λ b. occurs y t && b) r.1 ∙ no_and (occurs y t)) (of_two-left ts x y r.1))
+    ap₂ (λ a b. a || b) (ap (λ b. b && occurs_all y ts) r.0) (ap₂ (λ a b. a || b) (ap (λ b. occurs y t && b) r.1 ∙ and-false (occurs y t)) (of_two-left ts x y r.1))
 
 -- x stands in one goal alone: y stands in two goals with it where y stands in a goal without x
 pub of_two-others : (ts : Trees) (x y : ℕ) → shared x ts ≡ false → of_two_goals x y ts ≡ (occurs_all x ts && has (others (goal_sets ts) x) y)
@@ -128,13 +121,13 @@ of_two-others (more t ts) x y h =
     go true e k i =
         let d = others-all ts x y k in
         let l : ((occurs y t && occurs_all x ts) || of_two_goals x y ts) ≡ false =
-        ap₂ (λ a b. (occurs y t && a) || b) k (of_two-left ts x y k) ∙ ap (λ b. b || false) (no_and (occurs y t)) in
-        ap₂ (λ a b. (a && occurs_all y ts) || b) e l ∙ or_false_right (occurs_all y ts) ∙ sym d
+        ap₂ (λ a b. (occurs y t && a) || b) k (of_two-left ts x y k) ∙ ap (λ b. b || false) (and-false (occurs y t)) in
+        ap₂ (λ a b. (a && occurs_all y ts) || b) e l ∙ or-false (occurs_all y ts) ∙ sym d
         ∙ ap (λ b. b || has (others (goal_sets ts) x) y) (sym (has-empty y))
         ∙ ap (λ a. (a || occurs_all x ts) && (has (if a then empty else var_set t) y || has (others (goal_sets ts) x) y)) (sym e)
     go false e k i =
         ap (λ a. (a && occurs_all y ts) || ((occurs y t && occurs_all x ts) || of_two_goals x y ts)) e
-        ∙ beside (occurs_all x ts) (occurs y t) (of_two_goals x y ts) (has (others (goal_sets ts) x) y) i (no_and (occurs_all x ts || false))
+        ∙ beside (occurs_all x ts) (occurs y t) (of_two_goals x y ts) (has (others (goal_sets ts) x) y) i (and-false (occurs_all x ts || false))
         ∙ ap (λ b. occurs_all x ts && (b || has (others (goal_sets ts) x) y)) (sym (has-var_set t y))
         ∙ ap (λ a. (a || occurs_all x ts) && (has (if a then empty else var_set t) y || has (others (goal_sets ts) x) y)) (sym e)
 

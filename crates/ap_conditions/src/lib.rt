@@ -1,4 +1,4 @@
-//! The conditions under which goals may run side by side, and what an abstract state leaves of them.
+//! Floor: analysis. The conditions under which goals may run side by side, and what an abstract state leaves of them.
 //!
 //! Stands on `ap_absunify` for states. What the crates above use: a group's full condition as one list, and a check that
 //! is dropped holds in each instance that the state covers.

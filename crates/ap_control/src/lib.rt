@@ -1,4 +1,4 @@
-//! What a machine's control needs of code: the clauses of a predicate one after another, and which of them unify with a call,
+//! Floor: engine. What a machine's control needs of code: the clauses of a predicate one after another, and which of them unify with a call,
 //! runs of instructions up to one that leads elsewhere, how many registers are written, and the built-in goals on two places.
 //!
 //! Stands on `ap_steps` and `ap_standing`. What is used above: `run_to_transfer`, behind which the code asks for the same goals,

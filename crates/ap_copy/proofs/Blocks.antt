@@ -187,6 +187,3 @@ names-push block b = record {
 
     now : trees (block ++ Free ∷ []) ≡ trees block ++ var (length block) ∷ []
     now = trees_are (block ++ Free ∷ []) (trees block ++ var (length block) ∷ []) pushed
-
-pub names-block : (ks : List ℕ) (block : List Raw) → IsNames block → length block ≡ length ks → length block ≤ 4294967295 → IsBlock ks block
-names-block ks block b e few = record { stand = b.stand; below = b.below; names = λ i h. b.names i (omega arith); room = omega arith; few = few }

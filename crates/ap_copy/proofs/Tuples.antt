@@ -1,5 +1,6 @@
 -- The trees of some places.
 use Rattle.std.proofs.Common.{◌≡◌, ℕ, zero, suc, ◌+◌, ◌<◌, Bool, true, false, ◌||◌, nat_eq, List, [], ◌∷◌, ◌++◌, length, map, take, get_or, refl, sym, ap, ◌∙◌, subst, arith, inl, inr, ◌⊎◌}
+use Rattle.std.proofs.lemmas.Bool.{or_cases}
 use Rattle.std.specs.List.{list_any}
 use Rattle.std.proofs.lemmas.List.{take_more, map-append}
 use Rattle.ap_term.specs.Tree.{Tree, more, count_trees}
@@ -10,10 +11,6 @@ use Rattle.ap_cells.specs.declared.cells.Raw.{Raw}
 use Rattle.ap_copy.specs.Copies.{tuple_at, to_trees, Known, KnownAll, AreCopies}
 use Rattle.ap_copy.specs.Copying.{Copied}
 use Rattle.ap_copy.proofs.Blocks.{AreCopies-append, AreCopies-grown}
-
-or_cases : (a b : Bool) → (a || b) ≡ true → (a ≡ true) ⊎ (b ≡ true)
-or_cases true b h = inl refl
-or_cases false b h = inr h
 
 push-occurs : (ts : List Tree) (rs : List ℕ) (r x : ℕ) → occurs_all x (tuple_at ts (rs ++ r ∷ [])) ≡ true → (occurs_all x (tuple_at ts rs) ≡ true) ⊎ (occurs x (tree_at ts r) ≡ true)
 push-occurs ts [] r x h = elim (or_cases (occurs x (tree_at ts r)) false h) [ inl p ↦ inr p | inr p ↦ inl p ]

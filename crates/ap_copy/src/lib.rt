@@ -1,4 +1,4 @@
-//! Copies of tuples from one store of cells into another, by a parcel that stands alone.
+//! Floor: store. Copies of tuples from one store of cells into another, by a parcel that stands alone.
 //!
 //! Stands on `ap_cells`. What the crates above use: `copy_out` and then `copy_in` give a tuple that is equal up to names,
 //! with fresh variables of its own; what is copied from stays as it is.

@@ -2,11 +2,11 @@
 use Rattle.std.proofs.Common.{◌≡◌, ℕ, zero, suc, ◌+◌, ◌-◌, ◌<◌, ◌≤◌, ◌⊎◌, inl, inr, nat_lt, Bool, true, false, not, ◌&&◌, if◌then◌else◌, List, [], ◌∷◌, ◌++◌, map, Option, Some, None, refl, ap, sym, ◌∙◌, subst, arith}
 use Rattle.std.proofs.lemmas.Bool.{false≢true, not-true, ltb-true, ltb-false}
 use Rattle.ap_term.specs.Tree.{Tree, Trees, none, more}
-use Rattle.ap_term.specs.Goals.{Part, call, group, Program}
+use Rattle.ap_term.specs.Goals.{Part, call, group, Program, plain_goals}
 use Rattle.ap_term.specs.WellFormed.{IsProgram}
 use Rattle.ap_term.specs.Search.{State, by_goals}
 use Rattle.ap_laws.specs.Plain as plain
-use Rattle.ap_laws.specs.Plain.{Plain, Ways, plain_of, plain_goals, next_of, plain_ways, AreGroups, HasFullGroups}
+use Rattle.ap_laws.specs.Plain.{Plain, Ways, plain_of, next_of, plain_ways, AreGroups, HasFullGroups}
 use Rattle.ap_laws.specs.Tasks as laws
 use Rattle.ap_laws.specs.Tasks.{edge_slots}
 use Rattle.ap_laws.specs.Events as events

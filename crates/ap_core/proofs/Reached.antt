@@ -3,12 +3,12 @@ use Rattle.std.proofs.Common.{◌≡◌, ℕ, ◌+◌, ◌<◌, ◌⊎◌, Bool,
 use Rattle.std.proofs.lemmas.Bool.{false≢true}
 use Rattle.std.proofs.lemmas.List.{map-append}
 use Rattle.ap_term.specs.Tree.{Tree, Trees, node}
-use Rattle.ap_term.specs.Goals.{Program, joined}
+use Rattle.ap_term.specs.Goals.{Program, joined, plain_goals}
 use Rattle.ap_term.specs.WellFormed.{IsProgram}
 use Rattle.ap_term.specs.Search.{State, start, search}
 use Rattle.ap_term.specs.Blocks.{Begins, IsAll}
 use Rattle.ap_laws.specs.Renaming.{IsBelow}
-use Rattle.ap_laws.specs.Plain.{Plain, Ways, tuple_of, plain_of, plain_goals, plain_ways, HasFullGroups}
+use Rattle.ap_laws.specs.Plain.{Plain, Ways, tuple_of, plain_of, plain_ways, HasFullGroups}
 use Rattle.ap_laws.specs.Graft.{IsOf}
 use Rattle.ap_laws.specs.Tasks as laws
 use Rattle.ap_laws.specs.Events.{Step, Runs, none_yet, and_then, emits}

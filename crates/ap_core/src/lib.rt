@@ -1,4 +1,4 @@
-//! The core: a state machine whose events are those of goals that run side by side. Whatever list of events it
+//! Floor: model. The core: a state machine whose events are those of goals that run side by side. Whatever list of events it
 //! accepts, what it emits begins the answers of sequential search.
 //!
 //! Stands on `ap_term`, `ap_laws` and `ap_spec`. What the crates above use: an event is refused exactly where the

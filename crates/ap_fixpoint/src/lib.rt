@@ -1,4 +1,4 @@
-//! The table of an annotated program: what the calls and the answers of each predicate are known to be.
+//! Floor: analysis. The table of an annotated program: what the calls and the answers of each predicate are known to be.
 //!
 //! Stands on ap_patterns' definitions of what clauses give to a table. What the crates above use: `analyse` answers the
 //! first table that is equal to its next, and it is closed.

@@ -1,4 +1,4 @@
-//! The instructions that clauses are compiled to, code made of them, and its listing.
+//! Floor: code. The instructions that clauses are compiled to, code made of them, and its listing.
 //!
 //! Stands on `ap_term`, on `ap_writer` for names and on `itoa` for numbers. The one contract used above: a listing names
 //! each instruction of each predicate, in order.

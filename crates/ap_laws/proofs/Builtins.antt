@@ -1,5 +1,7 @@
 -- Built-in goals on related trees, and the variables of their answers.
 use Rattle.std.proofs.Common.{◌≡◌, ℕ, Bool, true, false, not, ◌&&◌, ◌==◌, if◌then◌else◌, is_none, [], Option, Some, None, ℤ, refl, ap, ap₂, ◌∙◌, subst}
+use Rattle.std.specs.Prelude.{Ok, Err}
+use Rattle.std.specs.Result.{result_ok}
 use Rattle.std.specs.Ordering.{int_eq}
 use Rattle.ap_term.specs.declared.builtins.Relation.{Relation}
 use Rattle.ap_term.specs.declared.builtins.Relation.TheVariants.{Unify, NotUnify, Same, NotSame, Is, Compare}
@@ -8,74 +10,44 @@ use Rattle.ap_term.specs.Tree.{Tree, Trees, var, int, atom, node, none, more}
 use Rattle.ap_term.specs.Substitution.{Subst}
 use Rattle.ap_term.specs.Unification.{mgu}
 use Rattle.ap_term.specs.Identical.{identical, identical_all}
-use Rattle.ap_term.specs.Arithmetic.{eval, negated, value_of, operation_named, compare_values}
+use Rattle.ap_term.specs.Arithmetic.{evaluated, eval, negated, value_of, operation_named, compare_values}
 use Rattle.ap_term.specs.Builtins.{builtin, relation_named, relation_answer, named_answer, succeeds_if, unified_value}
 use Rattle.ap_term.specs.declared.faults.Fault.TheVariants.{WrongType}
-use Rattle.ap_term.specs.Faults.{or_then, two_faults, negated_fault, fault_in, relation_fault, fault_of}
-use Rattle.ap_laws.specs.Renaming.{OptionZip, OptionAll, Renamed, RenamedAll, RenamedSubst, Local, LocalSubst}
-use Rattle.ap_laws.proofs.Zips.{related-if}
+use Rattle.ap_term.specs.Faults.{fault_of}
+use Rattle.ap_term.specs.Vars.{Local}
+use Rattle.ap_laws.specs.Renaming.{OptionZip, OptionAll, Renamed, RenamedAll, RenamedSubst, LocalSubst}
+use Rattle.ap_term.proofs.Zips.{related-if}
 use Rattle.ap_laws.proofs.Renamed.{IsOneToOne, Renamed-mgu}
 use Rattle.ap_laws.proofs.Local.{Local-mgu}
 
--- expressions have the same value
+-- expressions come to the same
+pub Renamed-evaluated : (R : ℕ → ℕ → Type 0) (t u : Tree) → Renamed R t u → evaluated t ≡ evaluated u
+Renamed-evaluated R (var x) (var y) h = refl
+Renamed-evaluated R (int z) (int w) h = ap Ok h
+Renamed-evaluated R (atom a) (atom b) h = refl
+Renamed-evaluated R (node a none) (node b none) h = refl
+Renamed-evaluated R (node a (more t none)) (node b (more u none)) h =
+    ap₂ (λ c v. if c == MINUS then negated v else Err WrongType) h.0 (Renamed-evaluated R t u h.1.0)
+Renamed-evaluated R (node a (more t (more v none))) (node b (more u (more w none))) h =
+    ap (λ c. value_of (operation_named c) (evaluated t) (evaluated v)) h.0
+    ∙ ap₂ (value_of (operation_named b)) (Renamed-evaluated R t u h.1.0) (Renamed-evaluated R v w h.1.1.0)
+Renamed-evaluated R (node a (more t (more v (more _ _)))) (node b (more u (more w (more _ _)))) h = refl
+Renamed-evaluated R (node a none) (node b (more _ _)) h = absurd h.1
+Renamed-evaluated R (node a (more _ none)) (node b none) h = absurd h.1
+Renamed-evaluated R (node a (more _ (more _ none))) (node b none) h = absurd h.1
+Renamed-evaluated R (node a (more _ (more _ (more _ _)))) (node b none) h = absurd h.1
+Renamed-evaluated R (node a (more _ none)) (node b (more _ (more _ none))) h = absurd h.1.1
+Renamed-evaluated R (node a (more _ none)) (node b (more _ (more _ (more _ _)))) h = absurd h.1.1
+Renamed-evaluated R (node a (more _ (more _ none))) (node b (more _ none)) h = absurd h.1.1
+Renamed-evaluated R (node a (more _ (more _ (more _ _)))) (node b (more _ none)) h = absurd h.1.1
+Renamed-evaluated R (node a (more _ (more _ none))) (node b (more _ (more _ (more _ _)))) h = absurd h.1.1.1
+Renamed-evaluated R (node a (more _ (more _ (more _ _)))) (node b (more _ (more _ none))) h = absurd h.1.1.1
+Renamed-evaluated R _ _ h = absurd h
+
 pub Renamed-eval : (R : ℕ → ℕ → Type 0) (t u : Tree) → Renamed R t u → eval t ≡ eval u
-Renamed-eval R (var x) (var y) h = refl
-Renamed-eval R (int z) (int w) h = ap Some h
-Renamed-eval R (atom a) (atom b) h = refl
-Renamed-eval R (node a none) (node b none) h = refl
-Renamed-eval R (node a (more t none)) (node b (more u none)) h =
-    ap₂ (λ c v. if c == MINUS then negated v else None) h.0 (Renamed-eval R t u h.1.0)
-Renamed-eval R (node a (more t (more v none))) (node b (more u (more w none))) h =
-    ap (λ c. value_of (operation_named c) (eval t) (eval v)) h.0
-    ∙ ap₂ (value_of (operation_named b)) (Renamed-eval R t u h.1.0) (Renamed-eval R v w h.1.1.0)
-Renamed-eval R (node a (more t (more v (more _ _)))) (node b (more u (more w (more _ _)))) h = refl
-Renamed-eval R (node a none) (node b (more _ _)) h = absurd h.1
-Renamed-eval R (node a (more _ none)) (node b none) h = absurd h.1
-Renamed-eval R (node a (more _ (more _ none))) (node b none) h = absurd h.1
-Renamed-eval R (node a (more _ (more _ (more _ _)))) (node b none) h = absurd h.1
-Renamed-eval R (node a (more _ none)) (node b (more _ (more _ none))) h = absurd h.1.1
-Renamed-eval R (node a (more _ none)) (node b (more _ (more _ (more _ _)))) h = absurd h.1.1
-Renamed-eval R (node a (more _ (more _ none))) (node b (more _ none)) h = absurd h.1.1
-Renamed-eval R (node a (more _ (more _ (more _ _)))) (node b (more _ none)) h = absurd h.1.1
-Renamed-eval R (node a (more _ (more _ none))) (node b (more _ (more _ (more _ _)))) h = absurd h.1.1.1
-Renamed-eval R (node a (more _ (more _ (more _ _)))) (node b (more _ (more _ none))) h = absurd h.1.1.1
-Renamed-eval R _ _ h = absurd h
+Renamed-eval R t u h = ap result_ok (Renamed-evaluated R t u h)
 
--- and the same fault
-pub Renamed-fault_in : (R : ℕ → ℕ → Type 0) (t u : Tree) → Renamed R t u → fault_in t ≡ fault_in u
-Renamed-fault_in R (var x) (var y) h = refl
-Renamed-fault_in R (int z) (int w) h = refl
-Renamed-fault_in R (atom a) (atom b) h = refl
-Renamed-fault_in R (node a none) (node b none) h = refl
-Renamed-fault_in R (node a (more t none)) (node b (more u none)) h =
-    ap (λ c. if c == MINUS then or_then (fault_in t) (negated_fault (eval t)) else Some WrongType) h.0
-    ∙ ap₂ (λ e v. if b == MINUS then or_then e (negated_fault v) else Some WrongType) (Renamed-fault_in R t u h.1.0) (Renamed-eval R t u h.1.0)
-Renamed-fault_in R (node a (more t (more v none))) (node b (more u (more w none))) h =
-    ap (λ c. two_faults (operation_named c) (fault_in t) (fault_in v) (eval t) (eval v)) h.0
-    ∙ ap₂ (λ e i. two_faults (operation_named b) e i (eval t) (eval v)) (Renamed-fault_in R t u h.1.0) (Renamed-fault_in R v w h.1.1.0)
-    ∙ ap₂ (two_faults (operation_named b) (fault_in u) (fault_in w)) (Renamed-eval R t u h.1.0) (Renamed-eval R v w h.1.1.0)
-Renamed-fault_in R (node a (more t (more v (more _ _)))) (node b (more u (more w (more _ _)))) h = refl
-Renamed-fault_in R (node a none) (node b (more _ _)) h = absurd h.1
-Renamed-fault_in R (node a (more _ none)) (node b none) h = absurd h.1
-Renamed-fault_in R (node a (more _ (more _ none))) (node b none) h = absurd h.1
-Renamed-fault_in R (node a (more _ (more _ (more _ _)))) (node b none) h = absurd h.1
-Renamed-fault_in R (node a (more _ none)) (node b (more _ (more _ none))) h = absurd h.1.1
-Renamed-fault_in R (node a (more _ none)) (node b (more _ (more _ (more _ _)))) h = absurd h.1.1
-Renamed-fault_in R (node a (more _ (more _ none))) (node b (more _ none)) h = absurd h.1.1
-Renamed-fault_in R (node a (more _ (more _ (more _ _)))) (node b (more _ none)) h = absurd h.1.1
-Renamed-fault_in R (node a (more _ (more _ none))) (node b (more _ (more _ (more _ _)))) h = absurd h.1.1.1
-Renamed-fault_in R (node a (more _ (more _ (more _ _)))) (node b (more _ (more _ none))) h = absurd h.1.1.1
-Renamed-fault_in R _ _ h = absurd h
-
-Renamed-relation_fault : (R : ℕ → ℕ → Type 0) (r : Option Relation) (t t' u u' : Tree) → Renamed R t t' → Renamed R u u' → relation_fault r t u ≡ relation_fault r t' u'
-Renamed-relation_fault R None t t' u u' h k = refl
-Renamed-relation_fault R (Some Unify) t t' u u' h k = refl
-Renamed-relation_fault R (Some NotUnify) t t' u u' h k = refl
-Renamed-relation_fault R (Some Same) t t' u u' h k = refl
-Renamed-relation_fault R (Some NotSame) t t' u u' h k = refl
-Renamed-relation_fault R (Some Is) t t' u u' h k = Renamed-fault_in R u u' k
-Renamed-relation_fault R (Some (Compare o)) t t' u u' h k = ap₂ or_then (Renamed-fault_in R t t' h) (Renamed-fault_in R u u' k)
-
+-- by the switch; with faults on it is what `Renamed-evaluated` gives of the arguments
 pub Renamed-fault_of : (R : ℕ → ℕ → Type 0) (t u : Tree) → Renamed R t u → fault_of t ≡ fault_of u
 Renamed-fault_of R t u h = refl
 

@@ -1,20 +1,20 @@
 -- The laws of searching a conjunction, of a program's ways on.
 use Rattle.std.proofs.Common.{◌≡◌, ℕ, zero, suc, ◌+◌, ◌-◌, ◌<◌, ◌≤◌, List, [], ◌∷◌, ◌++◌, map, refl, ap, ap₂, sym, ◌∙◌, subst, arith}
 use Rattle.ap_term.specs.declared.faults.Fault.{Fault}
-use Rattle.ap_term.specs.Tree.{Tree, Trees, var, none, more, push_tree}
+use Rattle.ap_term.specs.Tree.{Tree, Trees, var, none, more, push_tree, append_trees}
 use Rattle.ap_term.specs.Substitution.{instance_all}
 use Rattle.ap_term.specs.Goals.{Program}
 use Rattle.ap_term.specs.Independence.{AreApart}
 use Rattle.std.proofs.lemmas.List.Elements.{All-append, All-cons}
 use Rattle.ap_term.specs.WellFormed.{IsClause, IsProgram}
 use Rattle.ap_term.specs.Search.{variables, State, outcomes_to_depth}
-use Rattle.ap_laws.specs.Renaming.{Local, LocalAll}
-use Rattle.ap_laws.specs.Plain.{Plain, state, faulted, Ways, append_trees, outcome, IsEnded, plain_of, as_state, HasFullGroups, plain_ways, IsPlainBelow, Renames, Locals}
+use Rattle.ap_term.specs.Vars.{Local, LocalAll}
+use Rattle.ap_term.proofs.Locals.{LocalAll-weaken}
+use Rattle.ap_laws.specs.Plain.{Plain, state, faulted, Ways, outcome, IsEnded, plain_of, as_state, HasFullGroups, plain_ways, IsPlainBelow, Renames, Locals}
 use Rattle.ap_laws.specs.Trace.{Action, called, cut, answered, trace, trace_to, answers_in, followed, AllAnswers, NoAnswers}
 use Rattle.ap_laws.specs.Graft.{alone, graft, IsOf, IsDead, AreHarmless}
 use Rattle.ap_laws.specs.Gives.{Gives}
 use Rattle.ap_laws.specs.SearchLaws.{one_by_one, IndependenceLaw, QueryLaw, TraceLaw, GraftLaw, SplitLaw, GivesLaw}
-use Rattle.ap_laws.proofs.Local.{LocalAll-weaken}
 use Rattle.ap_laws.proofs.Ways.{LocalParts-body, LocalParts-weaken}
 use Rattle.ap_laws.proofs.Plain.{Renames-plain_ways, Locals-plain_ways}
 use Rattle.ap_laws.proofs.Graft.{plain_children-graft, trace-graft, IsOf-alone, graft-alone}

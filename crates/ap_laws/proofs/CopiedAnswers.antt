@@ -2,15 +2,15 @@
 use Rattle.std.proofs.Common.{◌≡◌, ℕ, ◌+◌, ◌-◌, ◌<◌, ◌≤◌, ◌⊎◌, inl, inr, Bool, true, false, ◌||◌, cond, if◌then◌else◌, [], refl, ap, sym, ◌∙◌, subst, arith}
 use Rattle.std.proofs.lemmas.Bool.{false≢true}
 use Rattle.ap_term.specs.Tree.{Tree, Trees, var, int, atom, node, none, more}
-use Rattle.ap_term.specs.Vars.{occurs, occurs_all}
+use Rattle.ap_term.specs.Vars.{occurs, occurs_all, LocalAll}
 use Rattle.ap_term.specs.Substitution.{instance, instance_all, value}
 use Rattle.ap_term.proofs.Copies.{instance_all_twice}
 use Rattle.ap_term.proofs.Solutions.{same_var, same_test, or_left, or_right}
-use Rattle.ap_laws.specs.Renaming.{Renamed, RenamedAll, Linked, LocalAll}
+use Rattle.ap_term.proofs.Locals.{LocalAll-occurs_all, LocalAll-each, LocalAll-instance_all}
+use Rattle.ap_laws.specs.Renaming.{Renamed, RenamedAll, Linked}
 use Rattle.ap_laws.specs.Plain.{state}
 use Rattle.ap_laws.specs.Graft.{arguments, fit_all, lifted, lifted_var, lowered, fitted, IsOwn, IsOf}
 use Rattle.ap_laws.specs.Laws.{CopiedAnswerLaw}
-use Rattle.ap_laws.proofs.Local.{LocalAll-occurs_all, LocalAll-each, LocalAll-instance_all}
 use Rattle.ap_laws.proofs.Ways.{IsOneToOne-Linked, Renamed-both, RenamedAll-both, RenamedParts-both}
 use Rattle.ap_laws.proofs.Names.{RenamedAll-is, LocalAll-RenamedAll}
 use Rattle.ap_laws.proofs.Graft.{value-fit_all, LocalAll-at, lifted-old, lifted-new, below_or_not, Linked-lifted, fitted-value}

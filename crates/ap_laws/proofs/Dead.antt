@@ -2,15 +2,13 @@
 use Rattle.std.proofs.Common.{◌≡◌, ℕ, ◌+◌, ◌-◌, ◌<◌, ◌≤◌, Bool, true, false, cond, List, [], ◌∷◌, refl, ap, sym, ◌∙◌, subst, arith}
 use Rattle.std.proofs.lemmas.Bool.{false≢true}
 use Rattle.ap_term.specs.Tree.{Tree, Trees, var, int, atom, node, more}
-use Rattle.ap_term.specs.Vars.{occurs, occurs_all}
+use Rattle.ap_term.specs.Vars.{occurs, occurs_all, Local, LocalAll}
 use Rattle.ap_term.specs.Substitution.{instance, instance_all}
 use Rattle.ap_term.proofs.Copies.{instance_var}
-use Rattle.ap_laws.specs.Renaming.{Local, LocalAll}
+use Rattle.ap_term.proofs.Locals.{Local-each, Local-occurs, Local-instance, LocalAll-instance_all, instance-Local, LocalAll-append_trees}
 use Rattle.ap_laws.specs.Plain.{Plain, state, faulted, Ways, Renames, Locals, IsPlainBelow}
 use Rattle.ap_laws.specs.Trace.{Action, called, cut, answered, trace, followed, AllAnswers, NoAnswers}
 use Rattle.ap_laws.specs.Graft.{arguments, alone, lifted, lifted_var, fitted, graft, IsOwn, IsOf}
-use Rattle.ap_laws.proofs.Local.{Local-each, Local-occurs, Local-instance, LocalAll-instance_all}
-use Rattle.ap_laws.proofs.Plain.{instance-Local, LocalAll-append_trees}
 use Rattle.ap_laws.proofs.Graft.{LocalAll-at, Linked-lifted, fitted-value, trace-graft, IsOf-alone, graft-alone}
 use Rattle.ap_laws.proofs.Traces.{AllAnswers-append}
 
@@ -62,13 +60,6 @@ pub false_of : (b : Bool) → (b ≡ true → ⊥) → b ≡ false
 false_of true h = absurd (h refl)
 false_of false h = refl
 
-pub occurs-above : (g : Tree) (n : ℕ) → Local (λ x. x < n) g → (y : ℕ) → n ≤ y → occurs y g ≡ false
-occurs-above g n h y l = false_of (occurs y g) (λ e. lem (Local-occurs (λ x. x < n) g h y e))
-  where
-    lem : y < n → ⊥
-    lem k = omega arith
-
--- where p has no variable of g, g has none of p
 pub Local-apart : (p g : Tree) → Local (λ x. occurs x g ≡ false) p → Local (λ x. occurs x p ≡ false) g
 Local-apart p g h =
     Local-each (λ x. occurs x p ≡ false) g (λ x o. false_of (occurs x p) (λ k. false≢true (sym (Local-occurs (λ y. occurs y g ≡ false) p h x k) ∙ o)))

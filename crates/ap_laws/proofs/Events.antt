@@ -1,12 +1,11 @@
 -- Each event keeps the invariant.
 use Rattle.std.proofs.Common.{◌≡◌, ℕ, ◌+◌, ◌-◌, ◌<◌, ◌≤◌, ◌⊎◌, inl, inr, List, [], ◌∷◌, ◌++◌, refl, ap, ap₂, sym, ◌∙◌, subst, arith, append-nil, le_refl}
-use Rattle.ap_term.specs.Tree.{Tree, Trees, none, more}
+use Rattle.ap_term.specs.Tree.{Tree, Trees, none, more, append_trees}
 use Rattle.ap_term.specs.Independence.{IsApart, AreApart}
-use Rattle.ap_laws.specs.Renaming.{Local, LocalAll}
-use Rattle.ap_laws.specs.Plain.{Plain, state, faulted, Ways, append_trees, IsAnswer, IsEnded, next_of, steps_of, plain_children_by, Renames, Locals, IsPlainBelow}
+use Rattle.ap_term.specs.Vars.{Local, LocalAll}
+use Rattle.ap_laws.specs.Plain.{Plain, state, faulted, Ways, IsAnswer, IsEnded, next_of, steps_of, plain_children_by, Renames, Locals, IsPlainBelow}
 use Rattle.ap_laws.specs.Trace.{answers_in, trace, trace_to, traces, AllAnswers, NoAnswers}
 use Rattle.ap_laws.specs.Graft.{alone, graft, grafts, IsOf, AreOf, IsDead, IsHarmless, IsBarren}
-use Rattle.ap_laws.proofs.Plain.{LocalAll-append_trees}
 use Rattle.ap_laws.specs.Gives.{Thins, GivesAt, Gives}
 use Rattle.ap_laws.specs.Tasks.{Round, first, later, closed, Task, task, Alternatives, exhausted, plain, frame, Slots, no_slot, fresh, stored, busy, held, redone, again, drained, joined_if, flat_task, flat_alternatives, flat_slots, left, edge_alternatives, edge_slots, slot_goals}
 use Rattle.ap_laws.specs.Events.{IsExhausted, plains, freshes, joined, IsFull, HasFailed, HasFailedSafely, HasFailedLater, HasNoAlternative, IsUntouched, IsUsedUp, resets, NextRedo, next_busy, next_redone, next_held, next_again, over_fresh, over_stored, over_busy, over_redone, over_held, over_again, Step, infer, fork, in_first, in_later, join_first, join_later, break_first, break_later, dropped, redo, Turn, start, given_back, forgets, replays, past_stored, inside, answers, past_fresh, past_busy, inside_drained, throws, past_drained, drain, Drains, drain_here, drain_past, Spin, inside_redone, answers_redone, forgets_right, Forgets, forget_here, forget_past_fresh, forget_past_stored, right_of, left_of}
@@ -122,22 +121,6 @@ cost-IsQuietTask (task c l) q = ap (λ z. c + z) (cost_alternatives-IsQuiet l q 
 
 pub minus-same : (a b : ℕ) → a ≡ b → a - b ≡ 0
 minus-same a b e = omega arith
-
-pub append_trees-one : (pre : Trees) (p : Tree) (us : Trees) → append_trees (append_trees pre (more p none)) us ≡ append_trees pre (more p us)
-append_trees-one none p us = refl
-append_trees-one (more t pre) p us = ap (more t) (append_trees-one pre p us)
-
-IsApart-front : (t : Tree) (pre : Trees) (g : Tree) (gs : Trees) → IsApart t (append_trees pre (more g gs)) → IsApart t (append_trees pre (more g none))
-IsApart-front t none g gs h = (h.0, tt)
-IsApart-front t (more p pre) g gs h = (h.0, IsApart-front t pre g gs h.1)
-
-AreApart-front : (pre : Trees) (g : Tree) (gs : Trees) → AreApart (append_trees pre (more g gs)) → AreApart (append_trees pre (more g none))
-AreApart-front none g gs h = (tt, tt)
-AreApart-front (more p pre) g gs h = (IsApart-front p pre g gs h.0, AreApart-front pre g gs h.1)
-
-pub LocalAll-append_right : (P : ℕ → Type 0) (ts us : Trees) → LocalAll P (append_trees ts us) → LocalAll P us
-LocalAll-append_right P none us h = h
-LocalAll-append_right P (more t ts) us h = LocalAll-append_right P ts us h.1
 
 -- in a closed frame the rightmost slot with an alternative has nothing but answers left of it, and nothing to read right of it
 pub NextRedo-IsUntouched : {w v : Slots} → NextRedo w v → IsUntouched w → ⊥

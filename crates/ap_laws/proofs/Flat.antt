@@ -1,16 +1,15 @@
 -- What a task has left, read as plain states, and that its base leads there.
 use Rattle.std.proofs.Common.{◌≡◌, ℕ, ◌+◌, ◌-◌, ◌<◌, ◌≤◌, ◌⊎◌, inl, inr, true, List, [], ◌∷◌, ◌++◌, refl, ap, sym, ◌∙◌, subst, arith, append-nil}
-use Rattle.ap_term.specs.Tree.{Tree, Trees, more}
-use Rattle.ap_term.specs.Vars.{occurs_all}
+use Rattle.ap_term.specs.Tree.{Tree, Trees, more, append_trees}
+use Rattle.ap_term.specs.Vars.{occurs_all, LocalAll}
 use Rattle.ap_term.specs.Substitution.{instance, instance_all}
 use Rattle.ap_term.specs.Independence.{AreApart}
 use Rattle.ap_term.proofs.Copies.{instance_all_twice}
-use Rattle.ap_laws.specs.Renaming.{LocalAll}
-use Rattle.ap_laws.specs.Plain.{Plain, state, faulted, Ways, append_trees, next_of, Renames, Locals, IsPlainBelow}
+use Rattle.ap_term.proofs.Locals.{LocalAll-occurs_all, LocalAll-instance_all, LocalAll-append_trees}
+use Rattle.ap_laws.specs.Plain.{Plain, state, faulted, Ways, next_of, Renames, Locals, IsPlainBelow}
 use Rattle.ap_laws.specs.Graft.{arguments, alone, lifted, lifted_var, fitted, graft, grafts, IsOwn, IsOf, AreOf}
-use Rattle.ap_laws.proofs.Local.{LocalAll-occurs_all, LocalAll-instance_all}
-use Rattle.ap_laws.proofs.Zips.{AllByRecursion-append}
-use Rattle.ap_laws.proofs.Plain.{LocalAll-append_trees, LocalAll-arguments}
+use Rattle.ap_term.proofs.Zips.{AllByRecursion-append}
+use Rattle.ap_laws.proofs.Plain.{LocalAll-arguments}
 use Rattle.ap_laws.specs.Gives.{Gives, Rejoins}
 use Rattle.ap_laws.specs.Tasks.{Round, first, later, closed, Task, task, Alternatives, exhausted, plain, frame, Slots, no_slot, fresh, stored, busy, held, redone, again, drained, joined_if, flat_task, flat_alternatives, flat_slots, left, edge_alternatives, edge_slots, slot_goals}
 use Rattle.ap_laws.proofs.Invariant.{base, base_alternatives, base_slots, cost, cost_alternatives, cost_slots, HasGiven, Strong, Pivot, Weak, TaskInvariant, AlternativesInvariant}

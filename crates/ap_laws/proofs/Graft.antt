@@ -3,20 +3,22 @@ use Rattle.std.proofs.Common.{◌≡◌, ℕ, zero, suc, ◌+◌, ◌-◌, ◌<�
 use Rattle.std.specs.List.{flat_map}
 use Rattle.std.proofs.lemmas.Bool.{false≢true, lt-ltb, le-ltb, ltb-true, ltb-false}
 use Rattle.ap_term.specs.declared.faults.Fault.{Fault}
-use Rattle.ap_term.specs.Tree.{Tree, Trees, var, int, atom, node, none, more}
-use Rattle.ap_term.specs.Vars.{occurs, occurs_all}
+use Rattle.ap_term.specs.Tree.{Tree, Trees, var, int, atom, node, none, more, append_trees}
+use Rattle.ap_term.specs.Vars.{occurs, occurs_all, Local, LocalAll}
 use Rattle.ap_term.specs.Substitution.{instance, instance_all, Subst, value}
 use Rattle.ap_term.proofs.Copies.{instance_var, instance_all_var, instance_twice, instance_all_twice}
 use Rattle.ap_term.proofs.Solutions.{same_var, same_test}
-use Rattle.ap_laws.specs.Renaming.{Renamed, RenamedAll, RenamedSubst, Linked, Local, LocalAll, LocalSubst}
-use Rattle.ap_laws.specs.Plain.{Plain, state, faulted, PlainWay, way, fault_way, Ways, append_trees, plain_child, plain_children_by, plain_children, RenamedPlainWay, RenamedPlainWays, Renames, LocalPlainWays, Locals}
+use Rattle.ap_term.proofs.Locals.{Local-weaken, LocalAll-weaken, Local-instance, LocalAll-instance_all, instance-Local, instance_all-LocalAll, instance_all-same, Local-and, LocalAll-and, LocalAll-append_trees}
+use Rattle.ap_term.proofs.TreeLists.{instance_all-append_trees, append_trees-assoc}
+use Rattle.ap_laws.specs.Renaming.{Renamed, RenamedAll, RenamedSubst, Linked, LocalSubst}
+use Rattle.ap_laws.specs.Plain.{Plain, state, faulted, PlainWay, way, fault_way, Ways, plain_child, plain_children_by, plain_children, RenamedPlainWay, RenamedPlainWays, Renames, LocalPlainWays, Locals}
 use Rattle.ap_laws.specs.Trace.{Action, called, cut, answered, trace, followed}
 use Rattle.ap_laws.specs.Graft.{arguments, alone, fit, fit_all, lifted, lifted_var, lowered, fitted, graft, grafts, IsOwn, IsOf, AreOf}
 use Rattle.ap_laws.proofs.Renamed.{Renamed-value}
-use Rattle.ap_laws.proofs.Local.{Local-weaken, LocalAll-weaken, Local-instance, LocalAll-instance_all, Local-value, value-other}
+use Rattle.ap_laws.proofs.Local.{Local-value, value-other}
 use Rattle.ap_laws.proofs.Ways.{IsOneToOne-Linked, Renamed-both}
 use Rattle.ap_laws.proofs.Names.{Renamed-is, RenamedAll-is, Local-Renamed, LocalAll-RenamedAll}
-use Rattle.ap_laws.proofs.Plain.{instance-Local, instance_all-LocalAll, instance_all-same, Local-and, LocalAll-and, LocalAll-append_trees, instance_all-append_trees, append_trees-assoc, Local-arguments_self, LocalAll-arguments}
+use Rattle.ap_laws.proofs.Plain.{Local-arguments_self, LocalAll-arguments}
 
 pub state-eq : {G G' T T' : Trees} {n n' k k' : ℕ} → G ≡ G' → T ≡ T' → n ≡ n' → k ≡ k' → state G T n k ≡ state G' T' n' k'
 state-eq a b c d = cc

@@ -1,10 +1,10 @@
 -- The events of states with groups.
 use Rattle.std.proofs.Common.{◌≡◌, ℕ, suc, List, [], ◌∷◌, refl, ap, sym, ◌∙◌, subst}
 use Rattle.ap_term.specs.declared.clauses.Check.{Check}
-use Rattle.ap_term.specs.Tree.{Trees, none, more}
-use Rattle.ap_term.specs.Goals.{Part, call, group}
+use Rattle.ap_term.specs.Tree.{Trees, none, more, append_trees}
+use Rattle.ap_term.specs.Goals.{Part, call, group, plain_goals}
 use Rattle.ap_term.specs.Search.{State}
-use Rattle.ap_laws.specs.Plain.{state, Ways, append_trees, plain_goals, plain_by, plain_of, plain_ways, plain_children, AreGroups, HasFullGroups}
+use Rattle.ap_laws.specs.Plain.{state, Ways, plain_by, plain_of, plain_ways, plain_children, AreGroups, HasFullGroups}
 use Rattle.ap_laws.specs.Graft.{graft_state}
 use Rattle.ap_laws.specs.Tasks.{task, Alternatives, plain, Slots, no_slot, fresh, stored, busy, held, redone, again, drained}
 use Rattle.ap_laws.specs.Events.{Step, infer, fork, plains, joined, joined_state}

@@ -1,20 +1,23 @@
 -- Grafts on states with groups, and fitting under other names.
 use Rattle.std.proofs.Common.{◌≡◌, ℕ, ◌+◌, ◌-◌, ◌<◌, ◌≤◌, List, [], ◌∷◌, map, Option, Some, None, refl, ap, sym, ◌∙◌, subst, arith}
-use Rattle.ap_term.specs.Tree.{Tree, Trees, var, int, atom, node, none, more}
+use Rattle.ap_term.specs.Tree.{Tree, Trees, var, int, atom, node, none, more, append_trees}
 use Rattle.ap_term.specs.Substitution.{instance_all, Subst}
-use Rattle.ap_term.specs.Goals.{Part, call, group, instance_part, calls, opened}
+use Rattle.ap_term.specs.Goals.{Part, call, group, instance_part, calls, opened, plain_goals}
 use Rattle.ap_term.specs.declared.faults.Fault.{Fault}
 use Rattle.ap_term.specs.Search.{State}
-use Rattle.ap_laws.specs.Renaming.{Renamed, RenamedAll, RenamedSubst, Linked, Local, LocalAll, LocalPart, LocalParts, IsBelow}
-use Rattle.ap_laws.specs.Plain.{Plain, state, faulted, plain_goals, plain_by, plain_of, AreGroups, append_trees}
+use Rattle.ap_term.specs.Vars.{Local, LocalAll}
+use Rattle.ap_term.proofs.Locals.{LocalAll-instance_all}
+use Rattle.ap_term.proofs.GoalLists.{plain_goals-instance, plain_goals-calls_append, plain_goals-opened}
+use Rattle.ap_laws.specs.Renaming.{Renamed, RenamedAll, RenamedSubst, Linked, LocalPart, LocalParts, IsBelow}
+use Rattle.ap_laws.specs.Plain.{Plain, state, faulted, plain_by, plain_of, AreGroups}
 use Rattle.ap_laws.specs.Graft.{fit, fit_all, lifted, lifted_var, fitted, graft, graft_by, IsOwn, IsOf}
 use Rattle.ap_laws.specs.Laws.{FittingLaw}
 use Rattle.ap_laws.specs.SearchLaws.{GraftStateLaw}
-use Rattle.ap_laws.proofs.Zips.{AllByRecursion-append}
-use Rattle.ap_laws.proofs.Local.{LocalAll-instance_all, LocalParts-instance_part, LocalParts-opened, LocalAll-calls}
+use Rattle.ap_term.proofs.Zips.{AllByRecursion-append}
+use Rattle.ap_laws.proofs.Local.{LocalParts-instance_part, LocalParts-opened, LocalAll-calls}
 use Rattle.ap_laws.proofs.Graft.{state-eq, Linked-lifted}
 use Rattle.ap_laws.proofs.Dead.{Local-fitted}
-use Rattle.ap_laws.proofs.Views.{plain_by-None, plain_goals-instance, plain_goals-calls_append, plain_goals-opened, AreGroups-append, AreGroups-calls, AreGroups-instance, AreGroups-opened, StartsWithCall, StartsWithCall-opened}
+use Rattle.ap_laws.proofs.Views.{plain_by-None, AreGroups-append, AreGroups-calls, AreGroups-instance, AreGroups-opened, StartsWithCall, StartsWithCall-opened}
 
 -- ---- fitting
 

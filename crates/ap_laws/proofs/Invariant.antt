@@ -1,9 +1,9 @@
 -- What every event of a parallel search keeps.
 use Rattle.std.proofs.Common.{◌≡◌, ℕ, ◌+◌, ◌-◌, ◌<◌, ◌≤◌, List, [], ◌∷◌, ◌++◌}
-use Rattle.ap_term.specs.Tree.{Tree, Trees, none, more}
+use Rattle.ap_term.specs.Tree.{Tree, Trees, none, more, append_trees}
 use Rattle.ap_term.specs.Independence.{IsApart, AreApart}
-use Rattle.ap_laws.specs.Renaming.{Local}
-use Rattle.ap_laws.specs.Plain.{Plain, state, Ways, append_trees, IsAnswer, next_of, IsPlainBelow}
+use Rattle.ap_term.specs.Vars.{Local}
+use Rattle.ap_laws.specs.Plain.{Plain, state, Ways, IsAnswer, next_of, IsPlainBelow}
 use Rattle.ap_laws.specs.Graft.{alone, graft, grafts, IsOf, AreOf, IsDead, IsBarren}
 use Rattle.ap_laws.specs.Gives.{Gives}
 use Rattle.ap_laws.specs.Tasks.{first, later, closed, Task, task, Alternatives, exhausted, plain, frame, Slots, no_slot, fresh, stored, busy, held, redone, again, drained, flat_task, flat_alternatives, flat_slots, left, slot_goals}

@@ -1,4 +1,3 @@
-pub mod Zips
 pub mod Renamed
 pub mod Local
 pub mod Builtins
@@ -9,6 +8,7 @@ pub mod Plain
 pub mod Graft
 pub mod Traces
 pub mod Dead
+pub mod Quiet
 pub mod Gives
 pub mod Views
 pub mod Invariant

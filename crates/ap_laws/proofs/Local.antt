@@ -1,64 +1,18 @@
 -- What is computed of trees has only variables of them.
-use Rattle.std.proofs.Common.{◌≡◌, ℕ, zero, suc, Bool, true, false, ◌||◌, ◌==◌, if◌then◌else◌, List, [], ◌∷◌, ◌++◌, map, length, Option, Some, None, option_and_then, option_map, refl, sym, subst}
+use Rattle.std.proofs.Common.{◌≡◌, ℕ, zero, suc, Bool, true, false, ◌==◌, if◌then◌else◌, List, [], ◌∷◌, ◌++◌, map, length, Option, Some, None, option_and_then, option_map, refl, subst}
 use Rattle.std.specs.List.{AllByRecursion}
 use Rattle.std.specs.Ordering.{int_eq}
-use Rattle.std.proofs.lemmas.Bool.{false≢true}
 use Rattle.ap_term.specs.declared.clauses.Check.{Check}
 use Rattle.ap_term.specs.declared.clauses.Check.TheVariants.{Ground, Indep}
 use Rattle.ap_term.specs.Tree.{Tree, Trees, var, int, atom, node, none, more}
-use Rattle.ap_term.specs.Vars.{has, add_vars, add_all_vars, vars, occurs, occurs_all}
-use Rattle.ap_term.specs.Substitution.{instance, instance_all, Subst, value, one}
+use Rattle.ap_term.specs.Vars.{has, add_vars, add_all_vars, vars, occurs, Local, LocalAll}
+use Rattle.ap_term.specs.Substitution.{instance, Subst, value, one}
 use Rattle.ap_term.specs.Unification.{Equations, both, equate, apart, apart_all, replaced_by, grown, solve, mgu}
 use Rattle.ap_term.specs.Goals.{Part, call, group, instance_check, instance_part, calls, opened}
-use Rattle.ap_term.proofs.Solutions.{same_var, same_test, or_left, or_right}
-use Rattle.ap_laws.specs.Renaming.{OptionAll, Local, LocalAll, LocalPair, LocalSubst, LocalCheck, LocalPart, LocalParts}
-use Rattle.ap_laws.proofs.Zips.{AllByRecursion-append, AllByRecursion-map, AllByRecursion-flat_map}
-
--- ---- each variable that occurs
-
-mutual
-  pub Local-occurs : (P : ℕ → Type 0) (t : Tree) → Local P t → (x : ℕ) → occurs x t ≡ true → P x
-  Local-occurs P (var y) h x o = subst P (sym (same_var x y o)) h
-  Local-occurs P (int z) h x o = absurd (false≢true o)
-  Local-occurs P (atom a) h x o = absurd (false≢true o)
-  Local-occurs P (node a ts) h x o = LocalAll-occurs_all P ts h x o
-
-  pub LocalAll-occurs_all : (P : ℕ → Type 0) (ts : Trees) → LocalAll P ts → (x : ℕ) → occurs_all x ts ≡ true → P x
-  LocalAll-occurs_all P none h x o = absurd (false≢true o)
-  LocalAll-occurs_all P (more t ts) h x o = go (occurs x t) refl o (Local-occurs P t h.0 x) (LocalAll-occurs_all P ts h.1 x)
-    where
-      go : (b : Bool) → occurs x t ≡ b → (b || occurs_all x ts) ≡ true → (occurs x t ≡ true → P x) → (occurs_all x ts ≡ true → P x) → P x
-      go true e p f g = f e
-      go false e p f g = g p
-
-mutual
-  pub Local-each : (P : ℕ → Type 0) (t : Tree) → ((x : ℕ) → occurs x t ≡ true → P x) → Local P t
-  Local-each P (var y) h = h y (same_test y y refl)
-  Local-each P (int z) h = tt
-  Local-each P (atom a) h = tt
-  Local-each P (node a ts) h = LocalAll-each P ts h
-
-  pub LocalAll-each : (P : ℕ → Type 0) (ts : Trees) → ((x : ℕ) → occurs_all x ts ≡ true → P x) → LocalAll P ts
-  LocalAll-each P none h = tt
-  LocalAll-each P (more t ts) h =
-      (Local-each P t (λ x o. h x (or_left (occurs x t) (occurs_all x ts) o)), LocalAll-each P ts (λ x o. h x (or_right (occurs x t) (occurs_all x ts) o)))
-
-pub Local-weaken : (P Q : ℕ → Type 0) → ((x : ℕ) → P x → Q x) → (t : Tree) → Local P t → Local Q t
-Local-weaken P Q e t h = Local-each Q t (λ x o. e x (Local-occurs P t h x o))
-
-pub LocalAll-weaken : (P Q : ℕ → Type 0) → ((x : ℕ) → P x → Q x) → (ts : Trees) → LocalAll P ts → LocalAll Q ts
-LocalAll-weaken P Q e ts h = LocalAll-each Q ts (λ x o. e x (LocalAll-occurs_all P ts h x o))
-
-mutual
-  pub Local-instance : (P Q : ℕ → Type 0) (f : ℕ → Tree) → ((x : ℕ) → P x → Local Q (f x)) → (t : Tree) → Local P t → Local Q (instance f t)
-  Local-instance P Q f e (var x) h = e x h
-  Local-instance P Q f e (int z) h = tt
-  Local-instance P Q f e (atom a) h = tt
-  Local-instance P Q f e (node a ts) h = LocalAll-instance_all P Q f e ts h
-
-  pub LocalAll-instance_all : (P Q : ℕ → Type 0) (f : ℕ → Tree) → ((x : ℕ) → P x → Local Q (f x)) → (ts : Trees) → LocalAll P ts → LocalAll Q (instance_all f ts)
-  LocalAll-instance_all P Q f e none h = tt
-  LocalAll-instance_all P Q f e (more t ts) h = (Local-instance P Q f e t h.0, LocalAll-instance_all P Q f e ts h.1)
+use Rattle.ap_term.proofs.Solutions.{same_var}
+use Rattle.ap_term.proofs.Locals.{Local-instance, LocalAll-instance_all}
+use Rattle.ap_laws.specs.Renaming.{OptionAll, LocalPair, LocalSubst, LocalCheck, LocalPart, LocalParts}
+use Rattle.ap_term.proofs.Zips.{AllByRecursion-append, AllByRecursion-map, AllByRecursion-flat_map}
 
 -- ---- unifiers
 

@@ -3,7 +3,7 @@ use Rattle.std.proofs.Common.{◌≡◌, ℕ, zero, suc, ◌-◌, ◌<◌, Bool,
 use Rattle.std.specs.List.{flat_map, AllZip, AllByRecursion}
 use Rattle.std.proofs.lemmas.Bool.{false≢true}
 use Rattle.ap_term.specs.Tree.{Tree, Trees, var, int, atom, node, none, more}
-use Rattle.ap_term.specs.Vars.{has, add_all_vars}
+use Rattle.ap_term.specs.Vars.{has, add_all_vars, Local, LocalAll}
 use Rattle.ap_term.specs.Substitution.{instance, instance_all}
 use Rattle.ap_term.specs.Laws.{KeepsApart}
 use Rattle.ap_term.specs.Goals.{Part, call, group, Program}
@@ -13,9 +13,9 @@ use Rattle.ap_term.specs.declared.faults.Fault.{Fault}
 use Rattle.ap_term.specs.Search.{by_goals, State, Outcome, answer, fails_by, outcome_by, outcome_of, Met, outcomes_below, outcomes_to_depth, done, open_states, with_outcomes, turn, meets, children}
 use Rattle.ap_term.proofs.Renamings.{renumbered-renamed}
 use Rattle.ap_term.proofs.Solutions.{same_var}
-use Rattle.ap_laws.specs.Renaming.{Renamed, RenamedAll, RenamedPart, RenamedParts, RenamedCheck, Linked, SameState, SameTuple, Local, LocalAll, LocalPart, LocalCheck, IsBelow}
+use Rattle.ap_laws.specs.Renaming.{Renamed, RenamedAll, RenamedPart, RenamedParts, RenamedCheck, Linked, SameState, SameTuple, LocalPart, LocalCheck, IsBelow}
 use Rattle.ap_laws.specs.Laws.{SameOutcome, SameFound, RenamingLaw}
-use Rattle.ap_laws.proofs.Zips.{AllZip-append, AllZip-flat_map, AllZip-weaken}
+use Rattle.ap_term.proofs.Zips.{AllZip-append, AllZip-flat_map, AllZip-weaken}
 use Rattle.ap_laws.proofs.Local.{AllByRecursion-add_all_vars}
 use Rattle.ap_laws.proofs.Ways.{SameState-children}
 use Rattle.ap_term.specs.declared.clauses.Check.{Check}

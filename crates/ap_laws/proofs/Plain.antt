@@ -1,54 +1,20 @@
 -- Plain states: lists of goals, and the ways on of a program's plain form.
-use Rattle.std.proofs.Common.{◌≡◌, ℕ, ◌+◌, true, false, List, [], ◌∷◌, Option, Some, None, refl, ap}
-use Rattle.ap_term.specs.Tree.{Tree, Trees, var, int, atom, node, none, more}
-use Rattle.ap_term.specs.Vars.{occurs, occurs_all}
-use Rattle.ap_term.specs.Substitution.{instance, instance_all}
-use Rattle.ap_term.specs.Goals.{Part, call, group, Program}
+use Rattle.std.proofs.Common.{◌≡◌, ℕ, ◌+◌, true, false, List, [], ◌∷◌, Option, Some, None, refl}
+use Rattle.ap_term.specs.Tree.{Tree, Trees, var, int, atom, node, none, more, append_trees}
+use Rattle.ap_term.specs.Vars.{occurs, occurs_all, Local, LocalAll}
+use Rattle.ap_term.specs.Goals.{Part, call, group, Program, plain_goals}
 use Rattle.ap_term.specs.WellFormed.{IsProgram}
 use Rattle.ap_term.specs.declared.faults.Fault.{Fault}
 use Rattle.ap_term.specs.Search.{Way, ways}
-use Rattle.ap_term.proofs.Solutions.{same_test, instance_agree, instance_all_agree, or_left}
-use Rattle.ap_laws.specs.Renaming.{RenamedAll, RenamedParts, Linked, RenamedWay, Local, LocalAll, LocalParts, LocalWay}
-use Rattle.ap_laws.specs.Plain.{append_trees, plain_goals, way_by, plain_way, plain_ways, Renames, Locals, RenamedPlainWay, LocalPlainWay}
+use Rattle.ap_term.proofs.Solutions.{same_test, or_left}
+use Rattle.ap_term.proofs.Locals.{LocalAll-each, LocalAll-append_trees}
+use Rattle.ap_laws.specs.Renaming.{RenamedAll, RenamedParts, Linked, RenamedWay, LocalParts, LocalWay}
+use Rattle.ap_laws.specs.Plain.{way_by, plain_way, plain_ways, Renames, Locals, RenamedPlainWay, LocalPlainWay}
 use Rattle.ap_laws.specs.Graft.{arguments}
-use Rattle.ap_laws.proofs.Zips.{AllZip-map, AllByRecursion-map}
-use Rattle.ap_laws.proofs.Local.{Local-occurs, LocalAll-occurs_all, Local-each, LocalAll-each}
+use Rattle.ap_term.proofs.Zips.{AllZip-map, AllByRecursion-map}
 use Rattle.ap_laws.proofs.Ways.{Renamed-ways, Local-ways}
 
--- ---- instances and variables
-
-pub instance-Local : (P : ℕ → Type 0) (f g : ℕ → Tree) → ((x : ℕ) → P x → f x ≡ g x) → (t : Tree) → Local P t → instance f t ≡ instance g t
-instance-Local P f g e t h = instance_agree f g t (λ x o. e x (Local-occurs P t h x o))
-
-pub instance_all-LocalAll : (P : ℕ → Type 0) (f g : ℕ → Tree) → ((x : ℕ) → P x → f x ≡ g x) → (ts : Trees) → LocalAll P ts → instance_all f ts ≡ instance_all g ts
-instance_all-LocalAll P f g e ts h = instance_all_agree f g ts (λ x o. e x (LocalAll-occurs_all P ts h x o))
-
-pub instance_all-same : (f g : ℕ → Tree) → ((x : ℕ) → f x ≡ g x) → (ts : Trees) → instance_all f ts ≡ instance_all g ts
-instance_all-same f g e ts = instance_all_agree f g ts (λ x o. e x)
-
-pub Local-and : (P Q : ℕ → Type 0) (t : Tree) → Local P t → Local Q t → Local (λ x. P x × Q x) t
-Local-and P Q t h k = Local-each (λ x. P x × Q x) t (λ x o. (Local-occurs P t h x o, Local-occurs Q t k x o))
-
-pub LocalAll-and : (P Q : ℕ → Type 0) (ts : Trees) → LocalAll P ts → LocalAll Q ts → LocalAll (λ x. P x × Q x) ts
-LocalAll-and P Q ts h k = LocalAll-each (λ x. P x × Q x) ts (λ x o. (LocalAll-occurs_all P ts h x o, LocalAll-occurs_all Q ts k x o))
-
--- each variable of a tree occurs in it
-pub Local-self : (t : Tree) → Local (λ x. occurs x t ≡ true) t
-Local-self t = Local-each (λ x. occurs x t ≡ true) t (λ x o. o)
-
 -- ---- lists of goals
-
-pub LocalAll-append_trees : (P : ℕ → Type 0) (ts us : Trees) → LocalAll P ts → LocalAll P us → LocalAll P (append_trees ts us)
-LocalAll-append_trees P none us h k = k
-LocalAll-append_trees P (more t ts) us h k = (h.0, LocalAll-append_trees P ts us h.1 k)
-
-pub instance_all-append_trees : (f : ℕ → Tree) (ts us : Trees) → instance_all f (append_trees ts us) ≡ append_trees (instance_all f ts) (instance_all f us)
-instance_all-append_trees f none us = refl
-instance_all-append_trees f (more t ts) us = ap (more (instance f t)) (instance_all-append_trees f ts us)
-
-pub append_trees-assoc : (ts us vs : Trees) → append_trees (append_trees ts us) vs ≡ append_trees ts (append_trees us vs)
-append_trees-assoc none us vs = refl
-append_trees-assoc (more t ts) us vs = ap (more t) (append_trees-assoc ts us vs)
 
 pub RenamedAll-append_trees : (R : ℕ → ℕ → Type 0) (ts us vs ws : Trees) → RenamedAll R ts us → RenamedAll R vs ws → RenamedAll R (append_trees ts vs) (append_trees us ws)
 RenamedAll-append_trees R none none vs ws h k = k

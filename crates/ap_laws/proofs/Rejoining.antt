@@ -2,12 +2,12 @@
 use Rattle.std.proofs.Common.{◌≡◌, ℕ, zero, suc, ◌+◌, ◌-◌, ◌<◌, ◌≤◌, ◌⊎◌, inl, inr, List, [], ◌∷◌, ◌++◌, map, Option, Some, None, refl, ap, ap₂, sym, ◌∙◌, subst, arith, append-nil}
 use Rattle.std.specs.List.{flat_map, AllByRecursion}
 use Rattle.std.proofs.lemmas.List.{map-append}
-use Rattle.ap_term.specs.Tree.{Tree, Trees, node, none, more}
+use Rattle.ap_term.specs.Tree.{Tree, Trees, node, none, more, append_trees}
 use Rattle.ap_term.specs.Goals.{Program}
 use Rattle.ap_term.specs.Independence.{AreApart}
 use Rattle.ap_term.specs.WellFormed.{IsProgram}
 use Rattle.ap_term.specs.Search.{State, Outcome, put_before, cut as cut_off, answers_to_depth, outcomes_to_depth, meets}
-use Rattle.ap_laws.specs.Plain.{Plain, state, faulted, Ways, append_trees, outcome, tuple_of, IsAnswer, next_of, plain_of, as_state, plain_ways, HasFullGroups, Renames, Locals, IsPlainBelow}
+use Rattle.ap_laws.specs.Plain.{Plain, state, faulted, Ways, outcome, tuple_of, IsAnswer, next_of, plain_of, as_state, plain_ways, HasFullGroups, Renames, Locals, IsPlainBelow}
 use Rattle.ap_laws.specs.Trace.{Action, called, cut, answered, trace, trace_to, traces, answers_in, calls_in, found_upto}
 use Rattle.ap_laws.specs.Graft.{alone, graft, grafts, IsOf}
 use Rattle.ap_laws.specs.Gives.{Thins, thins_none, thins_keep, thins_drop, GivesAt, Rejoins, IsCallDue}

@@ -10,7 +10,7 @@ use Rattle.ap_term.specs.Substitution.{instance, instance_all, Subst, value, one
 use Rattle.ap_term.specs.Unification.{Equations, both, equate, apart, apart_all, replaced_by, grown, solve, mgu}
 use Rattle.ap_term.specs.Goals.{Part, call, group, instance_check, instance_part, calls, opened}
 use Rattle.ap_laws.specs.Renaming.{OptionZip, Renamed, RenamedAll, RenamedPair, RenamedSubst, RenamedCheck, RenamedPart, RenamedParts}
-use Rattle.ap_laws.proofs.Zips.{AllZip-append, AllZip-map, AllZip-flat_map, AllZip-weaken, length-AllZip, related-if}
+use Rattle.ap_term.proofs.Zips.{AllZip-append, AllZip-map, AllZip-flat_map, AllZip-weaken, length-AllZip, related-if}
 
 mutual
   -- instances, where the maps take related variables to related trees

@@ -4,13 +4,15 @@ use Rattle.ap_term.specs.declared.faults.Fault.{Fault}
 use Rattle.ap_term.specs.Search.{State}
 use Rattle.ap_term.specs.Tree.{Tree, Trees, var, node, none, more}
 use Rattle.ap_term.proofs.Copies.{instance_all_var}
-use Rattle.ap_laws.specs.Renaming.{LocalAll, IsBelow}
-use Rattle.ap_laws.specs.Plain.{Plain, state, Ways, IsAnswer, plain_goals, plain_by, plain_of, Renames, Locals}
+use Rattle.ap_term.specs.Vars.{LocalAll}
+use Rattle.ap_term.specs.Goals.{plain_goals}
+use Rattle.ap_term.proofs.Locals.{LocalAll-weaken}
+use Rattle.ap_laws.specs.Renaming.{IsBelow}
+use Rattle.ap_laws.specs.Plain.{Plain, state, Ways, IsAnswer, plain_by, plain_of, Renames, Locals}
 use Rattle.ap_laws.proofs.Plain.{LocalAll-plain_goals}
-use Rattle.ap_laws.proofs.Zips.{AllByRecursion-append}
+use Rattle.ap_term.proofs.Zips.{AllByRecursion-append}
 use Rattle.ap_laws.specs.Graft.{IsOwn, IsOf}
 use Rattle.std.specs.List.{AllByRecursion}
-use Rattle.ap_laws.proofs.Local.{LocalAll-weaken}
 use Rattle.ap_laws.specs.Gives.{Gives, Rejoins}
 use Rattle.ap_laws.specs.Tasks.{Task, task, exhausted, plain, flat_task, flat_alternatives, left}
 use Rattle.ap_laws.specs.Events.{Runs, none_yet, and_then, emits}

@@ -3,14 +3,15 @@ use Rattle.std.proofs.Common.{◌≡◌, ℕ, zero, suc, ◌+◌, List, [], ◌�
 use Rattle.std.specs.List.{AllZip}
 use Rattle.ap_term.specs.declared.faults.Fault.{Fault}
 use Rattle.ap_term.specs.Search.{State}
-use Rattle.ap_term.specs.Tree.{Tree, Trees, var, int, atom, node, none, more}
+use Rattle.ap_term.specs.Tree.{Tree, Trees, var, int, atom, node, none, more, append_trees}
 use Rattle.ap_term.specs.Substitution.{value}
 use Rattle.ap_laws.specs.Renaming.{Renamed, RenamedAll, Linked}
-use Rattle.ap_laws.specs.Plain.{Plain, state, faulted, PlainWay, way, fault_way, Ways, append_trees, plain_child, plain_children_by, RenamedPlainWay, RenamedPlainWays, Renames, SamePlain, SamePlainBy, plain_ways, plain_goals, plain_by, plain_of}
+use Rattle.ap_term.specs.Goals.{plain_goals}
+use Rattle.ap_laws.specs.Plain.{Plain, state, faulted, PlainWay, way, fault_way, Ways, plain_child, plain_children_by, RenamedPlainWay, RenamedPlainWays, Renames, SamePlain, SamePlainBy, plain_ways, plain_by, plain_of}
 use Rattle.ap_laws.specs.Trace.{trace, SameAction}
 use Rattle.ap_laws.specs.Graft.{arguments}
 use Rattle.ap_laws.specs.SearchLaws.{TraceRenamingLaw}
-use Rattle.ap_laws.proofs.Zips.{AllZip-flat_map}
+use Rattle.ap_term.proofs.Zips.{AllZip-flat_map}
 use Rattle.ap_laws.proofs.Renamed.{Renamed-weaken, RenamedAll-weaken, Renamed-value, RenamedAll-instance_all}
 use Rattle.ap_laws.proofs.Ways.{IsOneToOne-Linked, Linked-more, continued, Continues-continued, Linked-continued}
 use Rattle.ap_laws.proofs.Plain.{RenamedAll-append_trees, RenamedAll-plain_goals, Renames-plain_ways}

@@ -129,10 +129,6 @@ answers_in-append (called ∷ a) b = answers_in-append a b
 answers_in-append (cut ∷ a) b = answers_in-append a b
 answers_in-append (answered s l ∷ a) b = ap (λ z. s ∷ z) (answers_in-append a b)
 
-pub answers_in-flat_map : (f : Plain → List Action) (g : Plain → List Plain) → ((s : Plain) → g s ≡ answers_in (f s)) → (l : List Plain) → flat_map g l ≡ answers_in (flat_map f l)
-answers_in-flat_map f g e [] = refl
-answers_in-flat_map f g e (s ∷ l) = ap₂ (λ a b. a ++ b) (e s) (answers_in-flat_map f g e l) ∙ sym (answers_in-append (f s) (flat_map f l))
-
 pub flat_map-plain_children : (A : Ways) (d k r : ℕ) → d - (k + 1) ≡ r → (l : List Plain) → AllByRecursion (λ s. steps_of s ≡ k + 1) l
     → flat_map (λ s. trace_to A d s) l ≡ flat_map (λ s. trace A r s) l
 flat_map-plain_children A d k r e [] q = refl

@@ -2,13 +2,14 @@
 use Rattle.std.proofs.Common.{◌≡◌, ℕ, ◌+◌, ◌<◌, Bool, true, false, ◌||◌, ◌++◌, refl, ap, sym, ◌∙◌, subst}
 use Rattle.std.proofs.lemmas.Bool.{false≢true}
 use Rattle.ap_term.specs.Tree.{Tree, Trees, var, int, atom, node, none, more}
-use Rattle.ap_term.specs.Vars.{occurs, occurs_all}
+use Rattle.ap_term.specs.Vars.{occurs, occurs_all, Local, LocalAll}
 use Rattle.ap_term.specs.Substitution.{instance, instance_all, Subst, value}
 use Rattle.ap_term.proofs.Copies.{instance_var, instance_twice}
 use Rattle.ap_term.proofs.Solutions.{same_var, instance_agree}
-use Rattle.ap_laws.specs.Renaming.{Renamed, RenamedAll, Linked, Local, LocalAll}
+use Rattle.ap_term.proofs.Locals.{Local-each}
+use Rattle.ap_laws.specs.Renaming.{Renamed, RenamedAll, Linked}
 use Rattle.ap_laws.specs.Laws.{Inverse, UniqueUnifierLaw, ChildByUnifierLaw}
-use Rattle.ap_laws.proofs.Local.{Local-each, Local-value}
+use Rattle.ap_laws.proofs.Local.{Local-value}
 use Rattle.ap_laws.proofs.Renamed.{Renamed-weaken}
 use Rattle.ap_laws.proofs.Ways.{IsOneToOne-Linked, Renamed-both, RenamedAll-both, RenamedParts-both}
 

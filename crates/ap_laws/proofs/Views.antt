@@ -6,8 +6,8 @@ use Rattle.std.proofs.lemmas.Grind.{flat_map-append}
 use Rattle.std.proofs.lemmas.List.{map-append}
 use Rattle.std.proofs.lemmas.List.Elements.{All-head, All-tail}
 use Rattle.ap_term.specs.Tree.{Tree, Trees, none, more}
-use Rattle.ap_term.specs.Substitution.{instance, instance_all, Subst, value, shift}
-use Rattle.ap_term.specs.Goals.{Part, call, group, Program, instance_part, calls, opened}
+use Rattle.ap_term.specs.Substitution.{instance_all, Subst, value, shift}
+use Rattle.ap_term.specs.Goals.{Part, call, group, Program, instance_part, calls, opened, plain_goals}
 use Rattle.ap_term.specs.Builtins.{builtin}
 use Rattle.ap_term.specs.WellFormed.{well_formed_part, numbered_check, IsClause, IsProgram}
 use Rattle.ap_term.specs.declared.faults.Fault.{Fault}
@@ -15,41 +15,13 @@ use Rattle.ap_term.specs.Faults.{fault_of}
 use Rattle.ap_term.specs.Search.{by_goals, State, Outcome, outcome_by, outcome_of, Way, way_if, clause_way, ways_by, ways_unless, ways, unless, child, children_by, children, outcomes_below, outcomes_to_depth, done, open_states, with_outcomes, turn, meets}
 use Rattle.ap_term.specs.Laws.{HasGoals}
 use Rattle.ap_term.proofs.SearchLaws.{AllSteps, children-steps, open-first}
-use Rattle.ap_laws.specs.Plain.{Plain, state, faulted, Ways, append_trees, outcome, steps_of, plain_goals, plain_by, plain_of, as_state, AreGroups, HasFullGroups, way_by, plain_way, plain_ways, plain_child, plain_children_by, plain_children}
+use Rattle.ap_term.proofs.GoalLists.{plain_goals-append, plain_goals-instance, plain_goals-calls, plain_goals-opened}
+use Rattle.ap_laws.specs.Plain.{Plain, state, faulted, Ways, outcome, steps_of, plain_by, plain_of, as_state, AreGroups, HasFullGroups, way_by, plain_way, plain_ways, plain_child, plain_children_by, plain_children}
 use Rattle.ap_laws.specs.Trace.{Action, called, trace, trace_to, traces, answers_in, found_before, found_upto}
-use Rattle.ap_laws.proofs.Zips.{AllByRecursion-append}
+use Rattle.ap_term.proofs.Zips.{AllByRecursion-append}
 use Rattle.ap_laws.proofs.Ways.{and_both}
 use Rattle.ap_laws.proofs.Graft.{state-eq}
-use Rattle.ap_laws.proofs.Plain.{instance_all-append_trees}
 use Rattle.ap_laws.proofs.Traces.{answers_in-append, trace-more}
-
--- ---- goals read as one list
-
-pub plain_goals-append : (ps qs : List Part) → plain_goals (ps ++ qs) ≡ append_trees (plain_goals ps) (plain_goals qs)
-plain_goals-append [] qs = refl
-plain_goals-append (call t ∷ ps) qs = ap (more t) (plain_goals-append ps qs)
-plain_goals-append (group cs none ∷ ps) qs = plain_goals-append ps qs
-plain_goals-append (group cs (more t ts) ∷ ps) qs = ap (more t) (plain_goals-append (group cs ts ∷ ps) qs)
-
-pub plain_goals-instance : (f : ℕ → Tree) (ps : List Part) → plain_goals (map (instance_part f) ps) ≡ instance_all f (plain_goals ps)
-plain_goals-instance f [] = refl
-plain_goals-instance f (call t ∷ ps) = ap (more (instance f t)) (plain_goals-instance f ps)
-plain_goals-instance f (group cs ts ∷ ps) =
-    ap (append_trees (instance_all f ts)) (plain_goals-instance f ps) ∙ sym (instance_all-append_trees f ts (plain_goals ps))
-
-pub plain_goals-calls_append : (ts : Trees) (ps : List Part) → plain_goals (calls ts ++ ps) ≡ append_trees ts (plain_goals ps)
-plain_goals-calls_append none ps = refl
-plain_goals-calls_append (more t ts) ps = ap (more t) (plain_goals-calls_append ts ps)
-
-pub plain_goals-calls : (ts : Trees) → plain_goals (calls ts) ≡ ts
-plain_goals-calls none = refl
-plain_goals-calls (more t ts) = ap (more t) (plain_goals-calls ts)
-
-pub plain_goals-opened : (ps : List Part) → plain_goals (opened ps) ≡ plain_goals ps
-plain_goals-opened [] = refl
-plain_goals-opened (call t ∷ ps) = refl
-plain_goals-opened (group cs none ∷ ps) = plain_goals-opened ps
-plain_goals-opened (group cs (more t ts) ∷ ps) = ap (more t) (plain_goals-calls_append ts ps)
 
 pub plain_by-None : (G T : Trees) (n k : ℕ) → plain_by None G T n k ≡ state G T n k
 plain_by-None none T n k = refl

@@ -8,16 +8,17 @@ use Rattle.ap_term.specs.declared.clauses.Check.TheVariants.{Ground, Indep}
 use Rattle.ap_term.specs.Tree.{Tree, Trees, var, int, atom, node, none, more}
 use Rattle.ap_term.specs.Substitution.{instance, instance_all, Subst, value, shift}
 use Rattle.ap_term.specs.Goals.{Part, call, group, Clause, Program, instance_check, instance_part, opened}
-use Rattle.ap_term.specs.Vars.{vars}
+use Rattle.ap_term.specs.Vars.{vars, Local, LocalAll}
 use Rattle.ap_term.specs.WellFormed.{in_range, numbered, numbered_all, callable, all_callable, numbered_check, well_formed_part, IsClause, IsProgram}
 use Rattle.ap_term.specs.Builtins.{builtin}
 use Rattle.ap_term.specs.Search.{State, Way, way_if, clause_way, ways_by, ways_unless, ways, unless, child, children_by, children}
 use Rattle.ap_term.specs.Faults.{fault_of}
 use Rattle.ap_term.specs.declared.faults.Fault.{Fault}
-use Rattle.ap_laws.specs.Renaming.{OptionZip, OptionAll, Renamed, RenamedAll, RenamedSubst, RenamedCheck, RenamedPart, RenamedParts, Linked, RenamedWay, RenamedBy, SameState, Local, LocalAll, LocalSubst, LocalCheck, LocalPart, LocalParts, LocalWay}
-use Rattle.ap_laws.proofs.Zips.{AllZip-append, AllZip-map, AllZip-flat_map, AllZip-both, AllZip-flat_map_both, AllByRecursion-append, AllByRecursion-weaken}
+use Rattle.ap_term.proofs.Locals.{Local-weaken, LocalAll-weaken, Local-instance}
+use Rattle.ap_laws.specs.Renaming.{OptionZip, OptionAll, Renamed, RenamedAll, RenamedSubst, RenamedCheck, RenamedPart, RenamedParts, Linked, RenamedWay, RenamedBy, SameState, LocalSubst, LocalCheck, LocalPart, LocalParts, LocalWay}
+use Rattle.ap_term.proofs.Zips.{AllZip-append, AllZip-map, AllZip-flat_map, AllZip-both, AllZip-flat_map_both, AllByRecursion-append, AllByRecursion-weaken}
 use Rattle.ap_laws.proofs.Renamed.{IsOneToOne, Renamed-weaken, RenamedAll-weaken, RenamedParts-weaken, Renamed-opened, Renamed-value, RenamedAll-instance_all, Renamed-mgu, Renamed-add_vars, RenamedParts-instance_part}
-use Rattle.ap_laws.proofs.Local.{Local-mgu, Local-weaken, LocalAll-weaken, Local-instance, LocalParts-instance_part}
+use Rattle.ap_laws.proofs.Local.{Local-mgu, LocalParts-instance_part}
 use Rattle.ap_laws.proofs.Builtins.{Renamed-builtin, Renamed-fault_of, Local-builtin}
 use Rattle.ap_term.proofs.Solutions.{same_var, same_test}
 

@@ -1,10 +1,10 @@
-//! The laws of sequential search that running goals beside one another rests on, over the definitions of `ap_term`.
+//! Floor: model. The laws of sequential search that running goals beside one another rests on, over the definitions of `ap_term`.
 //!
 //! Stands on `ap_term` alone. Each function here has an empty body; its contract is a law.
 #![tactic(auto)]
 
 ghost use Rattle.ap_laws.specs.Laws.{MguLaw, UniqueUnifierLaw, WaysLaw, ChildrenLaw, ChildByUnifierLaw, CopiedAnswerLaw, FittingLaw, SameStateLaw, RenamingLaw};
-ghost use Rattle.ap_laws.specs.SearchLaws.{QueryLaw, TraceLaw, GraftLaw, GraftStateLaw, SplitLaw, IndependenceLaw, DeadConjunctLaw, GivesLaw, TraceRenamingLaw};
+ghost use Rattle.ap_laws.specs.SearchLaws.{QueryLaw, TraceLaw, GraftLaw, GraftStateLaw, SplitLaw, IndependenceLaw, DeadConjunctLaw, QuietLaw, GivesLaw, TraceRenamingLaw};
 ghost use Rattle.ap_laws.specs.Rejoining.{EventLaw, MeaningLaw, RejoinLaw, EmittedLaw};
 ghost use Rattle.ap_laws.specs.Example.{ExampleLaw};
 
@@ -88,9 +88,14 @@ pub fn independence_law()
     ensures { IndependenceLaw }
 {}
 
-/// A goal without answers leaves a conjunction none.
+/// Behind goals that are apart and meet no fault, a goal with neither answers nor a fault leaves the conjunction none.
 pub fn dead_conjunct_law()
     ensures { DeadConjunctLaw }
+{}
+
+/// A goal that isn't loud meets no fault.
+pub fn quiet_law()
+    ensures { QuietLaw }
 {}
 
 /// What searches give can be put together.
@@ -113,7 +118,8 @@ pub fn rejoin_law()
     ensures { RejoinLaw }
 {}
 
-/// What a parallel search emits begins the answers of sequential search, and is all where nothing is left.
+/// What a parallel search emits begins the answers of sequential search, is all where nothing is left, and all before a
+/// fault that it has met.
 pub fn emitted_law()
     ensures { EmittedLaw }
 {}

@@ -1,4 +1,4 @@
-//! Cuts a Prolog text into pieces, one for each clause, and a piece into tokens.
+//! Floor: text. Cuts a Prolog text into pieces, one for each clause, and a piece into tokens.
 // What it is for: the reader's first layer. A piece is a clause's span, from its first token through
 // its full stop; a token is a span of the text and its kind. A text is read in one pass, in time
 // linear in its length, without recursion, and a token's text is a slice of the source.

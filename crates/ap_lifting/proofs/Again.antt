@@ -2,9 +2,9 @@
 use Rattle.std.proofs.Common.{◌≡◌, ℕ, ◌+◌, ◌-◌, ◌<◌, ◌≤◌, nat_lt, Bool, true, false, if◌then◌else◌, List, [], ◌∷◌, ◌++◌, refl, ap, ◌∙◌, arith, Option, Some, None}
 use Rattle.std.proofs.lemmas.Bool.Decides.{nat_tests}
 use Rattle.ap_term.specs.declared.clauses.Check.{Check}
-use Rattle.ap_term.specs.Goals.{Part, call, group}
+use Rattle.ap_term.specs.Goals.{Part, call, group, plain_goals}
 use Rattle.ap_term.specs.Search.{variables}
-use Rattle.ap_laws.specs.Plain.{append_trees, plain_goals}
+use Rattle.ap_term.specs.Tree.{append_trees}
 use Rattle.ap_lifting.specs.Body.{Body, goal, conjunction, disjunction, parallel, conditional}
 use Rattle.ap_lifting.specs.Rule.{Rule}
 use Rattle.ap_lifting.specs.Lifted.{Lifted, applied, stays, number_inside, raised_unless, lifted, lifted_goal, lifted_clause, checks_of, clause_of, lifted_rule, lifted_rules, lifted_program, lifted_if}

@@ -4,15 +4,15 @@ use Rattle.std.proofs.lemmas.Bool.{false≢true}
 use Rattle.std.proofs.lemmas.Bool.Decides.{nat_tests}
 use Rattle.std.specs.Prelude.{[], ◌∷◌, Some}
 use Rattle.ap_term.specs.Tree.{Tree, Trees, var, int, atom, node, none, more, push_tree}
-use Rattle.ap_term.specs.Vars.{occurs, occurs_all}
+use Rattle.ap_term.specs.Vars.{occurs, occurs_all, Local, LocalAll}
 use Rattle.ap_term.specs.Substitution.{instance, instance_all, Subst, value, shift}
 use Rattle.ap_term.specs.Unifier.{IsMostGeneral}
 use Rattle.ap_term.specs.Search.{variables}
 use Rattle.ap_term.specs.WellFormed.{in_range, numbered, numbered_all}
 use Rattle.ap_term.proofs.Copies.{instance_var, instance_all_var, instance_twice, instance_all_twice}
 use Rattle.ap_term.proofs.Solutions.{same_var, same_test, or_left, or_right}
-use Rattle.ap_laws.specs.Renaming.{Local, LocalAll, LocalSubst}
-use Rattle.ap_laws.proofs.Plain.{instance-Local, instance_all-LocalAll}
+use Rattle.ap_term.proofs.Locals.{instance-Local, instance_all-LocalAll}
+use Rattle.ap_laws.specs.Renaming.{LocalSubst}
 use Rattle.ap_laws.proofs.Unifiers.{instance-at}
 use Rattle.ap_lifting.specs.Lifted.{applied}
 use Rattle.ap_lifting.proofs.Kept.{and_first, and_second, applied-variables}

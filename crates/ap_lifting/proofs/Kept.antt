@@ -4,12 +4,11 @@ use Rattle.std.specs.Prelude.{IsTrue, ◌↔◌}
 use Rattle.std.specs.List.{list_all}
 use Rattle.std.proofs.lemmas.Bool.Decides.{nat_tests}
 use Rattle.ap_term.specs.declared.clauses.Check.{Check}
-use Rattle.ap_term.specs.Tree.{Tree, Trees, var, node, none, more, push_tree, count_trees}
+use Rattle.ap_term.specs.Tree.{Tree, Trees, var, node, none, more, push_tree, count_trees, append_trees}
 use Rattle.ap_term.specs.Substitution.{instance_all}
-use Rattle.ap_term.specs.Goals.{Part, call, group}
+use Rattle.ap_term.specs.Goals.{Part, call, group, plain_goals}
 use Rattle.ap_term.specs.WellFormed.{in_range, numbered, numbered_all, callable, all_callable, numbered_check, well_formed_part, IsClause}
 use Rattle.ap_term.specs.Search.{variables}
-use Rattle.ap_laws.specs.Plain.{append_trees, plain_goals}
 use Rattle.ap_lifting.specs.declared.bodies.Condition.{Condition}
 use Rattle.ap_lifting.specs.declared.bodies.Condition.TheVariants.{True, Ground, Indep}
 use Rattle.ap_lifting.proofs.Measured.{count_trees-append, some_lifted}

@@ -6,26 +6,28 @@ use Rattle.std.proofs.lemmas.Bool.{false≢true}
 use Rattle.std.proofs.lemmas.Bool.Decides.{nat_tests}
 use Rattle.std.proofs.lemmas.List.Elements.{All-head, All-tail}
 use Rattle.ap_term.specs.declared.fixed.TheConstants.{COUNT}
-use Rattle.ap_term.specs.Tree.{Tree, Trees, var, int, atom, node, none, more}
+use Rattle.ap_term.specs.Tree.{Tree, Trees, var, int, atom, node, none, more, append_trees}
 use Rattle.ap_term.specs.Substitution.{instance, instance_all, Subst, value, shift}
 use Rattle.ap_term.specs.Unification.{mgu, solve, apart_all}
 use Rattle.ap_term.specs.Unifier.{IsMostGeneral}
 use Rattle.ap_term.specs.Builtins.{builtin, relation_named, named_answer}
-use Rattle.ap_term.specs.Goals.{Part, Program, calls, instance_part}
+use Rattle.ap_term.specs.Goals.{Part, Program, calls, instance_part, plain_goals}
 use Rattle.ap_term.specs.WellFormed.{IsClause, IsProgram, callable, numbered}
 use Rattle.ap_term.specs.Search.{variables, way_if, clause_way, ways_by, child}
 use Rattle.ap_term.proofs.Solvable.{mgu-general}
 use Rattle.ap_term.proofs.Solutions.{same_var, same_test}
-use Rattle.ap_term.specs.Vars.{occurs, add_vars}
-use Rattle.ap_laws.specs.Renaming.{OptionAll, SameState, Local, LocalAll, LocalSubst, LocalPart, LocalParts}
-use Rattle.ap_laws.specs.Plain.{state, PlainWay, way, append_trees, plain_goals, plain_of, as_state, plain_way, plain_child, plain_children_by, IsPlainBelow, SamePlain}
-use Rattle.ap_laws.proofs.Zips.{AllByRecursion-append, AllZip-append}
-use Rattle.ap_laws.proofs.Local.{Local-mgu, Local-instance, LocalAll-weaken, Local-weaken, LocalParts-instance_part, LocalAll-calls}
+use Rattle.ap_term.specs.Vars.{occurs, add_vars, Local, LocalAll}
+use Rattle.ap_term.proofs.Locals.{Local-instance, LocalAll-weaken, Local-weaken}
+use Rattle.ap_term.proofs.TreeLists.{instance_all-append_trees}
+use Rattle.ap_term.proofs.GoalLists.{plain_goals-append, plain_goals-instance, plain_goals-calls}
+use Rattle.ap_laws.specs.Renaming.{OptionAll, SameState, LocalSubst, LocalPart, LocalParts}
+use Rattle.ap_laws.specs.Plain.{state, PlainWay, way, plain_of, as_state, plain_way, plain_child, plain_children_by, IsPlainBelow, SamePlain}
+use Rattle.ap_term.proofs.Zips.{AllByRecursion-append, AllZip-append}
+use Rattle.ap_laws.proofs.Local.{Local-mgu, LocalParts-instance_part, LocalAll-calls}
 use Rattle.ap_laws.proofs.Ways.{LocalParts-body}
-use Rattle.ap_laws.proofs.Plain.{instance_all-append_trees}
 use Rattle.ap_laws.proofs.Graft.{state-eq, Local-at}
 use Rattle.ap_laws.proofs.Unifiers.{SameState-unifiers}
-use Rattle.ap_laws.proofs.Views.{plain_by-None, plain_goals-append, plain_goals-instance, plain_goals-calls}
+use Rattle.ap_laws.proofs.Views.{plain_by-None}
 use Rattle.ap_laws.proofs.TraceNames.{trace_renaming}
 use Rattle.ap_lifting.specs.Lifted.{applied, lifted_goal, lifted_clause}
 use Rattle.ap_lifting.specs.LiftingLaws.{is_named, clauses_named, entered, LiftedCallLaw}

@@ -5,16 +5,15 @@ use Rattle.std.specs.List.{AllByRecursion, list_all}
 use Rattle.std.proofs.lemmas.Bool.{false≢true}
 use Rattle.ap_term.specs.declared.fixed.TheConstants.{COUNT}
 use Rattle.ap_term.specs.declared.clauses.Check.{Check}
-use Rattle.ap_term.specs.Tree.{Tree, Trees, var, int, atom, node, none, more}
+use Rattle.ap_term.specs.Tree.{Tree, Trees, var, int, atom, node, none, more, append_trees}
 use Rattle.ap_term.specs.Substitution.{instance_all}
-use Rattle.ap_term.specs.Goals.{Part, Clause, Program}
+use Rattle.ap_term.specs.Goals.{Part, Clause, Program, plain_goals}
 use Rattle.ap_term.specs.WellFormed.{callable, numbered}
 use Rattle.ap_term.specs.Search.{variables}
 use Rattle.ap_term.proofs.Copies.{instance_var, instance_all_var}
 use Rattle.ap_term.proofs.Solutions.{same_var}
-use Rattle.ap_laws.specs.Plain.{append_trees, plain_goals}
-use Rattle.ap_laws.proofs.Zips.{AllByRecursion-append, AllByRecursion-weaken}
-use Rattle.ap_laws.proofs.Views.{plain_goals-append}
+use Rattle.ap_term.proofs.GoalLists.{plain_goals-append}
+use Rattle.ap_term.proofs.Zips.{AllByRecursion-append, AllByRecursion-weaken}
 use Rattle.ap_lifting.specs.Body.{Body, goal, conjunction, disjunction, parallel, conditional, numbered_condition, well_formed}
 use Rattle.ap_lifting.specs.Lifted.{Lifted, stays, number_inside, raised_unless, lifted, lifted_goal, lifted_clause, checks_of, lifted_if}
 use Rattle.ap_lifting.specs.LiftingLaws.{is_named, clauses_named, Avoids, AvoidsIf}

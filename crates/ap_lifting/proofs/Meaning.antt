@@ -10,7 +10,7 @@ use Rattle.ap_term.specs.Goals.{Program}
 use Rattle.ap_term.specs.WellFormed.{IsClause, IsProgram, callable, well_formed_part}
 use Rattle.ap_term.specs.Search.{clause_way}
 use Rattle.ap_term.proofs.Solutions.{same_test}
-use Rattle.ap_laws.proofs.Zips.{AllByRecursion-append, AllByRecursion-weaken}
+use Rattle.ap_term.proofs.Zips.{AllByRecursion-append, AllByRecursion-weaken}
 use Rattle.ap_lifting.specs.Body.{Body, goal, conjunction, disjunction, parallel, conditional, numbered_condition, well_formed}
 use Rattle.ap_lifting.specs.Rule.{Rule, IsRule, well_formed_if}
 use Rattle.ap_lifting.specs.Lifted.{Lifted, stays, number_inside, raised_unless, lifted, lifted_clause, checks_of, clause_of, lifted_rule, lifted_rules, lifted_program, lifted_if}

@@ -1,9 +1,8 @@
 -- What is read off a body is what lifting gives.
 use Rattle.std.proofs.Common.{◌≡◌, ℕ, ◌+◌, ◌<◌, Bool, true, false, max, List, [], ◌∷◌, ◌++◌, length, Option, Some, None, refl, ap, arith, length-append}
 use Rattle.ap_term.specs.declared.clauses.Check.{Check}
-use Rattle.ap_term.specs.Tree.{Trees, none, more, count_trees}
-use Rattle.ap_term.specs.Goals.{Part, call, group, Clause}
-use Rattle.ap_laws.specs.Plain.{append_trees, plain_goals}
+use Rattle.ap_term.specs.Tree.{Trees, none, more, count_trees, append_trees}
+use Rattle.ap_term.specs.Goals.{Part, call, group, Clause, plain_goals}
 use Rattle.ap_lifting.specs.declared.sizes.Measure.{Measure}
 use Rattle.ap_lifting.specs.Body.{Body, goal, conjunction, disjunction, parallel, conditional}
 use Rattle.ap_lifting.specs.Lifted.{Lifted, in_turn, grouped, stays, number_inside, checks_of, either, raised_unless, lifted, lifted_if}

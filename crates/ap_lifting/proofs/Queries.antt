@@ -3,16 +3,16 @@ use Rattle.std.proofs.Common.{◌≡◌, ℕ, zero, suc, ◌+◌, ◌<◌, ◌�
 use Rattle.std.specs.List.{AllZip, AllByRecursion}
 use Rattle.std.proofs.lemmas.Bool.{false≢true}
 use Rattle.std.proofs.lemmas.List.Elements.{All-cons, All-append}
-use Rattle.ap_term.specs.Goals.{Clause, Program, Query, joined}
+use Rattle.ap_term.specs.Goals.{Clause, Program, Query, joined, plain_goals}
 use Rattle.ap_term.specs.WellFormed.{IsClause, IsProgram}
 use Rattle.ap_term.specs.Search.{start, variables}
 use Rattle.ap_term.specs.UpToNames.{SameUpToNames}
-use Rattle.ap_laws.specs.Renaming.{LocalAll}
+use Rattle.ap_term.specs.Vars.{LocalAll}
+use Rattle.ap_term.proofs.Locals.{LocalAll-weaken}
 use Rattle.ap_laws.specs.Laws.{SameOutcome, SameFound}
-use Rattle.ap_laws.specs.Plain.{Plain, state, faulted, outcome, plain_goals, plain_by, plain_of, plain_ways, SamePlain, HasFullGroups}
+use Rattle.ap_laws.specs.Plain.{Plain, state, faulted, outcome, plain_by, plain_of, plain_ways, SamePlain, HasFullGroups}
 use Rattle.ap_laws.specs.Trace.{Action, called, cut, answered, trace, trace_to, answers_in, found_upto, SameAction}
-use Rattle.ap_laws.proofs.Zips.{AllByRecursion-weaken}
-use Rattle.ap_laws.proofs.Local.{LocalAll-weaken}
+use Rattle.ap_term.proofs.Zips.{AllByRecursion-weaken}
 use Rattle.ap_laws.proofs.Names.{SameUpToNames-SameTuple}
 use Rattle.ap_laws.proofs.Views.{AreGroups-well_formed, plain_by-None, trace_to-plain_of, answers_to_depth-trace, search-trace}
 use Rattle.ap_lifting.specs.Rule.{Rule, IsRule}

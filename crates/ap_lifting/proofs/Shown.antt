@@ -1,12 +1,11 @@
 -- What stands for a body, under instances.
 use Rattle.std.proofs.Common.{◌≡◌, ℕ, Bool, true, false, List, [], ◌∷◌, ◌++◌, map, refl, ap, sym, ◌∙◌, subst, Option, Some, None}
 use Rattle.std.proofs.lemmas.List.{map-append}
-use Rattle.ap_term.specs.Tree.{Tree, Trees, none, more}
+use Rattle.ap_term.specs.Tree.{Tree, Trees, none, more, append_trees}
 use Rattle.ap_term.specs.Substitution.{instance, instance_all}
-use Rattle.ap_term.specs.Goals.{Program}
+use Rattle.ap_term.specs.Goals.{Program, plain_goals}
 use Rattle.ap_term.proofs.Copies.{instance_twice, instance_all_twice}
-use Rattle.ap_laws.specs.Plain.{append_trees, plain_goals}
-use Rattle.ap_laws.proofs.Plain.{instance_all-append_trees}
+use Rattle.ap_term.proofs.TreeLists.{instance_all-append_trees}
 use Rattle.ap_lifting.specs.Body.{Body, goal, conjunction, disjunction, parallel, conditional}
 use Rattle.ap_lifting.specs.Lifted.{stays, lifted_goal}
 use Rattle.ap_lifting.specs.WrittenSearch.{Item, calling, choosing, entering, operand_items, items, instance_body, instance_item, items_if}

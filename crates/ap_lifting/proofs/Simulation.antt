@@ -2,24 +2,25 @@
 use Rattle.std.proofs.Common.{◌≡◌, ℕ, zero, suc, ◌+◌, ◌<◌, ◌≤◌, List, [], ◌∷◌, ◌++◌, map, Option, Some, None, refl, ap, sym, ◌∙◌, subst, arith}
 use Rattle.std.specs.List.{AllZip, AllByRecursion, flat_map}
 use Rattle.std.proofs.lemmas.List.{map-append}
-use Rattle.ap_term.specs.Tree.{Tree, Trees, var, int, atom, node, none, more}
+use Rattle.ap_term.specs.Tree.{Tree, Trees, var, int, atom, node, none, more, append_trees}
 use Rattle.ap_term.specs.Substitution.{instance, instance_all, Subst, value, shift}
 use Rattle.ap_term.specs.Unification.{mgu}
 use Rattle.ap_term.specs.Builtins.{builtin}
-use Rattle.ap_term.specs.Goals.{Part, Clause, Program, calls, instance_part}
+use Rattle.ap_term.specs.Goals.{Part, Clause, Program, calls, instance_part, plain_goals}
 use Rattle.ap_term.specs.WellFormed.{IsClause, IsProgram}
 use Rattle.ap_term.specs.Search.{way_if, clause_way, ways_by, children}
-use Rattle.ap_laws.specs.Renaming.{Renamed, RenamedAll, RenamedParts, Linked, SameState, Local, LocalAll}
-use Rattle.ap_laws.specs.Plain.{Plain, state, PlainWay, append_trees, plain_goals, plain_of, as_state, plain_way, plain_ways, plain_child, plain_children_by, plain_children, IsPlainBelow, SamePlain}
+use Rattle.ap_term.specs.Vars.{Local, LocalAll}
+use Rattle.ap_term.proofs.Locals.{LocalAll-instance_all, LocalAll-append_trees}
+use Rattle.ap_term.proofs.GoalLists.{plain_goals-instance}
+use Rattle.ap_laws.specs.Renaming.{Renamed, RenamedAll, RenamedParts, Linked, SameState}
+use Rattle.ap_laws.specs.Plain.{Plain, state, PlainWay, plain_of, as_state, plain_way, plain_ways, plain_child, plain_children_by, plain_children, IsPlainBelow, SamePlain}
 use Rattle.ap_laws.specs.Plain as forms
 use Rattle.ap_laws.specs.Trace.{trace, SameAction}
-use Rattle.ap_laws.proofs.Zips.{AllZip-append, AllZip-map, AllZip-flat_map}
-use Rattle.ap_laws.proofs.Local.{LocalAll-instance_all}
+use Rattle.ap_term.proofs.Zips.{AllZip-append, AllZip-map, AllZip-flat_map}
 use Rattle.ap_laws.proofs.Ways.{SameState-children}
-use Rattle.ap_laws.proofs.Plain.{LocalAll-append_trees}
 use Rattle.ap_laws.proofs.Graft.{state-eq, LocalAll-below, Local-at}
 use Rattle.ap_laws.proofs.SameStates.{SameState-sym, SameState-trans}
-use Rattle.ap_laws.proofs.Views.{plain_goals-instance, plain_children-plain_of, plain_of-as_state}
+use Rattle.ap_laws.proofs.Views.{plain_children-plain_of, plain_of-as_state}
 use Rattle.ap_laws.proofs.TraceNames.{trace_renaming}
 use Rattle.ap_lifting.specs.Rule.{Rule}
 use Rattle.ap_lifting.specs.Lifted.{lifted_goal, lifted_clause}

@@ -3,10 +3,9 @@ use Rattle.std.specs.Prelude.{ℕ, ◌+◌, Bool, true, false, if◌then◌else�
 use Rattle.std.specs.List.{flat_map}
 use Rattle.ap_term.specs.declared.clauses.Check.{Check}
 use Rattle.ap_term.specs.declared.clauses.Check.TheVariants.{Ground as IsGround, Indep as AreIndep}
-use Rattle.ap_term.specs.Tree.{Tree, Trees, atom, node, none, more}
-use Rattle.ap_term.specs.Goals.{Part, call, group, Clause, Program}
+use Rattle.ap_term.specs.Tree.{Tree, Trees, atom, node, none, more, append_trees}
+use Rattle.ap_term.specs.Goals.{Part, call, group, Clause, Program, plain_goals}
 use Rattle.ap_term.specs.Search.{variables}
-use Rattle.ap_laws.specs.Plain.{append_trees, plain_goals}
 use Rattle.ap_lifting.specs.declared.bodies.Condition.{Condition}
 use Rattle.ap_lifting.specs.declared.bodies.Condition.TheVariants.{True, Ground, Indep}
 use Rattle.ap_lifting.specs.Body.{Body, goal, conjunction, disjunction, parallel, conditional}

@@ -2,13 +2,13 @@
 use Rattle.std.specs.Prelude.{◌≡◌, ℕ, ◌+◌, ◌-◌, ◌<◌, ◌≤◌, nat_eq, nat_lt, Bool, false, if◌then◌else◌, List, [], ◌∷◌, ◌++◌, map, Option, Some, None}
 use Rattle.std.specs.List.{AllZip, AllByRecursion}
 use Rattle.ap_term.specs.declared.fixed.TheConstants.{COUNT}
-use Rattle.ap_term.specs.Tree.{Tree, Trees, var, int, atom, node, more}
+use Rattle.ap_term.specs.Tree.{Tree, Trees, var, int, atom, node, more, append_trees}
 use Rattle.ap_term.specs.Substitution.{instance, instance_all}
-use Rattle.ap_term.specs.Goals.{Part, Program, Query, joined}
+use Rattle.ap_term.specs.Goals.{Part, Program, Query, joined, plain_goals}
 use Rattle.ap_term.specs.WellFormed.{IsProgram}
 use Rattle.ap_term.specs.Search.{start, outcomes_to_depth, meets}
 use Rattle.ap_term.specs.UpToNames.{SameUpToNames}
-use Rattle.ap_laws.specs.Plain.{Plain, state, append_trees, outcome, plain_goals, plain_of, plain_ways, plain_children, IsPlainBelow, SamePlain}
+use Rattle.ap_laws.specs.Plain.{Plain, state, outcome, plain_of, plain_ways, plain_children, IsPlainBelow, SamePlain}
 use Rattle.ap_laws.specs.Trace.{trace, answers_in, found_upto, SameAction}
 use Rattle.ap_laws.specs.Laws.{SameOutcome, SameFound}
 use Rattle.ap_lifting.specs.Body.{Body, goal, conjunction, disjunction, parallel, conditional}

@@ -1,11 +1,10 @@
 -- Which goals of a lifted program stand for a written body.
 use Rattle.std.specs.Prelude.{◌≡◌, ℕ, ◌<◌, ◌≤◌, Bool, true, false, List, [], ◌∷◌, Option, Some, None}
 use Rattle.ap_term.specs.declared.fixed.TheConstants.{COUNT}
-use Rattle.ap_term.specs.Tree.{Tree, Trees, none, more}
+use Rattle.ap_term.specs.Tree.{Tree, Trees, none, more, append_trees}
 use Rattle.ap_term.specs.Substitution.{instance, instance_all}
-use Rattle.ap_term.specs.Goals.{Part, Program}
+use Rattle.ap_term.specs.Goals.{Part, Program, plain_goals}
 use Rattle.ap_term.specs.WellFormed.{callable}
-use Rattle.ap_laws.specs.Plain.{append_trees, plain_goals}
 use Rattle.ap_lifting.specs.Body.{Body, goal, conjunction, disjunction, parallel, conditional}
 use Rattle.ap_lifting.specs.Lifted.{stays, lifted_goal, lifted_clause}
 use Rattle.ap_lifting.specs.LiftingLaws.{is_named, clauses_named}

@@ -2,11 +2,11 @@
 
 ghost use Rattle.std.specs.Prelude.{◌≡◌, ℕ, ◌+◌, ◌≤◌, ◌<◌, ◌++◌, ◌∷◌, [], map, Some, None, length, slice_index, slice_set, IfOk, OnOk, IsTrue, ◌&&◌};
 ghost use Rattle.std.specs.List.{list_all};
-ghost use Rattle.ap_term.specs.Tree.{more, none};
+ghost use Rattle.ap_term.specs.Tree.{more, none, append_trees};
 ghost use Rattle.ap_term.specs.TermView.{tree_of};
 ghost use Rattle.ap_term.specs.WellFormed.{well_formed_part, numbered_check};
 ghost use Rattle.ap_term.specs.Search.{variables};
-ghost use Rattle.ap_laws.specs.Plain.{append_trees, plain_goals};
+ghost use Rattle.ap_term.specs.Goals.{plain_goals};
 ghost use Rattle.ap_lifting.specs.Body.{disjunction, numbered_condition, well_formed};
 ghost use Rattle.ap_lifting.specs.BodyView.{body_of};
 ghost use Rattle.ap_lifting.specs.Lifted.{check_of, checks_of, lifted, lifted_goal, lifted_clause, operand, raised, either};

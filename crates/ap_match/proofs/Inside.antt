@@ -1,7 +1,7 @@
 -- The variables of a store's trees are places of it.
 use Rattle.std.proofs.Common.{◌≡◌, ℕ, zero, suc, ◌+◌, ◌<◌, ◌≤◌, List, length, get_or, refl, sym, ap, ◌∙◌, subst, arith}
 use Rattle.ap_term.specs.Tree.{Tree, size, size_all}
-use Rattle.ap_laws.specs.Renaming.{Local, LocalAll}
+use Rattle.ap_term.specs.Vars.{Local, LocalAll}
 use Rattle.ap_cells.specs.declared.cells.Raw.{Raw}
 use Rattle.ap_cells.specs.declared.cells.Raw.TheVariants.{Free, Same, Int, Atom, Node}
 use Rattle.ap_cells.specs.Trees.{tree_at, span, step, Within, Stand, trees}

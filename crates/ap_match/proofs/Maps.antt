@@ -4,12 +4,11 @@ use Rattle.std.proofs.lemmas.Bool.Decides.{Decides-eqb}
 use Rattle.std.proofs.lemmas.Bool.{cases_lt}
 use Rattle.std.proofs.lemmas.List.{get_or-map, get_or_append_left, get_or_push, length_push}
 use Rattle.ap_term.specs.Tree.{Tree, var, node, more}
-use Rattle.ap_term.specs.Vars.{occurs}
+use Rattle.ap_term.specs.Vars.{occurs, Local}
 use Rattle.ap_term.specs.Substitution.{instance, instance_all, value, one}
 use Rattle.ap_term.proofs.Copies.{instance_var, instance_twice}
 use Rattle.ap_term.proofs.Solutions.{instance_same, one_absent, one_absorbed, same_test}
-use Rattle.ap_laws.specs.Renaming.{Local}
-use Rattle.ap_laws.proofs.Plain.{instance-Local}
+use Rattle.ap_term.proofs.Locals.{instance-Local}
 use Rattle.ap_cells.specs.declared.cells.Raw.{Raw}
 use Rattle.ap_cells.specs.declared.cells.Raw.TheVariants.{Free, Same, Int, Atom, Node}
 use Rattle.ap_cells.specs.declared.top.Top.{Top}

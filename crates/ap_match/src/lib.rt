@@ -1,4 +1,4 @@
-//! Matching and building terms in cells: what an emulator's instructions do to a store, each told by the maps that fit it.
+//! Floor: engine. Matching and building terms in cells: what an emulator's instructions do to a store, each told by the maps that fit it.
 //!
 //! Stands on `ap_cells` and `ap_unify`. What the crate above uses: `Becomes` and `Answered`, by which the maps that fit
 //! the store after a call are those that fitted it before and have what was asked.

@@ -1,4 +1,4 @@
-//! The outside of the program: files, a source of bytes, a sink of lines, and a gate that workers pass.
+//! Floor: base. The outside of the program: files, a source of bytes, a sink of lines, and a gate that workers pass.
 //!
 //! Each is a trait whose ghost members tell what it holds, where it can tell, and how often it has failed; what stands
 //! in memory tells all, what stands over the system tells nothing. It stands on no other crate. The crates above use

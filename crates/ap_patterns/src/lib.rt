@@ -1,4 +1,4 @@
-//! Patterns: what a state says of the arguments of a call, and what a success says of the caller's variables.
+//! Floor: analysis. Patterns: what a state says of the arguments of a call, and what a success says of the caller's variables.
 //!
 //! Stands on ap_absunify. What the crates above use: each operation gives exactly the state of its definition, and that
 //! state covers whatever a call, the entry of a clause or an answer makes of an instance that was covered.

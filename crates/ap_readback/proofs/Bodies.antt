@@ -6,10 +6,9 @@ use Rattle.ap_lexer.specs.Lexeme.{Text}
 use Rattle.ap_term.specs.declared.clauses.Check.{Check}
 use Rattle.ap_term.specs.declared.fixed.TheConstants.{NECK, COMMA, PARALLEL, CONDITION}
 use Rattle.ap_term.specs.AtomTable.{insert_names, IsAtomTable}
-use Rattle.ap_term.specs.Tree.{Tree, Trees, var, int, atom, node, none, more}
+use Rattle.ap_term.specs.Tree.{Tree, Trees, var, int, atom, node, none, more, append_trees}
 use Rattle.ap_term.specs.Substitution.{instance, instance_all}
 use Rattle.ap_term.specs.Goals.{Part, call, group}
-use Rattle.ap_laws.specs.Plain.{append_trees}
 use Rattle.ap_writer.specs.Text as text
 use Rattle.ap_writer.specs.Text.{numbered_by}
 use Rattle.ap_writer.specs.Writable.{IsWritable, AreWritable}

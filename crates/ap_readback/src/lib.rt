@@ -1,4 +1,4 @@
-//! Printed programs, read again.
+//! Floor: text. Printed programs, read again.
 //!
 //! Stands on `ap_cge` for how programs are printed, and on `ap_clause` for how texts are read. It has laws alone: what is
 //! printed and then read is the same program.

@@ -1,4 +1,4 @@
-//! Reads a clause's tokens as a term, with operators (ISO 13211-1, section 6.3, narrowed).
+//! Floor: text. Reads a clause's tokens as a term, with operators (ISO 13211-1, section 6.3, narrowed).
 // What it is for: `read_term`, and its stages for callers that judge a term's form before its depth
 // and its names: `parse` gives the term as steps, each after those of its operands, and
 // `WrittenTerm::into_term` builds it. A text is read in one pass, in linear time, with a stack of its own.

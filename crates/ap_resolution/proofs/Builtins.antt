@@ -6,12 +6,11 @@ use Rattle.ap_term.specs.Tree.{Tree, Trees, int, node, none, more}
 use Rattle.ap_term.specs.Vars.{occurs}
 use Rattle.ap_term.specs.Substitution.{Subst, instance, instance_all}
 use Rattle.ap_term.specs.Unification.{mgu}
-use Rattle.ap_term.specs.Goals.{Part, call, Program, opened}
+use Rattle.ap_term.specs.Goals.{Part, call, Program, opened, plain_goals}
 use Rattle.ap_term.specs.Arithmetic.{eval}
 use Rattle.ap_term.specs.Builtins.{builtin, unified_value}
 use Rattle.ap_term.specs.Search.{State, child, children, children_by, ways_by, way_if}
 use Rattle.ap_term.proofs.Solutions.{same_var, same_test, or_left}
-use Rattle.ap_laws.specs.Plain.{plain_goals}
 use Rattle.ap_laws.specs.Renaming.{OptionZip, Renamed, RenamedSubst}
 use Rattle.ap_laws.specs.Laws.{Inverse}
 use Rattle.ap_laws.proofs.Renamed.{IsOneToOne}

@@ -2,17 +2,19 @@
 use Rattle.std.proofs.Common.{◌≡◌, ℕ, ◌+◌, ◌-◌, ◌<◌, Bool, true, false, if◌then◌else◌, List, ◌∷◌, ◌++◌, map, refl, ap, ap₂, sym, ◌∙◌, subst, arith}
 use Rattle.std.specs.Prelude.{nat_lt}
 use Rattle.std.proofs.lemmas.Bool.Decides.{Decides-ltb}
-use Rattle.ap_term.specs.Tree.{Tree, Trees, more}
+use Rattle.ap_term.specs.Tree.{Tree, Trees, more, append_trees}
 use Rattle.ap_term.specs.Substitution.{instance, instance_all, shift}
-use Rattle.ap_term.specs.Goals.{Part, call, Clause, opened, instance_part}
+use Rattle.ap_term.specs.Goals.{Part, call, Clause, opened, instance_part, plain_goals}
 use Rattle.ap_term.specs.Search.{State, child, clause_way}
 use Rattle.ap_term.proofs.Copies.{instance_twice, instance_all_twice}
 use Rattle.ap_term.proofs.Solutions.{instance_same}
-use Rattle.ap_laws.specs.Plain.{append_trees, plain_goals}
-use Rattle.ap_laws.specs.Renaming.{Local, LocalAll, LocalParts}
-use Rattle.ap_laws.proofs.Plain.{instance-Local, instance_all-LocalAll, instance_all-same, instance_all-append_trees, LocalAll-plain_goals}
+use Rattle.ap_term.specs.Vars.{Local, LocalAll}
+use Rattle.ap_term.proofs.Locals.{instance-Local, instance_all-LocalAll, instance_all-same}
+use Rattle.ap_term.proofs.TreeLists.{instance_all-append_trees}
+use Rattle.ap_term.proofs.GoalLists.{plain_goals-append, plain_goals-instance}
+use Rattle.ap_laws.specs.Renaming.{LocalParts}
+use Rattle.ap_laws.proofs.Plain.{LocalAll-plain_goals}
 use Rattle.ap_laws.proofs.Local.{LocalParts-opened}
-use Rattle.ap_laws.proofs.Views.{plain_goals-append, plain_goals-instance}
 use Rattle.ap_resolution.specs.Instances.{Inst, Resolved}
 use Rattle.ap_resolution.specs.Laws.{ResolutionLaw}
 use Rattle.ap_resolution.proofs.Unified.{Meets, goals-opened, IsSetOf-same, unified_child}

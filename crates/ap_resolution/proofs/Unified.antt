@@ -4,13 +4,12 @@ use Rattle.ap_term.specs.Tree.{Tree, Trees, more}
 use Rattle.ap_term.specs.Substitution.{instance, instance_all, Subst, value}
 use Rattle.ap_term.specs.Unification.{mgu}
 use Rattle.ap_term.specs.Unifier.{IsMostGeneral}
-use Rattle.ap_term.specs.Goals.{Part, call, opened, instance_part}
+use Rattle.ap_term.specs.Goals.{Part, call, opened, instance_part, plain_goals}
 use Rattle.ap_term.specs.Search.{State, child, way_if}
 use Rattle.ap_term.proofs.Copies.{instance_twice, instance_all_twice}
 use Rattle.ap_term.proofs.Solvable.{mgu-general}
-use Rattle.ap_laws.specs.Plain.{plain_goals}
-use Rattle.ap_laws.proofs.Plain.{instance_all-same}
-use Rattle.ap_laws.proofs.Views.{plain_goals-instance, plain_goals-opened}
+use Rattle.ap_term.proofs.Locals.{instance_all-same}
+use Rattle.ap_term.proofs.GoalLists.{plain_goals-instance, plain_goals-opened}
 use Rattle.ap_resolution.specs.Instances.{Inst, SameSet, IsSetOf}
 
 -- instances of the parts ps under a unifier of two trees

@@ -10,10 +10,11 @@ use Rattle.ap_term.specs.Laws.{KeepsApart}
 use Rattle.ap_term.proofs.Copies.{instance_var, instance_all_var, instance_all_twice}
 use Rattle.ap_term.proofs.Solutions.{same_var, instance_agree, instance_all_agree}
 use Rattle.ap_term.proofs.Renamings.{renumbered-renamed}
-use Rattle.ap_laws.specs.Plain.{plain_goals}
+use Rattle.ap_term.specs.Goals.{plain_goals}
+use Rattle.ap_term.proofs.Locals.{Local-each, LocalAll-each}
 use Rattle.ap_laws.specs.Renaming.{Renamed}
 use Rattle.ap_laws.specs.Laws.{Inverse}
-use Rattle.ap_laws.proofs.Local.{Local-each, LocalAll-each, AllByRecursion-add_all_vars}
+use Rattle.ap_laws.proofs.Local.{AllByRecursion-add_all_vars}
 use Rattle.ap_laws.proofs.Unifiers.{instance_all-at}
 use Rattle.ap_laws.proofs.Ways.{Renamed-both}
 use Rattle.ap_resolution.specs.Instances.{Inst}

@@ -1,11 +1,10 @@
 -- A state as the set of its instances: goals, groups read as conjunctions, with a tuple. No variable has a name in it.
 use Rattle.std.specs.Prelude.{◌≡◌, ℕ, ℤ, ◌↔◌, List, [], ◌∷◌}
 use Rattle.ap_term.specs.declared.fixed.TheConstants.{UNIFY, IS}
-use Rattle.ap_term.specs.Tree.{Tree, Trees, int, node, none, more}
+use Rattle.ap_term.specs.Tree.{Tree, Trees, int, node, none, more, append_trees}
 use Rattle.ap_term.specs.Substitution.{instance, instance_all}
-use Rattle.ap_term.specs.Goals.{Clause}
+use Rattle.ap_term.specs.Goals.{Clause, plain_goals}
 use Rattle.ap_term.specs.Search.{State}
-use Rattle.ap_laws.specs.Plain.{append_trees, plain_goals}
 
 -- an instance of the state has these goals and this tuple
 abbrev pub Inst : State → Trees → Trees → Type 0

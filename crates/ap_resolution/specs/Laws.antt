@@ -2,12 +2,11 @@
 use Rattle.std.specs.Prelude.{◌≡◌, ℤ, List, [], ◌∷◌, map, Some, None}
 use Rattle.ap_term.specs.declared.fixed.TheConstants.{UNIFY, IS}
 use Rattle.ap_term.specs.Tree.{Tree, Trees, node, none, more}
-use Rattle.ap_term.specs.Goals.{Part, call, Clause, Program, opened}
+use Rattle.ap_term.specs.Goals.{Part, call, Clause, Program, opened, plain_goals}
 use Rattle.ap_term.specs.Arithmetic.{eval}
 use Rattle.ap_term.specs.Builtins.{builtin}
 use Rattle.ap_term.specs.UpToNames.{SameUpToNames}
 use Rattle.ap_term.specs.Search.{State, clause_way, child, children}
-use Rattle.ap_laws.specs.Plain.{plain_goals}
 use Rattle.ap_laws.specs.Renaming.{IsBelow}
 use Rattle.ap_resolution.specs.Instances.{Inst, IsSetOf, IsGeneralGoal, IsGeneralTuple, Resolved, Behind, Equated, Valued}
 

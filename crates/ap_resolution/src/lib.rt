@@ -1,4 +1,4 @@
-//! What a call makes of a state, told of its instances alone. A machine that keeps its terms in cells stands for a state
+//! Floor: model. What a call makes of a state, told of its instances alone. A machine that keeps its terms in cells stands for a state
 //! where both have the same instances; so it never has to name variables as the state does.
 //!
 //! Stands on `ap_term` and `ap_laws`. Each function here has an empty body; its contract is a law.

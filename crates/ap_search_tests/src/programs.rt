@@ -21,7 +21,7 @@ pub(crate) fn searched(
 }
 
 fn to_depth(alloc: Global, p: &Program, q: &Query, depth: u64) -> Result<Tuples, Fail> {
-    Ok(answers_to_depth(alloc, p, q, depth.min(1000))?)
+    Ok(answers_to_depth(alloc, p, q, depth.min(1000))?.tuples)
 }
 
 /// A program, a query, a budget, whether the search ends within it, and its answers.

@@ -1,16 +1,15 @@
 -- What a machine stands for that has a tuple's places in its argument registers, and nothing else.
 use Rattle.std.proofs.Common.{◌≡◌, ℕ, zero, suc, ◌+◌, ◌-◌, ◌<◌, ◌≤◌, List, [], ◌∷◌, length, Option, Some, slice_get, refl, ap, ap₂, sym, ◌∙◌, subst, arith}
 use Rattle.ap_term.specs.declared.fixed.TheConstants.{QUERY}
-use Rattle.ap_term.specs.Tree.{Tree, Trees, none, more, count_trees}
+use Rattle.ap_term.specs.Tree.{Tree, Trees, none, more, count_trees, append_trees}
 use Rattle.ap_term.specs.Substitution.{instance, instance_all, shift}
 use Rattle.ap_term.specs.WellFormed.{IsQuery}
-use Rattle.ap_term.specs.Goals.{Query}
+use Rattle.ap_term.specs.Goals.{Query, plain_goals}
 use Rattle.ap_term.specs.UpToNames.{SameUpToNames}
 use Rattle.ap_term.specs.Search.{variables, start}
 use Rattle.ap_term.proofs.Copies.{instance_all_twice}
-use Rattle.ap_laws.specs.Renaming.{Local, LocalAll}
-use Rattle.ap_laws.specs.Plain.{append_trees, plain_goals}
-use Rattle.ap_laws.proofs.Plain.{instance_all-same}
+use Rattle.ap_term.specs.Vars.{Local, LocalAll}
+use Rattle.ap_term.proofs.Locals.{instance_all-same}
 use Rattle.ap_laws.proofs.Conjunctions.{query}
 use Rattle.ap_cells.specs.declared.cells.Raw.{Raw}
 use Rattle.ap_cells.specs.Trees.{tree_at, trees, span}
@@ -117,7 +116,7 @@ module _ (code : Compiled) (cs : List Raw) (base first count : ℕ) (ts : Trees)
       called q.name ts next ∷ [],
       [],
       (subst (λ (o : Option Predicate). SameSet (AtCallOf code here x o) (Inst (called q.name ts next))) (sym known) at-call, refl),
-      ((((Local-applied (λ v. v < next) q.name ts below, tt), below), tt), tt),
+      ((((Local-applied (λ v. v < next) q.name ts below, tt), below), tt, refl), tt),
       tt,
       tt,
       refl,
@@ -163,4 +162,4 @@ module _ (code : Compiled) (cs : List Raw) (base first count : ℕ) (ts : Trees)
     pub holds-question : IsQuery q → Holds code (machine cs x y [] roots [] (inside at)) (start q ∷ [])
     holds-question good =
         let l = query q good in
-        (start q ∷ [], [], (in-question, refl), ((l.0, l.1), tt), reads.openly, tt, refl, refl)
+        (start q ∷ [], [], (in-question, refl), ((l.0, l.1, refl), tt), reads.openly, tt, refl, refl)

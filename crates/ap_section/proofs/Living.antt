@@ -1,9 +1,8 @@
 -- Choice points that are kept for a clause whose head unifies with the call.
 use Rattle.std.proofs.Common.{◌≡◌, ℕ, List, [], ◌∷◌, ◌++◌, refl, ap, sym, ◌∙◌, subst}
 use Rattle.std.specs.List.{AllByRecursion}
-use Rattle.ap_term.specs.Tree.{Tree, Trees}
+use Rattle.ap_term.specs.Tree.{Tree, Trees, append_trees}
 use Rattle.ap_term.specs.Search.{State}
-use Rattle.ap_laws.specs.Plain.{append_trees}
 use Rattle.ap_cells.specs.declared.cells.Raw.{Raw}
 use Rattle.ap_instr.specs.Code.{Compiled}
 use Rattle.ap_resolution.specs.Instances.{IsSetOf}

@@ -1,11 +1,10 @@
 -- What the states are where a section comes to rest.
 use Rattle.std.proofs.Common.{◌≡◌, ℕ, ◌+◌, ◌<◌, List, [], ◌∷◌, ◌++◌, length, slice_get, Some, refl, ap, ap₂, sym, ◌∙◌, subst}
 use Rattle.std.specs.List.{AllByRecursion}
-use Rattle.ap_term.specs.Tree.{Tree, Trees, none, more}
+use Rattle.ap_term.specs.Tree.{Tree, Trees, none, more, append_trees}
 use Rattle.ap_term.specs.Substitution.{instance_all}
-use Rattle.ap_term.specs.Goals.{Part}
+use Rattle.ap_term.specs.Goals.{Part, plain_goals}
 use Rattle.ap_term.specs.Search.{State}
-use Rattle.ap_laws.specs.Plain.{append_trees, plain_goals}
 use Rattle.ap_cells.specs.Trees.{tree_at, trees}
 use Rattle.ap_instr.specs.declared.builtins.Builtin.{Builtin}
 use Rattle.ap_instr.specs.declared.instruction.Instr.TheVariants.{Builtin as builtin_instr}
@@ -109,7 +108,7 @@ module _ (code : Compiled) (m : Machine) (roots_inside : AllByRecursion (λ r. r
   pub answer-first : (ss : List State) → Holds code m ss → IsAnswer (tuple_of m) ss
   answer-first ss h =
       let a = answered code m.roots m.points m.cells m.x m.y roots_inside ss (at-answer code m at ss h) in
-      subst (IsAnswer (tuple_of m)) (sym a.2) (a.3, a.4)
+      subst (IsAnswer (tuple_of m)) (sym a.2) (a.3, a.4, a.5)
 
   -- behind an answer the others are left
   pub answer-left : (s : State) (ss : List State) → Holds code m (s ∷ ss) → Holds code (record m { now = failed }) ss
@@ -117,7 +116,7 @@ module _ (code : Compiled) (m : Machine) (roots_inside : AllByRecursion (λ r. r
       let a = answered code m.roots m.points m.cells m.x m.y roots_inside (s ∷ ss) (at-answer code m at (s ∷ ss) h) in
       let e : s ∷ ss ≡ a.0 ∷ a.1 = a.2 in
       let same : ss ≡ a.1 = cc in
-      points-failed code (record m { now = failed }) refl (subst (AreOpen code) (sym at.1) tt) ss (subst (HoldsPoints code m.roots m.points) (sym same) a.5)
+      points-failed code (record m { now = failed }) refl (subst (AreOpen code) (sym at.1) tt) ss (subst (HoldsPoints code m.roots m.points) (sym same) a.6)
 
   -- behind an answer a state is left, where another clause of a choice point is
   pub answer-more : AreLive code m → (q : Point) (qs : List Point) → m.points ≡ q ∷ qs → (s : State) (ss : List State) → Holds code m (s ∷ ss) → ss ≡ [] → ⊥

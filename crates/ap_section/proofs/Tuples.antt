@@ -2,7 +2,7 @@
 use Rattle.std.proofs.Common.{◌≡◌, ℕ, List, [], ◌∷◌, length, refl, ap, sym, ◌∙◌, arith}
 use Rattle.ap_term.specs.Tree.{Tree, Trees, more, count_trees}
 use Rattle.ap_term.specs.UpToNames.{SameUpToNames}
-use Rattle.ap_laws.proofs.Dead.{count_trees-instance_all}
+use Rattle.ap_term.proofs.TreeLists.{count_trees-instance_all}
 use Rattle.ap_cells.specs.Trees.{tree_at}
 use Rattle.ap_copy.specs.Copies.{tuple_at}
 use Rattle.ap_steps.specs.Standing.{tuple_under}

@@ -1,5 +1,5 @@
 -- Where a search may come to rest, and what a list of states begins with.
-use Rattle.std.specs.Prelude.{◌≡◌, List, [], ◌∷◌, slice_get, Some}
+use Rattle.std.specs.Prelude.{◌≡◌, List, [], ◌∷◌, slice_get, Some, None}
 use Rattle.ap_term.specs.Tree.{Trees}
 use Rattle.ap_term.specs.Search.{State}
 use Rattle.ap_term.specs.UpToNames.{SameUpToNames}
@@ -33,7 +33,7 @@ tuple_of m = tuple_under (tree_at (trees m.cells)) m.roots
 -- the first state is an answer, with that tuple up to names
 abbrev pub IsAnswer : Trees → List State → Type 0
 IsAnswer t [] = ⊥
-IsAnswer t (s ∷ ss) = (s.goals ≡ []) × SameUpToNames t s.tuple
+IsAnswer t (s ∷ ss) = (s.goals ≡ []) × (s.fault ≡ None) × SameUpToNames t s.tuple
 
 -- the first state has goals
 abbrev pub HasGoals : List State → Type 0

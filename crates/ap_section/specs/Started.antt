@@ -1,5 +1,5 @@
 -- Where a section begins.
-use Rattle.std.specs.Prelude.{◌≡◌, ℕ, ◌<◌, [], ◌∷◌, length, slice_get, Some}
+use Rattle.std.specs.Prelude.{◌≡◌, ℕ, ◌<◌, [], ◌∷◌, length, slice_get, Some, None}
 use Rattle.std.specs.List.{AllByRecursion}
 use Rattle.ap_term.specs.declared.fixed.TheConstants.{QUERY}
 use Rattle.ap_term.specs.Tree.{Tree, Trees, atom, node, count_trees}
@@ -7,7 +7,7 @@ use Rattle.ap_term.specs.Goals.{call, Clause, Program, Query}
 use Rattle.ap_term.specs.UpToNames.{SameUpToNames}
 use Rattle.ap_term.specs.WellFormed.{IsQuery}
 use Rattle.ap_term.specs.Search.{State, variables, start}
-use Rattle.ap_laws.specs.Renaming.{LocalAll}
+use Rattle.ap_term.specs.Vars.{LocalAll}
 use Rattle.ap_instr.specs.declared.compiled.Predicate.{Predicate}
 use Rattle.ap_instr.specs.Code.{Compiled}
 use Rattle.ap_instr.specs.Runs.{applied}
@@ -18,7 +18,7 @@ use Rattle.ap_section.specs.View.{Paused, IsFor}
 
 -- the state in which the call of a name on a tuple begins, whose variables are below a number
 abbrev pub called : ℕ → Trees → ℕ → State
-called name ts next = record { goals = call (applied name ts) ∷ []; tuple = ts; next = next; steps = 0 }
+called name ts next = record { goals = call (applied name ts) ∷ []; tuple = ts; next = next; steps = 0; fault = None }
 
 -- the machine is at the call of a predicate on a tuple, and there is no other way on
 pub record IsAtCall (code : Compiled) (number : ℕ) (ts : Trees) (m : Machine) : Type 0 where

@@ -1,4 +1,4 @@
-//! The sequential machine: a search that is paused behind its k-th answer.
+//! Floor: section. The sequential machine: a search that is paused behind its k-th answer.
 //!
 //! Stands on `ap_steps` for the instructions of a clause, on `ap_environments` for returns and choice points, on
 //! `ap_standing` for what a machine stands for. The one contract used above: what a section stands for after `advance` is

@@ -1,14 +1,15 @@
 -- Values of 64 bits.
 use Rattle.std.proofs.Common.{◌≡◌, ◌≤◌, List, [], ◌∷◌, length, ℕ, ◌^◌, ◌<◌, Bool, true, false, if◌then◌else◌, Option, Some, None, ℤ, pos, negsuc, w64, refl, ap, ap₂, get_or, sym, ◌∙◌, arith, rules}
 use Rattle.std.specs.Option.{SomeIff}
-use Rattle.std.specs.Prelude.{FitsSigned, int_rem, int_lt, ◌+ℤ◌}
+use Rattle.std.specs.Prelude.{Result, Ok, Err, ok_or, FitsSigned, int_rem, int_lt, ◌+ℤ◌}
 use Rattle.std.proofs.lemmas.Bool.Decides.{nat_tests}
 use Rattle.std.proofs.lemmas.Bool.{false≢true}
 use Rattle.std.proofs.lemmas.Int.{to_z-of_z, ints}
 use Rattle.std.specs.Ordering.{int_eq}
 use mathlib.Core.Bool.{beq}
 use mir.Val.{to_z, of_z}
-use Rattle.ap_term.specs.Arithmetic.{fits, kept, divided, same_sign, moved, modulo, eval}
+use Rattle.ap_term.specs.Arithmetic.{fits, kept, divided, same_sign, moved, modulo, evaluated}
+use Rattle.ap_term.specs.declared.faults.Fault.TheVariants.{WrongType, ZeroDivisor, Overflow}
 use Rattle.ap_term.specs.declared.terms.Term.{Term}
 use Rattle.ap_term.specs.Builtins.{builtin}
 use Rattle.ap_term.specs.Tree.{node, more, none}
@@ -22,14 +23,14 @@ pub signed-fits : (z : ℤ) → fits z ≡ true → FitsSigned w64 z
 signed-fits (pos n) h = record { sfits = grind (arith, nat_tests) }
 signed-fits (negsuc n) h = record { sfits = grind (arith, nat_tests) }
 
-pub kept-signed : (z : ℤ) → FitsSigned w64 z → kept z ≡ Some z
-kept-signed z h = ap (λ b. if b then Some z else None) (fits-signed z h)
+pub kept-signed : (z : ℤ) → FitsSigned w64 z → kept z ≡ Ok z
+kept-signed z h = ap (λ b. if b then Ok z else Err Overflow) (fits-signed z h)
 
-pub kept-if : (r : Option ℤ) (z : ℤ) → SomeIff r (FitsSigned w64 z) z → r ≡ kept z
-kept-if (Some x) z h = ap Some h.1 ∙ sym (kept-signed z h.0)
+pub kept-if : (r : Option ℤ) (z : ℤ) → SomeIff r (FitsSigned w64 z) z → ok_or r Overflow ≡ kept z
+kept-if (Some x) z h = ap Ok h.1 ∙ sym (kept-signed z h.0)
 kept-if None z h = go (fits z) refl
   where
-    go : (b : Bool) → fits z ≡ b → None ≡ (if b then Some z else None)
+    go : (b : Bool) → fits z ≡ b → Err Overflow ≡ (if b then Ok z else Err Overflow)
     go true e = absurd (h (signed-fits z e))
     go false e = refl
 
@@ -50,36 +51,36 @@ sum-fits (pos a) (negsuc b) hr hy h = let u : a < 2 ^ 63 = hr.sfits in let v : b
 sum-fits (negsuc a) (pos b) hr hy h = let u : a < 2 ^ 63 = hr.sfits in let v : b < 2 ^ 63 = hy.sfits in search rules
 sum-fits (negsuc a) (negsuc b) hr hy h = absurd (false≢true (sym h))
 
-kept-some : (z r : ℤ) → Some r ≡ kept z → r ≡ z
-kept-some z r h = go (fits z) h
+kept-ok : (z r : ℤ) → Ok r ≡ kept z → r ≡ z
+kept-ok z r h = go (fits z) h
   where
-    go : (b : Bool) → Some r ≡ (if b then Some z else None) → r ≡ z
+    go : (b : Bool) → Ok r ≡ (if b then Ok z else Err Overflow) → r ≡ z
     go true k = cc
     go false k = cc
 
-divided-some : (y z r : ℤ) → Some r ≡ divided y z → (int_eq y (pos 0) ≡ false) × (r ≡ z)
-divided-some y z r h = go (int_eq y (pos 0)) refl h
+divided-ok : (y z r : ℤ) → Ok r ≡ divided y z → (int_eq y (pos 0) ≡ false) × (r ≡ z)
+divided-ok y z r h = go (int_eq y (pos 0)) refl h
   where
-    go : (b : Bool) → int_eq y (pos 0) ≡ b → Some r ≡ (if b then None else kept z) → (int_eq y (pos 0) ≡ false) × (r ≡ z)
+    go : (b : Bool) → int_eq y (pos 0) ≡ b → Ok r ≡ (if b then Err ZeroDivisor else kept z) → (int_eq y (pos 0) ≡ false) × (r ≡ z)
     go true e k = cc
-    go false e k = (e, kept-some z r k)
+    go false e k = (e, kept-ok z r k)
 
 -- a remainder on the other side of 0 than the divisor
-pub modulo-moved : (x y r : ℤ) → Some r ≡ divided y (int_rem x y) → int_eq r (pos 0) ≡ false → same_sign r y ≡ false → FitsSigned w64 (r +ℤ y)
-    → Some (r +ℤ y) ≡ divided y (modulo x y)
+pub modulo-moved : (x y r : ℤ) → Ok r ≡ divided y (int_rem x y) → int_eq r (pos 0) ≡ false → same_sign r y ≡ false → FitsSigned w64 (r +ℤ y)
+    → Ok (r +ℤ y) ≡ divided y (modulo x y)
 modulo-moved x y r h z s f =
-    let k = divided-some y (int_rem x y) r h in
+    let k = divided-ok y (int_rem x y) r h in
     let m : moved y r ≡ r +ℤ y = ap (λ b. if b then r else (if same_sign r y then r else r +ℤ y)) z ∙ ap (λ b. if b then r else r +ℤ y) s in
-    sym (kept-signed (r +ℤ y) f) ∙ ap kept (sym m) ∙ ap (λ b. if b then None else kept (moved y r)) (sym k.0) ∙ ap (λ w. divided y (moved y w)) k.1
+    sym (kept-signed (r +ℤ y) f) ∙ ap kept (sym m) ∙ ap (λ b. if b then Err ZeroDivisor else kept (moved y r)) (sym k.0) ∙ ap (λ w. divided y (moved y w)) k.1
 
 pub ruleset rules_of_values = (kept-if, kept-signed)
 
--- three arguments and more have no value
-pub eval-many : (a : ℕ) (ts : List Term) → 3 ≤ length ts → eval (node a (trees_of ts)) ≡ None
-eval-many a [] h = absurd (omega arith)
-eval-many a (t ∷ []) h = absurd (omega arith)
-eval-many a (t ∷ (u ∷ [])) h = absurd (omega arith)
-eval-many a (t ∷ (u ∷ (v ∷ ts))) h = refl
+-- three arguments and more are no operation's
+pub evaluated-many : (a : ℕ) (ts : List Term) → 3 ≤ length ts → evaluated (node a (trees_of ts)) ≡ Err WrongType
+evaluated-many a [] h = absurd (omega arith)
+evaluated-many a (t ∷ []) h = absurd (omega arith)
+evaluated-many a (t ∷ (u ∷ [])) h = absurd (omega arith)
+evaluated-many a (t ∷ (u ∷ (v ∷ ts))) h = refl
 
 -- no goal of another number of arguments is a built-in
 pub builtin_other : (a : ℕ) (ts : List Term) → (length ts ≡ 2 → ⊥) → builtin (node a (trees_of ts)) ≡ None

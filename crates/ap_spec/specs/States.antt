@@ -10,7 +10,7 @@ use Rattle.ap_term.specs.Goals.{Part, Clause, Query, calls, joined}
 use Rattle.ap_term.specs.Search as search
 
 abbrev pub state_of : State → search.State
-state_of s = record { goals = s.goals; tuple = s.tuple; next = s.next; steps = s.steps }
+state_of s = record { goals = s.goals; tuple = s.tuple; next = s.next; steps = s.steps; fault = s.fault }
 
 -- a state that was taken from the front of others, and one from behind them; none where none was left
 abbrev pub taken_before : Option State → List search.State → List search.State

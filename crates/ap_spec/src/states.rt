@@ -15,21 +15,22 @@ use crate::builtins::{Called, builtin};
 use crate::substitutions::{Shift, Subst};
 use crate::unification::unify;
 use ap_term::{
-    Args, Bindings, Body, Clause, NoMemory, Part, Program, Query, Term, add_instances, instance,
-    instances,
+    Args, Bindings, Body, Clause, Fault, NoMemory, Part, Program, Query, Term, add_instances,
+    instance, instances,
 };
 use std::alloc::Global;
 use std::collections::VecDeque;
 use std::marker::Model;
 
-/// A state of a search: the goals left, the instance of the query's variables, the first unused variable, and the
-/// number of calls made on the way.
+/// A state of a search: the goals left, the instance of the query's variables, the first unused variable, the number
+/// of calls made on the way, and the fault that the last of them met.
 #[derive(Drop)]
 pub struct State {
     pub goals: Body,
     pub tuple: Args,
     pub next: u64,
     pub steps: u64,
+    pub fault: Option<Fault>,
 }
 
 /// A list of states, the next one first.
@@ -167,7 +168,7 @@ fn child(
 ) -> Result<State, NoMemory>
     requires room { s.now.next + takes < 2 ^ 64 }
     requires counts { s.now.steps < 2 ^ 63 }
-    ensures { IfOk result (λ t. state_of t ≡ child (state_of s.now) (behind_of rest.now) (record { binds = binds.now; body = map part_of body.now; takes = takes })) }
+    ensures { IfOk result (λ t. state_of t ≡ child (state_of s.now) (behind_of rest.now) (record { binds = binds.now; body = map part_of body.now; takes = takes; fault = None })) }
 {
     let mut goals = Body::new(alloc);
     add_instances(alloc, binds, body, &mut goals)?;
@@ -178,6 +179,7 @@ fn child(
         tuple: instances(alloc, binds, s.tuple.as_slice())?,
         next: s.next + takes,
         steps: s.steps + 1,
+        fault: None,
     })
 }
 

@@ -5,14 +5,13 @@ use Rattle.ap_term.specs.declared.builtins.Op.TheVariants.{Eq, Ne, Lt, Gt, Le, G
 use Rattle.ap_term.specs.declared.builtins.Relation.{Relation}
 use Rattle.ap_term.specs.declared.builtins.Relation.TheVariants.{Unify, NotUnify, Same, NotSame, Is, Compare}
 use Rattle.ap_term.specs.declared.fixed.TheConstants.{TRUE, FAIL, UNIFY, IS}
-use Rattle.ap_term.specs.Tree.{Tree, Trees, int, node, none, more}
+use Rattle.ap_term.specs.Tree.{Tree, Trees, int, node, none, more, append_trees}
 use Rattle.ap_term.specs.Substitution.{instance, instance_all}
-use Rattle.ap_term.specs.Goals.{Part, call, Program, opened}
+use Rattle.ap_term.specs.Goals.{Part, call, Program, opened, plain_goals}
 use Rattle.ap_term.specs.WellFormed.{IsProgram}
 use Rattle.ap_term.specs.Arithmetic.{eval}
 use Rattle.ap_term.specs.Builtins.{builtin, relation_answer, unified_value}
 use Rattle.ap_term.specs.Search.{State, children}
-use Rattle.ap_laws.specs.Plain.{append_trees, plain_goals}
 use Rattle.ap_cells.specs.declared.cells.Raw.{Raw}
 use Rattle.ap_cells.specs.Trees.{tree_at, trees}
 use Rattle.ap_instr.specs.Builtin.{relation_name}

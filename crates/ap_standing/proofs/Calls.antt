@@ -1,13 +1,12 @@
 -- Calls, clauses that are taken and answers.
-use Rattle.std.proofs.Common.{◌≡◌, ℕ, ◌<◌, List, [], ◌∷◌, ◌++◌, length, slice_get, Some, refl, ap, sym, ◌∙◌, subst}
+use Rattle.std.proofs.Common.{◌≡◌, ℕ, ◌<◌, List, [], ◌∷◌, ◌++◌, length, slice_get, Some, None, refl, ap, sym, ◌∙◌, subst}
 use Rattle.std.specs.List.{AllByRecursion}
 use Rattle.ap_term.specs.Tree.{Tree, Trees, none, more}
 use Rattle.ap_term.specs.Substitution.{instance, instance_all}
-use Rattle.ap_term.specs.Goals.{Program}
+use Rattle.ap_term.specs.Goals.{Program, plain_goals}
 use Rattle.ap_term.specs.WellFormed.{IsProgram}
 use Rattle.ap_term.specs.UpToNames.{SameUpToNames}
 use Rattle.ap_term.specs.Search.{State, children}
-use Rattle.ap_laws.specs.Plain.{plain_goals}
 use Rattle.ap_cells.specs.declared.cells.Raw.{Raw}
 use Rattle.ap_cells.specs.Trees.{tree_at, trees}
 use Rattle.ap_instr.specs.declared.compiled.Predicate.{Predicate}
@@ -113,7 +112,7 @@ module _ (code : Compiled) (roots : List ℕ) (qs : List Point) where
 
   -- the first state has no goals, and the tuple that the machine's places have, up to names
   pub answered : (cs : List Raw) (x y : List ℕ) → AllByRecursion (λ r. r < length cs) roots → (ss : List State) → Holds code (machine cs x y [] roots qs returning) ss
-      → (s : State) × (left : List State) × (ss ≡ s ∷ left) × (s.goals ≡ []) × SameUpToNames (tuple_under (tree_at (trees cs)) roots) s.tuple × HoldsPoints code roots qs left
+      → (s : State) × (left : List State) × (ss ≡ s ∷ left) × (s.goals ≡ []) × (s.fault ≡ None) × SameUpToNames (tuple_under (tree_at (trees cs)) roots) s.tuple × HoldsPoints code roots qs left
   answered cs x y inside_roots ss h =
       let st : Standing = record { cells = cs; returns = []; roots = roots } in
       let I : Trees → Trees → Type 0 = AtReturn code st in
@@ -123,6 +122,7 @@ module _ (code : Compiled) (roots : List ℕ) (qs : List Point) where
         h.1,
         b.1,
         no-goals b.0.goals b.3.1 own.2.0,
+        b.3.2,
         tuples b.0 (tuple_under (tree_at (trees cs)) roots) (
           (none, (b.2 none (tuple_under (tree_at (trees cs)) roots)).0 (tree_at (trees cs), fits-own cs, (refl, refl))),
           λ hs us i.

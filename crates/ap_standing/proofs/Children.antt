@@ -7,12 +7,13 @@ use Rattle.std.proofs.lemmas.List.{append-nil, map-append}
 use Rattle.std.proofs.lemmas.List.Elements.{All-head, All-tail}
 use Rattle.ap_term.specs.Tree.{Tree, Trees, var, int, atom, node, none, more, count_trees}
 use Rattle.ap_term.specs.Substitution.{instance, instance_all}
-use Rattle.ap_term.specs.Goals.{Part, call, Clause, Program, opened}
+use Rattle.ap_term.specs.Goals.{Part, call, Clause, Program, opened, plain_goals}
 use Rattle.ap_term.specs.WellFormed.{callable, numbered, IsClause, IsProgram}
 use Rattle.ap_term.specs.Builtins.{builtin}
 use Rattle.ap_term.specs.Search.{State, children, children_by, child, ways_by, clause_way}
-use Rattle.ap_laws.specs.Plain.{plain_goals, HasFullGroups}
+use Rattle.ap_laws.specs.Plain.{HasFullGroups}
 use Rattle.ap_laws.specs.Renaming.{IsBelow}
+use Rattle.ap_term.proofs.NoFaults.{children-none as children-unfaulted}
 use Rattle.ap_laws.proofs.Names.{IsBelow-children}
 use Rattle.ap_laws.proofs.Views.{HasFullGroups-children}
 use Rattle.ap_laws.proofs.Ways.{and_both}
@@ -45,11 +46,11 @@ module _ (s : State) (g : Tree) (rest : List Part) (opens : opened s.goals ≡ c
   resolves c below = subst (IsSetOf (Resolved (Inst s) c)) (sym (children-one c)) (resolution s g rest c below opens)
 
 pub plain-children : (p : Program) → IsProgram p → (s : State) → IsPlain s → AllByRecursion IsPlain (children p s)
-plain-children p good s plain = both (children p s) (IsBelow-children p good s plain.0) (HasFullGroups-children p good s plain.1)
+plain-children p good s plain = both (children p s) (IsBelow-children p good s plain.0) (HasFullGroups-children p good s plain.1) (children-unfaulted p s)
   where
-    both : (ss : List State) → AllByRecursion IsBelow ss → AllByRecursion HasFullGroups ss → AllByRecursion IsPlain ss
-    both [] h k = tt
-    both (t ∷ ts) h k = ((h.0, k.0), both ts h.1 k.1)
+    both : (ss : List State) → AllByRecursion IsBelow ss → AllByRecursion HasFullGroups ss → AllByRecursion (λ t. t.fault ≡ None) ss → AllByRecursion IsPlain ss
+    both [] h k f = tt
+    both (t ∷ ts) h k f = ((h.0, k.0, f.0), both ts h.1 k.1 f.1)
 
 -- where there are no instances there is no state
 pub no-state : (I : Trees → Trees → Type 0) (ss : List State) → IsSetOf I ss → ((gs t : Trees) → I gs t → ⊥) → ss ≡ []

@@ -1,8 +1,7 @@
 -- What a machine stands for stays the same while no goal is called.
 use Rattle.std.proofs.Common.{◌≡◌, ℕ, ◌<◌, List, [], ◌∷◌, length, refl, ap, ◌∙◌, subst}
 use Rattle.std.specs.List.{AllByRecursion}
-use Rattle.ap_term.specs.Tree.{Tree, Trees, none, more}
-use Rattle.ap_laws.specs.Plain.{append_trees}
+use Rattle.ap_term.specs.Tree.{Tree, Trees, none, more, append_trees}
 use Rattle.ap_cells.specs.declared.cells.Raw.{Raw}
 use Rattle.ap_cells.specs.Trees.{tree_at, trees}
 use Rattle.ap_instr.specs.Code.{Compiled}

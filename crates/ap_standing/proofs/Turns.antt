@@ -3,14 +3,15 @@ use Rattle.std.proofs.Common.{◌≡◌, ℕ, zero, suc, ◌+◌, ◌<◌, ◌�
 use Rattle.std.specs.List.{AllZip, AllByRecursion}
 use Rattle.std.proofs.lemmas.List.{append_assoc}
 use Rattle.std.proofs.lemmas.List.Elements.{All-nil, All-cons, All-head, All-tail, All-filter}
-use Rattle.ap_term.specs.Tree.{Tree, Trees, none, more, count_trees}
+use Rattle.ap_term.specs.Tree.{Tree, Trees, none, more, count_trees, append_trees}
 use Rattle.ap_term.specs.Substitution.{instance}
-use Rattle.ap_term.specs.Goals.{Part, call, group, Clause, Program, opened}
+use Rattle.ap_term.specs.Goals.{Part, call, group, Clause, Program, opened, plain_goals}
 use Rattle.ap_term.specs.WellFormed.{IsClause, IsProgram}
 use Rattle.ap_term.specs.Builtins.{builtin}
 use Rattle.ap_term.specs.Search.{State, children}
-use Rattle.ap_laws.specs.Plain.{append_trees, plain_goals, AreGroups}
-use Rattle.ap_laws.proofs.Views.{plain_goals-opened, StartsWithCall, StartsWithCall-opened}
+use Rattle.ap_term.proofs.GoalLists.{plain_goals-opened}
+use Rattle.ap_laws.specs.Plain.{AreGroups}
+use Rattle.ap_laws.proofs.Views.{StartsWithCall, StartsWithCall-opened}
 use Rattle.ap_instr.specs.declared.compiled.Predicate.{Predicate}
 use Rattle.ap_instr.specs.Code.{Compiled}
 use Rattle.ap_instr.specs.Runs.{applied, spread, AsksOpenly}

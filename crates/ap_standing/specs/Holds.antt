@@ -52,9 +52,9 @@ AreOpen code (w ∷ ws) = IsOpen (steps_from code w.place) × AsksOpenly (steps_
 
 -- ---- states
 
--- variables below the first unused one, and no group without goals
+-- variables below the first unused one, no group without goals, and no fault
 abbrev pub IsPlain : State → Type 0
-IsPlain s = IsBelow s × HasFullGroups s
+IsPlain s = IsBelow s × HasFullGroups s × (s.fault ≡ None)
 
 -- The state that a choice point came from, and the clauses that are still to be tried on its first goal.
 pub record Untried (code : Compiled) (roots : List ℕ) (q : Point) (ls : List ℕ) : Type 0 where

@@ -1,5 +1,5 @@
 -- The laws that the crate's functions stand for.
-use Rattle.std.specs.Prelude.{◌≡◌, ℕ, ◌+◌, ◌<◌, Bool, true, false, List, [], ◌∷◌, length, slice_get, Some}
+use Rattle.std.specs.Prelude.{◌≡◌, ℕ, ◌+◌, ◌<◌, Bool, true, false, List, [], ◌∷◌, length, slice_get, Some, None}
 use Rattle.std.specs.List.{AllByRecursion}
 use Rattle.ap_term.specs.declared.builtins.Relation.{Relation}
 use Rattle.ap_term.specs.declared.fixed.TheConstants.{TRUE, FAIL}
@@ -76,12 +76,12 @@ pub record ClauseLaw : Type 0 where
       → IsStuck point.cells (held x) (held y) (steps_from code l) → (ss : List State) → HoldsRest code roots point (l ∷ ls) qs ss → HoldsRest code roots point ls qs ss
   pub has_none : (code : Compiled) (roots : List ℕ) (point : Point) (qs : List Point) (ss : List State) → HoldsRest code roots point [] qs ss → HoldsPoints code roots qs ss
 
--- At the end of the last clause the first state is an answer: it has no goals, and its tuple is that of the cells up to names.
+-- At the end of the last clause the first state is an answer: it has no goals and met no fault, and its tuple is that of the cells up to names.
 abbrev pub AnswerLaw : Type 0
 AnswerLaw =
     (code : Compiled) (roots : List ℕ) (qs : List Point) (cs : List Raw) (x y : List ℕ) → AllByRecursion (λ r. r < length cs) roots
     → (ss : List State) → Holds code (machine cs x y [] roots qs returning) ss
-    → (s : State) × (left : List State) × (ss ≡ s ∷ left) × (s.goals ≡ []) × SameUpToNames (tuple_under (tree_at (trees cs)) roots) s.tuple × HoldsPoints code roots qs left
+    → (s : State) × (left : List State) × (ss ≡ s ∷ left) × (s.goals ≡ []) × (s.fault ≡ None) × SameUpToNames (tuple_under (tree_at (trees cs)) roots) s.tuple × HoldsPoints code roots qs left
 
 -- where the machine is after a built-in goal that stands at a place
 abbrev pub behind_goal : ℕ → Bool → Now

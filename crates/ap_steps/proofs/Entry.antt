@@ -1,8 +1,8 @@
 -- Calls and the entry of a clause.
 use Rattle.std.proofs.Common.{◌≡◌, ℕ, drop, refl, ap, sym, ◌∙◌, subst}
-use Rattle.ap_term.specs.Tree.{Tree, Trees, var, int, atom, node, none, more, count_trees}
+use Rattle.ap_term.specs.Tree.{Tree, Trees, var, int, atom, node, none, more, count_trees, append_trees}
 use Rattle.ap_term.specs.Substitution.{instance, instance_all}
-use Rattle.ap_laws.specs.Plain.{append_trees, plain_goals}
+use Rattle.ap_term.specs.Goals.{plain_goals}
 use Rattle.ap_instr.specs.Step.{steps_of}
 use Rattle.ap_instr.specs.Runs.{Runs, Asks, applied, arguments, spread, lost}
 use Rattle.ap_resolution.specs.Instances.{Resolved}

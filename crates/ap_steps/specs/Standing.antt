@@ -1,8 +1,7 @@
 -- What a machine at a place in code stands for: goals and a tuple, under each map that fits its cells.
 use Rattle.std.specs.Prelude.{◌≡◌, ℕ, List, [], ◌∷◌, drop}
-use Rattle.ap_term.specs.Tree.{Tree, Trees, none, more, atom, node, count_trees}
+use Rattle.ap_term.specs.Tree.{Tree, Trees, none, more, atom, node, count_trees, append_trees}
 use Rattle.ap_term.specs.Goals.{Clause}
-use Rattle.ap_laws.specs.Plain.{append_trees}
 use Rattle.ap_cells.specs.declared.cells.Raw.{Raw}
 use Rattle.ap_instr.specs.Code.{Compiled}
 use Rattle.ap_instr.specs.Step.{Step, call, execute, proceed, steps_of}

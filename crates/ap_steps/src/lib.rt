@@ -1,4 +1,4 @@
-//! The instructions of a clause over cells and registers.
+//! Floor: engine. The instructions of a clause over cells and registers.
 //!
 //! Stands on `ap_match` and `ap_instr`. The one contract used above: `step` takes an instruction, and the code asks for the same
 //! goals as before, or says no, where it can ask for nothing.

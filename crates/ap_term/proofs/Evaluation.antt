@@ -1,49 +1,60 @@
--- An expression has a value exactly where it meets no fault.
-use Rattle.std.proofs.Common.{◌≡◌, ℕ, Bool, true, false, ◌==◌, if◌then◌else◌, Option, Some, None, ℤ, refl, sym, ◌∙◌, subst, ap}
+-- What expressions come to.
+use Rattle.std.proofs.Common.{◌≡◌, ℕ, false, Option, Some, None, ℤ, refl, ap, sym, ◌∙◌}
+use Rattle.std.proofs.lemmas.Bool.{false≢true}
+use Rattle.std.specs.Prelude.{Result, Ok, Err, ◌↔◌}
+use Rattle.std.specs.Result.{result_ok, result_err}
 use Rattle.ap_term.specs.declared.faults.Fault.{Fault}
-use Rattle.ap_term.specs.declared.faults.Fault.TheVariants.{WrongType, Overflow}
 use Rattle.ap_term.specs.declared.builtins.Operation.{Operation}
-use Rattle.ap_term.specs.declared.fixed.TheConstants.{MINUS}
+use Rattle.ap_term.specs.declared.builtins.Relation.{Relation}
+use Rattle.ap_term.specs.declared.builtins.Relation.TheVariants.{Unify, NotUnify, Same, NotSame, Is, Compare}
 use Rattle.ap_term.specs.Tree.{Tree, var, int, atom, node, none, more}
-use Rattle.ap_term.specs.Arithmetic.{eval, applied, value_of, operation_named, negated}
-use Rattle.ap_term.specs.Faults.{or_then, missing_value, operation_fault, applied_fault, two_faults, negated_fault, fault_in}
-use Rattle.ap_term.specs.Laws.{HasOne, EvaluationLaw}
+use Rattle.ap_term.specs.Arithmetic.{value_of, operation_named, evaluated}
+use Rattle.ap_term.specs.Builtins.{relation_named}
+use Rattle.ap_term.specs.Faults.{relation_fault}
+use Rattle.ap_term.specs.Loud.{evaluates}
+use Rattle.ap_term.specs.Laws.{HasOne, EvaluationLaw, FaultLaw}
 
-abbrev Agrees : Option ℤ → Option Fault → Type 0
-Agrees v f = (v ≡ None → HasOne f) × (HasOne f → v ≡ None)
+-- it is a value, or a fault
+either : (r : Result ℤ Fault) → (result_ok r ≡ None) ↔ HasOne (result_err r)
+either (Ok z) = (λ e. cc, λ h. absurd h)
+either (Err e) = (λ q. tt, λ h. refl)
 
-some-none : {A : Type 0} (x : A) → Some x ≡ None → ⊥
-some-none x e = cc
+pub is-value : (r : Result ℤ Fault) (z : ℤ) → result_ok r ≡ Some z → r ≡ Ok z
+is-value (Ok x) z h = cc
+is-value (Err e) z h = cc
 
-missing : (e : Fault) (v : Option ℤ) → Agrees v (missing_value e v)
-missing e None = (λ q. tt, λ h. refl)
-missing e (Some z) = (λ q. some-none z q, λ h. absurd h)
+pub is-fault : (r : Result ℤ Fault) (e : Fault) → result_err r ≡ Some e → r ≡ Err e
+is-fault (Ok x) e h = cc
+is-fault (Err i) e h = cc
 
-two : (o : Option Operation) (v w : Option ℤ) (e f : Option Fault) → Agrees v e → Agrees w f → Agrees (value_of o v w) (two_faults o e f v w)
-two None v w e f h k = (λ q. tt, λ q. refl)
-two (Some o) None w (Some x) f h k = (λ q. tt, λ q. refl)
-two (Some o) None w None f h k = absurd (h.0 refl)
-two (Some o) (Some x) w (Some y) f h k = absurd (some-none x (h.1 tt))
-two (Some o) (Some x) None None (Some y) h k = (λ q. tt, λ q. refl)
-two (Some o) (Some x) None None None h k = absurd (k.0 refl)
-two (Some o) (Some x) (Some y) None (Some z) h k = absurd (some-none y (k.1 tt))
-two (Some o) (Some x) (Some y) None None h k = missing (operation_fault o y) (applied o x y)
+abbrev two : ℕ → Tree → Tree → Tree
+two a t u = node a (more t (more u none))
 
-one : (v : Option ℤ) (e : Option Fault) → Agrees v e → Agrees (negated v) (or_then e (negated_fault v))
-one None (Some x) h = (λ q. tt, λ q. refl)
-one None None h = absurd (h.0 refl)
-one (Some z) (Some x) h = absurd (some-none z (h.1 tt))
-one (Some z) None h = missing Overflow (negated (Some z))
+operands : (a : ℕ) (o : Operation) (t u : Tree) (r q : Result ℤ Fault) → operation_named a ≡ Some o → evaluated t ≡ r → evaluated u ≡ q → evaluated (two a t u) ≡ value_of (Some o) r q
+operands a o t u r q h e i = ap (λ n. value_of n (evaluated t) (evaluated u)) h ∙ ap (λ s. value_of (Some o) s (evaluated u)) e ∙ ap (value_of (Some o) r) i
 
 pub evaluation : EvaluationLaw
-evaluation (var x) = (λ q. tt, λ q. refl)
-evaluation (int z) = (λ q. some-none z q, λ h. absurd h)
-evaluation (atom a) = (λ q. tt, λ q. refl)
-evaluation (node a none) = (λ q. tt, λ q. refl)
-evaluation (node a (more t none)) = go (a == MINUS) (evaluation t)
+evaluation = record {
+  either = λ t. either (evaluated t);
+  left_first = λ a o t u e h l. ap result_err (operands a o t u (Err e) (evaluated u) h (is-fault (evaluated t) e l) refl);
+  then_right = λ a o t u x e h l r. ap result_err (operands a o t u (Ok x) (Err e) h (is-value (evaluated t) x l) (is-fault (evaluated u) e r));
+  of_values = λ a o t u x y h l r. operands a o t u (Ok x) (Ok y) h (is-value (evaluated t) x l) (is-value (evaluated u) y r);
+}
+
+pub only_arithmetic : FaultLaw
+only_arithmetic (var x) h = refl
+only_arithmetic (int z) h = refl
+only_arithmetic (atom a) h = refl
+only_arithmetic (node a none) h = refl
+only_arithmetic (node a (more t none)) h = refl
+only_arithmetic (node a (more t (more u none))) h = go (relation_named a) h
   where
-    go : (b : Bool) → Agrees (eval t) (fault_in t) → Agrees (if b then negated (eval t) else None) (if b then or_then (fault_in t) (negated_fault (eval t)) else Some WrongType)
-    go true h = one (eval t) (fault_in t) h
-    go false h = (λ q. tt, λ q. refl)
-evaluation (node a (more t (more u none))) = two (operation_named a) (eval t) (eval u) (fault_in t) (fault_in u) (evaluation t) (evaluation u)
-evaluation (node a (more t (more u (more v ts)))) = (λ q. tt, λ q. refl)
+    go : (r : Option Relation) → evaluates r ≡ false → relation_fault r t u ≡ None
+    go None h = refl
+    go (Some Unify) h = refl
+    go (Some NotUnify) h = refl
+    go (Some Same) h = refl
+    go (Some NotSame) h = refl
+    go (Some Is) h = absurd (false≢true (sym h))
+    go (Some (Compare o)) h = absurd (false≢true (sym h))
+only_arithmetic (node a (more t (more u (more v ts)))) h = refl

@@ -1,4 +1,4 @@
-//! Tests of the crates that read and write text, and of the outside where text comes from and goes to.
+//! Floor: text. Tests of the crates that read and write text, and of the outside where text comes from and goes to.
 // What it is for: what no clause says of them: that they answer where memory is ample, and that their definitions give
 // the tokens, terms, refusals and lines that tables from outside have.
 // What it stands on: `ap_outside`, `ap_lexer`, `ap_reader`, `ap_clause`, `ap_writer` and `ap_cge`, and `ap_spec` to compare

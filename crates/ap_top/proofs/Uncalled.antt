@@ -10,12 +10,11 @@ use Rattle.ap_lexer.specs.Token.{Placed, tokens}
 use Rattle.ap_term.specs.declared.fixed.TheConstants.{QUERY, TRUE, FAIL}
 use Rattle.ap_term.specs.declared.clauses.Check.{Check}
 use Rattle.ap_term.specs.Builtins.{relation_named}
-use Rattle.ap_term.specs.Tree.{Tree, Trees, var, int, atom, node, none, more, count_trees}
-use Rattle.ap_term.specs.Goals.{Part, Clause, Program, Query}
+use Rattle.ap_term.specs.Tree.{Tree, Trees, var, int, atom, node, none, more, count_trees, append_trees}
+use Rattle.ap_term.specs.Goals.{Part, Clause, Program, Query, plain_goals}
 use Rattle.ap_term.specs.Search.{variables}
-use Rattle.ap_laws.specs.Plain.{append_trees, plain_goals}
-use Rattle.ap_laws.proofs.Views.{plain_goals-append}
-use Rattle.ap_laws.proofs.Zips.{AllByRecursion-append}
+use Rattle.ap_term.proofs.GoalLists.{plain_goals-append}
+use Rattle.ap_term.proofs.Zips.{AllByRecursion-append}
 use Rattle.ap_reader.specs.declared.written.TheConstants.{MAX_OPEN}
 use Rattle.ap_reader.specs.declared.depth.TheConstants.{MAX_DEPTH}
 use Rattle.ap_reader.specs.Bracket.{most_open}

@@ -4,10 +4,12 @@ use Rattle.std.specs.List.{filter}
 use Rattle.ap_lexer.specs.Lexeme.{Text}
 use Rattle.ap_lexer.specs.Piece.{pieces}
 use Rattle.ap_lexer.specs.declared.cut.Piece.{Piece}
+use Rattle.ap_term.specs.declared.faults.Fault.{Fault}
+use Rattle.ap_term.specs.declared.faults.Fault.TheVariants.{Instantiation, WrongType, ZeroDivisor, Overflow}
 use Rattle.ap_term.specs.Tree.{Trees}
 use Rattle.ap_term.specs.Goals.{Program, Query, joined}
 use Rattle.ap_term.specs.Search.{start}
-use Rattle.ap_term.specs.Blocks.{End, no_more, budget_spent, stopped, IsBlock}
+use Rattle.ap_term.specs.Blocks.{End, no_more, budget_spent, stopped, error, IsBlock}
 use Rattle.ap_clause.specs.Reads.{AcceptsQuery, RefusesQuery}
 use Rattle.ap_clause.specs.declared.refusal.Refusal.{Refusal}
 use Rattle.ap_writer.specs.Line.{answer_line}
@@ -19,15 +21,23 @@ use Rattle.ap_top.specs.declared.status.Tally.{Tally}
 abbrev pub line_of : List (List ℕ) → Query → Trees → List ℕ
 line_of table query tuple = answer_line table query.names tuple ++ 10 ∷ []
 
+abbrev pub fault_line : Fault → List ℕ
+fault_line Instantiation = codes "error: instantiation\n"
+fault_line WrongType = codes "error: type\n"
+fault_line ZeroDivisor = codes "error: zero_divisor\n"
+fault_line Overflow = codes "error: overflow\n"
+
 abbrev pub end_line : End → List ℕ
 end_line no_more = codes "no more.\n"
 end_line budget_spent = codes "budget spent.\n"
 end_line stopped = codes "stopped.\n"
+end_line (error e) = fault_line e
 
 abbrev pub is_spent : End → Bool
 is_spent no_more = false
 is_spent budget_spent = true
 is_spent stopped = false
+is_spent (error e) = false
 
 -- A block of a query, by a budget of calls and a limit of answers: answer lines that are a block of its search, then
 -- the line that ends it. `spent` tells whether that says so of the budget.

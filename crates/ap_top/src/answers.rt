@@ -5,11 +5,11 @@ ghost use Rattle.ap_outside.specs.Halting.{Finishes, SinkCount};
 ghost use Rattle.ap_term.specs.Tree.{Trees, count_trees};
 ghost use Rattle.ap_worker.specs.Ends.{end_of};
 ghost use Rattle.ap_worker.specs.Sought.{MayBeAsked};
-ghost use Rattle.ap_top.specs.Output.{line_of, end_line, is_spent, IsQueryBlock};
+ghost use Rattle.ap_top.specs.Output.{line_of, fault_line, end_line, is_spent, IsQueryBlock};
 ghost use Rattle.ap_top.specs.Lines.{line_same};
 
 use ap_outside::{Halt, Sink, put_line};
-use ap_term::{Args, Atoms, NoMemory, Program, Query};
+use ap_term::{Args, Atoms, Fault, NoMemory, Program, Query};
 use ap_worker::{Answers, End, solve};
 use ap_writer::answer_line;
 use std::alloc::Global;
@@ -29,6 +29,17 @@ pub const BOUNDS: Bounds = Bounds {
     answers: 1_000_000,
 };
 
+fn fault_line(fault: Fault) -> &'static [u8]
+    ensures { result.now ≡ fault_line fault }
+{
+    match fault {
+        Fault::Instantiation => b"error: instantiation\n",
+        Fault::WrongType => b"error: type\n",
+        Fault::ZeroDivisor => b"error: zero_divisor\n",
+        Fault::Overflow => b"error: overflow\n",
+    }
+}
+
 fn end_line(end: End) -> &'static [u8]
     ensures { result.now ≡ end_line (end_of end) }
 {
@@ -36,6 +47,7 @@ fn end_line(end: End) -> &'static [u8]
         End::NoMore => b"no more.\n",
         End::Spent => b"budget spent.\n",
         End::Stopped => b"stopped.\n",
+        End::Error(fault) => fault_line(fault),
     }
 }
 

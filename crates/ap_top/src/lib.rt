@@ -1,4 +1,4 @@
-//! The top call: from the words of a command line and the outside to a status.
+//! Floor: program. The top call: from the words of a command line and the outside to a status.
 //!
 //! It stands on the outside, on the reader of clauses, on the search and on the writer of answers, for `show` on the
 //! annotators, and for `code` on the compiler and its check. What is used above it is the contract of `run`: which lines

@@ -1,4 +1,4 @@
-//! The annotator that makes unconditional groups, and what it shares with the one that makes conditional ones.
+//! Floor: analysis. The annotator that makes unconditional groups, and what it shares with the one that makes conditional ones.
 //!
 //! Stands on `ap_patterns` for what a table says, and on `ap_conditions` for what a state leaves of a group's full
 //! condition. The crates above use one contract: the groups are those of the longest runs of goals that may stand

@@ -27,7 +27,7 @@ Goes a b t =
 
 first-answer : (t : Trees) (ss : List State) → section.IsAnswer t ss → IsAnswer ss
 first-answer t [] h = h
-first-answer t (s ∷ ss) h = h.0
+first-answer t (s ∷ ss) h = (h.0, h.1)
 
 first-due : (ss : List State) → HasGoals ss → IsCallDue ss
 first-due [] h = h

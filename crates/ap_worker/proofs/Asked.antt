@@ -3,17 +3,17 @@ use Rattle.std.proofs.Common.{◌≡◌, ℕ, zero, suc, ◌+◌, List, [], ◌�
 use Rattle.std.specs.List.{AllByRecursion, flat_map}
 use Rattle.std.proofs.lemmas.Grind.{flat_map-append}
 use Rattle.ap_term.specs.declared.fixed.TheConstants.{QUERY}
-use Rattle.ap_term.specs.Tree.{Tree, Trees, var, int, atom, node, none, more}
+use Rattle.ap_term.specs.Tree.{Tree, Trees, var, int, atom, node, none, more, append_trees}
 use Rattle.ap_term.specs.Substitution.{instance, instance_all, Subst, value, shift}
 use Rattle.ap_term.specs.Unification.{mgu}
 use Rattle.ap_term.specs.Unifier.{IsMostGeneral}
-use Rattle.ap_term.specs.Goals.{Part, call, group, Clause, Program, Query, joined, opened, instance_part}
+use Rattle.ap_term.specs.Goals.{Part, call, group, Clause, Program, Query, joined, opened, instance_part, plain_goals}
 use Rattle.ap_term.specs.Builtins.{builtin}
 use Rattle.ap_term.specs.WellFormed.{IsQuery}
-use Rattle.ap_term.specs.Search.{State, Way, search, start, done, open_states, by_goals, turn, with_answers, children, children_by, child, ways, ways_by, clause_way, way_if, variables}
+use Rattle.ap_term.specs.declared.faults.Fault.{Fault}
+use Rattle.ap_term.specs.Search.{State, Way, cut, meets, found_by, search, start, done, open_states, by_goals, turn, with_outcomes, unless, children, children_by, child, ways, ways_by, clause_way, way_if, variables}
 use Rattle.ap_term.proofs.Solvable.{mgu-general}
-use Rattle.ap_laws.specs.Plain.{plain_goals, append_trees}
-use Rattle.ap_laws.proofs.Views.{plain_goals-append, plain_goals-instance, plain_goals-opened}
+use Rattle.ap_term.proofs.GoalLists.{plain_goals-append, plain_goals-instance, plain_goals-opened}
 use Rattle.ap_instr.specs.Runs.{applied}
 use Rattle.ap_instr.specs.StandsFor.{asked, asked_query}
 use Rattle.ap_section.specs.Started.{HasName}
@@ -87,10 +87,15 @@ module _ (a : ℕ) where
   children-of : (s : State) (rest : List Part) (ws : List Way) → AreOthers a (plain_goals rest) → AllByRecursion (λ w. AreOthers a (plain_goals w.body)) ws → AllByRecursion (Other a) (map (child s rest) ws)
   children-of s rest [] h k = tt
   children-of s rest (w ∷ ws) h k = (
-    subst (AreOthers a) (sym (plain_goals-instance (value w.binds) (w.body ++ rest)))
-        (instances-other a (value w.binds) (plain_goals (w.body ++ rest)) (subst (AreOthers a) (sym (plain_goals-append w.body rest)) (append-other a (plain_goals w.body) (plain_goals rest) k.0 h))),
+    left w.fault (map (instance_part (value w.binds)) (w.body ++ rest))
+        (subst (AreOthers a) (sym (plain_goals-instance (value w.binds) (w.body ++ rest)))
+        (instances-other a (value w.binds) (plain_goals (w.body ++ rest)) (subst (AreOthers a) (sym (plain_goals-append w.body rest)) (append-other a (plain_goals w.body) (plain_goals rest) k.0 h)))),
     children-of s rest ws h k.1,
   )
+    where
+      left : (f : Option Fault) (gs : List Part) → AreOthers a (plain_goals gs) → AreOthers a (plain_goals (unless f gs))
+      left None gs o = o
+      left (Some e) gs o = tt
 
   children-other : (p : Program) (s : State) → NeverCalls a p → Other a s → AllByRecursion (Other a) (children p s)
   children-other p s never h = go (opened s.goals) (subst (AreOthers a) (sym (plain_goals-opened s.goals)) h)
@@ -131,17 +136,20 @@ module _ (a : ℕ) where
         go [] k = k
         go (g ∷ gs) k = h
 
-    same-search : NeverCalls a (p ++ d ∷ l) → (n : ℕ) (ss : List State) → AllByRecursion (Other a) ss → search (p ++ c ∷ l) n ss ≡ search (p ++ d ∷ l) n ss
-    same-search never zero ss h = refl
-    same-search never (suc n) ss h = go (open_states ss) (open-other ss h) (same-search never n)
+    same-meets : NeverCalls a (p ++ d ∷ l) → (n : ℕ) (ss : List State) → AllByRecursion (Other a) ss → meets (p ++ c ∷ l) n ss ≡ meets (p ++ d ∷ l) n ss
+    same-meets never zero ss h = refl
+    same-meets never (suc n) ss h = go (open_states ss) (open-other ss h) (same-meets never n)
       where
-        go : (os : List State) → AllByRecursion (Other a) os → ((ts : List State) → AllByRecursion (Other a) ts → search (p ++ c ∷ l) n ts ≡ search (p ++ d ∷ l) n ts)
-            → with_answers (done ss) (turn (λ t ts. search (p ++ c ∷ l) n (children (p ++ c ∷ l) t ++ ts)) os) ≡ with_answers (done ss) (turn (λ t ts. search (p ++ d ∷ l) n (children (p ++ d ∷ l) t ++ ts)) os)
+        go : (os : List State) → AllByRecursion (Other a) os → ((ts : List State) → AllByRecursion (Other a) ts → meets (p ++ c ∷ l) n ts ≡ meets (p ++ d ∷ l) n ts)
+            → with_outcomes (done ss) (turn (λ t ts. meets (p ++ c ∷ l) n (children (p ++ c ∷ l) t ++ ts)) os) ≡ with_outcomes (done ss) (turn (λ t ts. meets (p ++ d ∷ l) n (children (p ++ d ∷ l) t ++ ts)) os)
         go [] k ih = refl
         go (t ∷ ts) k ih =
-            ap (with_answers (done ss))
-            (ap (λ us. search (p ++ c ∷ l) n (us ++ ts)) (same-children t k.0)
+            ap (with_outcomes (done ss))
+            (ap (λ us. meets (p ++ c ∷ l) n (us ++ ts)) (same-children t k.0)
             ∙ ih (children (p ++ d ∷ l) t ++ ts) (append-states (children (p ++ d ∷ l) t) ts (children-other (p ++ d ∷ l) t never k.0) k.1))
+
+    same-search : NeverCalls a (p ++ d ∷ l) → (n : ℕ) (ss : List State) → AllByRecursion (Other a) ss → search (p ++ c ∷ l) n ss ≡ search (p ++ d ∷ l) n ss
+    same-search never n ss h = ap (λ m. found_by (cut m.outcomes) m.ended) (same-meets never n ss h)
 
 -- ---- the law
 

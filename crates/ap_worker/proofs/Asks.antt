@@ -32,7 +32,7 @@ pub asked-solved : {L : Type 0} (line : Trees → L) (p : Program) (q : Query) �
 asked-solved line p q is never budget limit lines end h =
     let e = asking p q is never budget in record {
       lines_are = h.lines_are ∙ ap (λ f. map line (take limit f.answers)) e;
-      ends_by = h.ends_by ∙ ap (λ f. end_by limit (length lines) f.ended) e;
+      ends_by = h.ends_by ∙ ap (end_by limit (length lines)) e;
     }
 
 -- the query's predicate, by its number

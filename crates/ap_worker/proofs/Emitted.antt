@@ -11,10 +11,10 @@ use Rattle.ap_term.specs.Tree.{Trees}
 use Rattle.ap_term.specs.Goals.{Program}
 use Rattle.ap_term.specs.Search.{State}
 use Rattle.ap_term.specs.Blocks as blocks
-use Rattle.ap_term.specs.Blocks.{no_more, budget_spent, stopped}
+use Rattle.ap_term.specs.Blocks.{no_more, budget_spent, stopped, error}
 use Rattle.ap_standing.specs.Holds.{Turned}
 use Rattle.ap_worker.specs.declared.emission.End.{End}
-use Rattle.ap_worker.specs.declared.emission.End.TheVariants.{NoMore, Spent, Stopped}
+use Rattle.ap_worker.specs.declared.emission.End.TheVariants.{NoMore, Spent, Stopped, Error}
 use Rattle.ap_worker.specs.Ends.{end_of}
 use Rattle.ap_worker.specs.Turns.{IsAnswer, IsCallDue}
 use Rattle.ap_worker.specs.Reached.{Reaches, IsSolved, IsCharge}
@@ -44,12 +44,14 @@ of-end : blocks.End → End
 of-end no_more = NoMore
 of-end budget_spent = Spent
 of-end stopped = Stopped
+of-end (error e) = Error e
 
 end_of-of-end : (e : blocks.End) → end_of (of-end e) ≡ e
 unfolding of-end
 end_of-of-end no_more = refl
 end_of-of-end budget_spent = refl
 end_of-of-end stopped = refl
+end_of-of-end (error e) = refl
 
 module _ (line : Trees → List ℕ) (p : Program) (q : State) (budget limit : ℕ) where
   -- the lines that go with an end
@@ -94,11 +96,11 @@ module _ (line : Trees → List ℕ) (p : Program) (q : State) (budget limit : �
 
       -- an answer comes
       module _ (T : List State → Type 0) (stands : T ts) (answer : IsAnswer ts) (c : Option (List (List ℕ))) where
-        found : (s : State) (ss : List State) → ts ≡ s ∷ ss → s.goals ≡ [] → Reaches p k (q ∷ []) (m.given ++ s.tuple ∷ []) ss
-        found s ss e none =
+        found : (s : State) (ss : List State) → ts ≡ s ∷ ss → IsAnswer (s ∷ ss) → Reaches p k (q ∷ []) (m.given ++ s.tuple ∷ []) ss
+        found s ss e is =
             let z : k + 0 ≡ k = omega arith in
             subst (λ j. Reaches p j (q ∷ []) (m.given ++ s.tuple ∷ []) ss) z
-            (then p k 0 (q ∷ []) (s ∷ ss) ss m.given (s.tuple ∷ []) (subst (Reaches p k (q ∷ []) m.given) e way) (answered p s ss none))
+            (then p k 0 (q ∷ []) (s ∷ ss) ss m.given (s.tuple ∷ []) (subst (Reaches p k (q ∷ []) m.given) e way) (answered p s ss is.0 is.1))
 
         one-size : (s : State) → length (m.given ++ s.tuple ∷ []) ≡ count + 1
         one-size s = let e = m.count_is in omega (arith, length-append m.given (s.tuple ∷ []))

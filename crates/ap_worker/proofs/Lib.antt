@@ -6,4 +6,3 @@ pub mod Reaching
 pub mod SolvedBlocks
 pub mod Solving
 pub mod Spans
-pub mod Stripped

@@ -1,14 +1,14 @@
 -- A search goes on its way by turns and by answers.
-use Rattle.std.proofs.Common.{◌≡◌, ℕ, zero, suc, ◌+◌, ◌-◌, ◌<◌, ◌≤◌, ◌⊎◌, inl, inr, false, List, [], ◌∷◌, ◌++◌, append_assoc, refl, ap, sym, ◌∙◌, subst, arith}
+use Rattle.std.proofs.Common.{◌≡◌, ℕ, zero, suc, ◌+◌, ◌-◌, ◌<◌, ◌≤◌, ◌⊎◌, inl, inr, false, List, [], ◌∷◌, ◌++◌, None, append_assoc, refl, ap, ap₂, sym, ◌∙◌, subst, arith}
 use Rattle.std.proofs.lemmas.Bool.{cases_lt}
 use Rattle.ap_term.specs.Tree.{Trees}
 use Rattle.ap_term.specs.Goals.{Part, Program}
-use Rattle.ap_term.specs.Search.{State, Found, search, done, open_states, by_goals, turn, with_answers, children}
+use Rattle.ap_term.specs.Search.{State, Found, Outcome, outcome_by, outcome_of, Met, cut, meets, found_by, search, done, open_states, with_outcomes, by_goals, turn, children}
 use Rattle.ap_standing.specs.Holds.{Turned}
-use Rattle.ap_worker.specs.Reached.{IsOnTheWay, Reaches}
+use Rattle.ap_worker.specs.Reached.{with_answers, IsOnTheWay, Reaches}
 
 with_answers-twice : (xs ys : List Trees) (f : Found) → with_answers (xs ++ ys) f ≡ with_answers xs (with_answers ys f)
-with_answers-twice xs ys f = ap (λ a. record { answers = a; ended = f.ended }) (append_assoc xs ys f.answers)
+with_answers-twice xs ys f = ap (λ a. record { answers = a; ended = f.ended; fault = f.fault }) (append_assoc xs ys f.answers)
 
 -- ---- on the way
 
@@ -38,30 +38,32 @@ then p a b ss ts us xs ys h k = record {
 
 -- ---- a turn, an answer
 
+-- what is found where a state comes first, by its goals and its outcome
+abbrev found_at : (State → List State → Met) → List State → State → List Part → Outcome → Found
+found_at f ss s gs o =
+    let m = with_outcomes (by_goals gs (o ∷ done ss) []) (turn f (by_goals gs (open_states ss) (s ∷ ss))) in
+    found_by (cut m.outcomes) m.ended
+
 -- a state with goals is replaced by its children, which is one call
 search-turn : (p : Program) (m : ℕ) (s : State) (ss : List State) → (s.goals ≡ [] → ⊥) → search p (suc m) (s ∷ ss) ≡ search p m (children p s ++ ss)
 search-turn p m s ss h = go s.goals h
   where
-    go : (gs : List Part) → (gs ≡ [] → ⊥)
-        → with_answers (by_goals gs (s.tuple ∷ done ss) []) (turn (λ t ts. search p m (children p t ++ ts)) (by_goals gs (open_states ss) (s ∷ ss))) ≡ search p m (children p s ++ ss)
+    go : (gs : List Part) → (gs ≡ [] → ⊥) → found_at (λ t ts. meets p m (children p t ++ ts)) ss s gs (outcome_of s) ≡ search p m (children p s ++ ss)
     go [] n = absurd (n refl)
     go (g ∷ gs) n = refl
 
 -- without a call nothing is found before it
-pub search-due : (p : Program) (s : State) (ss : List State) → (s.goals ≡ [] → ⊥) → search p 0 (s ∷ ss) ≡ record { answers = []; ended = false }
+pub search-due : (p : Program) (s : State) (ss : List State) → (s.goals ≡ [] → ⊥) → search p 0 (s ∷ ss) ≡ record { answers = []; ended = false; fault = None }
 search-due p s ss h = go s.goals h
   where
-    go : (gs : List Part) → (gs ≡ [] → ⊥)
-        → with_answers (by_goals gs (s.tuple ∷ done ss) []) (turn (λ t ts. record { answers = []; ended = false }) (by_goals gs (open_states ss) (s ∷ ss))) ≡ record { answers = []; ended = false }
+    go : (gs : List Part) → (gs ≡ [] → ⊥) → found_at (λ t ts. record { outcomes = []; ended = false }) ss s gs (outcome_of s) ≡ record { answers = []; ended = false; fault = None }
     go [] n = absurd (n refl)
     go (g ∷ gs) n = refl
 
--- a state without goals is an answer
-search-answer : (p : Program) (m : ℕ) (s : State) (ss : List State) → s.goals ≡ [] → search p m (s ∷ ss) ≡ with_answers (s.tuple ∷ []) (search p m ss)
-search-answer p zero s ss e =
-    ap (λ gs. with_answers (by_goals gs (s.tuple ∷ done ss) []) (turn (λ t ts. record { answers = []; ended = false }) (by_goals gs (open_states ss) (s ∷ ss)))) e
-search-answer p (suc m) s ss e =
-    ap (λ gs. with_answers (by_goals gs (s.tuple ∷ done ss) []) (turn (λ t ts. search p m (children p t ++ ts)) (by_goals gs (open_states ss) (s ∷ ss)))) e
+-- a state without goals that met no fault is an answer
+search-answer : (p : Program) (m : ℕ) (s : State) (ss : List State) → s.goals ≡ [] → s.fault ≡ None → search p m (s ∷ ss) ≡ with_answers (s.tuple ∷ []) (search p m ss)
+search-answer p zero s ss e n = ap₂ (λ gs f. found_at (λ t ts. record { outcomes = []; ended = false }) ss s gs (outcome_by f s.tuple)) e n
+search-answer p (suc m) s ss e n = ap₂ (λ gs f. found_at (λ t ts. meets p m (children p t ++ ts)) ss s gs (outcome_by f s.tuple)) e n
 
 pub turned : (p : Program) (n : ℕ) (ss ts : List State) → Turned p n ss ts → Reaches p n ss [] ts
 turned p n ss ts h = record { found = λ m. go n ss h m; before = λ m lt. way n ss h m lt }
@@ -79,8 +81,8 @@ turned p n ss ts h = record { found = λ m. go n ss h m; before = λ m lt. way n
     way (suc n) (s ∷ us) e zero lt = subst (λ f. IsOnTheWay f []) (sym (search-due p s us e.0)) (refl, ([], refl))
     way (suc n) (s ∷ us) e (suc m) lt = subst (λ f. IsOnTheWay f []) (sym (search-turn p m s us e.0)) (way n (children p s ++ us) e.1 m (omega arith))
 
-pub answered : (p : Program) (s : State) (ss : List State) → s.goals ≡ [] → Reaches p 0 (s ∷ ss) (s.tuple ∷ []) ss
-answered p s ss e = record {
-  found = λ m. ap (λ k. search p k (s ∷ ss)) (let z : 0 + m ≡ m = omega arith in z) ∙ search-answer p m s ss e;
+pub answered : (p : Program) (s : State) (ss : List State) → s.goals ≡ [] → s.fault ≡ None → Reaches p 0 (s ∷ ss) (s.tuple ∷ []) ss
+answered p s ss e n = record {
+  found = λ m. ap (λ k. search p k (s ∷ ss)) (let z : 0 + m ≡ m = omega arith in z) ∙ search-answer p m s ss e n;
   before = λ m lt. absurd (omega arith);
 }

@@ -1,12 +1,13 @@
 -- Where a search that was stopped, spent or ended on its way has solved its query.
-use Rattle.std.proofs.Common.{◌≡◌, ℕ, zero, suc, ◌+◌, ◌-◌, ◌<◌, ◌≤◌, ◌==◌, Bool, true, false, List, [], ◌∷◌, ◌++◌, take, map, length, append-nil, refl, ap, sym, ◌∙◌, subst, arith, if◌then◌else◌}
+use Rattle.std.proofs.Common.{◌≡◌, ℕ, zero, suc, ◌+◌, ◌-◌, ◌<◌, ◌≤◌, ◌==◌, Bool, true, false, List, [], ◌∷◌, ◌++◌, Option, Some, None, take, map, length, append-nil, refl, ap, sym, ◌∙◌, subst, arith, if◌then◌else◌}
 use Rattle.std.proofs.lemmas.Grind.{common_steps}
 use Rattle.std.proofs.lemmas.Bool.Decides.{Decides-eqb}
 use Rattle.ap_term.specs.Tree.{Trees}
 use Rattle.ap_term.specs.Goals.{Program}
-use Rattle.ap_term.specs.Search.{State, search, with_answers}
+use Rattle.ap_term.specs.declared.faults.Fault.{Fault}
+use Rattle.ap_term.specs.Search.{State, Found, search}
 use Rattle.ap_term.specs.Blocks.{End, no_more, budget_spent, stopped}
-use Rattle.ap_worker.specs.Reached.{IsOnTheWay, Reaches, end_by, IsSolved, IsCharge}
+use Rattle.ap_worker.specs.Reached.{with_answers, IsOnTheWay, Reaches, end_for, end_by, IsSolved, IsCharge}
 use Rattle.ap_worker.specs.Turns.{IsCallDue}
 use Rattle.ap_worker.proofs.Reaching.{search-due}
 
@@ -37,7 +38,7 @@ not-eq m n lt = go (m == n) refl
     go false e = e
     go true e = absurd (let same : m ≡ n = (Decides-eqb m n).0 e in omega arith)
 
-search-none : (p : Program) (m : ℕ) → search p m [] ≡ record { answers = []; ended = true }
+search-none : (p : Program) (m : ℕ) → search p m [] ≡ record { answers = []; ended = true; fault = None }
 search-none p zero = refl
 search-none p (suc m) = refl
 
@@ -54,7 +55,7 @@ module _ (p : Program) (q : State) (budget limit n : ℕ) (given : List Trees) (
   pub stopped-solved : {L : Type 0} (line : Trees → L) → length given ≡ limit → IsSolved line p q budget limit (map line given) stopped
   stopped-solved line e = record {
     lines_are = ap (map line) (sym (enough e));
-    ends_by = ap (λ b. if b then stopped else (if (search p budget (q ∷ [])).ended then no_more else budget_spent)) (sym ((Decides-eqb (length (map line given)) limit).1 (length_map line given ∙ e)));
+    ends_by = ap (λ b. if b then stopped else end_for (search p budget (q ∷ [])).fault (search p budget (q ∷ [])).ended) (sym ((Decides-eqb (length (map line given)) limit).1 (length_map line given ∙ e)));
   }
 
   pub stopped-charge : length given ≡ limit → IsCharge p q budget limit n stopped
@@ -66,22 +67,24 @@ module _ (p : Program) (q : State) (budget limit n : ℕ) (given : List Trees) (
     fewer : {L : Type 0} (line : Trees → L) → length (map line given) < limit
     fewer line = omega (arith, length_map line given)
 
-    solved : {L : Type 0} (line : Trees → L) (b : Bool) → search p budget (q ∷ []) ≡ record { answers = given; ended = b } → IsSolved line p q budget limit (map line given) (if b then no_more else budget_spent)
+    solved : {L : Type 0} (line : Trees → L) (b : Bool) → search p budget (q ∷ []) ≡ record { answers = given; ended = b; fault = None } → IsSolved line p q budget limit (map line given) (if b then no_more else budget_spent)
     solved line b e =
         let f : (length (map line given) == limit) ≡ false = not-eq (length (map line given)) limit (fewer line) in record {
           lines_are = ap (map line) (sym (ap (λ f. take limit f.answers) e ∙ take_all limit given (omega arith)));
-          ends_by = ap (λ c. if c then no_more else budget_spent) (sym (ap (λ f. f.ended) e)) ∙ ap (λ c. if c then stopped else (if (search p budget (q ∷ [])).ended then no_more else budget_spent)) (sym f);
+          ends_by =
+              sym (ap (λ c. if c then stopped else end_for (search p budget (q ∷ [])).fault (search p budget (q ∷ [])).ended) f
+              ∙ ap (λ (r : Found). end_for r.fault r.ended) e);
         }
 
-    charge : (b : Bool) → search p budget (q ∷ []) ≡ record { answers = given; ended = b } → (m : ℕ) → m < n → IsOnTheWay (search p m (q ∷ [])) (take limit (search p budget (q ∷ [])).answers)
+    charge : (b : Bool) → search p budget (q ∷ []) ≡ record { answers = given; ended = b; fault = None } → (m : ℕ) → m < n → IsOnTheWay (search p m (q ∷ [])) (take limit (search p budget (q ∷ [])).answers)
     charge b e m lt = subst (IsOnTheWay (search p m (q ∷ []))) (sym (ap (λ f. take limit f.answers) e ∙ take_all limit given (omega arith))) (way.before m lt)
 
     -- no state is left
-    ends : left ≡ [] → (m : ℕ) → search p m left ≡ record { answers = []; ended = true }
+    ends : left ≡ [] → (m : ℕ) → search p m left ≡ record { answers = []; ended = true; fault = None }
     ends e m = ap (search p m) e ∙ search-none p m
 
-    all-found : left ≡ [] → search p budget (q ∷ []) ≡ record { answers = given; ended = true }
-    all-found e = whole ∙ ap (with_answers given) (ends e (budget - n)) ∙ ap (λ a. record { answers = a; ended = true }) (append-nil given)
+    all-found : left ≡ [] → search p budget (q ∷ []) ≡ record { answers = given; ended = true; fault = None }
+    all-found e = whole ∙ ap (with_answers given) (ends e (budget - n)) ∙ ap (λ a. record { answers = a; ended = true; fault = None }) (append-nil given)
 
     pub ended-solved : {L : Type 0} (line : Trees → L) → left ≡ [] → IsSolved line p q budget limit (map line given) no_more
     ended-solved line e = solved line true (all-found e)
@@ -95,12 +98,12 @@ module _ (p : Program) (q : State) (budget limit n : ℕ) (given : List Trees) (
         }
 
     -- a call is due, and nothing is left of the budget
-    spent-found : IsCallDue left → n ≡ budget → search p budget (q ∷ []) ≡ record { answers = given; ended = false }
+    spent-found : IsCallDue left → n ≡ budget → search p budget (q ∷ []) ≡ record { answers = given; ended = false; fault = None }
     spent-found due e =
         let z : budget - n ≡ 0 = omega arith in
-        whole ∙ ap (λ k. with_answers given (search p k left)) z ∙ ap (with_answers given) (go left due) ∙ ap (λ a. record { answers = a; ended = false }) (append-nil given)
+        whole ∙ ap (λ k. with_answers given (search p k left)) z ∙ ap (with_answers given) (go left due) ∙ ap (λ a. record { answers = a; ended = false; fault = None }) (append-nil given)
       where
-        go : (ss : List State) → IsCallDue ss → search p 0 ss ≡ record { answers = []; ended = false }
+        go : (ss : List State) → IsCallDue ss → search p 0 ss ≡ record { answers = []; ended = false; fault = None }
         go [] d = absurd d
         go (s ∷ ss) d = search-due p s ss d
 
@@ -119,6 +122,6 @@ module _ (p : Program) (q : State) (budget limit n : ℕ) (given : List Trees) (
       let more : List Trees = take (limit - length given) found in
       let cut : take limit (search p budget (q ∷ [])).answers ≡ given ++ more = ap (λ f. take limit f.answers) whole ∙ take_some limit given found le in (
         map line more,
-        end_by limit (length (map line given ++ map line more)) (search p budget (q ∷ [])).ended,
+        end_by limit (length (map line given ++ map line more)) (search p budget (q ∷ [])),
         record { lines_are = sym (map_append line given more) ∙ ap (map line) (sym cut); ends_by = refl },
       )

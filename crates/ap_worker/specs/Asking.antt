@@ -3,10 +3,9 @@ use Rattle.std.specs.Prelude.{◌≡◌, ℕ, [], ◌∷◌}
 use Rattle.std.specs.List.{AllByRecursion}
 use Rattle.ap_term.specs.declared.fixed.TheConstants.{QUERY}
 use Rattle.ap_term.specs.Tree.{Tree, Trees, var, int, atom, node, none, more}
-use Rattle.ap_term.specs.Goals.{Clause, Program, Query, joined}
+use Rattle.ap_term.specs.Goals.{Clause, Program, Query, joined, plain_goals}
 use Rattle.ap_term.specs.Search.{search, start}
 use Rattle.ap_term.specs.WellFormed.{IsQuery}
-use Rattle.ap_laws.specs.Plain.{plain_goals}
 use Rattle.ap_instr.specs.StandsFor.{asked_query}
 
 -- a goal that has, whatever its variables are, another name

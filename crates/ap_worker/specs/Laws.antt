@@ -1,5 +1,5 @@
 -- What it is worth that a query is solved, in the words of the definition of blocks.
-use Rattle.std.specs.Prelude.{◌≡◌, ℕ, ◌+◌, List, [], ◌∷◌, ◌++◌}
+use Rattle.std.specs.Prelude.{◌≡◌, ℕ, ◌+◌, List, [], ◌∷◌, ◌++◌, None}
 use Rattle.ap_term.specs.Tree.{Trees}
 use Rattle.ap_term.specs.Goals.{Program}
 use Rattle.ap_term.specs.Search.{State}
@@ -17,5 +17,5 @@ SolvedLaw =
 pub record WayLaw : Type 0 where
   pub begins : (p : Program) (ss : List State) → Reaches p 0 ss [] ss
   pub turns : (p : Program) (n : ℕ) (ss ts : List State) → Turned p n ss ts → Reaches p n ss [] ts
-  pub answers : (p : Program) (s : State) (ss : List State) → s.goals ≡ [] → Reaches p 0 (s ∷ ss) (s.tuple ∷ []) ss
+  pub answers : (p : Program) (s : State) (ss : List State) → s.goals ≡ [] → s.fault ≡ None → Reaches p 0 (s ∷ ss) (s.tuple ∷ []) ss
   pub goes_on : (p : Program) (a b : ℕ) (ss ts us : List State) (xs ys : List Trees) → Reaches p a ss xs ts → Reaches p b ts ys us → Reaches p (a + b) ss (xs ++ ys) us

@@ -3,7 +3,6 @@
 ghost use Rattle.std.specs.Prelude.{IfOk};
 ghost use Rattle.ap_instr.specs.StandsFor.{StandsForQuery};
 
-use ap_certify::plain;
 use ap_codecheck::{CodeErr, Sound, check};
 use ap_codegen::compile;
 use ap_term::{NoMemory, Program, Query};
@@ -13,8 +12,7 @@ use std::alloc::Global;
 pub fn compiled(alloc: Global, program: &Program, query: &Query) -> Result<Sound, NoMemory>
     ensures { IfOk result (λ sound. StandsForQuery sound program.now query.now) }
 {
-    let plain = plain(alloc, program)?;
-    let code = compile(alloc, &plain, query)?;
+    let code = compile(alloc, program, query)?;
     match check(alloc, code) {
         Ok(sound) => Ok(sound),
         Err(CodeErr::Bad { .. }) => unreachable!(),

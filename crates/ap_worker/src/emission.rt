@@ -10,6 +10,7 @@ ghost use Rattle.ap_worker.specs.Ends.{end_of};
 use crate::answers::Answers;
 use crate::machine::{Machine, Turn};
 use ap_outside::{Halt, Sink, put_line};
+use ap_term::Fault;
 use std::alloc::Global;
 
 /// How a query's answers end.
@@ -21,6 +22,8 @@ pub enum End {
     Spent,
     /// These are as many as were asked for.
     Stopped,
+    /// These are all before a fault.
+    Error(Fault),
 }
 
 // Puts the line of the answer at which a machine stands, and takes the answer off.

@@ -1,4 +1,4 @@
-//! From a query to its answers, emitted one by one as they are found, and how they end.
+//! Floor: parallel. From a query to its answers, emitted one by one as they are found, and how they end.
 //!
 //! Stands on `ap_section` for a machine that runs code, on `ap_standing` for turns of the model, on `ap_codegen` and
 //! `ap_codecheck` for code, on `ap_copy` for parcels, on `ap_outside` for sinks. The one contract used above is that of `solve`:

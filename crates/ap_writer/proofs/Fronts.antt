@@ -4,7 +4,7 @@ use Rattle.std.specs.Char.{is_ascii_digit, is_ascii_lowercase}
 use Rattle.std.specs.List.{list_all}
 use Rattle.std.specs.Fmt.{decimal, signed_decimal}
 use Rattle.std.specs.Str.Parse.{digits_value}
-use Rattle.std.proofs.lemmas.Bool.{false≢true}
+use Rattle.std.proofs.lemmas.Bool.{false≢true, and_parts}
 use Rattle.std.proofs.lemmas.Bool.Decides.{nat_tests, Decides-eqb}
 use Rattle.std.proofs.lemmas.Fmt.{decimal_is_IsNumeral, decimal_by_steps}
 use Rattle.std.proofs.lemmas.List.{append_cancel_left}
@@ -13,10 +13,6 @@ use Rattle.std.proofs.lemmas.Slice.Eq.{bytes_eq-Decides}
 use Rattle.ap_term.specs.Arithmetic.{fits}
 use Rattle.ap_writer.specs.Quoted.{is_word, is_symbol, is_name, is_symbols, is_bare, escaped, name_text}
 use Rattle.ap_writer.proofs.Marks.{Mark, Variable, Integer, Name, Call, OpenList, CloseList, Comma, Bar, Close, spelling, spelled}
-
-both : (a b : Bool) → (a && b) ≡ true → (a ≡ true) × (b ≡ true)
-both true b h = (refl, h)
-both false b h = absurd (false≢true h)
 
 no_two : (b : Bool) → b ≡ true → b ≡ false → ⊥
 no_two b h k = false≢true (sym k ∙ h)
@@ -48,7 +44,7 @@ run-is p [] (b ∷ bs) h s = go (p b) s
     go true s = absurd (false≢true s)
     go false s = refl
 run-is p (x ∷ xs) rest h s =
-    let w = both (p x) (list_all p xs) h in
+    let w = and_parts (p x) (list_all p xs) h in
     ap (λ t. if t then longer x (run p (xs ++ rest)) else record { taken = []; rest = x ∷ (xs ++ rest) }) w.0 ∙ ap (longer x) (run-is p xs rest w.1 s)
 
 -- ---- what parts a name or a number from what follows it
@@ -126,7 +122,7 @@ record IsFront (name rest text : List ℕ) : Type 0 where
 no_digit : (bs rest : List ℕ) → list_all is_symbol bs ≡ true → parts rest ≡ true → begins_digit (bs ++ rest) ≡ false
 no_digit [] [] h p = refl
 no_digit [] (c ∷ cs) h p = grind (arith, nat_tests)
-no_digit (b ∷ bs) rest h p = let first : is_symbol b ≡ true = (both (is_symbol b) (list_all is_symbol bs) h).0 in grind (arith, nat_tests)
+no_digit (b ∷ bs) rest h p = let first : is_symbol b ≡ true = (and_parts (is_symbol b) (list_all is_symbol bs) h).0 in grind (arith, nat_tests)
 
 symbol_quote : (b : ℕ) → is_symbol b ≡ true → (b == 39) ≡ false
 symbol_quote b h = grind (arith, nat_tests)
@@ -141,7 +137,7 @@ minus_false false = refl
 symbols-front : (name rest : List ℕ) → is_symbols name ≡ true → parts rest ≡ true → IsFront name rest (name ++ rest)
 symbols-front [] rest h p = absurd (false≢true h)
 symbols-front (b ∷ bs) rest h p =
-    let every = both (is_symbol b) (list_all is_symbol bs) (both (list_all is_symbol (b ∷ bs)) _ (both (list_all is_symbol (b ∷ bs) && not (bytes_eq (b ∷ bs) (codes "."))) _ h).0).0 in
+    let every = and_parts (is_symbol b) (list_all is_symbol bs) (and_parts (list_all is_symbol (b ∷ bs)) _ (and_parts (list_all is_symbol (b ∷ bs) && not (bytes_eq (b ∷ bs) (codes "."))) _ h).0).0 in
     let first : is_symbol b ≡ true = every.0 in
     let quote : (b == 39) ≡ false = symbol_quote b first in
     let digit : begins_digit (bs ++ rest) ≡ false = no_digit bs rest every.1 p in
@@ -153,7 +149,7 @@ symbols-front (b ∷ bs) rest h p =
 words-front : (name rest : List ℕ) → is_name name ≡ true → parts rest ≡ true → IsFront name rest (name ++ rest)
 words-front [] rest h p = absurd (false≢true h)
 words-front (b ∷ bs) rest h p =
-    let w = both (is_ascii_lowercase b) (list_all is_word bs) h in
+    let w = and_parts (is_ascii_lowercase b) (list_all is_word bs) h in
     let lower : is_ascii_lowercase b ≡ true = w.0 in
     let quote : (b == 39) ≡ false = (lower_symbol b lower).0 in
     let symbol : is_symbol b ≡ false = (lower_symbol b lower).1 in
@@ -195,8 +191,8 @@ are_digits ds = begins_digit ds && list_all is_ascii_digit ds
 digits-more : (ds : List ℕ) (n : ℕ) → are_digits ds ≡ true → are_digits (ds ++ ((48 + n % 10) ∷ [])) ≡ true
 digits-more [] n h = absurd (false≢true h)
 digits-more (d ∷ ds) n h =
-    let w = both (is_ascii_digit d) (list_all is_ascii_digit (d ∷ ds)) h in
-    let v = both (is_ascii_digit d) (list_all is_ascii_digit ds) w.1 in
+    let w = and_parts (is_ascii_digit d) (list_all is_ascii_digit (d ∷ ds)) h in
+    let v = and_parts (is_ascii_digit d) (list_all is_ascii_digit ds) w.1 in
     let last : is_ascii_digit (48 + n % 10) ≡ true = grind (arith, nat_tests) in
     let e : list_all is_ascii_digit (ds ++ ((48 + n % 10) ∷ [])) ≡ true = list_all-append is_ascii_digit ds ((48 + n % 10) ∷ []) ∙ rw (v.1, last) refl in
     rw (v.0, e) refl
@@ -212,7 +208,7 @@ number_front text = digits_value 10 (run is_ascii_digit text).taken
 number-front : (n : ℕ) (rest : List ℕ) → n < 2 ^ 64 → parts rest ≡ true → number_front (decimal n ++ rest) ≡ n
 unfolding number_front
 number-front n rest small p =
-    ap (λ c. digits_value 10 c.taken) (run-is is_ascii_digit (decimal n) rest (both (begins_digit (decimal n)) _ (digits-decimal n small)).1 (parts-digit rest p))
+    ap (λ c. digits_value 10 c.taken) (run-is is_ascii_digit (decimal n) rest (and_parts (begins_digit (decimal n)) _ (digits-decimal n small)).1 (parts-digit rest p))
     ∙ (decimal_is_IsNumeral n small).1
 
 -- ---- the first mark
@@ -290,7 +286,7 @@ ends-open (b ∷ bs) h = grind (arith, nat_tests)
 behind-ends : (r : List ℕ) → is_behind r ≡ true → ends r ≡ true
 behind-ends [] h = refl
 behind-ends (b ∷ []) h = absurd (false≢true h)
-behind-ends (b ∷ c ∷ bs) h = let e : (b == 44) ≡ true = (both (b == 44) (c == 32) h).0 in rw e refl
+behind-ends (b ∷ c ∷ bs) h = let e : (b == 44) ≡ true = (and_parts (b == 44) (c == 32) h).0 in rw e refl
 
 spelled-ends : (ms : List Mark) (r : List ℕ) → ends_marks ms ≡ true → is_behind r ≡ true → ends (spelled ms ++ r) ≡ true
 spelled-ends [] r h k = behind-ends r k
@@ -324,7 +320,7 @@ digit_name b bs h =
 digits-is : (ds rest : List ℕ) → are_digits ds ≡ true → front (ds ++ rest) ≡ Integer (pos (number_front (ds ++ rest)))
 digits-is [] rest h = absurd (false≢true h)
 digits-is (d ∷ ds) rest h =
-    let digit : is_ascii_digit d ≡ true = (both (is_ascii_digit d) (list_all is_ascii_digit (d ∷ ds)) h).0 in
+    let digit : is_ascii_digit d ≡ true = (and_parts (is_ascii_digit d) (list_all is_ascii_digit (d ∷ ds)) h).0 in
     let n = digit_name d (ds ++ rest) digit in
     let name : begins_name (d ∷ (ds ++ rest)) ≡ false = n.0 in
     let low : (d == 95) ≡ false = n.1 in
@@ -335,7 +331,7 @@ minus-is text h = rw h refl
 
 begins-digits : (ds rest : List ℕ) → are_digits ds ≡ true → begins_digit (ds ++ rest) ≡ true
 begins-digits [] rest h = absurd (false≢true h)
-begins-digits (d ∷ ds) rest h = (both (is_ascii_digit d) (list_all is_ascii_digit (d ∷ ds)) h).0
+begins-digits (d ∷ ds) rest h = (and_parts (is_ascii_digit d) (list_all is_ascii_digit (d ∷ ds)) h).0
 
 fits-below : (n : ℕ) → nat_lt n (2 ^ 63) ≡ true → n < 2 ^ 63
 fits-below n h = grind (arith, nat_tests)
@@ -421,7 +417,7 @@ no-blank : (ns : List Mark) (s bs : List ℕ) → Parted ns → is_behind s ≡ 
 no-blank [] [] bs p l e = not-nil 32 bs (sym e)
 no-blank [] (c ∷ []) bs p l e = false≢true l
 no-blank [] (c ∷ d ∷ cs) bs p l e =
-    let comma : c ≡ 44 = (Decides-eqb c 44).0 (both (c == 44) (d == 32) l).0 in
+    let comma : c ≡ 44 = (Decides-eqb c 44).0 (and_parts (c == 44) (d == 32) l).0 in
     let blank : 32 ≡ c = (same-heads 32 c bs (d ∷ cs) e).0 in
     absurd (omega arith)
 no-blank (n ∷ ns) s bs p l e =
@@ -433,7 +429,7 @@ not-behind : (n : Mark) (ns : List Mark) (r s : List ℕ) → Parted (n ∷ ns) 
 not-behind n ns [] s p k l e = spells-something n ns s p l e
 not-behind n ns (b ∷ []) s p k l e = false≢true k
 not-behind n ns (b ∷ c ∷ bs) s p k l e =
-    let w = both (b == 44) (c == 32) k in
+    let w = and_parts (b == 44) (c == 32) k in
     let comma : 44 ∷ c ∷ bs ≡ spelled (n ∷ ns) ++ s = ap (λ x. x ∷ c ∷ bs) (sym ((Decides-eqb b 44).0 w.0)) ∙ e in
     let is : Comma ≡ n = ap front comma ∙ spelled-first n ns s p l in
     let rest : c ∷ bs ≡ spelled ns ++ s = (same-heads 44 44 (c ∷ bs) (spelled ns ++ s) (subst (λ m. 44 ∷ c ∷ bs ≡ spelled (m ∷ ns) ++ s) (sym is) comma)).1 in

@@ -65,9 +65,6 @@ same-equation atoms names name t u ts us d h k e =
 fewer : (a b : ℕ) → a + 1 ≡ b + 1 → a ≡ b
 fewer a b e = omega arith
 
-never-less : (a : ℕ) → 0 ≡ a + 1 → ⊥
-never-less a e = absurd (omega arith)
-
 same-behind : (atoms names : List (List ℕ)) (ts us : Trees) → IsWithoutRepeats atoms → AreWritable atoms ts → AreWritable atoms us → count_trees ts ≡ length names → count_trees us ≡ length names
     → behind_first atoms names ts ≡ behind_first atoms names us → ts ≡ us
 same-behind atoms [] none none d h k p q e = refl

@@ -1,6 +1,7 @@
 -- What is printed of a tuple is numbered the same under other names of its variables.
 use Rattle.std.proofs.Common.{◌≡◌, ℕ, ◌+◌, Bool, true, false, ◌||◌, nat_eq, if◌then◌else◌, List, [], ◌∷◌, ◌++◌, map, refl, ap, sym, ◌∙◌, arith}
-use Rattle.std.proofs.lemmas.Bool.{false≢true}
+use Rattle.std.proofs.Math.Bool.{or-false, or_assoc}
+use Rattle.std.proofs.lemmas.Bool.{false≢true, or_left, or_right}
 use Rattle.std.proofs.lemmas.Bool.Decides.{Decides-eqb}
 use Rattle.ap_term.specs.Tree.{Tree, Trees, var, int, atom, node, none, more}
 use Rattle.ap_term.specs.Vars.{has, add_vars, add_all_vars, occurs, occurs_all}
@@ -16,26 +17,10 @@ same_number x y h = (Decides-eqb x y).0 h
 number_test : (x y : ℕ) → x ≡ y → nat_eq x y ≡ true
 number_test x y h = (Decides-eqb x y).1 h
 
-or_left : (a b : Bool) → a ≡ true → (a || b) ≡ true
-or_left true b h = refl
-or_left false b h = absurd (false≢true h)
-
-or_right : (a b : Bool) → b ≡ true → (a || b) ≡ true
-or_right true b h = refl
-or_right false b h = h
-
-or_false : (a : Bool) → (a || false) ≡ a
-or_false true = refl
-or_false false = refl
-
-or_assoc : (a b c : Bool) → ((a || b) || c) ≡ (a || (b || c))
-or_assoc true b c = refl
-or_assoc false b c = refl
-
 -- ---- the variables found are those that occur
 
 has-push : (xs : List ℕ) (y x : ℕ) → has (xs ++ y ∷ []) x ≡ (has xs x || nat_eq y x)
-has-push [] y x = or_false (nat_eq y x)
+has-push [] y x = or-false (nat_eq y x)
 has-push (z ∷ xs) y x = ap (λ b. nat_eq z x || b) (has-push xs y x) ∙ sym (or_assoc (nat_eq z x) (has xs x) (nat_eq y x))
 
 symmetric : (x y : ℕ) → nat_eq y x ≡ nat_eq x y
@@ -51,18 +36,18 @@ has-var y xs x = go (has xs y) (nat_eq x y) refl refl
   where
     go : (b c : Bool) → has xs y ≡ b → nat_eq x y ≡ c → has (if b then xs else xs ++ y ∷ []) x ≡ (has xs x || nat_eq x y)
     go true true e f = let found : has xs x ≡ true = ap (has xs) (same_number x y f) ∙ e in found ∙ sym (or_left (has xs x) (nat_eq x y) found)
-    go true false e f = sym (ap (λ c. has xs x || c) f ∙ or_false (has xs x))
+    go true false e f = sym (ap (λ c. has xs x || c) f ∙ or-false (has xs x))
     go false c e f = has-push xs y x ∙ ap (λ d. has xs x || d) (symmetric x y)
 
 mutual
   has-add_vars : (t : Tree) (xs : List ℕ) (x : ℕ) → has (add_vars t xs) x ≡ (has xs x || occurs x t)
   has-add_vars (var y) xs x = has-var y xs x
-  has-add_vars (int z) xs x = sym (or_false (has xs x))
-  has-add_vars (atom a) xs x = sym (or_false (has xs x))
+  has-add_vars (int z) xs x = sym (or-false (has xs x))
+  has-add_vars (atom a) xs x = sym (or-false (has xs x))
   has-add_vars (node a ts) xs x = has-add_all_vars ts xs x
 
   has-add_all_vars : (ts : Trees) (xs : List ℕ) (x : ℕ) → has (add_all_vars ts xs) x ≡ (has xs x || occurs_all x ts)
-  has-add_all_vars none xs x = sym (or_false (has xs x))
+  has-add_all_vars none xs x = sym (or-false (has xs x))
   has-add_all_vars (more t ts) xs x =
       has-add_all_vars ts (add_vars t xs) x ∙ ap (λ b. b || occurs_all x ts) (has-add_vars t xs x) ∙ or_assoc (has xs x) (occurs x t) (occurs_all x ts)
 

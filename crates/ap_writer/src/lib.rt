@@ -1,4 +1,4 @@
-//! Terms and answers as text.
+//! Floor: text. Terms and answers as text.
 //!
 //! Stands on `ap_term`, on `itoa` for integers and on an insertion-ordered set for the numbers of variables. The crates
 //! above use one contract: the bytes of an answer's line are those of its definition on trees.

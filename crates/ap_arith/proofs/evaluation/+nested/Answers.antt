@@ -1,7 +1,7 @@
 use Rattle.std.proofs.Common.{sym, ◌∙◌, ap, arith}
-use Rattle.ap_term.specs.Arithmetic.{eval}
+use Rattle.ap_term.specs.Arithmetic.{evaluated}
 use Rattle.ap_cells.specs.Trees.{trees}
-use Rattle.ap_arith.proofs.Values.{eval-one, eval-two, eval-other}
+use Rattle.ap_arith.proofs.Values.{evaluated-other}
 use Rattle.ap_arith.proofs.evaluation.+nested.Goals as goal
 
 pub operation-overflow_add-first : goal.operation-overflow_add-first
@@ -9,4 +9,4 @@ operation-overflow_add-first t c = let few = c.len-places.ensures.few in omega a
 
 pub operation-returns-in_default-clause-value : goal.operation-returns-in_default-clause-value
 operation-returns-in_default-clause-value t c =
-    sym (ap eval c.requires.tree ∙ eval-other (trees c.args.cells.now.cells) c.args.name c.args.first c.args.count (omega arith) (omega arith))
+    sym (ap evaluated c.requires.tree ∙ evaluated-other (trees c.args.cells.now.cells) c.args.name c.args.first c.args.count (omega arith) (omega arith))

@@ -1,4 +1,4 @@
-use Rattle.std.proofs.Common.{ap, sym, ◌∙◌, arith, Some, w64}
+use Rattle.std.proofs.Common.{ap, sym, ◌∙◌, arith, Ok, w64}
 use Rattle.std.proofs.lemmas.Int.{to_z-of_z}
 use Rattle.ap_arith.specs.declared.evaluation.Frame.{Frame}
 use Rattle.ap_arith.specs.declared.evaluation.Frame.TheVariants.{Right}
@@ -15,7 +15,7 @@ returns-in-Right-clause-inside c n h = c.closed-in-Right.ensures.inside n
 pub returns-in_ok-push-in-Left-clause-value : goal.returns-in_ok-push-in-Left-clause-value
 returns-in_ok-push-in-Left-clause-value c ts =
     let f : Frame = Right c.in-Left.operation c.args.value in
-    simp (c.in_ok-push-in-Left.ensures.items, to_z-of_z w64 c.args.value c.ranges.value) (valued-push ts c.args.frames.now.items f _ ∙ ap (λ g. valued ts c.args.frames.now.items (framed ts g (Some c.args.value))) (sym c.in-Left.is))
+    simp (c.in_ok-push-in-Left.ensures.items, to_z-of_z w64 c.args.value c.ranges.value) (valued-push ts c.args.frames.now.items f _ ∙ ap (λ g. valued ts c.args.frames.now.items (framed ts g (Ok c.args.value))) (sym c.in-Left.is))
 
 pub returns-in_ok-push-in-Left-clause-less : goal.returns-in_ok-push-in-Left-clause-less
 returns-in_ok-push-in-Left-clause-less c ts =

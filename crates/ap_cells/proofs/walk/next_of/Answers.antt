@@ -1,4 +1,4 @@
-use Rattle.std.proofs.Common.{◌≡◌, ◌<◌, ◌++◌, ◌∷◌, [], ap, subst, sym, ◌∙◌, length, arith}
+use Rattle.std.proofs.Common.{◌<◌, ◌++◌, ap, subst, sym, ◌∙◌, length, arith}
 use Rattle.ap_term.specs.Tree.{var, node}
 use Rattle.ap_cells.specs.Trees.{trees, span}
 use Rattle.ap_cells.specs.Walks.{AreRanges, IsRange, left, leaves_all, weight_in}

@@ -1,6 +1,6 @@
 use Rattle.std.proofs.Common.{◌≡◌, map, drop}
 use Rattle.ap_term.specs.TermView.{trees_of}
-use Rattle.ap_laws.specs.Plain.{append_trees}
+use Rattle.ap_term.specs.Tree.{append_trees}
 use Rattle.ap_codegen.proofs.bodies.add_goals.Given as goal
 
 abbrev pub invariant-loop-t : goal.invariant-loop-t

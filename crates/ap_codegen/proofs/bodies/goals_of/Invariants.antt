@@ -1,7 +1,8 @@
 use Rattle.std.proofs.Common.{◌≡◌, map, drop}
 use Rattle.ap_term.specs.TermView.{trees_of}
 use Rattle.ap_term.specs.GoalView.{part_of}
-use Rattle.ap_laws.specs.Plain.{append_trees, plain_goals}
+use Rattle.ap_term.specs.Tree.{append_trees}
+use Rattle.ap_term.specs.Goals.{plain_goals}
 use Rattle.ap_codegen.proofs.bodies.goals_of.Given as goal
 
 abbrev pub invariant-loop-part : goal.invariant-loop-part

@@ -1,7 +1,7 @@
 use Rattle.std.proofs.Common.{Bor, ap, ◌∙◌, map}
 use Rattle.ap_term.specs.declared.terms.Term.{Term}
 use Rattle.ap_term.specs.TermView.{tree_of, trees_of}
-use Rattle.ap_laws.specs.Plain.{plain_goals}
+use Rattle.ap_term.specs.Goals.{plain_goals}
 use Rattle.ap_codegen.specs.Emitted.{steps_of}
 use Rattle.ap_codegen.proofs.BodyTurns.{whole_code, whole_paces}
 use Rattle.ap_codegen.proofs.bodies.permanent_code.Goals as goal

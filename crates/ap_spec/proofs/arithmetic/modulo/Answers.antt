@@ -1,5 +1,5 @@
 use Rattle.std.proofs.Common.{w64, ◌≡◌, false, rules}
-use Rattle.std.specs.Prelude.{FitsSigned, pos, Some, ◌+ℤ◌, int_rem}
+use Rattle.std.specs.Prelude.{FitsSigned, pos, Ok, ◌+ℤ◌, int_rem}
 use Rattle.std.specs.Ordering.{int_eq}
 use Rattle.std.proofs.lemmas.Int.{to_z-of_z}
 use Rattle.ap_term.specs.Arithmetic.{same_sign, divided}
@@ -12,5 +12,5 @@ returns c =
     let z : int_eq c.in_ok-rest.rest (pos 0) ≡ false = search rules in
     let signs : same_sign c.in_ok-rest.rest c.args.y ≡ false = signs-differ c.in_ok-rest.rest c.args.y r c.ranges.y c.if-rest-y.false in
     let sum : FitsSigned w64 (c.in_ok-rest.rest +ℤ c.args.y) = sum-fits c.in_ok-rest.rest c.args.y r c.ranges.y signs in
-    let rest : Some c.in_ok-rest.rest ≡ divided c.args.y (int_rem c.args.x c.args.y) = simp (to_z-of_z w64 c.args.y c.ranges.y, to_z-of_z w64 c.args.x c.ranges.x) at c.in_ok-rest.ensures in
+    let rest : Ok c.in_ok-rest.rest ≡ divided c.args.y (int_rem c.args.x c.args.y) = simp (to_z-of_z w64 c.args.y c.ranges.y, to_z-of_z w64 c.args.x c.ranges.x) at c.in_ok-rest.ensures in
     simp (to_z-of_z w64 c.in_ok-rest.rest r, to_z-of_z w64 c.args.y c.ranges.y, to_z-of_z w64 (c.in_ok-rest.rest +ℤ c.args.y) sum) (modulo-moved c.args.x c.args.y c.in_ok-rest.rest rest z signs sum)

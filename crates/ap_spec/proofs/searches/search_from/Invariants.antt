@@ -1,8 +1,8 @@
 use Rattle.std.proofs.Common.{◌≡◌, ◌+◌, ◌-◌, ◌*◌, ◌≤◌}
 use Rattle.std.specs.List.{All}
-use Rattle.ap_term.specs.Search.{search, with_answers}
+use Rattle.ap_term.specs.Search.{search}
 use Rattle.ap_spec.specs.States.{rules_of}
-use Rattle.ap_spec.specs.Searches.{IsWithin}
+use Rattle.ap_spec.specs.Searches.{IsWithin, with_answers}
 use Rattle.ap_spec.proofs.searches.search_from.Given as goal
 
 abbrev pub invariant-loop-answers : goal.invariant-loop-answers

@@ -1,4 +1,4 @@
-use Rattle.std.proofs.Common.{◌≡◌, ◌+◌, ◌++◌, ◌∷◌, [], map, ap, ◌∙◌}
+use Rattle.std.proofs.Common.{◌≡◌, ◌+◌, ◌++◌, ◌∷◌, [], map, None, ap, ◌∙◌}
 use Rattle.ap_term.specs.GoalView.{part_of}
 use Rattle.ap_term.specs.Goals.{instance_part}
 use Rattle.ap_term.specs.Substitution.{shift}
@@ -17,5 +17,5 @@ returns c =
     c.in_ok-push_back.ensures
     ∙ ap (λ t. c.args.out.now ++ t ∷ [])
     (c.in_ok-child.ensures
-    ∙ ap (λ v. child (state_of c.args.s.now) (behind_of c.args.rest.now) (record { binds = c.args.binds.now; body = map part_of c.as_slice-2.result.now; takes = v + 1 })) c.vars.ensures.vars
-    ∙ ap (λ b. child (state_of c.args.s.now) (behind_of c.args.rest.now) (record { binds = c.args.binds.now; body = b; takes = c.args.clause.now.vars + 1 })) body)
+    ∙ ap (λ v. child (state_of c.args.s.now) (behind_of c.args.rest.now) (record { binds = c.args.binds.now; body = map part_of c.as_slice-2.result.now; takes = v + 1; fault = None })) c.vars.ensures.vars
+    ∙ ap (λ b. child (state_of c.args.s.now) (behind_of c.args.rest.now) (record { binds = c.args.binds.now; body = b; takes = c.args.clause.now.vars + 1; fault = None })) body)

@@ -1,5 +1,4 @@
 use Rattle.std.proofs.Common.{ℕ, ◌+◌, ◌-◌, ◌≤◌, length, ap, arith}
-use Rattle.std.specs.Vec.{vec_capacity}
 use Rattle.ap_cells.specs.Store.{Store}
 use Rattle.ap_cells.proofs.cells.Cells.grow.Goals as goal
 

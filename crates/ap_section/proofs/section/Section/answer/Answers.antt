@@ -31,4 +31,4 @@ returns-clause-answered c =
     let m = c.args.self.now.machine in
     let P : Trees → Type 0 = λ parcel. SameUpToNames parcel (tuple_of m) in
     let Q : Trees → Type 0 = λ parcel. IsAtAnswer m → (code : Compiled) (s : State) (ss : List State) → Holds code m (s ∷ ss) → SameUpToNames parcel s.tuple in
-    IfOk-weaker _ P Q (λ parcel e at code s ss h. e ∙ (answer-first code m (roots-inside _ c.args.self.now c.self.view_is c.self.invariant.inside) at (s ∷ ss) h).1) (returns-clause-tuple c)
+    IfOk-weaker _ P Q (λ parcel e at code s ss h. e ∙ (answer-first code m (roots-inside _ c.args.self.now c.self.view_is c.self.invariant.inside) at (s ∷ ss) h).2) (returns-clause-tuple c)

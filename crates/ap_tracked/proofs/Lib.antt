@@ -1,0 +1,5 @@
+pub mod Untracked
+pub mod Checks
+pub mod Safe
+pub mod Marks
+pub mod Kept

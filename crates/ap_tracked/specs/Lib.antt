@@ -1,0 +1,7 @@
+pub mod Tracked
+pub mod Forks
+pub mod Marks
+pub mod Instances
+pub mod Safe
+pub mod Kept
+pub mod Laws
