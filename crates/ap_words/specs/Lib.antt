@@ -1,0 +1,9 @@
+pub mod Numbers
+pub mod Table
+pub mod Known
+pub mod Values
+pub mod Plain
+pub mod PlainKept
+pub mod Asked
+pub mod Clap
+pub mod Reading
