@@ -102,6 +102,10 @@ module _ {P O : Type 0} where
   all_new z workers pads zero more = All-nil (λ (s : TableId × View P O). IsNewSeat pads s.1.number s.1)
   all_new z workers pads (suc n) more = All-push (λ (s : TableId × View P O). IsNewSeat pads s.1.number s.1) (seats_of z workers pads n) _ (all_new z workers pads n more) (new_seat pads n (made_by n workers) more)
 
+  pub all_there : (z : TableId) (workers pads n : ℕ) → All (λ (s : TableId × View P O). s.0 ≡ z) (seats_of z workers pads n)
+  all_there z workers pads zero = All-nil (λ (s : TableId × View P O). s.0 ≡ z)
+  all_there z workers pads (suc n) = All-push (λ (s : TableId × View P O). s.0 ≡ z) (seats_of z workers pads n) _ (all_there z workers pads n) refl
+
   pub next_snoc : (z : TableId) (pads n : ℕ) (ss : List (Seat (Option (Content P O)) (View P O))) (s : Seat (Option (Content P O)) (View P O)) → AreNext z pads n ss → s.table_id ≡ z → s.me ≡ (view_of (n + length ss) pads 0 [] [], []) → AreNext z pads n (ss ++ s ∷ [])
   next_snoc z pads n [] s a t e = (t, e ∙ ap (λ (m : ℕ). (view_of m pads 0 [] [], [])) (let g : n + 0 ≡ n = omega arith in g), tt)
   next_snoc z pads n (x ∷ xs) s a t e = (a.0, a.1, next_snoc z pads (suc n) xs s a.2 t (e ∙ ap (λ (m : ℕ). (view_of m pads 0 [] [], [])) (let g : n + suc (length xs) ≡ suc n + length xs = omega arith in g)))

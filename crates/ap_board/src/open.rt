@@ -141,6 +141,7 @@ pub fn open_board<P: Fits<O> + Drop, O: Drop>(
     requires workers { (0 < workers) × (workers ≤ 32) }
     requires pads { (0 < pads) × (pads ≤ 1024) }
     ensures size { IfOk result (λ r. r.0.table.shared.table_id.slots ≡ workers * pads) }
+    ensures table { IfOk result (λ r. All (λ s. s.0 ≡ r.0.table.shared.table_id) r.1.items) }
     ensures seats { IfOk result (λ r. r.1.items ≡ seats_of r.0.table.shared.table_id workers pads workers) }
     ensures roles { IfOk result (λ r. All (λ s. IsNewSeat pads s.1.number s.1) r.1.items) }
 {

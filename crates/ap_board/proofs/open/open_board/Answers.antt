@@ -6,7 +6,7 @@ use Rattle.ap_board.proofs.Openings.{noughts, begins}
 use Rattle.std.specs.Prelude.{All}
 use Rattle.ap_board.specs.Seats.{IsNewSeat, seated}
 use Rattle.ap_board.specs.Rows.{AreNext, seats_of, made_by}
-use Rattle.ap_board.proofs.Seating.{all_new, made_later}
+use Rattle.ap_board.proofs.Seating.{all_new, all_there, made_later}
 use Rattle.ap_board.proofs.open.open_board.Goals as goal
 
 pub vacant-requires : goal.vacant-requires
@@ -31,3 +31,6 @@ loop-i-preserved g c =
 
 pub returns-clause-roles : goal.returns-clause-roles
 returns-clause-roles g c = subst (All (λ s. IsNewSeat c.args.pads s.1.number s.1)) (sym c.loop-i.invariant.seats) (all_new c.in_ok-table.table.shared.table_id c.args.workers c.args.pads c.loop-i.i c.requires.pads.0)
+
+pub returns-clause-table : goal.returns-clause-table
+returns-clause-table g c = let z = c.in_ok-table.table.shared.table_id in subst (All (λ s. s.0 ≡ z)) (sym c.loop-i.invariant.seats) (all_there z c.args.workers c.args.pads c.loop-i.i)
