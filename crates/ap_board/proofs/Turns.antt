@@ -20,7 +20,7 @@ use Rattle.ap_board.specs.History.{Mode, closed, free, offered, taken, finished,
 use Rattle.ap_board.specs.Rule.{logged, role, last_seen, Kept, Recorded}
 use Rattle.ap_board.specs.Causes.{noting}
 use Rattle.ap_board.specs.Plays.{Rises, opened, offers, takes_it, reclaims, stops, finishes, looks, collects, shows}
-use Rattle.ap_board.proofs.Histories.{Fit, IsOut, HasIt, Good}
+use Rattle.ap_board.proofs.Histories.{Fit, IsOut, HasIt, Good, open_mode, free_mode}
 use Rattle.ap_board.proofs.Keeps.{known, well, moved, risen}
 
 pub held : {A : Type 0} (l : List (ℕ × A)) {p : ℕ} {y : A} {r : List (ℕ × A)} → l ≡ (p, y) ∷ r → l ≡ (p, y) ∷ rest l
@@ -235,21 +235,28 @@ module _ {P O : Type 0} (fits : P → O → Type 0) (cause : O → Cause) (pads 
       ))
       (λ miss. noticed s k id p me lt then live at (λ r. (r, (q, was, low, high, (λ hit. absurd (miss hit)), (λ _. refl)))))
 
-  pub collects_ok : (slots id p q : ℕ) (x : P) (me : M) (old new : ℕ) → me.0.ended ≡ false → p < slots → role me.0 p ≡ out q x → old ≡ q * 8 + 4 → new ≡ (q + 1) * 8
+  -- the owner of what is finished has it out
+  is_its : (o id q : ℕ) (x : P) (y : O) (t : Role P) → Fit o id (finished q x y) t → id ≡ o → t ≡ out q x
+  is_its o id q x y nothing f e = absurd (subst open_mode (f.0 e) tt)
+  is_its o id q x y (keeps r) f e = absurd (subst free_mode (sym f.1) tt)
+  is_its o id q x y (out r z) f e = λ i. out (sym f.1.0 i) (sym f.1.1 i)
+  is_its o id q x y (has r z b) f e = absurd (f.0 e)
+
+  pub collects_ok : (slots id p q : ℕ) (me : M) (old new : ℕ) → me.0.ended ≡ false → p < slots → p / me.0.pads ≡ me.0.number → old ≡ q * 8 + 4 → new ≡ (q + 1) * 8
       → Allows K slots id me p (λ n. either (eqb n old) new n) (collects fits (step slots p old new none) me)
-  collects_ok slots id p q x me old new live less role_is was more s k wide at _ =
+  collects_ok slots id p q me old new live less own was more s k wide at _ =
       let lt : p < length s.homes = omega arith in let v = me.0 in let d = k.each_pad p lt in let n : ℕ = get_or s.words p 0 in let then = collects fits (step slots p old new none) me in
-      let f = fit s k id p v lt (out q x) live at role_is in
-      let high : n ≤ q * 8 + 4 = let h = below q (p / pads) x d.mode f.1 in let e = d.word_is in omega arith in
+      let o = owns s k id p v live at own in
+      let high : (x : P) → role v p ≡ out q x → n ≤ q * 8 + 4 = (λ x e. let h = below q (p / pads) x d.mode (fit s k id p v lt (out q x) live at e).1 in let w = d.word_is in omega arith) in
       exchanged n old new (Goes s p id me then)
-      (λ hit. let is = is_finished q d.mode (sym d.word_is ∙ hit ∙ was) in let z : P = is.0 in let y : O = is.1 in let m : Mode P O = finished q z y in let may : May fits cause (p / pads) m v.number q (Collect y) = (f.0, refl, refl) in
-        let same : z ≡ x = (subst (IsOut q x (p / pads)) is.2 f.1).1 in
+      (λ hit. let is = is_finished q d.mode (sym d.word_is ∙ hit ∙ was) in let z : P = is.0 in let y : O = is.1 in let m : Mode P O = finished q z y in let may : May fits cause (p / pads) m v.number q (Collect y) = (o, refl, refl) in
+        let its : role v p ≡ out q z = is_its (p / pads) v.number q z y (role v p) (subst (λ (u : Mode P O). Fit (p / pads) v.number u (role v p)) is.2 (fit s k id p v lt (role v p) live at refl)) o in
         let good : fits z y = subst (Good fits cause (p / pads)) is.2 (well fits cause pads s k p lt) in (
         logged v p q (Collect y),
         takes p (Some (Outcome y)),
         d.home_is ∙ ap (λ (u : Mode P O). some (home_of u)) is.2,
         changed s k id p q (Collect y) v lt live at m is.2 may new none more refl,
-        (rose s k id p q (Collect y) v lt live at m is.2 may, (q, was, high, (λ _. (z, y, role_is ∙ ap (out q) (sym same), good, refl)), (λ miss. absurd (miss hit)))),
+        (rose s k id p q (Collect y) v lt live at m is.2 may, (q, was, high, (λ _. (z, y, its, good, refl)), (λ miss. absurd (miss hit)))),
       ))
       (λ miss. noticed s k id p me lt then live at (λ r. (r, (q, was, high, (λ hit. absurd (miss hit)), (λ _. refl)))))
 

@@ -48,7 +48,7 @@ module _ {P O : Type 0} where
   looks st m n w = Rises m.0 st.word w.0 × (w ≡ (noting m.0 st.word n, m.1))
 
   abbrev pub collects : (P → O → Type 0) → Step (Option (Content P O)) → Seated P O → ℕ → Seated P O → Type 0
-  collects fits st m n w = Rises m.0 st.word w.0 × ((q : ℕ) × (st.first ≡ q * 8 + 4) × (n ≤ q * 8 + 4)
+  collects fits st m n w = Rises m.0 st.word w.0 × ((q : ℕ) × (st.first ≡ q * 8 + 4) × ((x : P) → role m.0 st.word ≡ out q x → n ≤ q * 8 + 4)
       × (n ≡ st.first → (x : P) × (y : O) × (role m.0 st.word ≡ out q x) × fits x y × (w ≡ (logged m.0 st.word q (Collect y), (st.word, Some (Outcome y)) ∷ m.1)))
       × (n ≢ st.first → w ≡ (noting m.0 st.word n, m.1)))
 

@@ -68,14 +68,15 @@ impl<P: Fits<O> + Drop, O: Drop> Board<P, O> {
         seat.hand.finish(&self.table.shared, ticket.pad, ticket.round, outcome);
     }
 
-    /// Collects the outcome of an offer of this seat, which frees the pad. None only where the word, at its step, wasn't finished.
+    /// Collects the outcome of an offer on a pad of this seat, which frees the pad. None only where the word, at its step, wasn't that
+    /// offer, finished.
     pub fn collect(&self, seat: &mut BoardSeat<P, O>, ticket: Ticket) -> Option<O>
         requires table { seat.old.0 ≡ self.now.table.shared.table_id }
         requires pad { ticket.pad < seat.old.0.slots }
-        requires offered { (x : P) × (role seat.old.1 ticket.pad ≡ out ticket.round x) }
+        requires own { ticket.pad / seat.old.1.pads ≡ seat.old.1.number }
         ensures table { seat.new.0 ≡ seat.old.0 }
-        ensures told { MatchOption result ((n : ℕ) × (last_seen seat.old.1 ticket.pad ≤ n) × (n < ticket.round * 8 + 4) × (seat.new.1 ≡ noting seat.old.1 ticket.pad n)) (λ y. (x : P) × (role seat.old.1 ticket.pad ≡ out ticket.round x) × P.fits x y × (seat.new.1 ≡ logged seat.old.1 ticket.pad ticket.round (Collect y))) }
-        ensures done { ticket.round * 8 + 4 ≤ last_seen seat.old.1 ticket.pad → IsSome result }
+        ensures told { MatchOption result ((n : ℕ) × (last_seen seat.old.1 ticket.pad ≤ n) × (n ≢ ticket.round * 8 + 4) × ((x : P) → role seat.old.1 ticket.pad ≡ out ticket.round x → n < ticket.round * 8 + 4) × (seat.new.1 ≡ noting seat.old.1 ticket.pad n)) (λ y. (x : P) × (role seat.old.1 ticket.pad ≡ out ticket.round x) × P.fits x y × (seat.new.1 ≡ logged seat.old.1 ticket.pad ticket.round (Collect y))) }
+        ensures done { (x : P) → role seat.old.1 ticket.pad ≡ out ticket.round x → ticket.round * 8 + 4 ≤ last_seen seat.old.1 ticket.pad → IsSome result }
     {
         let outcome = seat.hand.collect(&self.table.shared, ticket.pad, ticket.round)?;
         seat.rounds[ticket.pad - seat.first] = ticket.round + 1;

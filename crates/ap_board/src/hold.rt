@@ -81,10 +81,10 @@ impl<P: Fits<O> + Drop, O: Drop> Hand<P, O> {
         requires table { self.old.place.table_id ≡ words.now.table_id }
         requires pad { pad < words.now.table_id.slots }
         requires round { round < 2 ^ 60 }
-        requires role { (x : P) × (role self.old.place.me.0 pad ≡ out round x) }
-        requires space { length self.old.order.items < words.now.table_id.slots }
+        requires own { pad / self.old.place.me.0.pads ≡ self.old.place.me.0.number }
+        requires space { (x : P) → role self.old.place.me.0 pad ≡ out round x → length self.old.order.items < words.now.table_id.slots }
         ensures table { self.new.place.table_id ≡ self.old.place.table_id }
-        ensures told { MatchOption result ((n : ℕ) × (last_seen self.old.place.me.0 pad ≤ n) × (n < round * 8 + 4) × (self.new.place.me.0 ≡ noting self.old.place.me.0 pad n) × (self.new.order.items ≡ self.old.order.items)) (λ y. (x : P) × (role self.old.place.me.0 pad ≡ out round x) × P.fits x y × (self.new.place.me.0 ≡ logged self.old.place.me.0 pad round (Collect y)) × (self.new.order.items ≡ pad ∷ self.old.order.items)) }
+        ensures told { MatchOption result ((n : ℕ) × (last_seen self.old.place.me.0 pad ≤ n) × (n ≢ round * 8 + 4) × ((x : P) → role self.old.place.me.0 pad ≡ out round x → n < round * 8 + 4) × (self.new.place.me.0 ≡ noting self.old.place.me.0 pad n) × (self.new.order.items ≡ self.old.order.items)) (λ y. (x : P) × (role self.old.place.me.0 pad ≡ out round x) × P.fits x y × (self.new.place.me.0 ≡ logged self.old.place.me.0 pad round (Collect y)) × (self.new.order.items ≡ pad ∷ self.old.order.items)) }
     {
         let outcome = steps::collect(words, &mut self.place, pad, round)?;
         self.order.push_front_reserved(pad);

@@ -34,6 +34,14 @@ impl<P, O> BoardSeat<P, O> {
         ticket.pad < self.hand.total && (ticket.pad < self.first || self.rounds.len() <= ticket.pad - self.first)
     }
 
+    /// Tells whether the ticket's pad is one of this seat's own.
+    pub fn owns(&self, ticket: Ticket) -> bool
+        ensures owner { IsTrue result ↔ (ticket.pad / self.now.1.pads ≡ self.now.1.number) }
+        ensures within { IsTrue result → ticket.pad < self.now.0.slots }
+    {
+        self.first <= ticket.pad && ticket.pad - self.first < self.rounds.len()
+    }
+
     // A free pad, with its round.
     pub(crate) fn find_free(&self) -> Option<Ticket>
         ensures { MatchOption result ((p r : ℕ) → role self.now.1 p ≡ keeps r → 2 ^ 60 ≤ r) (λ t. (role self.now.1 t.pad ≡ keeps t.round) × (t.pad < self.now.0.slots)) }

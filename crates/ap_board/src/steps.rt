@@ -179,9 +179,9 @@ pub(crate) fn collect<P: Fits<O> + Drop, O: Drop>(
     requires live { me.old.me.0.ended ≡ false }
     requires pad { (pad < words.now.table_id.slots) × (pad < words.now.table_id.words) }
     requires round { round < 2 ^ 60 }
-    requires role { (x : P) × (role me.old.me.0 pad ≡ out round x) }
+    requires own { pad / me.old.me.0.pads ≡ me.old.me.0.number }
     ensures same { (me.new.table_id ≡ me.old.table_id) × (me.new.id ≡ me.old.id) }
-    ensures told { MatchOption result ((n : ℕ) × (last_seen me.old.me.0 pad ≤ n) × (n < round * 8 + 4) × (me.new.me ≡ (noting me.old.me.0 pad n, me.old.me.1))) (λ y. (x : P) × (role me.old.me.0 pad ≡ out round x) × P.fits x y × (me.new.me ≡ (logged me.old.me.0 pad round (Collect y), (pad, None) ∷ me.old.me.1))) }
+    ensures told { MatchOption result ((n : ℕ) × (last_seen me.old.me.0 pad ≤ n) × (n ≢ round * 8 + 4) × ((x : P) → role me.old.me.0 pad ≡ out round x → n < round * 8 + 4) × (me.new.me ≡ (noting me.old.me.0 pad n, me.old.me.1))) (λ y. (x : P) × (role me.old.me.0 pad ≡ out round x) × P.fits x y × (me.new.me ≡ (logged me.old.me.0 pad round (Collect y), (pad, None) ∷ me.old.me.1))) }
 {
     let finished = round * 8 + 4;
     let found = words.compare_exchange::<plays::Collect>(me, pad, finished, (round + 1) * 8);

@@ -7,8 +7,12 @@
 mod crowd;
 mod parcel;
 mod player;
+#[cfg(test)]
+mod rows;
 mod sitting;
 mod spot;
+#[cfg(test)]
+mod tests;
 
 pub use crowd::{PADS, PLAYERS, SHARE, work};
 pub use parcel::{Outcome, Parcel};

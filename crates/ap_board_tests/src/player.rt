@@ -208,7 +208,7 @@ impl Player {
         requires { self.old ≡ board.now.table.shared.table_id }
         ensures { self.new ≡ self.old }
     {
-        if ticket.pad >= self.spots.len() || !is_sent(&self.spots, ticket) {
+        if !self.seat.owns(ticket) {
             return Err(Refused);
         }
         match board.collect(&mut self.seat, ticket) {
