@@ -6,3 +6,4 @@ pub mod Sittings
 pub mod Openings
 pub mod Seating
 pub mod Takers
+pub mod Writing

@@ -1,4 +1,5 @@
 pub mod History
+pub mod Grammar
 pub mod Rule
 pub mod Causes
 pub mod Plays

@@ -22,7 +22,7 @@ mod ticket;
 mod view;
 
 pub use board::Board;
-pub use laws::one_taker_law;
+pub use laws::{history_law, one_taker_law};
 pub use open::open_board;
 pub use rule::Fits;
 pub use seat::BoardSeat;
