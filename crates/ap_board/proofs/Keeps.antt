@@ -60,7 +60,7 @@ module _ {P O : Type 0} (fits : P → O → Type 0) (cause : O → Cause) (pads 
   known s k id p v lt live at =
       let d = k.each_pad p lt in
       subst (λ (cs : List (Call P O)). Fit (p / pads) v.number d.mode (role_of nothing cs) × (last_of 0 cs ≤ word_of d.mode)) (d.calls_are id v at v.number v.calls (own_log v live))
-          (knows fits cause (p / pads) v.number closed d.mode nothing 0 d.history d.legal ((λ _. refl), tt) (omega arith))
+      (knows fits cause (p / pads) v.number closed d.mode nothing 0 d.history d.legal ((λ _. refl), tt) (omega arith))
 
   pub well : (s : St) (k : K s) (p : ℕ) (lt : p < length s.homes) → Good fits cause (p / pads) (k.each_pad p lt).mode
   well s k p lt = let d = k.each_pad p lt in good fits cause (p / pads) closed d.mode d.history tt d.legal
@@ -118,7 +118,7 @@ module _ {P O : Type 0} (fits : P → O → Type 0) (cause : O → Cause) (pads 
         by_longer m d.history (v.number, c) ∙
         ⊎_elim
         (λ (x : (j ≡ id) × (m ≡ v.number) × (cs ≡ w.calls)). subst (λ (z : ℕ × List (Call P O)). by z.0 d.history ++ cond (eqb v.number z.0) (c ∷ []) [] ≡ on p z.1) (λ i. (sym x.1 i, sym x.2 i))
-            ((λ i. d.calls_are id v at v.number v.calls (own_log v live) i ++ cond (eq-eqb v.number v.number refl i) (c ∷ []) []) ∙ sym (on_longer p v.calls c ∙ (λ i. on p v.calls ++ cond (eq-eqb p p refl i) (c ∷ []) []))))
+        ((λ i. d.calls_are id v at v.number v.calls (own_log v live) i ++ cond (eq-eqb v.number v.number refl i) (c ∷ []) []) ∙ sym (on_longer p v.calls c ∙ (λ i. on p v.calls ++ cond (eq-eqb p p refl i) (c ∷ []) []))))
         (λ (x : (m ≢ v.number) × ((t : V) × (get_elem? s.views j ≡ some t) × HasLog t m cs)). (λ i. by m d.history ++ cond (ne_eqb v.number m (λ z. x.0 (sym z)) i) (c ∷ []) []) ∙ append-nil (by m d.history) ∙ d.calls_are j x.1.0 x.1.1 m cs x.1.2)
         (before j u m cs e h)
 
@@ -126,7 +126,7 @@ module _ {P O : Type 0} (fits : P → O → Type 0) (cause : O → Cause) (pads 
     calls_else z ne less j u e m cs h = let d = k.each_pad z less in
         ⊎_elim
         (λ (x : (j ≡ id) × (m ≡ v.number) × (cs ≡ w.calls)). subst (λ (y : ℕ × List (Call P O)). by y.0 d.history ≡ on z y.1) (λ i. (sym x.1 i, sym x.2 i))
-            (d.calls_are id v at v.number v.calls (own_log v live) ∙ sym (on_longer z v.calls c ∙ (λ i. on z v.calls ++ cond (ne_eqb p z (λ y. ne (sym y)) i) (c ∷ []) []) ∙ append-nil (on z v.calls))))
+        (d.calls_are id v at v.number v.calls (own_log v live) ∙ sym (on_longer z v.calls c ∙ (λ i. on z v.calls ++ cond (ne_eqb p z (λ y. ne (sym y)) i) (c ∷ []) []) ∙ append-nil (on z v.calls))))
         (λ (x : (m ≢ v.number) × ((t : V) × (get_elem? s.views j ≡ some t) × HasLog t m cs)). d.calls_are j x.1.0 x.1.1 m cs x.1.2)
         (before j u m cs e h)
 

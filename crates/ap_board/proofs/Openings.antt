@@ -72,6 +72,7 @@ module _ {P O : Type 0} (fits : P → O → Type 0) (cause : O → Cause) (pads 
       only : (id : ℕ) (v : V) → get_elem? (newcomer pads ∷ []) id ≡ some v → (id ≡ 0) × (newcomer pads ≡ v)
       only zero v e = (refl, some-injective _ _ e)
       only (suc id) v e = absurd (some-ne-none v (sym e))
+
       log : (id : ℕ) (v : V) (m : ℕ) (cs : List (Call P O)) → get_elem? (newcomer pads ∷ []) id ≡ some v → HasLog v m cs → (m ≡ 0) × (cs ≡ [])
       log id v m cs e h = ⊎_elim (λ (x : (m ≡ 0) × (cs ≡ [])). x) (λ (x : ⊥). absurd x) (subst (λ (u : V). HasLog u m cs) (sym (only id v e).1) h).1
 
@@ -108,9 +109,9 @@ module _ {P O : Type 0} (fits : P → O → Type 0) (cause : O → Cause) (pads 
         word_is = d.word_is;
         home_is = d.home_is;
         calls_are = λ j u e m cs h. ⊎_elim
-          (λ (x : new j m cs). let y = is_new j m cs x in d.no_others m (let g = y.0 in omega arith) ∙ ap (on p) (sym y.1))
-          (λ (x : Stood j m cs). d.calls_are x.0 x.1 x.2 m cs x.3)
-          (stood j u m cs e h);
+            (λ (x : new j m cs). let y = is_new j m cs x in d.no_others m (let g = y.0 in omega arith) ∙ ap (on p) (sym y.1))
+            (λ (x : Stood j m cs). d.calls_are x.0 x.1 x.2 m cs x.3)
+            (stood j u m cs e h);
         no_others = λ m le. d.no_others m (omega arith);
       };
     }
@@ -121,24 +122,24 @@ module _ {P O : Type 0} (fits : P → O → Type 0) (cause : O → Cause) (pads 
       let l : V = one_more v in let r : V = view_of v.made v.pads 0 [] [] in let left : List V = set s.views id l in let n : ℕ = k.seats in let f = k.fit id v at live in
       let made : v.made ≡ n = f.1 leads in let first : n ≢ 0 = (λ z. let g = k.numbers id v v.number v.calls at (live, inl (refl, refl)) in absurd (omega arith)) in
       let fit : (j : ℕ) (u : V) → get_elem? (left ++ r ∷ []) j ≡ some u → u.ended ≡ false → FitsBoard pads (n + 1) u = λ j u e on. ⊎_elim
-          (λ a. ⊎_elim
-            (λ (x : (j ≡ id) × (l ≡ u)). subst (FitsBoard pads (n + 1)) x.1 (f.0, (λ z. ap (λ y. y + 1) made), f.2))
-            (λ (x : (j ≢ id) × (get_elem? s.views j ≡ some u)). let g = k.fit j u x.1 on in
-              (g.0, (λ z. absurd (x.0 (k.apart j id u v 0 u.calls v.calls x.1 at (on, inl (sym z, refl)) (live, inl (sym leads, refl))))), g.2))
-            (at_set s.views id j l u a))
-          (λ (x : (j ≡ length left) × (r ≡ u)). subst (FitsBoard pads (n + 1)) x.1 (f.0, (λ z. absurd (first (sym made ∙ z))), (λ cs z. z)))
-          (at_end left r u j e) in
+      (λ a. ⊎_elim
+      (λ (x : (j ≡ id) × (l ≡ u)). subst (FitsBoard pads (n + 1)) x.1 (f.0, (λ z. ap (λ y. y + 1) made), f.2))
+      (λ (x : (j ≢ id) × (get_elem? s.views j ≡ some u)). let g = k.fit j u x.1 on in
+      (g.0, (λ z. absurd (x.0 (k.apart j id u v 0 u.calls v.calls x.1 at (on, inl (sym z, refl)) (live, inl (sym leads, refl))))), g.2))
+      (at_set s.views id j l u a))
+      (λ (x : (j ≡ length left) × (r ≡ u)). subst (FitsBoard pads (n + 1)) x.1 (f.0, (λ z. absurd (first (sym made ∙ z))), (λ cs z. z)))
+      (at_end left r u j e) in
       rearranged s k (n + 1) (left ++ r ∷ []) (omega arith) fit
-        (λ j m cs. (j ≡ length left) × (m ≡ n) × (cs ≡ [])) (λ j m cs x. (x.1, x.2, (let g = x.1 in omega arith))) (λ i j m cs ds x y. x.0 ∙ sym y.0)
-        (λ j i. j ≡ i) (λ i j a x y. x ∙ sym y)
-        (λ j u m cs e h. ⊎_elim
-          (λ a. inr (⊎_elim
-            (λ (x : (j ≡ id) × (l ≡ u)). (id, v, at, subst (λ (z : V). HasLog z m cs) (sym x.1) h, x.0))
-            (λ (x : (j ≢ id) × (get_elem? s.views j ≡ some u)). (j, u, x.1, h, refl))
-            (at_set s.views id j l u a)))
-          (λ (x : (j ≡ length left) × (r ≡ u)). inl (let g : HasLog r m cs = subst (λ (z : V). HasLog z m cs) (sym x.1) h in
-            ⊎_elim (λ (y : (m ≡ v.made) × (cs ≡ [])). (x.0, y.0 ∙ made, y.1)) (λ (y : ⊥). absurd y) g.1))
-          (at_end left r u j e))
+      (λ j m cs. (j ≡ length left) × (m ≡ n) × (cs ≡ [])) (λ j m cs x. (x.1, x.2, (let g = x.1 in omega arith))) (λ i j m cs ds x y. x.0 ∙ sym y.0)
+      (λ j i. j ≡ i) (λ i j a x y. x ∙ sym y)
+      (λ j u m cs e h. ⊎_elim
+      (λ a. inr (⊎_elim
+      (λ (x : (j ≡ id) × (l ≡ u)). (id, v, at, subst (λ (z : V). HasLog z m cs) (sym x.1) h, x.0))
+      (λ (x : (j ≢ id) × (get_elem? s.views j ≡ some u)). (j, u, x.1, h, refl))
+      (at_set s.views id j l u a)))
+      (λ (x : (j ≡ length left) × (r ≡ u)). inl (let g : HasLog r m cs = subst (λ (z : V). HasLog z m cs) (sym x.1) h in
+      ⊎_elim (λ (y : (m ≡ v.made) × (cs ≡ [])). (x.0, y.0 ∙ made, y.1)) (λ (y : ⊥). absurd y) g.1))
+      (at_end left r u j e))
 
   -- a seat's whole view is cut off
   pub cuts : (id : ℕ) (v : V) → Splits (Kept fits cause pads) id v ended_view v
@@ -146,24 +147,24 @@ module _ {P O : Type 0} (fits : P → O → Type 0) (cause : O → Cause) (pads 
       let left : List V = set s.views id ended_view in
       let From : ℕ → ℕ → Type 0 = λ j i. ((j ≡ i) × (i ≢ id) × (j < length s.views)) ⊎ ((j ≡ length left) × (i ≡ id)) in
       rearranged s k k.seats (left ++ v ∷ []) (omega arith)
-        (λ j u e on. ⊎_elim
-          (λ a. ⊎_elim
-            (λ (x : (j ≡ id) × (ended_view ≡ u)). absurd (true≢false (ap (λ (z : V). z.ended) x.1 ∙ on)))
-            (λ (x : (j ≢ id) × (get_elem? s.views j ≡ some u)). k.fit j u x.1 on)
-            (at_set s.views id j ended_view u a))
-          (λ (x : (j ≡ length left) × (v ≡ u)). k.fit id u (at ∙ ap some x.1) on)
-          (at_end left v u j e))
-        (λ j m cs. ⊥) (λ j m cs x. absurd x) (λ i j m cs ds x y. absurd x)
-        From (λ i j a x y. ⊎_elim
-          (λ (b : (i ≡ a) × (a ≢ id) × (i < length s.views)). ⊎_elim (λ (c : (j ≡ a) × (a ≢ id) × (j < length s.views)). b.0 ∙ sym c.0) (λ (c : (j ≡ length left) × (a ≡ id)). absurd (b.1 c.1)) y)
-          (λ (b : (i ≡ length left) × (a ≡ id)). ⊎_elim (λ (c : (j ≡ a) × (a ≢ id) × (j < length s.views)). absurd (c.1 b.1)) (λ (c : (j ≡ length left) × (a ≡ id)). b.0 ∙ sym c.0) y) x)
-        (λ j u m cs e h. inr (⊎_elim
-          (λ a. ⊎_elim
-            (λ (x : (j ≡ id) × (ended_view ≡ u)). absurd (true≢false (ap (λ (z : V). z.ended) x.1 ∙ h.0)))
-            (λ (x : (j ≢ id) × (get_elem? s.views j ≡ some u)). (j, u, x.1, h, inl (refl, x.0, within s.views j u x.1)))
-            (at_set s.views id j ended_view u a))
-          (λ (x : (j ≡ length left) × (v ≡ u)). (id, v, at, subst (λ (z : V). HasLog z m cs) (sym x.1) h, inr (x.0, refl)))
-          (at_end left v u j e)))
+      (λ j u e on. ⊎_elim
+      (λ a. ⊎_elim
+      (λ (x : (j ≡ id) × (ended_view ≡ u)). absurd (true≢false (ap (λ (z : V). z.ended) x.1 ∙ on)))
+      (λ (x : (j ≢ id) × (get_elem? s.views j ≡ some u)). k.fit j u x.1 on)
+      (at_set s.views id j ended_view u a))
+      (λ (x : (j ≡ length left) × (v ≡ u)). k.fit id u (at ∙ ap some x.1) on)
+      (at_end left v u j e))
+      (λ j m cs. ⊥) (λ j m cs x. absurd x) (λ i j m cs ds x y. absurd x)
+      From (λ i j a x y. ⊎_elim
+      (λ (b : (i ≡ a) × (a ≢ id) × (i < length s.views)). ⊎_elim (λ (c : (j ≡ a) × (a ≢ id) × (j < length s.views)). b.0 ∙ sym c.0) (λ (c : (j ≡ length left) × (a ≡ id)). absurd (b.1 c.1)) y)
+      (λ (b : (i ≡ length left) × (a ≡ id)). ⊎_elim (λ (c : (j ≡ a) × (a ≢ id) × (j < length s.views)). absurd (c.1 b.1)) (λ (c : (j ≡ length left) × (a ≡ id)). b.0 ∙ sym c.0) y) x)
+      (λ j u m cs e h. inr (⊎_elim
+      (λ a. ⊎_elim
+      (λ (x : (j ≡ id) × (ended_view ≡ u)). absurd (true≢false (ap (λ (z : V). z.ended) x.1 ∙ h.0)))
+      (λ (x : (j ≢ id) × (get_elem? s.views j ≡ some u)). (j, u, x.1, h, inl (refl, x.0, within s.views j u x.1)))
+      (at_set s.views id j ended_view u a))
+      (λ (x : (j ≡ length left) × (v ≡ u)). (id, v, at, subst (λ (z : V). HasLog z m cs) (sym x.1) h, inr (x.0, refl)))
+      (at_end left v u j e)))
 
   among_both : (n : ℕ) (cs : List (Call P O)) (xs ys : List (Log P O)) → AmongLogs n cs (xs ++ ys) → AmongLogs n cs xs ⊎ AmongLogs n cs ys
   among_both n cs [] ys a = inr a
@@ -182,30 +183,30 @@ module _ {P O : Type 0} (fits : P → O → Type 0) (cause : O → Cause) (pads 
       let w_at : get_elem? s.views other ≡ some w = sym (set_else s.views id other both ne) ∙ there' in
       let f = k.fit id v at live in
       let alone : (cs : List (Call P O)) → AmongLogs v.number cs both.others → ⊥ = (λ cs a. ⊎_elim (f.2 cs)
-          (λ (b : AmongLogs v.number cs (log_of w.number w.calls ∷ w.others)). ne (k.apart other id w v v.number cs v.calls w_at at (on, b) (live, inl (refl, refl))))
-          (among_both v.number cs v.others (log_of w.number w.calls ∷ w.others) a)) in
+      (λ (b : AmongLogs v.number cs (log_of w.number w.calls ∷ w.others)). ne (k.apart other id w v v.number cs v.calls w_at at (on, b) (live, inl (refl, refl))))
+      (among_both v.number cs v.others (log_of w.number w.calls ∷ w.others) a)) in
       let From : ℕ → ℕ → Type 0 = λ j i. ((j ≡ id) × ((i ≡ id) ⊎ (i ≡ other))) ⊎ ((j ≡ i) × (i ≢ id) × (i ≢ other)) in
       rearranged s k k.seats (set mid other ended_view) (omega arith)
-        (λ j u e h. ⊎_elim
-          (λ (x : (j ≡ other) × (ended_view ≡ u)). absurd (true≢false (ap (λ (z : V). z.ended) x.1 ∙ h)))
-          (λ (x : (j ≢ other) × (get_elem? mid j ≡ some u)). ⊎_elim
-            (λ (y : (j ≡ id) × (both ≡ u)). subst (FitsBoard pads k.seats) y.1 (f.0, f.1, alone))
-            (λ (y : (j ≢ id) × (get_elem? s.views j ≡ some u)). k.fit j u y.1 h)
-            (at_set s.views id j both u x.1))
-          (at_set mid other j ended_view u e))
-        (λ j m cs. ⊥) (λ j m cs x. absurd x) (λ i j m cs ds x y. absurd x)
-        From (λ i j a x y. ⊎_elim
-          (λ (b : (i ≡ id) × ((a ≡ id) ⊎ (a ≡ other))). ⊎_elim (λ (c : (j ≡ id) × ((a ≡ id) ⊎ (a ≡ other))). b.0 ∙ sym c.0)
-            (λ (c : (j ≡ a) × (a ≢ id) × (a ≢ other)). ⊎_elim (λ z. absurd (c.1 z)) (λ z. absurd (c.2 z)) b.1) y)
-          (λ (b : (i ≡ a) × (a ≢ id) × (a ≢ other)). ⊎_elim (λ (c : (j ≡ id) × ((a ≡ id) ⊎ (a ≡ other))). ⊎_elim (λ z. absurd (b.1 z)) (λ z. absurd (b.2 z)) c.1)
-            (λ (c : (j ≡ a) × (a ≢ id) × (a ≢ other)). b.0 ∙ sym c.0) y) x)
-        (λ j u m cs e h. inr (⊎_elim
-          (λ (x : (j ≡ other) × (ended_view ≡ u)). absurd (true≢false (ap (λ (z : V). z.ended) x.1 ∙ h.0)))
-          (λ (x : (j ≢ other) × (get_elem? mid j ≡ some u)). ⊎_elim
-            (λ (y : (j ≡ id) × (both ≡ u)). ⊎_elim
-              (λ (z : HasLog v m cs). (id, v, at, z, inl (y.0, inl refl)))
-              (λ (z : HasLog w m cs). (other, w, w_at, z, inl (y.0, inr refl)))
-              (of_two v w m cs live on (subst (λ (t : V). HasLog t m cs) (sym y.1) h)))
-            (λ (y : (j ≢ id) × (get_elem? s.views j ≡ some u)). (j, u, y.1, h, inr (refl, y.0, x.0)))
-            (at_set s.views id j both u x.1))
-          (at_set mid other j ended_view u e)))
+      (λ j u e h. ⊎_elim
+      (λ (x : (j ≡ other) × (ended_view ≡ u)). absurd (true≢false (ap (λ (z : V). z.ended) x.1 ∙ h)))
+      (λ (x : (j ≢ other) × (get_elem? mid j ≡ some u)). ⊎_elim
+      (λ (y : (j ≡ id) × (both ≡ u)). subst (FitsBoard pads k.seats) y.1 (f.0, f.1, alone))
+      (λ (y : (j ≢ id) × (get_elem? s.views j ≡ some u)). k.fit j u y.1 h)
+      (at_set s.views id j both u x.1))
+      (at_set mid other j ended_view u e))
+      (λ j m cs. ⊥) (λ j m cs x. absurd x) (λ i j m cs ds x y. absurd x)
+      From (λ i j a x y. ⊎_elim
+      (λ (b : (i ≡ id) × ((a ≡ id) ⊎ (a ≡ other))). ⊎_elim (λ (c : (j ≡ id) × ((a ≡ id) ⊎ (a ≡ other))). b.0 ∙ sym c.0)
+      (λ (c : (j ≡ a) × (a ≢ id) × (a ≢ other)). ⊎_elim (λ z. absurd (c.1 z)) (λ z. absurd (c.2 z)) b.1) y)
+      (λ (b : (i ≡ a) × (a ≢ id) × (a ≢ other)). ⊎_elim (λ (c : (j ≡ id) × ((a ≡ id) ⊎ (a ≡ other))). ⊎_elim (λ z. absurd (b.1 z)) (λ z. absurd (b.2 z)) c.1)
+      (λ (c : (j ≡ a) × (a ≢ id) × (a ≢ other)). b.0 ∙ sym c.0) y) x)
+      (λ j u m cs e h. inr (⊎_elim
+      (λ (x : (j ≡ other) × (ended_view ≡ u)). absurd (true≢false (ap (λ (z : V). z.ended) x.1 ∙ h.0)))
+      (λ (x : (j ≢ other) × (get_elem? mid j ≡ some u)). ⊎_elim
+      (λ (y : (j ≡ id) × (both ≡ u)). ⊎_elim
+      (λ (z : HasLog v m cs). (id, v, at, z, inl (y.0, inl refl)))
+      (λ (z : HasLog w m cs). (other, w, w_at, z, inl (y.0, inr refl)))
+      (of_two v w m cs live on (subst (λ (t : V). HasLog t m cs) (sym y.1) h)))
+      (λ (y : (j ≢ id) × (get_elem? s.views j ≡ some u)). (j, u, y.1, h, inr (refl, y.0, x.0)))
+      (at_set s.views id j both u x.1))
+      (at_set mid other j ended_view u e)))

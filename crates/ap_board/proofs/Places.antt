@@ -86,8 +86,8 @@ module _ {P O : Type 0} where
       → ((n : ℕ) → IsOwn n (role v p) → IsOwn n (after (role v p) q kind)) → (IsForeign (role v p) → IsForeign (after (role v p) q kind)) → IsSeat (logged v p q kind) order rounds first total
   gave v p q kind order rounds first total k free own abroad = let is = role_logged v p q kind in
       seat_moved v (logged v p q kind) p (refl, refl) (logged_else v p q kind) (p ∷ order) rounds first total k order rounds k.slots.apart.1 (λ z ne a. inr a) (λ z ne a. ⊎_elim (λ e. absurd (ne e)) (λ b. b) a)
-          (λ h. absurd (free (subst IsHeld is h))) (λ a. absurd (k.slots.apart.0 a)) refl (λ i ne. refl)
-          (λ i less e. subst (IsOwn (get_or rounds i 0)) (sym is) (own (get_or rounds i 0) (subst (λ (y : ℕ). IsOwn (get_or rounds i 0) (role v y)) e (k.slots.own i less)))) (λ f. subst IsForeign (sym is) (abroad f))
+      (λ h. absurd (free (subst IsHeld is h))) (λ a. absurd (k.slots.apart.0 a)) refl (λ i ne. refl)
+      (λ i less e. subst (IsOwn (get_or rounds i 0)) (sym is) (own (get_or rounds i 0) (subst (λ (y : ℕ). IsOwn (get_or rounds i 0) (role v y)) e (k.slots.own i less)))) (λ f. subst IsForeign (sym is) (abroad f))
 
   -- the seat has the slot from now on
   pub got : (v : View P O) (p q : ℕ) (kind : Kind P O) (order rounds rounds' : List ℕ) (first total : ℕ) → IsSeat v order rounds first total → (IsHeld (role v p) → ⊥) → IsHeld (after (role v p) q kind) → p < total
@@ -95,15 +95,15 @@ module _ {P O : Type 0} where
       → (IsForeign (role v p) → IsForeign (after (role v p) q kind)) → IsSeat (logged v p q kind) (p ∷ order) rounds' first total
   got v p q kind order rounds rounds' first total k free now less long else own abroad = let is = role_logged v p q kind in
       seat_moved v (logged v p q kind) p (refl, refl) (logged_else v p q kind) order rounds first total k (p ∷ order) rounds' ((λ a. free (k.slots.holds p a)), k.slots.apart) (λ z ne a. ⊎_elim (λ e. absurd (ne e)) (λ b. b) a) (λ z ne a. inr a)
-          (λ h. inl refl) (λ a. (subst IsHeld (sym is) now, less)) long else (λ i l e. subst (IsOwn (get_or rounds' i 0)) (sym is) (own i l e)) (λ f. subst IsForeign (sym is) (abroad f))
+      (λ h. inl refl) (λ a. (subst IsHeld (sym is) now, less)) long else (λ i l e. subst (IsOwn (get_or rounds' i 0)) (sym is) (own i l e)) (λ f. subst IsForeign (sym is) (abroad f))
 
   -- nothing changes but what the seat has noted
   pub same_seat_still : (v : View P O) (p q : ℕ) (kind : Kind P O) (order rounds : List ℕ) (first total : ℕ) → IsSeat v order rounds first total → (IsHeld (role v p) → IsHeld (after (role v p) q kind)) → (IsHeld (after (role v p) q kind) → IsHeld (role v p))
       → ((n : ℕ) → IsOwn n (role v p) → IsOwn n (after (role v p) q kind)) → (IsForeign (role v p) → IsForeign (after (role v p) q kind)) → IsSeat (logged v p q kind) order rounds first total
   same_seat_still v p q kind order rounds first total k a b own abroad = let is = role_logged v p q kind in
       seat_moved v (logged v p q kind) p (refl, refl) (logged_else v p q kind) order rounds first total k order rounds k.slots.apart (λ z ne c. c) (λ z ne c. c)
-          (λ h. k.slots.held p (b (subst IsHeld is h))) (λ c. (subst IsHeld (sym is) (a (k.slots.holds p c)), k.slots.below p c)) refl (λ i ne. refl)
-          (λ i less e. subst (IsOwn (get_or rounds i 0)) (sym is) (own (get_or rounds i 0) (subst (λ (y : ℕ). IsOwn (get_or rounds i 0) (role v y)) e (k.slots.own i less)))) (λ f. subst IsForeign (sym is) (abroad f))
+      (λ h. k.slots.held p (b (subst IsHeld is h))) (λ c. (subst IsHeld (sym is) (a (k.slots.holds p c)), k.slots.below p c)) refl (λ i ne. refl)
+      (λ i less e. subst (IsOwn (get_or rounds i 0)) (sym is) (own (get_or rounds i 0) (subst (λ (y : ℕ). IsOwn (get_or rounds i 0) (role v y)) e (k.slots.own i less)))) (λ f. subst IsForeign (sym is) (abroad f))
 
   pub turned_seat : (v : View P O) (p : ℕ) (order rounds : List ℕ) (first total : ℕ) → IsSeat v (p ∷ order) rounds first total → IsSeat v (order ++ p ∷ []) rounds first total
   turned_seat v p order rounds first total k = record {

@@ -42,12 +42,12 @@ module _ {P O : Type 0} where
         below = λ z a. ⊎_elim (λ e. subst (λ (y : ℕ). y < total) (sym e) less) (k.below z) a;
         held = λ z h. dite (ℕ_discrete z p) (λ e. inl e) (λ ne. inr (k.held z (subst IsHeld (logged_else v p 0 Open z ne) h)));
         holds = λ z a. dite (ℕ_discrete z p) (λ e. subst (λ (y : ℕ). IsHeld (role w y)) (sym e) (subst IsHeld (sym now) tt))
-          (λ ne. ⊎_elim (λ e. absurd (ne e)) (λ b. subst IsHeld (sym (logged_else v p 0 Open z ne)) (k.holds z b)) a);
+            (λ ne. ⊎_elim (λ e. absurd (ne e)) (λ b. subst IsHeld (sym (logged_else v p 0 Open z ne)) (k.holds z b)) a);
         own = λ j l. dite (ℕ_discrete j i) (λ e. subst (λ (y : ℕ). IsOwn (get_or (noughts (suc i)) y 0) (role w (first + y))) (sym e) (subst (IsOwn (get_or (noughts (suc i)) i 0)) (sym now) (zeros (suc i) i)))
-          (λ ne. let l' : j < i = let g = size (suc i) in omega arith in let at = k.own j (let g = size i in omega arith) in
+            (λ ne. let l' : j < i = let g = size (suc i) in omega arith in let at = k.own j (let g = size i in omega arith) in
             subst (λ (y : ℕ). IsOwn y (role w (first + j))) (zeros i j ∙ sym (zeros (suc i) j)) (subst (IsOwn (get_or (noughts i) j 0)) (sym (logged_else v p 0 Open (first + j) (λ e. ne (let g : first + j ≡ first + i = e in omega arith)))) at));
         foreign = λ z a. let ne : z ≢ p = λ e. ⊎_elim (λ b. (let c : z < first = b in absurd (omega arith))) (λ b. (let c : first + length (noughts (suc i)) ≤ z = b in let g = size (suc i) in absurd (omega arith))) a in
-          subst IsForeign (sym (logged_else v p 0 Open z ne)) (k.foreign z (⊎_elim (λ b. inl b) (λ b. inr (let c : first + length (noughts (suc i)) ≤ z = b in let g = size (suc i) in let h = size i in omega arith)) a));
+            subst IsForeign (sym (logged_else v p 0 Open z ne)) (k.foreign z (⊎_elim (λ b. inl b) (λ b. inr (let c : first + length (noughts (suc i)) ≤ z = b in let g = size (suc i) in let h = size i in omega arith)) a));
         within = let g = size (suc i) in omega arith;
       }
     where
@@ -92,8 +92,8 @@ module _ {P O : Type 0} where
   new_seat pads n made more = record {
     own = λ p e. opened_role P O (n * pads) pads p ((own_pads p n pads more).0 e);
     foreign = λ p ne. unopened_role P O (n * pads) pads p (dite (dec_le (n * pads) p)
-      (λ a. inr (dite (dec_le (n * pads + pads) p) (λ b. b) (λ b. absurd (ne ((own_pads p n pads more).1 (a, lt_of_not-le b))))))
-      (λ a. inl (lt_of_not-le a)));
+        (λ a. inr (dite (dec_le (n * pads + pads) p) (λ b. b) (λ b. absurd (ne ((own_pads p n pads more).1 (a, lt_of_not-le b))))))
+        (λ a. inl (lt_of_not-le a)));
   }
 
 module _ {P O : Type 0} where

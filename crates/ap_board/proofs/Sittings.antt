@@ -70,10 +70,10 @@ module _ {P O : Type 0} where
         let r = own_range p q x is in let low : first ≤ p = r.0 in let high : p < first + length rounds = r.1 in
         subst (λ (l : List ℕ). IsSeat (logged v p q kind) (p ∷ order) l first total) (sym set_is)
         (got v p q kind order rounds (set rounds (p - first) (q + 1)) first total k (λ h. subst IsHeld is h) (subst IsHeld (sym (ends (role v p))) tt) less (length-set rounds (p - first) (q + 1))
-            (λ i ne. get_or-set_other rounds (p - first) i (q + 1) 0 (λ e. ne (let f : i ≡ p - first = e in omega arith)))
-            (λ i l e. let at : p - first ≡ i = omega arith in subst (λ (z : ℕ). IsOwn (get_or (set rounds z (q + 1)) i 0) (after (role v p) q kind)) (sym at)
-                (subst (IsOwn (get_or (set rounds i (q + 1)) i 0)) (sym (ends (role v p))) (get_or-set_same rounds i (q + 1) 0 l)))
-            (λ f. absurd (subst IsForeign is f)))
+        (λ i ne. get_or-set_other rounds (p - first) i (q + 1) 0 (λ e. ne (let f : i ≡ p - first = e in omega arith)))
+        (λ i l e. let at : p - first ≡ i = omega arith in subst (λ (z : ℕ). IsOwn (get_or (set rounds z (q + 1)) i 0) (after (role v p) q kind)) (sym at)
+        (subst (IsOwn (get_or (set rounds i (q + 1)) i 0)) (sym (ends (role v p))) (get_or-set_same rounds i (q + 1) 0 l)))
+        (λ f. absurd (subst IsForeign is f)))
 
     pub reclaimed_seat : (p q : ℕ) (x : P) → role v p ≡ out q x → p < total → (rounds' : List ℕ) → rounds' ≡ set rounds (p - first) (q + 1) → IsSeat (logged v p q Reclaim) (p ∷ order) rounds' first total
     reclaimed_seat p q x is less rounds' set_is = ended p q x Reclaim (λ t. refl) is less rounds' set_is
@@ -115,9 +115,9 @@ pub own_pads : (p n k : ℕ) → 0 < k → (p / k ≡ n) ↔ ((n * k ≤ p) × (
 own_pads p n k more = (
   (λ e. subst (λ (z : ℕ). (z * k ≤ p) × (p < z * k + k)) e (div-mul-le_self p k, lt-div-mul-add more)),
   (λ h. let low = h.0 in let high = h.1 in
-    let a : p / k < suc n = (div-lt_iff_lt-mul {k = k} {x = p} {y = suc n} more).1 (omega (arith, suc-mul n k)) in
-    let b : p / k < n → ⊥ = λ c. (let d : p < n * k = (div-lt_iff_lt-mul {k = k} {x = p} {y = n} more).0 c in absurd (omega arith)) in
-    let d : n ≤ p / k = dite (dec_le n (p / k)) (λ y. y) (λ no. absurd (b (lt_of_not-le no))) in omega arith),
+      let a : p / k < suc n = (div-lt_iff_lt-mul {k = k} {x = p} {y = suc n} more).1 (omega (arith, suc-mul n k)) in
+      let b : p / k < n → ⊥ = λ c. (let d : p < n * k = (div-lt_iff_lt-mul {k = k} {x = p} {y = n} more).0 c in absurd (omega arith)) in
+      let d : n ≤ p / k = dite (dec_le n (p / k)) (λ y. y) (λ no. absurd (b (lt_of_not-le no))) in omega arith),
 )
 
 pub among_at : (xs : List ℕ) (i : ℕ) → i < length xs → Among (get_or xs i 0) xs

@@ -143,13 +143,13 @@ module _ {P O : Type 0} (fits : P → O → Type 0) (cause : O → Cause) (pads 
     unmoved : (n : ℕ) → n ≡ word_of (next m v.number kind) → home_of (next m v.number kind) ≡ home_of m → K (now n s.homes)
     unmoved n e h = let d = k.each_pad p lt in
         moved fits cause pads s k id p q n kind v s.homes lt live at may' (e ∙ ap (λ (z : Mode P O). word_of (after' z)) (sym is)) refl
-            (d.home_is ∙ ap some (ap home_of is ∙ sym h ∙ ap (λ (z : Mode P O). home_of (after' z)) (sym is))) (λ j ne. refl)
+        (d.home_is ∙ ap some (ap home_of is ∙ sym h ∙ ap (λ (z : Mode P O). home_of (after' z)) (sym is))) (λ j ne. refl)
 
     -- the slot has now this
     changed : (n : ℕ) (h : maybe.Option S) → n ≡ word_of (next m v.number kind) → h ≡ home_of (next m v.number kind) → K (now n (set s.homes p h))
     changed n h e f =
         moved fits cause pads s k id p q n kind v (set s.homes p h) lt live at may' (e ∙ ap (λ (z : Mode P O). word_of (after' z)) (sym is)) (length-set s.homes p h)
-            (set_here s.homes p h lt ∙ ap some (f ∙ ap (λ (z : Mode P O). home_of (after' z)) (sym is))) (λ j ne. set_else s.homes p j h ne)
+        (set_here s.homes p h lt ∙ ap some (f ∙ ap (λ (z : Mode P O). home_of (after' z)) (sym is))) (λ j ne. set_else s.homes p j h ne)
 
     rose : last_seen v p ≤ last_seen (logged v p q kind) p
     rose = risen fits cause pads s k id p q (word_of (after' (k.each_pad p lt).mode)) kind v (set s.homes p (home_of (after' (k.each_pad p lt).mode))) lt live at may' refl (length-set s.homes p _) (set_here s.homes p _ lt) (λ j ne. set_else s.homes p j _ ne)
@@ -226,7 +226,7 @@ module _ {P O : Type 0} (fits : P → O → Type 0) (cause : O → Cause) (pads 
       let high : n ≤ q * 8 + 4 = let h = below q (p / pads) x d.mode f.1 in let e = d.word_is in omega arith in
       exchanged n old new (Goes s p id me then)
       (λ hit. let is = is_offered q d.mode (sym d.word_is ∙ hit ∙ was) in let y : P = is.0 in let m : Mode P O = offered q y in let may : May fits cause (p / pads) m v.number q Reclaim = (f.0, refl) in
-        let same : y ≡ x = (subst (IsOut q x (p / pads)) is.1 f.1).1 in (
+      let same : y ≡ x = (subst (IsOut q x (p / pads)) is.1 f.1).1 in (
         logged v p q Reclaim,
         takes p (Some (Parcel y)),
         d.home_is ∙ ap (λ (z : Mode P O). some (home_of z)) is.1,
@@ -250,8 +250,8 @@ module _ {P O : Type 0} (fits : P → O → Type 0) (cause : O → Cause) (pads 
       let high : (x : P) → role v p ≡ out q x → n ≤ q * 8 + 4 = (λ x e. let h = below q (p / pads) x d.mode (fit s k id p v lt (out q x) live at e).1 in let w = d.word_is in omega arith) in
       exchanged n old new (Goes s p id me then)
       (λ hit. let is = is_finished q d.mode (sym d.word_is ∙ hit ∙ was) in let z : P = is.0 in let y : O = is.1 in let m : Mode P O = finished q z y in let may : May fits cause (p / pads) m v.number q (Collect y) = (o, refl, refl) in
-        let its : role v p ≡ out q z = is_its (p / pads) v.number q z y (role v p) (subst (λ (u : Mode P O). Fit (p / pads) v.number u (role v p)) is.2 (fit s k id p v lt (role v p) live at refl)) o in
-        let good : fits z y = subst (Good fits cause (p / pads)) is.2 (well fits cause pads s k p lt) in (
+      let its : role v p ≡ out q z = is_its (p / pads) v.number q z y (role v p) (subst (λ (u : Mode P O). Fit (p / pads) v.number u (role v p)) is.2 (fit s k id p v lt (role v p) live at refl)) o in
+      let good : fits z y = subst (Good fits cause (p / pads)) is.2 (well fits cause pads s k p lt) in (
         logged v p q (Collect y),
         takes p (Some (Outcome y)),
         d.home_is ∙ ap (λ (u : Mode P O). some (home_of u)) is.2,
@@ -287,14 +287,14 @@ module _ {P O : Type 0} (fits : P → O → Type 0) (cause : O → Cause) (pads 
         (rose s k id p q Stop v lt live at m is.3 may, (q, was, high, (λ _. refl), (λ miss _. absurd (miss hit)))),
       ))
       (λ miss. dite (ℕ_discrete n (old + 1))
-        (λ again. let is = is_taken q d.mode (inr (sym d.word_is ∙ again ∙ (let g : old + 1 ≡ q * 8 + 3 = omega arith in g))) in let m : Mode P O = taken q is.0 is.1 is.2 in let may : May fits cause (p / pads) m v.number q Stop = (f.0, refl) in (
-          logged v p q Stop,
-          stays,
-          tt,
-          unmoved s k id p q Stop v lt live at m is.3 may n (let g : n ≡ q * 8 + 3 = omega arith in g) refl,
-          (rose s k id p q Stop v lt live at m is.3 may, (q, was, high, (λ _. refl), (λ _ no. absurd (no again)))),
-        ))
-        (λ no. noticed s k id p me lt then live at (λ r. (r, (q, was, high, ⊎_elim (λ hit. absurd (miss hit)) (λ again. absurd (no again)), (λ _ _. refl))))))
+      (λ again. let is = is_taken q d.mode (inr (sym d.word_is ∙ again ∙ (let g : old + 1 ≡ q * 8 + 3 = omega arith in g))) in let m : Mode P O = taken q is.0 is.1 is.2 in let may : May fits cause (p / pads) m v.number q Stop = (f.0, refl) in (
+        logged v p q Stop,
+        stays,
+        tt,
+        unmoved s k id p q Stop v lt live at m is.3 may n (let g : n ≡ q * 8 + 3 = omega arith in g) refl,
+        (rose s k id p q Stop v lt live at m is.3 may, (q, was, high, (λ _. refl), (λ _ no. absurd (no again)))),
+      ))
+      (λ no. noticed s k id p me lt then live at (λ r. (r, (q, was, high, ⊎_elim (λ hit. absurd (miss hit)) (λ again. absurd (no again)), (λ _ _. refl))))))
 
   same_words : (words : List ℕ) (p n : ℕ) → p < length words → n ≡ get_or words p 0 → set words p n ≡ words
   same_words [] p n less e = absurd (omega arith)
@@ -308,11 +308,14 @@ module _ {P O : Type 0} (fits : P → O → Type 0) (cause : O → Cause) (pads 
     stays,
     tt,
     subst (λ (z : List ℕ × List V). K record { words = z.0; homes = s.homes; views = z.1 }) (λ i. (sym (same_words s.words p n (let l = k.long in omega arith) refl) i, sym (set_again s.views id v at) i)) k,
-    (refl, λ z lt. let d = k.each_pad z (let w = wide in let l : z < slots = lt in omega arith) in record {
-      history = d.history;
-      mode = d.mode;
-      legal = subst (λ (y : ℕ). Legal fits cause (z / y) closed d.history d.mode) (sym f.0) d.legal;
-      calls_are = d.calls_are id v at;
-      no_others = λ first j le. d.no_others j (subst (λ (y : ℕ). y ≤ j) (f.1 first) le);
-    }),
+    (
+      refl,
+      λ z lt. let d = k.each_pad z (let w = wide in let l : z < slots = lt in omega arith) in record {
+        history = d.history;
+        mode = d.mode;
+        legal = subst (λ (y : ℕ). Legal fits cause (z / y) closed d.history d.mode) (sym f.0) d.legal;
+        calls_are = d.calls_are id v at;
+        no_others = λ first j le. d.no_others j (subst (λ (y : ℕ). y ≤ j) (f.1 first) le);
+      },
+    ),
   )

@@ -39,13 +39,23 @@ module _ {P O : Type 0} (fits : P → O → Type 0) (cause : O → Cause) (o : �
   goes (free r) q l id p (Offer x) s y = inl (sent x, (s.0, refl), λ ds i. of_last o q (s.1 i) ++ (y.0 i, (y.1 ∙ sym s.0) i, Offer x) ∷ ds)
   goes (offered r x) q l id p (Take z) s y = inl (running x id 0, (s.0, y.0, (0, refl, λ e. absurd (true≢false (sym e)))), λ ds i. of_last o q (s.1 i) ++ (id, (y.1 ∙ sym s.0) i, Take (y.2 i)) ∷ ds)
   goes (offered r x) q l id p Reclaim s y = inr (withdrawn x, tt, ((let e : q ≡ r = s.0 in omega arith), refl), λ ds i. of_last o q (s.1 i) ++ (y.0 i, (y.1 ∙ sym s.0) i, Reclaim) ∷ ds)
-  goes (taken r x t b) q l id p Stop s y = let n : ℕ = s.2.0 in inl (running x t (suc n), (s.0, s.1, (suc n, refl, λ _. omega arith)),
-      λ ds. (λ i. of_last o q (s.2.1 i) ++ (y.0 i, (y.1 ∙ sym s.0) i, Stop) ∷ ds) ∙ (λ i. (o, q, Offer x) ∷ (t, q, Take x) ∷ more_stops q n ds i))
-  goes (taken r x t b) q l id p (Finish z) s y = let n : ℕ = s.2.0 in inl (ended x t n z, (s.0, (t, n, refl, (s.1, y.2, was_asked (cause z) b n y.3 s.2.2))),
-      λ ds. (λ i. of_last o q (s.2.1 i) ++ (y.0 i, (y.1 ∙ sym s.0) i, Finish z) ∷ ds) ∙ (λ i. (o, q, Offer x) ∷ (t, q, Take x) ∷ sym (append_assoc (stops o q n) ((t, q, Finish z) ∷ []) ds) i))
-  goes (finished r x z) q l id p (Collect v) s y = let t : ℕ = s.1.0 in let n : ℕ = s.1.1 in inr (done x t n z, s.1.3, ((let e : q ≡ r = s.0 in omega arith), refl),
-      λ ds. (λ i. of_last o q (s.1.2 i) ++ (y.0 i, (y.1 ∙ sym s.0) i, Collect (y.2 i)) ∷ ds)
-        ∙ (λ i. (o, q, Offer x) ∷ (t, q, Take x) ∷ (append_assoc (stops o q n) ((t, q, Finish z) ∷ []) ((o, q, Collect z) ∷ ds) ∙ sym (append_assoc (stops o q n) ((t, q, Finish z) ∷ (o, q, Collect z) ∷ []) ds)) i))
+  goes (taken r x t b) q l id p Stop s y = let n : ℕ = s.2.0 in inl (
+    running x t (suc n),
+    (s.0, s.1, (suc n, refl, λ _. omega arith)),
+    λ ds. (λ i. of_last o q (s.2.1 i) ++ (y.0 i, (y.1 ∙ sym s.0) i, Stop) ∷ ds) ∙ (λ i. (o, q, Offer x) ∷ (t, q, Take x) ∷ more_stops q n ds i),
+  )
+  goes (taken r x t b) q l id p (Finish z) s y = let n : ℕ = s.2.0 in inl (
+    ended x t n z,
+    (s.0, (t, n, refl, (s.1, y.2, was_asked (cause z) b n y.3 s.2.2))),
+    λ ds. (λ i. of_last o q (s.2.1 i) ++ (y.0 i, (y.1 ∙ sym s.0) i, Finish z) ∷ ds) ∙ (λ i. (o, q, Offer x) ∷ (t, q, Take x) ∷ sym (append_assoc (stops o q n) ((t, q, Finish z) ∷ []) ds) i),
+  )
+  goes (finished r x z) q l id p (Collect v) s y = let t : ℕ = s.1.0 in let n : ℕ = s.1.1 in inr (
+    done x t n z,
+    s.1.3,
+    ((let e : q ≡ r = s.0 in omega arith), refl),
+    λ ds. (λ i. of_last o q (s.1.2 i) ++ (y.0 i, (y.1 ∙ sym s.0) i, Collect (y.2 i)) ∷ ds)
+        ∙ (λ i. (o, q, Offer x) ∷ (t, q, Take x) ∷ (append_assoc (stops o q n) ((t, q, Finish z) ∷ []) ((o, q, Collect z) ∷ ds) ∙ sym (append_assoc (stops o q n) ((t, q, Finish z) ∷ (o, q, Collect z) ∷ []) ds)) i),
+  )
   goes m q l id p k s y = absurd y
 
   fair_last : (m : Mode P O) (q : ℕ) (l : Last P O) → Stands m q l → FairLast o fits cause l

@@ -37,7 +37,8 @@ impl<P: Fits<O> + Drop, O: Drop> Board<P, O> {
         match seat.find_free() {
             Some(ticket) => {
                 seat.hand.bring(ticket.pad);
-                seat.hand.offer(&self.table.shared, ticket.pad, ticket.round, parcel);
+                seat.hand
+                    .offer(&self.table.shared, ticket.pad, ticket.round, parcel);
                 Ok(ticket)
             }
             None => Err(parcel),
@@ -65,7 +66,8 @@ impl<P: Fits<O> + Drop, O: Drop> Board<P, O> {
         ensures told { seat.new.1 ≡ logged seat.old.1 ticket.pad ticket.round (Finish outcome) }
     {
         seat.hand.bring(ticket.pad);
-        seat.hand.finish(&self.table.shared, ticket.pad, ticket.round, outcome);
+        seat.hand
+            .finish(&self.table.shared, ticket.pad, ticket.round, outcome);
     }
 
     /// Collects the outcome of an offer on a pad of this seat, which frees the pad. None only where the word, at its step, wasn't that
@@ -78,7 +80,9 @@ impl<P: Fits<O> + Drop, O: Drop> Board<P, O> {
         ensures told { MatchOption result ((n : ℕ) × (last_seen seat.old.1 ticket.pad ≤ n) × (n ≢ ticket.round * 8 + 4) × ((x : P) → role seat.old.1 ticket.pad ≡ out ticket.round x → n < ticket.round * 8 + 4) × (seat.new.1 ≡ noting seat.old.1 ticket.pad n)) (λ y. (x : P) × (role seat.old.1 ticket.pad ≡ out ticket.round x) × P.fits x y × (seat.new.1 ≡ logged seat.old.1 ticket.pad ticket.round (Collect y))) }
         ensures done { (x : P) → role seat.old.1 ticket.pad ≡ out ticket.round x → ticket.round * 8 + 4 ≤ last_seen seat.old.1 ticket.pad → IsSome result }
     {
-        let outcome = seat.hand.collect(&self.table.shared, ticket.pad, ticket.round)?;
+        let outcome = seat
+            .hand
+            .collect(&self.table.shared, ticket.pad, ticket.round)?;
         seat.rounds[ticket.pad - seat.first] = ticket.round + 1;
         Some(outcome)
     }
@@ -91,7 +95,9 @@ impl<P: Fits<O> + Drop, O: Drop> Board<P, O> {
         ensures table { seat.new.0 ≡ seat.old.0 }
         ensures told { MatchOption result ((n : ℕ) × (ticket.round * 8 + 2 ≤ n) × (n ≤ ticket.round * 8 + 4) × (seat.new.1 ≡ noting seat.old.1 ticket.pad n)) (λ x. (role seat.old.1 ticket.pad ≡ out ticket.round x) × (seat.new.1 ≡ logged seat.old.1 ticket.pad ticket.round Reclaim)) }
     {
-        let parcel = seat.hand.reclaim(&self.table.shared, ticket.pad, ticket.round)?;
+        let parcel = seat
+            .hand
+            .reclaim(&self.table.shared, ticket.pad, ticket.round)?;
         seat.rounds[ticket.pad - seat.first] = ticket.round + 1;
         Some(parcel)
     }
@@ -105,7 +111,12 @@ impl<P: Fits<O> + Drop, O: Drop> Board<P, O> {
         ensures table { seat.new.0 ≡ seat.old.0 }
         ensures told { MatchBool result (seat.new.1 ≡ logged seat.old.1 ticket.pad ticket.round Stop) (seat.new.1 ≡ noting seat.old.1 ticket.pad (ticket.round * 8 + 4)) }
     {
-        steps::stop(&self.table.shared, &mut seat.hand.place, ticket.pad, ticket.round)
+        steps::stop(
+            &self.table.shared,
+            &mut seat.hand.place,
+            ticket.pad,
+            ticket.round,
+        )
     }
 
     // Looks at a pad, and gives the word found.

@@ -31,7 +31,8 @@ impl<P, O> BoardSeat<P, O> {
     pub fn may_take(&self, ticket: Ticket) -> bool
         ensures { IsTrue result ↔ ((ticket.pad < self.now.0.slots) × (ticket.pad / self.now.1.pads ≢ self.now.1.number)) }
     {
-        ticket.pad < self.hand.total && (ticket.pad < self.first || self.rounds.len() <= ticket.pad - self.first)
+        ticket.pad < self.hand.total
+            && (ticket.pad < self.first || self.rounds.len() <= ticket.pad - self.first)
     }
 
     /// Tells whether the ticket's pad is one of this seat's own.

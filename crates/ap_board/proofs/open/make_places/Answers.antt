@@ -14,6 +14,6 @@ loop-preserved g c =
       table = e.table.0 ∙ k.table;
       leader = e.leader ∙ ap (λ m. (one_more m.0, m.1)) k.leader;
       places = subst (AreNext z pads 1) (sym items) (next_snoc z pads 1 c.loop.places.items c.next_place.result k.places (e.table.1 ∙ k.table)
-        (e.place ∙ ap (λ m. (view_of m.0.made m.0.pads 0 [] [], [])) k.leader ∙ ap (λ (m : ℕ). (view_of m pads 0 [] [], [])) next));
+          (e.place ∙ ap (λ m. (view_of m.0.made m.0.pads 0 [] [], [])) k.leader ∙ ap (λ (m : ℕ). (view_of m pads 0 [] [], [])) next));
       count = ap (λ l. length l + 1) items ∙ (omega arith);
     }

@@ -21,9 +21,9 @@ returns-else-found-taken-clause-told g c =
     dite (ℕ_discrete n (q * 8 + 2 + 1))
     (λ e. subst A (sym (eq-eqb n (q * 8 + 2 + 1) e)) (told.1.3 (inr e) ∙ ap (λ (z : ℕ). (logged v p z Stop, c.args.me.now.me.1)) r_is))
     (λ ne. subst A (sym (ne_eqb n (q * 8 + 2 + 1) ne)) (
-      let is = told.1.4 c.if-found-taken.false ne in
-      let last : last_seen w.0 p ≡ n = ap (λ m. last_seen m.0 p) is ∙ last_noting v p n in
-      let low : last_seen v p ≤ n = subst (λ (z : ℕ). last_seen v p ≤ z) last told.0 in
-      let high : n ≤ r * 8 + 4 = told.1.2 in let had : q * 8 + 2 ≤ last_seen v p = c.requires.was_taken in let no = c.if-found-taken.false in
-      let n_is : n ≡ q * 8 + 4 = omega arith in
-      is ∙ ap (λ (z : ℕ). (noting v p z, c.args.me.now.me.1)) n_is))
+    let is = told.1.4 c.if-found-taken.false ne in
+    let last : last_seen w.0 p ≡ n = ap (λ m. last_seen m.0 p) is ∙ last_noting v p n in
+    let low : last_seen v p ≤ n = subst (λ (z : ℕ). last_seen v p ≤ z) last told.0 in
+    let high : n ≤ r * 8 + 4 = told.1.2 in let had : q * 8 + 2 ≤ last_seen v p = c.requires.was_taken in let no = c.if-found-taken.false in
+    let n_is : n ≡ q * 8 + 4 = omega arith in
+    is ∙ ap (λ (z : ℕ). (noting v p z, c.args.me.now.me.1)) n_is))

@@ -19,4 +19,4 @@ join_seat-requires g c = let cut = c.split_seat-cut.ensures in (
 pub invariant_of-into : goal.invariant_of-into
 invariant_of-into g c = let s = c.into.inside in let now = c.join_seat.ensures in
     fitted _ _ _ _ _ _ _ _ (ap (λ m. m.0) now.2) refl (ap (λ (z : TableId). z.slots) now.0)
-        (joined_seat s.hand.place.me.0 c.split_seat-cut.result.me.0 s.hand.order.items s.rounds.items s.first s.hand.place.table_id.slots c.into.invariant)
+    (joined_seat s.hand.place.me.0 c.split_seat-cut.result.me.0 s.hand.order.items s.rounds.items s.first s.hand.place.table_id.slots c.into.invariant)

@@ -21,11 +21,11 @@ returns-then-round-lt-LAST_ROUND g c =
     let a : Among p order = subst (λ (z : ℕ). Among z order) (sym p_is) (among_at order i less) in
     let low = c.if-self-pad.true in let at : p ≡ first + j = omega arith in
     subst (λ (y : TableId × View g.row.P.Denot g.row.O.Denot). (role y.1 p ≡ keeps q) × (p < y.0.slots)) c.self.view_is
-        (free_here v order rounds first total c.self.invariant p j a in_rounds at ∙ ap keeps (sym q_is), c.self.invariant.slots.below p a)
+    (free_here v order rounds first total c.self.invariant p j a in_rounds at ∙ ap keeps (sym q_is), c.self.invariant.slots.below p a)
 
 pub returns : goal.returns
 returns g c =
     let s = c.self.inside in let v = s.hand.place.me.0 in let order = s.hand.order.items in let rounds = s.rounds.items in let first : ℕ = s.first in let total : ℕ = s.hand.place.table_id.slots in
     let many = s.hand.order.ok.0 in let past = c.loop-i-test.false in let end = c.len-i-end.ensures in
     subst (λ (y : TableId × View g.row.P.Denot g.row.O.Denot). (p r : ℕ) → role y.1 p ≡ keeps r → 2 ^ 60 ≤ r) c.self.view_is
-        (none_free v order rounds first total c.self.invariant (λ i less. c.loop-i.invariant i (omega (arith, many, past, end, less))))
+    (none_free v order rounds first total c.self.invariant (λ i less. c.loop-i.invariant i (omega (arith, many, past, end, less))))
