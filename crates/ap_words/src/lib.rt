@@ -1,6 +1,6 @@
-//! The words of a command line: what it asks for.
+//! Floor: program. The words of a command line: what it asks for.
 //!
-//! Its floor is the program's. It stands on `clap`. A plain line, whose words are the names and values themselves, is
+//! It stands on `clap`. A plain line, whose words are the names and values themselves, is
 //! read by one fold; any other is read by `clap`, by a command that has the words of the table and no others. The one
 //! contract used above is that of `read`: a plain line is never refused, and any other exactly where `clap` refuses it,
 //! where a number is out of its range, or where there is no such annotator.

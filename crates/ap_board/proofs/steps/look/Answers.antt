@@ -1,0 +1,6 @@
+use Rattle.std.proofs.Common.{rules}
+use Rattle.ap_board.proofs.Turns.{looks_ok}
+use Rattle.ap_board.proofs.steps.look.Goals as goal
+
+pub load-requires : goal.load-requires
+load-requires g c = (search rules, search rules, looks_ok g.P.Fits.fits g.P.Fits.cause _ _ _ _ _ c.requires.live c.requires.pad.0)

@@ -1,0 +1,8 @@
+pub mod History
+pub mod Grammar
+pub mod Rule
+pub mod Causes
+pub mod Plays
+pub mod Seats
+pub mod Handles
+pub mod Rows

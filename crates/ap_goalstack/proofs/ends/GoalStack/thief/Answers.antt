@@ -1,0 +1,5 @@
+use Rattle.ap_goalstack.proofs.Keeping.{forks}
+use Rattle.ap_goalstack.proofs.ends.GoalStack.thief.Goals as goal
+
+pub another-pass-requires : goal.another-pass-requires
+another-pass-requires c = forks _ _
