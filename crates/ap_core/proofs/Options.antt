@@ -1,5 +1,5 @@
 -- Tests, options and lists of steps.
-use Rattle.std.proofs.Common.{◌≡◌, ◌⊎◌, inl, inr, Bool, true, false, ◌&&◌, ◌||◌, if◌then◌else◌, Option, Some, None, refl}
+use Rattle.std.proofs.Common.{◌≡◌, ◌⊎◌, inl, inr, Bool, true, false, ◌||◌, if◌then◌else◌, Option, Some, None, refl}
 use Rattle.std.proofs.lemmas.Bool.{false≢true}
 use Rattle.ap_core.specs.Relation.{only_if, mapped}
 
@@ -34,3 +34,7 @@ Star-map R S f h a (onward {b = b} {c = c} s r) = onward (Star-map R S f h a s) 
 
 pub Star-one : {T : Type 0} (R : T → T → Type 0) (a b : T) → R a b → Star R a b
 Star-one R a b r = onward here r
+
+pub Star-then : {T : Type 0} (R : T → T → Type 0) {a b c : T} → Star R a b → Star R b c → Star R a c
+Star-then R s here = s
+Star-then R s (onward t r) = onward (Star-then R s t) r

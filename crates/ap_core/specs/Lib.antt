@@ -1,12 +1,11 @@
 pub mod Tasks
-pub mod TaskView
 pub mod Conditions
 pub mod Relation
 pub mod Erased
+pub mod Heeding
+pub mod Telling
+pub mod Own
+pub mod Lifting
 pub mod Reached
-pub mod Fitting
-pub mod VerdictView
-pub mod Outcome
-pub mod Rounds
-pub mod CoreView
+pub mod Rows
 pub mod ForkLaw
