@@ -25,4 +25,6 @@ pub use slots::{Answer, Ending, Recording, Run, Slot, Stand};
 pub use verdict::Verdict;
 
 #[cfg(test)]
+mod opening_tests;
+#[cfg(test)]
 mod tests;
