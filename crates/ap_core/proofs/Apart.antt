@@ -1,13 +1,14 @@
 -- Goals that the test finds apart share no variable.
-use Rattle.std.proofs.Common.{◌≡◌, ℕ, Bool, true, false, not, ◌||◌, nat_eq, List, [], ◌∷◌, refl, sym, ◌∙◌}
+use Rattle.std.proofs.Common.{◌≡◌, ℕ, ◌⊎◌, inl, inr, Bool, true, false, not, ◌||◌, ◌&&◌, nat_eq, List, [], ◌∷◌, ◌++◌, refl, sym, ◌∙◌}
 use Rattle.std.specs.List.{list_all}
 use Rattle.std.proofs.lemmas.Bool.{false≢true, not-true, eqb-true}
 use Rattle.ap_term.specs.Tree.{Tree, Trees, none, more}
 use Rattle.ap_term.specs.Vars.{has, vars, add_vars, occurs}
-use Rattle.ap_term.specs.Independence.{IsApart, AreApart}
+use Rattle.ap_term.specs.Independence.{SharesNoVariable, IsApart, AreApart}
 use Rattle.ap_term.proofs.Solvable.{has-add_vars}
 use Rattle.ap_laws.proofs.Ways.{and_both}
 use Rattle.ap_core.specs.Conditions.{are_apart_from, are_apart}
+use Rattle.ap_core.proofs.Options.{either_true}
 
 -- what is tested of each number of a list is so of one that it has
 passes : (f : ℕ → Bool) (xs : List ℕ) (x : ℕ) → list_all f xs ≡ true → has xs x ≡ true → f x ≡ true

@@ -1,21 +1,21 @@
 -- A slot left of a failed one is drained.
-use Rattle.std.proofs.Common.{◌≡◌, ℕ, zero, suc, ◌+◌, ◌-◌, ◌<◌, ◌≤◌, Bool, true, false, not, ◌&&◌, if◌then◌else◌, List, [], ◌∷◌, ◌++◌, map, Option, Some, None, refl, sym, subst, arith}
-use Rattle.std.proofs.lemmas.Bool.{false≢true}
+use Rattle.std.proofs.Common.{◌≡◌, ℕ, zero, suc, ◌+◌, ◌-◌, ◌<◌, ◌≤◌, ◌⊎◌, inl, inr, Bool, true, false, not, ◌&&◌, if◌then◌else◌, List, [], ◌∷◌, ◌++◌, map, Option, Some, None, refl, ap, sym, ◌∙◌, subst, arith}
+use Rattle.std.proofs.lemmas.Bool.{false≢true, not-true, not-false}
 use Rattle.std.proofs.lemmas.List.{map-append}
 use Rattle.ap_term.specs.Tree.{Tree}
 use Rattle.ap_term.specs.Goals.{Program}
-use Rattle.ap_laws.specs.Plain.{plain_ways}
+use Rattle.ap_laws.specs.Plain.{Plain, plain_ways}
 use Rattle.ap_laws.specs.Tasks as laws
 use Rattle.ap_laws.specs.Tasks.{left, edge_slots}
-use Rattle.ap_laws.specs.Events.{Drains, drain_here, drain_past}
+use Rattle.ap_laws.specs.Events.{Drains, drain_here, drain_past, HasFailedSafely}
 use Rattle.ap_laws.proofs.Ways.{and_both}
 use Rattle.ap_core.specs.declared.tasks.Busy.TheVariants.{Running}
-use Rattle.ap_core.specs.Tasks.{Answer, Task, Slots, no_slot, slot, Progress, idle, stored, busy, held, redone, again, drained}
+use Rattle.ap_core.specs.Tasks.{Answer, Task, task, Slots, no_slot, slot, Progress, idle, stored, busy, held, redone, again, drained}
 use Rattle.ap_core.specs.Conditions.{is_exhausted, spent_by, is_failed, has_failed, has_answer, has_more, before_failed, is_settled, answered_left, place_behind, place_to_drain}
-use Rattle.ap_core.specs.Relation.{plain_answer, given, drained_at}
+use Rattle.ap_core.specs.Relation.{plain_answer, given, drained_with, cost_of, drained_at}
 use Rattle.ap_core.specs.Erased.{erased, erased_slots}
 use Rattle.ap_core.specs.Heeding.{Heeds}
-use Rattle.ap_core.proofs.Fine.{IsGiven, Where, past, beyond, undrained, next_to, FineHeldTask, FineOpen, FineBegun}
+use Rattle.ap_core.proofs.Fine.{IsGiven, Where, past, beyond, undrained, next_to, Fine, FineHeldTask, FineOpen, FineBegun}
 use Rattle.ap_core.proofs.Erasing.{erased-given, IsGiven-given, Fine-given, left-FineHeldTask, stands_somehow, HasFailedSafely-settled}
 
 nothing : {A : Type 0} {x : A} → None ≡ Some x → ⊥

@@ -1,5 +1,5 @@
 -- What the core's conditions and changes say of the erased tasks.
-use Rattle.std.proofs.Common.{◌≡◌, ℕ, ◌+◌, ◌-◌, ◌≤◌, ◌⊎◌, inl, inr, Bool, true, false, not, ◌&&◌, if◌then◌else◌, List, [], ◌∷◌, ◌++◌, map, Some, None, refl, ap, sym, ◌∙◌, subst, arith}
+use Rattle.std.proofs.Common.{◌≡◌, ℕ, zero, suc, ◌+◌, ◌-◌, ◌<◌, ◌≤◌, ◌⊎◌, inl, inr, nat_lt, Bool, true, false, not, ◌||◌, ◌&&◌, if◌then◌else◌, List, [], ◌∷◌, ◌++◌, map, Option, Some, None, refl, ap, ap₂, sym, ◌∙◌, subst, arith}
 use Rattle.std.specs.List.{AllByRecursion}
 use Rattle.std.proofs.lemmas.Bool.{false≢true, not-true, not-false}
 use Rattle.std.proofs.lemmas.List.{map-append}
@@ -21,12 +21,12 @@ use Rattle.ap_core.specs.declared.tasks.Idle.TheVariants.{Ready, Waiting, GivenB
 use Rattle.ap_core.specs.declared.tasks.Busy.{Busy}
 use Rattle.ap_core.specs.declared.tasks.Busy.TheVariants.{Running, Stopping, Failed, Spent, Stopped, Raised}
 use Rattle.ap_core.specs.Tasks.{Answer, Task, task, Alternatives, exhausted, alternative, Alternative, state, frame, Slots, no_slot, slot, Progress, idle, stored, busy, held, redone, again, drained}
-use Rattle.ap_core.specs.Conditions.{is_exhausted, spent_by, stopped_cost, left_edge, leftmost, is_failed, some_failed, all_answered, some_has_more, some_is_again, before_failed, is_quiet, is_settled, answered_left}
-use Rattle.ap_core.specs.Relation.{states, ready, plain_answer, with_answers, if_kept, all_put_away, given, restarted_with, kept, redo_from, readied, as_states, replay_of, replayed, each_slot}
+use Rattle.ap_core.specs.Conditions.{is_exhausted, spent_by, stopped_cost, left_edge, leftmost, is_failed, has_failed, some_failed, has_answer, all_answered, has_more, some_has_more, is_again, some_is_again, before_failed, is_quiet, is_settled, answered_left}
+use Rattle.ap_core.specs.Relation.{states, ready, plain_answer, with_answers, if_kept, put_away, all_put_away, given, restarted_with, kept, redo_from, readied, as_states, replay_of, replayed, each_slot}
 use Rattle.ap_core.specs.Erased.{erased, erased_alternatives, erased_alternative, erased_slots, erased_slot}
 use Rattle.ap_core.specs.Heeding.{Heeds}
-use Rattle.ap_core.proofs.Options.{either_true, neither_true, Star, here, onward, Star-map, Star-then}
-use Rattle.ap_core.proofs.Fine.{IsGiven, Stands, AreWaiting, Where, past, beyond, undrained, next_to, Drains, Fine, FineFirst, FineBehind, FineAlternative, FineClosed, FineHeldTask, FineOpen, FineBegun, FineLater, FineShut}
+use Rattle.ap_core.proofs.Options.{either_true, neither_true, Star, here, onward, Star-one, Star-map, Star-then}
+use Rattle.ap_core.proofs.Fine.{IsGiven, Stands, AreWaiting, Where, past, beyond, undrained, next_to, Drains, Fine, FineFirst, FineBehind, FineAlternative, FineClosed, FineHeldTask, FineOpen, FineBegun, FineLater, FinePivot, FineShut, FineHeld}
 
 -- ---- states
 

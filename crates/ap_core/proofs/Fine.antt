@@ -1,6 +1,7 @@
 -- What every event of the core keeps of budgets and of how slots stand.
 use Rattle.std.proofs.Common.{◌≡◌, ℕ, ◌+◌, ◌-◌, ◌≤◌, Bool, true}
 use Rattle.ap_term.specs.Tree.{Tree}
+use Rattle.ap_term.specs.Search.{State}
 use Rattle.ap_laws.specs.Plain.{HasFullGroups}
 use Rattle.ap_laws.specs.Rejoining.{IsSpent, IsRaised}
 use Rattle.ap_core.specs.declared.tasks.Round.TheVariants.{First, Later, Closed}

@@ -1,13 +1,14 @@
 -- The conditions of a fork say what they are meant to: the checks hold, and the goals share no variable.
-use Rattle.std.proofs.Common.{◌≡◌, ℕ, ◌⊎◌, inl, inr, Bool, true, false, not, ◌||◌, ◌&&◌, nat_eq, if◌then◌else◌, List, [], ◌∷◌, ◌++◌, refl, sym, ◌∙◌}
+use Rattle.std.specs.Prelude.{◌↔◌}
+use Rattle.std.proofs.Common.{◌≡◌, ℕ, ◌⊎◌, inl, inr, Bool, true, false, not, ◌||◌, ◌&&◌, nat_eq, if◌then◌else◌, List, [], ◌∷◌, ◌++◌, refl, ap, sym, ◌∙◌, subst}
 use Rattle.std.specs.List.{list_all}
-use Rattle.std.proofs.lemmas.Bool.{false≢true, not-true, eqb-true, eq-eqb}
+use Rattle.std.proofs.lemmas.Bool.{false≢true, not-true, eqb-true, eq-eqb, ne_eqb}
 use Rattle.ap_term.specs.declared.clauses.Check.{Check}
 use Rattle.ap_term.specs.declared.clauses.Check.TheVariants.{Ground, Indep}
 use Rattle.ap_term.specs.Tree.{Tree, Trees, var, int, atom, node, none, more}
 use Rattle.ap_term.specs.Vars.{has, vars, add_vars, add_all_vars, occurs, occurs_all}
-use Rattle.ap_term.specs.Independence.{IsApart, AreApart, Holds}
-use Rattle.ap_core.specs.Conditions.{check_holds, are_apart_from}
+use Rattle.ap_term.specs.Independence.{SharesNoVariable, IsApart, AreApart, IsGround, Holds}
+use Rattle.ap_core.specs.Conditions.{check_holds, are_apart_from, are_apart}
 use Rattle.ap_core.specs.ForkLaw.{ForkLaw}
 use Rattle.ap_core.proofs.Options.{either_true}
 use Rattle.ap_core.proofs.Apart.{AreApart-are_apart}

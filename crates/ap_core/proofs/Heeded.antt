@@ -1,6 +1,7 @@
 -- A test that tells the loud goals tells each one that may meet a fault.
-use Rattle.std.proofs.Common.{◌≡◌, Bool, true, false, refl, sym, ◌∙◌}
+use Rattle.std.proofs.Common.{◌≡◌, ℕ, Bool, true, false, refl, sym, ◌∙◌}
 use Rattle.std.proofs.lemmas.Bool.{false≢true}
+use Rattle.ap_term.specs.Tree.{Tree}
 use Rattle.ap_term.specs.WellFormed.{callable}
 use Rattle.ap_laws.proofs.Quiet.{quiet}
 use Rattle.ap_core.specs.Heeding.{HeedLaw}

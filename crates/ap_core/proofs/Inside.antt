@@ -1,10 +1,10 @@
 -- The events of slots are events of the erased slots, along any path.
-use Rattle.std.proofs.Common.{◌≡◌, ℕ, zero, suc, ◌+◌, ◌-◌, ◌<◌, ◌⊎◌, inl, inr, nat_lt, Bool, true, false, not, is_none, ◌&&◌, List, [], ◌∷◌, ◌++◌, map, Option, Some, None, refl, ap, sym, ◌∙◌, subst, arith}
+use Rattle.std.proofs.Common.{◌≡◌, ℕ, zero, suc, ◌+◌, ◌-◌, ◌<◌, ◌≤◌, ◌⊎◌, inl, inr, nat_lt, Bool, true, false, not, is_none, ◌&&◌, if◌then◌else◌, List, [], ◌∷◌, ◌++◌, map, Option, Some, None, refl, ap, sym, ◌∙◌, subst, arith}
 use Rattle.std.proofs.lemmas.Bool.{false≢true, not-true, ltb-false}
 use Rattle.std.proofs.lemmas.List.{map-append}
 use Rattle.ap_term.specs.declared.faults.Fault.{Fault}
 use Rattle.ap_term.specs.Tree.{Tree, Trees, none, more}
-use Rattle.ap_term.specs.Goals.{Part, call, group, plain_goals}
+use Rattle.ap_term.specs.Goals.{Part, call, group, Program, plain_goals}
 use Rattle.ap_term.specs.WellFormed.{IsProgram}
 use Rattle.ap_term.specs.Search.{State, by_goals}
 use Rattle.ap_laws.specs.Plain as plain
@@ -26,8 +26,8 @@ use Rattle.ap_core.specs.declared.tasks.Busy.TheVariants.{Running, Stopping, Fai
 use Rattle.ap_core.specs.declared.events.Kind.{Kind}
 use Rattle.ap_core.specs.declared.events.Kind.TheVariants as kinds
 use Rattle.ap_core.specs.Tasks.{Answer, Task, task, Alternatives, exhausted, alternative, state, frame, Slots, no_slot, slot, Progress, idle, stored, busy, held, redone, again, drained}
-use Rattle.ap_core.specs.Conditions.{has_goals, is_done, fault_at, is_running, is_exhausted, spent_by, left_edge, leftmost, Verdict, wait, joins, breaks, drains, raises, spends, verdict}
-use Rattle.ap_core.specs.Relation.{Rules, mapped, plain_answer, own, answer, is_over, has_spent, fault_by, met, started, is_startable, start_slot, answer_slot, stand, failing, spending, raising, asked, stopping, stopped_slot, own_slot, forgotten, Recorded, recorded, at_slot, in_task, in_slots, in_slot}
+use Rattle.ap_core.specs.Conditions.{has_goals, is_done, fault_at, is_running, is_open, is_exhausted, spent_by, left_edge, leftmost, Verdict, wait, joins, breaks, drains, raises, spends, verdict}
+use Rattle.ap_core.specs.Relation.{Rules, only_if, mapped, plain_answer, own, answer, is_over, has_spent, fault_by, met, started, is_startable, start_slot, answer_slot, stand, failing, spending, raising, asked, stopping, given_back, stopped_slot, own_slot, forgotten, Recorded, recorded, at_slot, in_task, in_slots, in_slot}
 use Rattle.ap_core.specs.Erased.{erased, erased_alternatives, erased_slots, erased_slot}
 use Rattle.ap_core.specs.Heeding.{Heeds}
 use Rattle.ap_core.proofs.Options.{Some-only_if, Some-if, Some-mapped, Star, here, onward, Star-one, Star-map}

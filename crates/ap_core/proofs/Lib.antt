@@ -1,8 +1,10 @@
 pub mod Options
+pub mod Views
+pub mod Edges
+pub mod DrainedSlots
+pub mod ReplayedSlots
+pub mod Fitting
 pub mod Apart
-pub mod ForkConditions
-pub mod Heeded
-pub mod Lifted
 pub mod Fine
 pub mod Erasing
 pub mod Judging
@@ -10,4 +12,12 @@ pub mod Draining
 pub mod OwnEvents
 pub mod Inside
 pub mod Reached
+pub mod Heeded
+pub mod Lifted
+pub mod SlotLoops
+pub mod Alternatives
+pub mod Levels
+pub mod SlotEvents
+pub mod ForkConditions
 pub mod Rows
+pub mod Throwing

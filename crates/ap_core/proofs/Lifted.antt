@@ -1,12 +1,15 @@
 -- An event of a slot's task is one of the task outside of it.
-use Rattle.std.proofs.Common.{◌≡◌, ℕ, zero, suc, Bool, true, false, if◌then◌else◌, List, [], ◌∷◌, Option, Some, None, refl, ap, ◌∙◌}
+use Rattle.std.proofs.Common.{◌≡◌, ℕ, zero, suc, Bool, true, false, if◌then◌else◌, List, [], ◌∷◌, Option, Some, None, refl, ap, sym, ◌∙◌, subst}
 use Rattle.ap_term.specs.Tree.{Tree}
+use Rattle.ap_term.specs.Search.{State}
 use Rattle.ap_core.specs.declared.events.Kind.{Kind}
 use Rattle.ap_core.specs.declared.events.Kind.TheVariants as kinds
-use Rattle.ap_core.specs.Tasks.{Task, task, exhausted, alternative, state, frame, Slots, no_slot, slot, Progress, idle, stored, busy, held, redone, again, drained}
+use Rattle.ap_core.specs.declared.tasks.Round.{Round}
+use Rattle.ap_core.specs.declared.tasks.Busy.{Busy}
+use Rattle.ap_core.specs.Tasks.{Answer, Task, task, Alternatives, exhausted, alternative, state, frame, Slots, no_slot, slot, Progress, idle, stored, busy, held, redone, again, drained}
 use Rattle.ap_core.specs.Conditions.{is_running, is_open}
-use Rattle.ap_core.specs.Relation.{Rules, recorded, mapped, own, own_slot, at_slot, in_task, in_slots, in_slot}
-use Rattle.ap_core.specs.Lifting.{running_of, running_in, at_end, LiftLaw}
+use Rattle.ap_core.specs.Relation.{Rules, Recorded, recorded, mapped, own, own_slot, at_slot, in_task, in_alternatives, in_slots, in_slot}
+use Rattle.ap_core.specs.Lifting.{running_of, running_in, running_task, at_end, LiftLaw}
 use Rattle.ap_core.proofs.Options.{Some-if}
 
 nothing : {A : Type 0} {x : A} → None ≡ Some x → ⊥

@@ -1,10 +1,12 @@
 -- The events of a task are events of the erased task, and keep what is fine.
-use Rattle.std.proofs.Common.{◌≡◌, ℕ, suc, ◌+◌, ◌-◌, ◌<◌, ◌≤◌, ◌⊎◌, inl, inr, nat_lt, Bool, true, false, not, ◌&&◌, if◌then◌else◌, List, [], ◌∷◌, Option, Some, None, refl, ap, sym, ◌∙◌, subst, arith}
+use Rattle.std.proofs.Common.{◌≡◌, ℕ, zero, suc, ◌+◌, ◌-◌, ◌<◌, ◌≤◌, ◌⊎◌, inl, inr, nat_lt, Bool, true, false, not, ◌&&◌, is_none, if◌then◌else◌, List, [], ◌∷◌, ◌++◌, map, Option, Some, None, refl, ap, sym, ◌∙◌, subst, arith}
 use Rattle.std.specs.List.{list_all}
-use Rattle.std.proofs.lemmas.Bool.{false≢true, not-true, ltb-true}
+use Rattle.std.proofs.lemmas.Bool.{false≢true, not-true, not-false, ltb-true, ltb-false}
+use Rattle.ap_term.specs.declared.clauses.Check.{Check}
 use Rattle.ap_term.specs.declared.faults.Fault.{Fault}
 use Rattle.ap_term.specs.Tree.{Tree, Trees, none, more, append_trees}
-use Rattle.ap_term.specs.Goals.{Part, call, group, plain_goals}
+use Rattle.ap_term.specs.Goals.{Part, call, group, Program, plain_goals}
+use Rattle.ap_term.specs.Independence.{AreApart}
 use Rattle.ap_term.specs.WellFormed.{IsProgram}
 use Rattle.ap_term.specs.Search.{State, by_goals, children}
 use Rattle.ap_laws.specs.Plain.{Plain, Ways, plain_by, plain_of, next_of, plain_ways, Renames, Locals, HasFullGroups}
@@ -23,13 +25,13 @@ use Rattle.ap_core.specs.declared.tasks.Round.{Round}
 use Rattle.ap_core.specs.declared.tasks.Round.TheVariants.{First, Later, Closed}
 use Rattle.ap_core.specs.declared.events.Kind.{Kind}
 use Rattle.ap_core.specs.declared.events.Kind.TheVariants as kinds
-use Rattle.ap_core.specs.Tasks.{Task, task, Alternatives, exhausted, alternative, state, frame, Slots}
-use Rattle.ap_core.specs.Conditions.{has_goals, are_apart, check_holds, is_open, some_failed, all_answered, some_runs, some_has_more, some_is_again, before_failed, is_quiet, is_settled, left_edge, Verdict, wait, joins, breaks, drains, raises, spends, verdict}
-use Rattle.ap_core.specs.Relation.{Rules, states, inferred, ready, fork_goals, forked, with_answers, joined_by, joined, after_failure, broken_by, broken, drained_at, drained_by, drain, redo_from, redo, readied, replayed, each_slot, begun_anew, own}
-use Rattle.ap_core.specs.Erased.{erased, erased_alternatives, erased_slots}
+use Rattle.ap_core.specs.Tasks.{Task, task, Alternatives, exhausted, alternative, state, frame, Slots, Progress}
+use Rattle.ap_core.specs.Conditions.{has_goals, are_apart, check_holds, is_open, some_failed, all_answered, some_runs, some_has_more, some_is_again, before_failed, is_quiet, is_settled, answered_left, place_to_drain, left_edge, Verdict, wait, joins, breaks, drains, raises, spends, verdict}
+use Rattle.ap_core.specs.Relation.{Rules, only_if, states, inferred, ready, fork_goals, forked, with_answers, joined_by, joined, after_failure, broken_by, broken, drained_at, drained_by, drain, redo_from, redo, readied, replayed, each_slot, begun_anew, own}
+use Rattle.ap_core.specs.Erased.{erased, erased_alternatives, erased_slots, round_of}
 use Rattle.ap_core.specs.Heeding.{Heeds}
-use Rattle.ap_core.proofs.Options.{Some-only_if, Some-mapped, Star, here, onward, Star-one, Star-map, Star-then}
-use Rattle.ap_core.proofs.Fine.{IsGiven, past, Fine, FineBehind, FineShut}
+use Rattle.ap_core.proofs.Options.{Some-only_if, Some-if, Some-mapped, Star, here, onward, Star-one, Star-map, Star-then}
+use Rattle.ap_core.proofs.Fine.{IsGiven, past, Fine, FineFirst, FineBehind, FineOpen, FineLater, FineShut}
 use Rattle.ap_core.proofs.Erasing.{erased-states, FineBehind-states, FineFirst-FineBehind, erased-ready, FineOpen-ready, erased-all_readied, some_is_again-FineOpen, FineLater-all_readied, FineLater-all_replayed, Spins-all_replayed, with_answers-joined_state, IsFull-all_answered, left_edge-full, left_edge-FineOpen, left_edge-FineLater, left_edge-failed, HasFailedSafely-quiet, HasFailedSafely-settled, HasFailedLater-some_failed, FineShut-FineOpen, FineShut-FineLater, HasNoAlternative-some_has_more, Redoes, Redoes-redo_from, FineLater-redo_from}
 use Rattle.ap_core.proofs.Judging.{Unfailed, all_joins, one_raises, edge_above, one_spent, one_waits, FirstMeans, first_breaks, first_drains, first_above, first_else, first_means, LaterMeans, later_breaks, later_above, later_else, later_means}
 use Rattle.ap_core.proofs.Draining.{Drained, Drained-at}

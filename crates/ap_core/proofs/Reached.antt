@@ -1,10 +1,13 @@
 -- Each core that a list of events leads to is reached by a parallel search of `ap_laws`.
-use Rattle.std.proofs.Common.{◌≡◌, ℕ, true, List, [], ◌∷◌, ◌++◌, map, Option, Some, None, refl, ap, sym, ◌∙◌, subst, arith}
+use Rattle.std.proofs.Common.{◌≡◌, ℕ, ◌+◌, ◌<◌, ◌⊎◌, Bool, true, false, if◌then◌else◌, List, [], ◌∷◌, ◌++◌, map, Option, Some, None, refl, ap, ap₂, sym, ◌∙◌, subst, arith}
 use Rattle.std.specs.List.{AllByRecursion}
+use Rattle.std.proofs.lemmas.Bool.{false≢true}
 use Rattle.std.proofs.lemmas.List.{map-append}
+use Rattle.ap_term.specs.declared.faults.Fault.{Fault}
 use Rattle.ap_term.specs.Tree.{Tree, Trees, node, none, more}
+use Rattle.ap_term.specs.Goals.{Program, joined}
 use Rattle.ap_term.specs.WellFormed.{IsProgram}
-use Rattle.ap_term.specs.Search.{State, start, meets, answer as found_answer}
+use Rattle.ap_term.specs.Search.{State, Outcome, start, meets, answer as found_answer}
 use Rattle.ap_term.specs.Blocks.{Begins, IsAllUpTo}
 use Rattle.ap_laws.specs.Renaming.{IsBelow}
 use Rattle.ap_laws.specs.Plain.{Plain, Ways, IsAnswer, outcome, tuple_of, plain_of, next_of, plain_ways, HasFullGroups}
@@ -23,19 +26,19 @@ use Rattle.ap_core.specs.declared.events.Kind.TheVariants as kinds
 use Rattle.ap_core.specs.declared.tasks.Status.{Status}
 use Rattle.ap_core.specs.declared.tasks.Status.TheVariants.{GoingOn, NoBudget, HasRaised}
 use Rattle.ap_core.specs.declared.tasks.Round.TheVariants.{First, Later, Closed}
-use Rattle.ap_core.specs.Tasks.{Task, task, Alternatives, exhausted, alternative, state, frame, Slots, no_slot, slot, idle, stored, busy, held, redone, again, drained}
+use Rattle.ap_core.specs.Tasks.{Answer, Task, task, Alternatives, exhausted, alternative, Alternative, state, frame, Slots, no_slot, slot, idle, stored, busy, held, redone, again, drained}
 use Rattle.ap_core.specs.Conditions.{is_exhausted, spent_by}
 use Rattle.ap_core.specs.Relation.{Rules, only_if, mapped, plain_answer, own, answer, has_spent, met, in_task, Core, with_root, with_status, emitting, at_root, along, while_going, after}
 use Rattle.ap_core.specs.Erased.{erased, erased_alternatives, erased_slots}
 use Rattle.ap_core.specs.Heeding.{Heeds}
-use Rattle.ap_core.specs.Own.{HasOwnAnswers, HaveOwnAnswers, SlotsHaveOwn}
+use Rattle.ap_core.specs.Own.{HasOwnAnswers, HaveOwnAnswers, HasOwnAnswersIn, SlotsHaveOwn}
 use Rattle.ap_core.specs.Reached as reached
 use Rattle.ap_core.specs.Reached.{beginning, Happening, after_all, ReachedLaw, IsEmitted}
-use Rattle.ap_core.proofs.Options.{Some-only_if, Some-mapped, Star, here, onward}
-use Rattle.ap_core.proofs.Fine.{IsGiven, Fine}
-use Rattle.ap_core.proofs.Erasing.{IsExhausted-erased}
+use Rattle.ap_core.proofs.Options.{Some-only_if, Some-if, Some-mapped, Star, here, onward}
+use Rattle.ap_core.proofs.Fine.{IsGiven, Fine, FineHeldTask}
+use Rattle.ap_core.proofs.Erasing.{FineFirst-FineBehind, IsExhausted-erased}
 use Rattle.ap_core.proofs.OwnEvents.{Made, Made-own, next_of-forked}
-use Rattle.ap_core.proofs.Inside.{Answers-answer, IsSpent-has_spent, IsRaised-met, Fine-held, Made-in_task}
+use Rattle.ap_core.proofs.Inside.{Answers, Answers-answer, IsSpent-has_spent, IsRaised-met, Fine-held, Made-in_task}
 
 -- how the root stands to its budget
 abbrev RootStands : Status → ℕ → Task → Type 0

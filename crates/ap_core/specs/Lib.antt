@@ -1,4 +1,5 @@
 pub mod Tasks
+pub mod TaskView
 pub mod Conditions
 pub mod Relation
 pub mod Erased
@@ -7,5 +8,10 @@ pub mod Telling
 pub mod Own
 pub mod Lifting
 pub mod Reached
-pub mod Rows
+pub mod Fitting
+pub mod VerdictView
+pub mod Outcome
+pub mod Rounds
+pub mod CoreView
 pub mod ForkLaw
+pub mod Rows

@@ -1,7 +1,7 @@
 -- Events of inner tasks, as events of those outside of them.
 use Rattle.std.specs.Prelude.{◌≡◌, ℕ, zero, suc, List, [], ◌∷◌, Option, Some, None, if◌then◌else◌}
 use Rattle.ap_core.specs.declared.events.Kind.{Kind}
-use Rattle.ap_core.specs.Tasks.{Task, task, exhausted, alternative, state, frame, Slots, no_slot, slot, Progress, idle, stored, busy, held, redone, again, drained}
+use Rattle.ap_core.specs.Tasks.{Task, task, Alternatives, exhausted, alternative, state, frame, Slots, no_slot, slot, Progress, idle, stored, busy, held, redone, again, drained}
 use Rattle.ap_core.specs.Conditions.{is_running, is_open}
 use Rattle.ap_core.specs.Relation.{Rules, own, in_task}
 

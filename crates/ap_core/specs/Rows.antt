@@ -2,7 +2,8 @@
 use Rattle.std.specs.Prelude.{◌≡◌, ℕ, Bool, true, false, List, [], ◌∷◌, ◌++◌, Option, Some, None, pos}
 use Rattle.ap_term.specs.declared.fixed.TheConstants.{IS, DIVIDE, FAIL}
 use Rattle.ap_term.specs.Tree.{Tree, Trees, var, int, atom, node, none, more}
-use Rattle.ap_term.specs.Goals.{call, group, Program}
+use Rattle.ap_term.specs.Goals.{Part, call, group, Program}
+use Rattle.ap_term.specs.Search.{State}
 use Rattle.ap_core.specs.declared.events.Kind.{Kind}
 use Rattle.ap_core.specs.declared.events.Kind.TheVariants.{Infer, Fork, Start, Answer, Fail, Spend, Join, Break, Redo, Drain, Replay}
 use Rattle.ap_core.specs.declared.tasks.Status.{Status}
