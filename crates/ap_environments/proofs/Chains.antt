@@ -1,13 +1,17 @@
 -- What a frame that is put on, and frames that are taken off, make of the returns.
-use Rattle.std.proofs.Common.{◌≡◌, ℕ, zero, suc, ◌+◌, ◌-◌, ◌<◌, ◌≤◌, List, [], ◌∷◌, ◌++◌, length, take, drop, map, get_or, slice_get, Option, Some, None, reverse, refl, ap, ap₂, sym, ◌∙◌, subst, arith}
+use Rattle.std.proofs.Common.{◌≡◌, ℕ, zero, suc, ◌+◌, ◌-◌, ◌<◌, ◌≤◌, List, [], ◌∷◌, ◌++◌, length, take, drop, get_or, slice_get, Option, Some, None, refl, ap, ap₂, sym, ◌∙◌, subst, arith}
 use Rattle.std.specs.List.{AllByRecursion}
-use Rattle.std.specs.Option.{IfSome}
-use Rattle.std.proofs.lemmas.List.{length-append, length-take-le, take-append-drop, take_all, take-take, take_at, take-append-le, drop_at, drop-append-le, get_or-take, get_or_append_left, get_or_at, map-append, reverse-append}
+use Rattle.std.specs.Option.{IfSome, option_to_list}
+use Rattle.std.proofs.lemmas.List.{append-nil, length-append, length-take-le, take-append-drop, take_all, take-take, take_at, take-append-le, drop_at, drop-append-le, get_or-take, get_or_append_left, get_or_at}
 use Rattle.ap_steps.specs.Standing.{Return}
+use Rattle.ap_environments.specs.declared.environments.Choice.{Choice}
+use Rattle.ap_environments.specs.declared.environments.Entry.{Entry}
+use Rattle.ap_environments.specs.declared.environments.Entry.TheVariants.{Call, Fork as Forking}
+use Rattle.ap_environments.specs.declared.environments.Fork.{Fork}
 use Rattle.ap_environments.specs.declared.environments.Frame.{Frame}
 use Rattle.ap_environments.specs.declared.environments.Point.{Point}
-use Rattle.ap_environments.specs.Kept.{Moment}
-use Rattle.ap_environments.specs.Frames.{return_of, chains_from, chains, chain, moment_of, moment, moments, Laid, LeadUp, Rising, AreFrames}
+use Rattle.ap_environments.specs.Kept.{Moment, Forked}
+use Rattle.ap_environments.specs.Frames.{return_of, chains_from, chains, chain, moment_of, forked_of, Segments, put_entry, put_point, segments_from, segments, Laid, LeadUp, Rising, AreFrames}
 
 -- ---- lists of returns
 
@@ -142,17 +146,17 @@ module _ (ss : List ℕ) (fs : List Frame) (n : ℕ) (d : Frame) (h : AreFrames 
   pub cut-frames : AreFrames (take first ss) (take n fs)
   cut-frames = record { laid = laid; up = LeadUp-take 0 n fs h.up }
 
--- ---- choice points
+-- ---- choice points and forks
 
-moments-same : (ss us : List ℕ) (fs gs : List Frame) (qs : List Point) → AllByRecursion (λ q. chain us gs q.frames ≡ chain ss fs q.frames) qs → map (moment us gs) qs ≡ map (moment ss fs) qs
-moments-same ss us fs gs [] h = refl
-moments-same ss us fs gs (q ∷ qs) h = ap₂ (λ m ms. moment_of q.choice m ∷ ms) h.0 (moments-same ss us fs gs qs h.1)
+segments-same : (ss us : List ℕ) (fs gs : List Frame) (s : Segments) (qs : List Point) → AllByRecursion (λ q. chain us gs q.frames ≡ chain ss fs q.frames) qs → segments_from us gs s qs ≡ segments_from ss fs s qs
+segments-same ss us fs gs s [] h = refl
+segments-same ss us fs gs s (q ∷ qs) h = ap (λ ws. segments_from us gs (put_entry q.entry ws s) qs) h.0 ∙ segments-same ss us fs gs (put_point ss fs s q) qs h.1
 
 pub Rising-end : (n : ℕ) (qs : List Point) (all : ℕ) → Rising n qs all → n ≤ all
 Rising-end n [] all h = h
 Rising-end n (q ∷ qs) all h = let e = Rising-end q.frames qs all h.2 in let l : n ≤ q.frames = h.0 in omega arith
 
--- what holds of each number up to the end holds of each choice point's
+-- what holds of each number up to the end holds of each entry's
 Rising-each : (P : ℕ → Type 0) (n : ℕ) (qs : List Point) (all : ℕ) → Rising n qs all → ((m : ℕ) → m ≤ all → P m) → AllByRecursion (λ q. P q.frames) qs
 Rising-each P n [] all h f = tt
 Rising-each P n (q ∷ qs) all h f = (f q.frames (Rising-end q.frames qs all h.2), Rising-each P q.frames qs all h.2 f)
@@ -165,7 +169,7 @@ pub Rising-push : (n : ℕ) (qs : List Point) (all : ℕ) (q : Point) → Rising
 Rising-push n [] all q h l p = let e : n ≤ all = h in (omega arith, p, omega arith)
 Rising-push n (r ∷ qs) all q h l p = (h.0, h.1, Rising-push r.frames qs all q h.2 l p)
 
--- the last choice point keeps the most
+-- the last entry keeps the most
 pub Rising-last : (n : ℕ) (qs : List Point) (all : ℕ) (q : Point) → Rising n (qs ++ q ∷ []) all → Rising n (qs ++ q ∷ []) q.frames × (0 < q.frames) × (q.frames ≤ all)
 Rising-last n [] all q h = ((h.0, h.1, omega arith), h.1, h.2)
 Rising-last n (r ∷ qs) all q h = let e = Rising-last r.frames qs all q h.2 in ((h.0, h.1, e.0), e.1, e.2)
@@ -174,9 +178,9 @@ pub Rising-front : (n : ℕ) (qs : List Point) (all : ℕ) (q : Point) → Risin
 Rising-front n [] all q h = let e : n ≤ q.frames = h.0 in let l : q.frames ≤ all = h.2 in omega arith
 Rising-front n (r ∷ qs) all q h = (h.0, h.1, Rising-front r.frames qs all q h.2)
 
--- lists of returns that begin alike give the choice points the same
-pub moments-alike : (ss us : List ℕ) (fs gs : List Frame) (qs : List Point) (n : ℕ) → Rising 0 qs n → ((m : ℕ) → m ≤ n → chain us gs m ≡ chain ss fs m) → moments us gs qs ≡ moments ss fs qs
-moments-alike ss us fs gs qs n h same = ap reverse (moments-same ss us fs gs qs (Rising-each (λ m. chain us gs m ≡ chain ss fs m) 0 qs n h same))
+-- lists of returns that begin alike give the entries the same
+pub segments-alike : (ss us : List ℕ) (fs gs : List Frame) (qs : List Point) (n : ℕ) → Rising 0 qs n → ((m : ℕ) → m ≤ n → chain us gs m ≡ chain ss fs m) → segments us gs qs ≡ segments ss fs qs
+segments-alike ss us fs gs qs n h same = segments-same ss us fs gs (record { moments = []; forks = [] }) qs (Rising-each (λ m. chain us gs m ≡ chain ss fs m) 0 qs n h same)
 
 -- ---- lists of returns, one from another
 
@@ -189,8 +193,12 @@ before-pushed ss us fs gs r e m l = ap (λ cs. get_or cs m []) e ∙ get_or_appe
 pub last-pushed : (ss us : List ℕ) (fs gs : List Frame) (r : List Return) → chains us gs ≡ chains ss fs ++ r ∷ [] → (n : ℕ) → n ≡ length fs + 1 → chain us gs n ≡ r
 last-pushed ss us fs gs r e n k = ap (λ cs. get_or cs n []) e ∙ get_or_at (chains ss fs) r [] [] n (length-chains ss fs ∙ sym k)
 
-pub moments-push : (ss : List ℕ) (fs : List Frame) (qs : List Point) (q : Point) → moments ss fs (qs ++ q ∷ []) ≡ moment ss fs q ∷ moments ss fs qs
-moments-push ss fs qs q = ap reverse (map-append (moment ss fs) qs (q ∷ [])) ∙ reverse-append (map (moment ss fs) qs) (moment ss fs q ∷ [])
+segments_from-push : (ss : List ℕ) (fs : List Frame) (s : Segments) (qs : List Point) (q : Point) → segments_from ss fs s (qs ++ q ∷ []) ≡ put_point ss fs (segments_from ss fs s qs) q
+segments_from-push ss fs s [] q = refl
+segments_from-push ss fs s (r ∷ qs) q = segments_from-push ss fs (put_point ss fs s r) qs q
+
+pub segments-push : (ss : List ℕ) (fs : List Frame) (qs : List Point) (q : Point) → segments ss fs (qs ++ q ∷ []) ≡ put_point ss fs (segments ss fs qs) q
+segments-push ss fs qs q = segments_from-push ss fs (record { moments = []; forks = [] }) qs q
 
 -- the last element of a list
 pub front-last : {X : Type 0} (xs : List X) (n : ℕ) (x : X) → n + 1 ≡ length xs → slice_get xs n ≡ Some x → xs ≡ take n xs ++ x ∷ []
@@ -232,19 +240,14 @@ frame-within ss fs n d h l = Laid-first 0 fs (length ss) n d h.laid l
 
 -- ---- the whole
 
--- frames are taken off that neither the innermost return nor a choice point needs
+-- frames are taken off that no return, choice point or fork needs
 pub same-view : (ss us : List ℕ) (fs gs : List Frame) (qs : List Point) (top n : ℕ) → chains us gs ≡ take (n + 1) (chains ss fs) → top ≤ n → Rising 0 qs n
-    → (chain us gs top ≡ chain ss fs top) × (moments us gs qs ≡ moments ss fs qs)
-same-view ss us fs gs qs top n e l h = (trimmed ss us fs gs n e top l, moments-alike ss us fs gs qs n h (trimmed ss us fs gs n e))
+    → (chain us gs top ≡ chain ss fs top) × (segments us gs qs ≡ segments ss fs qs)
+same-view ss us fs gs qs top n e l h = (trimmed ss us fs gs n e top l, segments-alike ss us fs gs qs n h (trimmed ss us fs gs n e))
 
--- the newest moment and the others
-pub newest-moment : (ss : List ℕ) (fs : List Frame) (points qs : List Point) (q : Point) → points ≡ qs ++ q ∷ [] → moments ss fs points ≡ moment ss fs q ∷ moments ss fs qs
-newest-moment ss fs points qs q e = ap (moments ss fs) e ∙ moments-push ss fs qs q
-
--- a choice point's own frame
-pub own-moment : (ss : List ℕ) (fs : List Frame) (q : Point) (n : ℕ) (d : Frame) → LeadUp 0 fs → q.frames ≡ n + 1 → n < length fs
-    → moment ss fs q ≡ record { choice = q.choice; returns = chain ss fs (get_or fs n d).up; arguments = take (get_or fs n d).count (drop (get_or fs n d).first ss) }
-own-moment ss fs q n d up e l = ap (moment_of q.choice) (chain-at ss fs q.frames n d up e l)
+-- the newest entry and the others
+pub newest-entry : (ss : List ℕ) (fs : List Frame) (points qs : List Point) (q : Point) → points ≡ qs ++ q ∷ [] → segments ss fs points ≡ put_point ss fs (segments ss fs qs) q
+newest-entry ss fs points qs q e = ap (segments ss fs) e ∙ segments-push ss fs qs q
 
 -- ---- the last of a list
 
@@ -265,7 +268,7 @@ pub is-last : {X : Type 0} (xs : List X) (r : Option X) → r ≡ slice_get xs (
 is-last xs None e = (λ n. none-last xs (sym e), tt)
 is-last xs (Some x) e = (λ n. absurd (let z : ⊥ = cc in z), some-last xs x (sym e))
 
--- ---- the newest choice point
+-- ---- the newest entry
 
 pub last-kept : (points qs : List Point) (q : Point) (all : ℕ) → points ≡ qs ++ q ∷ [] → Rising 0 points all → (0 < q.frames) × (q.frames ≤ all)
 last-kept points qs q all e h = let r = Rising-last 0 qs all q (subst (λ ps. Rising 0 ps all) e h) in (r.1, r.2)
@@ -273,37 +276,79 @@ last-kept points qs q all e h = let r = Rising-last 0 qs all q (subst (λ ps. Ri
 pub front-rising : (points qs : List Point) (q : Point) (all : ℕ) → points ≡ qs ++ q ∷ [] → Rising 0 points all → Rising 0 qs all
 front-rising points qs q all e h = Rising-front 0 qs all q (subst (λ ps. Rising 0 ps all) e h)
 
--- its moment is the first of the list, which is another way to say what it is
-pub is-newest : (ss : List ℕ) (fs : List Frame) (points qs : List Point) (q : Point) (ns : List Moment) (m : Moment) (ms : List Moment) → points ≡ qs ++ q ∷ [] → moments ss fs points ≡ ns → ns ≡ m ∷ ms
-    → (moment ss fs q ≡ m) × (moments ss fs qs ≡ ms)
-is-newest ss fs points qs q ns m ms e v h =
-    let d : moment ss fs q ∷ moments ss fs qs ≡ m ∷ ms = sym (newest-moment ss fs points qs q e) ∙ v ∙ h in
-    (cc, cc)
-
--- the same frames for a choice point that names other clauses
-pub moment-choice : (ss : List ℕ) (fs : List Frame) (q r : Point) → r.frames ≡ q.frames → moment ss fs r ≡ record { choice = r.choice; returns = (moment ss fs q).returns; arguments = (moment ss fs q).arguments }
-moment-choice ss fs q r e = ap (λ n. moment_of r.choice (chain ss fs n)) e ∙ go (chain ss fs q.frames)
+-- where its moment is the first of the list, it is a choice point's
+pub is-newest : (ss : List ℕ) (fs : List Frame) (points qs : List Point) (q : Point) (s : Segments) (m : Moment) (ms : List Moment) → points ≡ qs ++ q ∷ [] → segments ss fs points ≡ s → s.moments ≡ m ∷ ms
+    → (c : Choice) × (q.entry ≡ Call c) × (moment_of c (chain ss fs q.frames) ≡ m) × (segments ss fs qs ≡ record { moments = ms; forks = s.forks })
+is-newest ss fs points qs q s m ms e v h = go q.entry (chain ss fs q.frames) (segments ss fs qs) (sym (newest-entry ss fs points qs q e) ∙ v)
   where
-    go : (ws : List Return) → moment_of r.choice ws ≡ record { choice = r.choice; returns = (moment_of q.choice ws).returns; arguments = (moment_of q.choice ws).arguments }
-    go [] = refl
-    go (w ∷ ws) = refl
+    go : (i : Entry) (ws : List Return) (t : Segments) → put_entry i ws t ≡ s → (c : Choice) × (i ≡ Call c) × (moment_of c ws ≡ m) × (t ≡ record { moments = ms; forks = s.forks })
+    go (Call c) ws t v =
+        let d : moment_of c ws ∷ t.moments ≡ m ∷ ms = ap (λ r. r.moments) v ∙ h in
+        let first : moment_of c ws ≡ m = cc in
+        let others : t.moments ≡ ms = cc in
+        (c, refl, first, ap₂ (λ ns ks. record { moments = ns; forks = ks }) others (ap (λ r. r.forks) v))
+    go (Forking f) ws t v = let d : [] ≡ m ∷ ms = ap (λ r. r.moments) v ∙ h in let none : ⊥ = cc in absurd none
 
-pub moment-choice_is : (ss : List ℕ) (fs : List Frame) (q : Point) → (moment ss fs q).choice ≡ q.choice
-moment-choice_is ss fs q = go (chain ss fs q.frames)
+forked-moments : (f : Fork) (ws : List Return) (ms : List Moment) → (forked_of f ws ms).moments ≡ ms
+forked-moments f [] ms = refl
+forked-moments f (w ∷ ws) ms = refl
+
+pub forked-fork_is : (f : Fork) (ws : List Return) (ms : List Moment) → (forked_of f ws ms).fork ≡ f
+forked-fork_is f [] ms = refl
+forked-fork_is f (w ∷ ws) ms = refl
+
+-- where no choice point is newer than the newest fork, it is a fork's
+pub is-newest-fork : (ss : List ℕ) (fs : List Frame) (points qs : List Point) (q : Point) (s : Segments) (k : Forked) (ks : List Forked) → points ≡ qs ++ q ∷ [] → segments ss fs points ≡ s → s.moments ≡ [] → s.forks ≡ k ∷ ks
+    → (f : Fork) × (forked_of f (chain ss fs q.frames) k.moments ≡ k) × (segments ss fs qs ≡ record { moments = k.moments; forks = ks })
+is-newest-fork ss fs points qs q s k ks e v n h = go q.entry (chain ss fs q.frames) (segments ss fs qs) (sym (newest-entry ss fs points qs q e) ∙ v)
   where
-    go : (ws : List Return) → (moment_of q.choice ws).choice ≡ q.choice
-    go [] = refl
-    go (w ∷ ws) = refl
+    go : (i : Entry) (ws : List Return) (t : Segments) → put_entry i ws t ≡ s → (f : Fork) × (forked_of f ws k.moments ≡ k) × (t ≡ record { moments = k.moments; forks = ks })
+    go (Call c) ws t v = let d : moment_of c ws ∷ t.moments ≡ [] = ap (λ r. r.moments) v ∙ n in let none : ⊥ = cc in absurd none
+    go (Forking f) ws t v =
+        let d : forked_of f ws t.moments ∷ t.forks ≡ k ∷ ks = ap (λ r. r.forks) v ∙ h in
+        let first : forked_of f ws t.moments ≡ k = cc in
+        let others : t.forks ≡ ks = cc in
+        let same : t.moments ≡ k.moments = sym (forked-moments f ws t.moments) ∙ ap (λ r. r.moments) first in
+        (f, ap (forked_of f ws) (sym same) ∙ first, ap₂ (λ ns rs. record { moments = ns; forks = rs }) same others)
+
+pub is-fork : (ss : List ℕ) (fs : List Frame) (points qs : List Point) (q : Point) (s : Segments) → points ≡ qs ++ q ∷ [] → segments ss fs points ≡ s → s.moments ≡ [] → (f : Fork) × (q.entry ≡ Forking f)
+is-fork ss fs points qs q s e v n = go q.entry (chain ss fs q.frames) (segments ss fs qs) (sym (newest-entry ss fs points qs q e) ∙ v)
+  where
+    go : (i : Entry) (ws : List Return) (t : Segments) → put_entry i ws t ≡ s → (f : Fork) × (i ≡ Forking f)
+    go (Call c) ws t v = let d : moment_of c ws ∷ t.moments ≡ [] = ap (λ r. r.moments) v ∙ n in let none : ⊥ = cc in absurd none
+    go (Forking f) ws t v = (f, refl)
+
+-- an entry is a choice point's or a fork's
+pub some-entry : (ss : List ℕ) (fs : List Frame) (points qs : List Point) (q : Point) (s : Segments) → points ≡ qs ++ q ∷ [] → segments ss fs points ≡ s → s.moments ≡ [] → s.forks ≡ [] → ⊥
+some-entry ss fs points qs q s e v n h = go q.entry (chain ss fs q.frames) (segments ss fs qs) (sym (newest-entry ss fs points qs q e) ∙ v)
+  where
+    go : (i : Entry) (ws : List Return) (t : Segments) → put_entry i ws t ≡ s → ⊥
+    go (Call c) ws t v = let d : moment_of c ws ∷ t.moments ≡ [] = ap (λ r. r.moments) v ∙ n in cc
+    go (Forking f) ws t v = let d : forked_of f ws t.moments ∷ t.forks ≡ [] = ap (λ r. r.forks) v ∙ h in cc
+
+-- no entry
+pub no-moment : (ss : List ℕ) (fs : List Frame) (points : List Point) (s : Segments) (m : Moment) (ms : List Moment) → points ≡ [] → segments ss fs points ≡ s → s.moments ≡ m ∷ ms → ⊥
+no-moment ss fs points s m ms e v h = let d : [] ≡ m ∷ ms = ap (λ r. r.moments) (sym (ap (segments ss fs) e) ∙ v) ∙ h in cc
+
+pub no-fork : (ss : List ℕ) (fs : List Frame) (points : List Point) (s : Segments) (k : Forked) (ks : List Forked) → points ≡ [] → segments ss fs points ≡ s → s.forks ≡ k ∷ ks → ⊥
+no-fork ss fs points s k ks e v h = let d : [] ≡ k ∷ ks = ap (λ r. r.forks) (sym (ap (segments ss fs) e) ∙ v) ∙ h in cc
+
+-- the same moment with other clauses
+pub moment-choice_is : (c : Choice) (ws : List Return) → (moment_of c ws).choice ≡ c
+moment-choice_is c [] = refl
+moment-choice_is c (w ∷ ws) = refl
+
+pub moment-choice : (c d : Choice) (ws : List Return) → moment_of d ws ≡ record { choice = d; returns = (moment_of c ws).returns; arguments = (moment_of c ws).arguments }
+moment-choice c d [] = refl
+moment-choice c d (w ∷ ws) = refl
 
 pub Rising-replace : (n : ℕ) (qs : List Point) (all : ℕ) (q r : Point) → r.frames ≡ q.frames → Rising n (qs ++ q ∷ []) all → Rising n (qs ++ r ∷ []) all
 Rising-replace n [] all q r e h = let k : n ≤ q.frames = h.0 in let l : q.frames ≤ all = h.2 in let p : 0 < q.frames = h.1 in (omega arith, omega arith, omega arith)
 Rising-replace n (p ∷ qs) all q r e h = (h.0, h.1, Rising-replace p.frames qs all q r e h.2)
 
-pub no-newest : (ss : List ℕ) (fs : List Frame) (points : List Point) (ns : List Moment) (m : Moment) (ms : List Moment) → points ≡ [] → moments ss fs points ≡ ns → ns ≡ m ∷ ms → ⊥
-no-newest ss fs points ns m ms e v h = let d : moments ss fs [] ≡ m ∷ ms = sym (ap (moments ss fs) e) ∙ v ∙ h in nothing d
-  where
-    nothing : [] ≡ m ∷ ms → ⊥
-    nothing d = cc
+pub popped-rising : (points qs : List Point) (r : Option Point) (all : ℕ) → points ≡ qs ++ option_to_list r → Rising 0 points all → Rising 0 qs all
+popped-rising points qs None all e h = subst (λ ps. Rising 0 ps all) (e ∙ append-nil qs) h
+popped-rising points qs (Some q) all e h = front-rising points qs q all e h
 
 pub none-popped : (xs : List Point) → length xs ≡ 0 → xs ≡ []
 none-popped [] l = refl

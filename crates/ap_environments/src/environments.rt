@@ -1,10 +1,13 @@
-//! Environments and choice points in three vectors.
+//! Environments, choice points and forks in three vectors.
 
 ghost use Rattle.std.specs.Prelude.{◌≡◌, ℕ, ◌+◌, ◌<◌, ◌≤◌, List, [], ◌∷◌, ◌++◌, length, OnOk, OnErr, IfSome, Some, None, is_some, false};
 ghost use Rattle.ap_steps.specs.Moves.{held};
 ghost use Rattle.ap_steps.specs.Standing.{Return};
-ghost use Rattle.ap_environments.specs.Kept.{Moment, Kept};
-ghost use Rattle.ap_environments.specs.Frames.{Rising};
+ghost use Rattle.ap_environments.specs.Kept.{Moment, Forked, Kept};
+ghost use Rattle.ap_environments.specs.Frames.{Rising, kept_of, segments_in, put_entry, with_place};
+ghost use Rattle.ap_environments.specs.declared.environments.Choice.{Choice as ChoiceOf};
+ghost use Rattle.ap_environments.specs.declared.environments.Entry.TheVariants.{Call, Fork as Forking};
+ghost use Rattle.ap_environments.specs.declared.environments.Fork.{Fork as ForkOf};
 ghost use Rattle.ap_environments.specs.declared.environments.Point.{Point as PointOf};
 
 use crate::frames::{cut, fill_registers, push_frame, registers_of};
@@ -23,6 +26,21 @@ pub struct Choice {
     pub behind: Option<usize>,
 }
 
+/// What a fork is told by: how many cells and bindings there were, and how many goals it parts into.
+#[derive(Clone, Copy)]
+pub struct Fork {
+    pub cells: usize,
+    pub trail: usize,
+    pub goals: u8,
+}
+
+/// What is come back to when a goal fails.
+#[derive(Clone, Copy)]
+pub enum Entry {
+    Call(Choice),
+    Fork(Fork),
+}
+
 /// Registers that were saved: `count` slots from `first` on. It was put on above the frame of the number `up`, counted from
 /// 1, or above none.
 #[derive(Clone, Copy)]
@@ -33,15 +51,16 @@ pub struct Frame {
     pub count: u32,
 }
 
-/// A choice point, for which so many frames are kept, the last of them with its arguments.
+/// An entry for which so many frames are kept, the last of them its own: with a choice point's arguments, with none for a
+/// fork.
 #[derive(Clone, Copy)]
 pub struct Point {
-    pub choice: Choice,
+    pub entry: Entry,
     pub frames: u32,
 }
 
-/// The returns that are waited for, and the choice points. A frame is written once; that no choice point keeps is given
-/// back when control has come back to it.
+/// The returns that are waited for, and the choice points and forks. A frame is written once; one that none of these keeps
+/// is given back when control has come back to it.
 #[derive(Drop)]
 pub struct Environments {
     frames: Vec<Frame>,
@@ -53,17 +72,55 @@ pub struct Environments {
 
 impl Model for Environments {
     ghost use Rattle.ap_environments.specs.Kept.{Kept};
-    ghost use Rattle.ap_environments.specs.Frames.{chain, moments};
+    ghost use Rattle.ap_environments.specs.Frames.{chain, segments, kept_of};
     ghost use Rattle.ap_environments.specs.Invariant.{IsKept};
 
     ghost Value = { Kept };
 
-    ghost view = { λ a. record { returns = chain a.slots.items a.frames.items a.top; moments = moments a.slots.items a.frames.items a.points.items } };
+    ghost view = { λ a. kept_of (chain a.slots.items a.frames.items a.top) (segments a.slots.items a.frames.items a.points.items) };
 
     ghost invariant = { IsKept };
 }
 
-/// The last choice point.
+impl Entry {
+    /// The choice, where it is a choice point's.
+    fn choice(self) -> Option<Choice>
+        ensures none { result ≡ None → (f : ForkOf) × (self ≡ Forking f) }
+        ensures some { IfSome result (λ c. self ≡ Call c) }
+    {
+        match self {
+            Entry::Call(choice) => Some(choice),
+            Entry::Fork(_) => None,
+        }
+    }
+
+    /// The fork, where it is one.
+    fn fork(self) -> Option<Fork>
+        ensures none { result ≡ None → (c : ChoiceOf) × (self ≡ Call c) }
+        ensures some { IfSome result (λ f. self ≡ Forking f) }
+    {
+        match self {
+            Entry::Call(_) => None,
+            Entry::Fork(fork) => Some(fork),
+        }
+    }
+
+    /// The same entry, and a choice point's names these clauses.
+    fn with_place(self, place: u32, behind: Option<usize>) -> Entry
+        ensures { result ≡ with_place place behind self }
+    {
+        match self {
+            Entry::Call(choice) => Entry::Call(Choice {
+                place,
+                behind,
+                ..choice
+            }),
+            Entry::Fork(fork) => Entry::Fork(fork),
+        }
+    }
+}
+
+/// The last entry, with what is kept for it.
 fn last_point(points: &[Point]) -> Option<Point>
     ensures none { result ≡ None → points.now ≡ [] }
     ensures some { IfSome result (λ q. (qs : List PointOf) × (points.now ≡ qs ++ q ∷ [])) }
@@ -71,7 +128,7 @@ fn last_point(points: &[Point]) -> Option<Point>
     points.last().copied()
 }
 
-/// How many frames choice points keep.
+/// How many frames choice points and forks keep.
 fn kept_frames(points: &[Point]) -> u32
     ensures rising { (all : ℕ) → Rising 0 points.now all → Rising 0 points.now result }
     ensures few { (all : ℕ) → Rising 0 points.now all → result ≤ all }
@@ -85,7 +142,7 @@ fn kept_frames(points: &[Point]) -> u32
 impl Environments {
     /// Takes no memory.
     pub fn new(alloc: Global) -> Environments
-        ensures { result ≡ record { returns = []; moments = [] } }
+        ensures { result ≡ record { returns = []; moments = []; forks = [] } }
     {
         Environments {
             frames: Vec::new(alloc),
@@ -95,7 +152,7 @@ impl Environments {
         }
     }
 
-    /// Gives back the frames that neither a return nor a choice point needs.
+    /// Gives back the frames that no return, choice point or fork needs.
     fn trim(&mut self)
         ensures { self.new ≡ self.old }
     {
@@ -109,7 +166,7 @@ impl Environments {
 
     /// Puts on a return to a place, with the registers of its environment.
     pub fn push(&mut self, place: u32, y: &[u32]) -> Result<(), NoMemory>
-        ensures ok { OnOk result (self.new ≡ record { returns = record { place = place; y = y.now } ∷ self.old.returns; moments = self.old.moments }) }
+        ensures ok { OnOk result (self.new ≡ record self.old { returns = record { place = place; y = y.now } ∷ self.old.returns }) }
         ensures err { OnErr result (self.new ≡ self.old) }
     {
         self.top = push_frame(&mut self.frames, &mut self.slots, place, self.top, y)?;
@@ -121,7 +178,7 @@ impl Environments {
         ensures none { result ≡ None → self.old.returns ≡ [] }
         ensures none_kept { result ≡ None → self.new ≡ self.old }
         ensures registers_kept { result ≡ None → y.new ≡ y.old }
-        ensures some { IfSome result (λ place. (w : Return) × (ws : List Return) × (self.old.returns ≡ w ∷ ws) × (w.place ≡ place) × (self.new ≡ record { returns = ws; moments = self.old.moments }) × ((n : ℕ) → length w.y ≤ length y.old → held y.new n ≡ held w.y n)) }
+        ensures some { IfSome result (λ place. (w : Return) × (ws : List Return) × (self.old.returns ≡ w ∷ ws) × (w.place ≡ place) × (self.new ≡ record self.old { returns = ws }) × ((n : ℕ) → length w.y ≤ length y.old → held y.new n ≡ held w.y n)) }
         ensures len { length y.new ≡ length y.old }
     {
         if self.top == 0 {
@@ -136,24 +193,50 @@ impl Environments {
 
     /// Keeps this moment for a choice point, with argument registers.
     pub fn keep(&mut self, choice: Choice, arguments: &[u32]) -> Result<(), NoMemory>
-        ensures ok { OnOk result (self.new ≡ record { returns = self.old.returns; moments = record { choice = choice; returns = self.old.returns; arguments = arguments.now } ∷ self.old.moments }) }
+        ensures ok { OnOk result (self.new ≡ record self.old { moments = record { choice = choice; returns = self.old.returns; arguments = arguments.now } ∷ self.old.moments }) }
         ensures err { OnErr result (self.new ≡ self.old) }
     {
-        let frames = push_frame(&mut self.frames, &mut self.slots, 0, self.top, arguments)?;
-        if self.points.push(Point { choice, frames }).is_err() {
+        self.keep_entry(Entry::Call(choice), arguments)
+    }
+
+    /// Keeps this moment for a fork. The choice points that there are are older than it.
+    pub fn keep_fork(&mut self, fork: Fork) -> Result<(), NoMemory>
+        ensures ok { OnOk result (self.new ≡ record self.old { moments = []; forks = record { fork = fork; returns = self.old.returns; moments = self.old.moments } ∷ self.old.forks }) }
+        ensures err { OnErr result (self.new ≡ self.old) }
+    {
+        self.keep_entry(Entry::Fork(fork), &[])
+    }
+
+    fn keep_entry(&mut self, entry: Entry, registers: &[u32]) -> Result<(), NoMemory>
+        ensures ok { OnOk result (self.new ≡ kept_of self.old.returns (put_entry entry (record { place = 0; y = registers.now } ∷ self.old.returns) (segments_in self.old))) }
+        ensures err { OnErr result (self.new ≡ self.old) }
+    {
+        let frames = push_frame(&mut self.frames, &mut self.slots, 0, self.top, registers)?;
+        if self.points.push(Point { entry, frames }).is_err() {
             self.trim();
             return Err(NoMemory);
         }
         Ok(())
     }
 
-    /// The newest choice point.
+    /// The newest choice point, where it is newer than each fork.
     pub fn newest(&self) -> Option<Choice>
         ensures none { result ≡ None → self.now.moments ≡ [] }
         ensures some { IfSome result (λ choice. (m : Moment) × (ms : List Moment) × (self.now.moments ≡ m ∷ ms) × (m.choice ≡ choice)) }
     {
         match last_point(&self.points) {
-            Some(point) => Some(point.choice),
+            Some(point) => point.entry.choice(),
+            None => None,
+        }
+    }
+
+    /// The newest fork, where no choice point is newer.
+    pub fn newest_fork(&self) -> Option<Fork>
+        ensures none { result ≡ None → self.now.moments ≡ [] → self.now.forks ≡ [] }
+        ensures some { IfSome result (λ fork. (self.now.moments ≡ []) × (f : Forked) × (fs : List Forked) × (self.now.forks ≡ f ∷ fs) × (f.fork ≡ fork)) }
+    {
+        match last_point(&self.points) {
+            Some(point) => point.entry.fork(),
             None => None,
         }
     }
@@ -161,10 +244,15 @@ impl Environments {
     /// Goes back to the newest choice point, which is still kept, with its arguments in the first registers of x. Without
     /// one it changes nothing.
     pub fn go_back(&mut self, x: &mut [u32])
-        ensures back { (m : Moment) (ms : List Moment) → self.old.moments ≡ m ∷ ms → self.new ≡ record { returns = m.returns; moments = self.old.moments } }
+        ensures back { (m : Moment) (ms : List Moment) → self.old.moments ≡ m ∷ ms → self.new ≡ record self.old { returns = m.returns } }
         ensures arguments { (m : Moment) (ms : List Moment) → self.old.moments ≡ m ∷ ms → length m.arguments ≤ length x.old → (n : ℕ) → held x.new n ≡ held m.arguments n }
+        ensures none { self.old.moments ≡ [] → self.new ≡ self.old }
+        ensures registers_kept { self.old.moments ≡ [] → x.new ≡ x.old }
         ensures len { length x.new ≡ length x.old }
     {
+        if self.newest().is_none() {
+            return;
+        }
         if let Some(point) = last_point(&self.points) {
             let frame = self.frames[point.frames as usize - 1];
             fill_registers(x, registers_of(&self.slots, &frame));
@@ -173,26 +261,48 @@ impl Environments {
         }
     }
 
-    /// The newest choice point names these clauses.
+    /// Goes back to the newest fork, which is still kept. Without one it changes nothing.
+    pub fn go_back_to_fork(&mut self)
+        requires newest { self.old.moments ≡ [] }
+        ensures back { (f : Forked) (fs : List Forked) → self.old.forks ≡ f ∷ fs → self.new ≡ record self.old { returns = f.returns } }
+        ensures none { self.old.forks ≡ [] → self.new ≡ self.old }
+    {
+        if let Some(point) = last_point(&self.points) {
+            self.top = self.frames[point.frames as usize - 1].up;
+            self.trim();
+        }
+    }
+
+    /// The newest choice point names these clauses. Without one it changes nothing.
     pub fn set_place(&mut self, place: u32, behind: Option<usize>)
-        ensures { (m : Moment) (ms : List Moment) → self.old.moments ≡ m ∷ ms → self.new ≡ record { returns = self.old.returns; moments = record { choice = record m.choice { place = place; behind = behind }; returns = m.returns; arguments = m.arguments } ∷ ms } }
+        ensures none { self.old.moments ≡ [] → self.new ≡ self.old }
+        ensures newest { (m : Moment) (ms : List Moment) → self.old.moments ≡ m ∷ ms → self.new ≡ record self.old { moments = record { choice = record m.choice { place = place; behind = behind }; returns = m.returns; arguments = m.arguments } ∷ ms } }
     {
         match self.points.pop() {
             Some(point) => {
-                let choice = Choice {
-                    place,
-                    behind,
-                    ..point.choice
-                };
-                self.points.push_reserved(Point { choice, ..point });
+                let entry = point.entry.with_place(place, behind);
+                self.points.push_reserved(Point { entry, ..point });
             }
             None => {}
         }
     }
 
-    /// Forgets the newest choice point.
+    /// Forgets the newest choice point. Without one it changes nothing.
     pub fn forget(&mut self)
-        ensures { (m : Moment) (ms : List Moment) → self.old.moments ≡ m ∷ ms → self.new ≡ record { returns = self.old.returns; moments = ms } }
+        ensures none { self.old.moments ≡ [] → self.new ≡ self.old }
+        ensures newest { (m : Moment) (ms : List Moment) → self.old.moments ≡ m ∷ ms → self.new ≡ record self.old { moments = ms } }
+    {
+        if self.newest().is_some() {
+            self.points.pop();
+            self.trim();
+        }
+    }
+
+    /// Forgets the newest fork, and gives back the frames that it alone kept. Without one it changes nothing.
+    pub fn forget_fork(&mut self)
+        requires newest { self.old.moments ≡ [] }
+        ensures some { (f : Forked) (fs : List Forked) → self.old.forks ≡ f ∷ fs → self.new ≡ record self.old { moments = f.moments; forks = fs } }
+        ensures none { self.old.forks ≡ [] → self.new ≡ self.old }
     {
         self.points.pop();
         self.trim();

@@ -1,7 +1,7 @@
 use Rattle.std.proofs.Common.{◌≡◌, ◌+◌, ◌-◌, ◌≤◌, List, ◌∷◌, length, get_or, ap, refl, sym, ◌∙◌, subst, arith}
 use Rattle.ap_steps.specs.Moves.{held}
 use Rattle.ap_environments.specs.declared.environments.Frame.{Frame}
-use Rattle.ap_environments.specs.Frames.{return_of, chain}
+use Rattle.ap_environments.specs.Frames.{return_of, chain, kept_of, segments_in}
 use Rattle.ap_environments.proofs.Chains.{LeadUp-at, chain-at, chain-none, frame-within}
 use Rattle.ap_environments.proofs.environments.Environments.pop.Goals as goal
 
@@ -39,6 +39,6 @@ returns-clause-some c =
       chain ss fs f.up,
       ap (λ v. v.returns) (sym c.self.view_is) ∙ e,
       refl,
-      c.trim.ensures ∙ ap (λ ms. record { returns = chain ss fs f.up; moments = ms }) (ap (λ v. v.moments) c.self.view_is),
+      c.trim.ensures ∙ ap (λ k. kept_of (chain ss fs f.up) (segments_in k)) c.self.view_is,
       λ n fits. subst (λ ps. length ps ≤ length c.args.y.now → held c.fill_registers.new.registers n ≡ held ps n) places (c.fill_registers.ensures.held n) fits,
     )

@@ -1,7 +1,7 @@
 use Rattle.std.proofs.Common.{List, ◌∷◌, length, ap, ap₂, ◌∙◌, arith}
 use Rattle.ap_steps.specs.Standing.{Return}
-use Rattle.ap_environments.specs.Frames.{chain}
-use Rattle.ap_environments.proofs.Chains.{Rising-more, before-pushed, last-pushed, moments-alike}
+use Rattle.ap_environments.specs.Frames.{chain, kept_of, segments_in}
+use Rattle.ap_environments.proofs.Chains.{Rising-more, before-pushed, last-pushed, segments-alike}
 use Rattle.ap_environments.proofs.environments.Environments.push.Goals as goal
 
 pub invariant_of-self-2 : goal.invariant_of-self-2
@@ -20,6 +20,6 @@ returns-clause-ok c =
     let gs = c.push_frame.new.frames.items in
     let w : Return = record { place = c.args.place; y = c.args.y.now } in
     let r : List Return = w ∷ chain ss fs a.top in
-    ap₂ (λ ws ms. record { returns = ws; moments = ms })
+    ap₂ kept_of
     (last-pushed ss us fs gs r e.chains c.in_ok-self-inside.field-0 e.number ∙ ap (λ v. w ∷ v.returns) c.self.view_is)
-    (moments-alike ss us fs gs a.points.items (length fs) c.self.invariant.points (before-pushed ss us fs gs r e.chains) ∙ ap (λ v. v.moments) c.self.view_is)
+    (segments-alike ss us fs gs a.points.items (length fs) c.self.invariant.points (before-pushed ss us fs gs r e.chains) ∙ ap segments_in c.self.view_is)

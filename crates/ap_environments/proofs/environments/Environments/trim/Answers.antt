@@ -1,6 +1,6 @@
 use Rattle.std.proofs.Common.{◌≡◌, ◌≤◌, length, ap, ap₂, sym, ◌∙◌, subst, arith}
 use Rattle.std.proofs.lemmas.List.{length-take-le}
-use Rattle.ap_environments.specs.Frames.{Rising}
+use Rattle.ap_environments.specs.Frames.{Rising, kept_of}
 use Rattle.ap_environments.proofs.Chains.{Rising-more, same-view}
 use Rattle.ap_environments.proofs.environments.Environments.trim.Goals as goal
 
@@ -26,4 +26,4 @@ pub returns : goal.returns
 returns c =
     let a = c.self.inside in
     let v = same-view a.slots.items c.cut.new.slots.items a.frames.items c.cut.new.frames.items a.points.items a.top c.max.result c.cut.ensures.chains (omega (arith, c.max.ensures)) (rising c) in
-    ap₂ (λ ws ms. record { returns = ws; moments = ms }) v.0 v.1 ∙ c.self.view_is
+    ap₂ kept_of v.0 v.1 ∙ c.self.view_is

@@ -1,9 +1,9 @@
 use Rattle.std.proofs.Common.{◌≡◌, List, ◌∷◌, ◌++◌, [], length, ap, ap₂, sym, ◌∙◌, subst, arith, rules}
 use Rattle.ap_steps.specs.Standing.{Return}
 use Rattle.ap_environments.specs.declared.environments.Point.{Point}
-use Rattle.ap_environments.specs.Frames.{Rising, chain, moment_of, moments}
-use Rattle.ap_environments.proofs.Chains.{Rising-more, Rising-push, before-pushed, last-pushed, moments-alike, moments-push}
-use Rattle.ap_environments.proofs.environments.Environments.keep.Goals as goal
+use Rattle.ap_environments.specs.Frames.{Rising, chain, put_entry, segments, kept_of, segments_in}
+use Rattle.ap_environments.proofs.Chains.{Rising-more, Rising-push, before-pushed, last-pushed, segments-alike, segments-push}
+use Rattle.ap_environments.proofs.environments.Environments.keep_entry.Goals as goal
 
 pub invariant_of-self-then-is_err : goal.invariant_of-self-then-is_err
 invariant_of-self-then-is_err c =
@@ -24,18 +24,18 @@ returns-then-is_err-clause-err c =
     let fs = a.frames.items in
     let us = c.push_frame.new.slots.items in
     let gs = c.push_frame.new.frames.items in
-    let r : List Return = record { place = 0; y = c.args.arguments.now } ∷ chain ss fs a.top in
+    let r : List Return = record { place = 0; y = c.args.registers.now } ∷ chain ss fs a.top in
     let kept : c.push.new.self.items ≡ a.points.items = search rules in
     c.trim.ensures
-    ∙ ap₂ (λ ws ms. record { returns = ws; moments = ms }) (before-pushed ss us fs gs r e.chains a.top c.self.invariant.top)
-    (ap (moments us gs) kept ∙ moments-alike ss us fs gs a.points.items (length fs) c.self.invariant.points (before-pushed ss us fs gs r e.chains))
+    ∙ ap₂ kept_of (before-pushed ss us fs gs r e.chains a.top c.self.invariant.top)
+    (ap (segments us gs) kept ∙ segments-alike ss us fs gs a.points.items (length fs) c.self.invariant.points (before-pushed ss us fs gs r e.chains))
     ∙ c.self.view_is
 
 pub invariant_of-self-else-is_err : goal.invariant_of-self-else-is_err
 invariant_of-self-else-is_err c =
     let a = c.self.inside in
     let e = c.in_ok-frames.ensures in
-    let q : Point = record { choice = c.args.choice; frames = c.in_ok-frames.frames } in
+    let q : Point = record { entry = c.args.entry; frames = c.in_ok-frames.frames } in
     let more_points : c.push.new.self.items ≡ a.points.items ++ q ∷ [] = search rules in
     record {
       frames = e.are_frames;
@@ -52,11 +52,11 @@ returns-clause-ok c =
     let fs = a.frames.items in
     let us = c.push_frame.new.slots.items in
     let gs = c.push_frame.new.frames.items in
-    let w : Return = record { place = 0; y = c.args.arguments.now } in
+    let w : Return = record { place = 0; y = c.args.registers.now } in
     let r : List Return = w ∷ chain ss fs a.top in
-    let q : Point = record { choice = c.args.choice; frames = c.in_ok-frames.frames } in
+    let q : Point = record { entry = c.args.entry; frames = c.in_ok-frames.frames } in
     let more_points : c.push.new.self.items ≡ a.points.items ++ q ∷ [] = search rules in
-    ap₂ (λ ws ms. record { returns = ws; moments = ms }) (before-pushed ss us fs gs r e.chains a.top c.self.invariant.top ∙ ap (λ v. v.returns) c.self.view_is)
-    (ap (moments us gs) more_points ∙ moments-push us gs a.points.items q
-    ∙ ap₂ (λ m ms. m ∷ ms) (ap (moment_of c.args.choice) (last-pushed ss us fs gs r e.chains c.in_ok-frames.frames e.number) ∙ ap (λ ws. record { choice = c.args.choice; returns = ws; arguments = c.args.arguments.now }) (ap (λ v. v.returns) c.self.view_is))
-    (moments-alike ss us fs gs a.points.items (length fs) c.self.invariant.points (before-pushed ss us fs gs r e.chains) ∙ ap (λ v. v.moments) c.self.view_is))
+    ap₂ kept_of (before-pushed ss us fs gs r e.chains a.top c.self.invariant.top ∙ ap (λ v. v.returns) c.self.view_is)
+    (ap (segments us gs) more_points ∙ segments-push us gs a.points.items q
+    ∙ ap₂ (put_entry c.args.entry) (last-pushed ss us fs gs r e.chains c.in_ok-frames.frames e.number ∙ ap (λ k. w ∷ k.returns) c.self.view_is)
+    (segments-alike ss us fs gs a.points.items (length fs) c.self.invariant.points (before-pushed ss us fs gs r e.chains) ∙ ap segments_in c.self.view_is))
