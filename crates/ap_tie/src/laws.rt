@@ -1,0 +1,30 @@
+//! Laws, each as the contract of a function that does nothing.
+
+ghost use Rattle.ap_tie.specs.Answered.{AlikeLaw, AnswerSlotLaw};
+ghost use Rattle.ap_tie.specs.Laws.{ForkLaw, InferLaw};
+ghost use Rattle.ap_tie.specs.Slots.{SlotLaw};
+
+/// Turns of the model are as many calls of the core.
+pub fn infer_law()
+    ensures { InferLaw }
+{}
+
+/// A group that comes first, and whose checks hold, is a fork of the core.
+pub fn fork_law()
+    ensures { ForkLaw }
+{}
+
+/// An event of a slot is that of the section that stands for its task.
+pub fn slot_law()
+    ensures { SlotLaw }
+{}
+
+/// An answer of a slot leaves what holds its alternatives.
+pub fn answer_slot_law()
+    ensures { AnswerSlotLaw }
+{}
+
+/// The slots of a section stand as the core's, so verdicts on them are the core's.
+pub fn alike_law()
+    ensures { AlikeLaw }
+{}
