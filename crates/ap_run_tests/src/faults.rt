@@ -41,7 +41,13 @@ const FAULTS: [Fault; 12] = [
         USAGE,
         Status::Usage,
     ),
-    (&["andprolog", "run", ""], &[], &[], USAGE, Status::Usage),
+    (
+        &["andprolog", "run", ""],
+        &[],
+        &[],
+        "fault: file\n",
+        Status::FileFault,
+    ),
     (&[], &[], &[], USAGE, Status::Usage),
     (
         &["andprolog", "run", "none.pl"],

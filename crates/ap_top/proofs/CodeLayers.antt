@@ -1,17 +1,15 @@
 -- From what a layer of `code` has put to what the layer above it has put.
-use Rattle.std.proofs.Common.{◌≡◌, ◌≢◌, ℕ, ◌<◌, ◌≤◌, List, [], ◌∷◌, length, Option, None, Some, Result, Ok, Err, sym, ◌∙◌, ap, subst, refl, arith, codes}
+use Rattle.std.proofs.Common.{◌≡◌, ◌≢◌, ℕ, ◌<◌, ◌≤◌, List, [], ◌∷◌, length, Option, None, Some, sym, ◌∙◌, ap, subst, codes}
 use Rattle.ap_outside.specs.Files.{HasContent}
-use Rattle.ap_outside.specs.Halting.{Finishes}
-use Rattle.ap_outside.specs.declared.halting.Halt.{Halt}
 use Rattle.ap_term.specs.AtomTable.{fixed_names}
 use Rattle.ap_term.specs.Goals.{Program}
 use Rattle.ap_clause.specs.Reads.{AcceptsProgram, RefusesProgram}
 use Rattle.ap_clause.specs.declared.refusal.Refusal.{Refusal}
 use Rattle.ap_top.specs.Refusals.{refusal_line}
 use Rattle.ap_top.specs.Codes.{IsListed, TextCodes, FileCodes}
-use Rattle.ap_top.specs.Counts.{FilesCount}
 use Rattle.ap_top.specs.declared.status.Status.{Status}
 use Rattle.ap_top.specs.declared.status.Status.TheVariants as status
+use Rattle.ap_top.proofs.Statuses.{IsCalm}
 
 module _ (bytes : List ℕ) (program : Program) (table : List (List ℕ)) (accepts : AcceptsProgram bytes fixed_names program table) where
   pub code_accepted : (names : List (List ℕ)) → names ≡ table → (ls : List (List ℕ)) → IsListed program names ls → TextCodes bytes status.Done ls
@@ -35,30 +33,12 @@ code_read file (Some entries) FilesRose bytes has short s ls h = FileCodes.read 
 
 -- ---- statuses that a layer doesn't end with
 
-abbrev IsPlain : Status → Type 0
-IsPlain s = (s ≢ status.FileFault) × (s ≢ status.SinkFault) × (s ≢ status.SourceFault)
-
-text_status : (bytes : List ℕ) (s : Status) (ls : List (List ℕ)) → TextCodes bytes s ls → IsPlain s
-text_status bytes _ ls (TextCodes.refused r _ n e) = (λ f. cc, λ f. cc, λ f. cc)
-text_status bytes _ ls (TextCodes.accepted program table _ r p) = (λ f. cc, λ f. cc, λ f. cc)
+pub code_text_calm : (bytes : List ℕ) (s : Status) (ls : List (List ℕ)) → TextCodes bytes s ls → IsCalm s
+code_text_calm bytes _ ls (TextCodes.refused r _ n e) = (λ f. cc, λ f. cc, λ f. cc, λ f. cc)
+code_text_calm bytes _ ls (TextCodes.accepted program table _ r p) = (λ f. cc, λ f. cc, λ f. cc, λ f. cc)
 
 pub code_status : (file : List ℕ) (entries : Option (List (List ℕ × List ℕ))) (FilesRose : Type 0) (s : Status) (ls : List (List ℕ)) → FileCodes file entries FilesRose s ls
-    → (s ≢ status.SinkFault) × (s ≢ status.SourceFault)
-code_status file entries FilesRose _ ls (FileCodes.fault _ r e) = (λ f. cc, λ f. cc)
-code_status file entries FilesRose _ ls (FileCodes.too_long _ l e) = (λ f. cc, λ f. cc)
-code_status file entries FilesRose _ ls (FileCodes.read bytes s _ told l ends) = let plain = text_status bytes s ls ends in (plain.1, plain.2)
-
--- over the bytes of a file that was read, the files' count stays
-pub code_files_kept : (a b : Option (List (List ℕ))) (bytes : List ℕ) (before now : ℕ) (r : Result Status Halt) → now ≡ before → Finishes a b (TextCodes bytes) r → FilesCount before now r
-code_files_kept a b bytes before now (Err e) same puts = omega (arith, same)
-code_files_kept a b bytes before now (Ok status.FileFault) same puts = absurd ((text_status bytes status.FileFault puts.0 puts.2).0 refl)
-code_files_kept a b bytes before now (Ok status.Done) same puts = same
-code_files_kept a b bytes before now (Ok status.BudgetSpent) same puts = same
-code_files_kept a b bytes before now (Ok status.Usage) same puts = same
-code_files_kept a b bytes before now (Ok status.ProgramRefused) same puts = same
-code_files_kept a b bytes before now (Ok status.QueryRefused) same puts = same
-code_files_kept a b bytes before now (Ok status.SinkFault) same puts = same
-code_files_kept a b bytes before now (Ok status.SourceFault) same puts = same
-code_files_kept a b bytes before now (Ok status.NoMemory) same puts = same
-code_files_kept a b bytes before now (Ok status.QueriesTooLong) same puts = same
-code_files_kept a b bytes before now (Ok status.EntryRefused) same puts = same
+    → (s ≢ status.SinkFault) × (s ≢ status.SourceFault) × (s ≢ status.Usage)
+code_status file entries FilesRose _ ls (FileCodes.fault _ r e) = (λ f. cc, λ f. cc, λ f. cc)
+code_status file entries FilesRose _ ls (FileCodes.too_long _ l e) = (λ f. cc, λ f. cc, λ f. cc)
+code_status file entries FilesRose _ ls (FileCodes.read bytes s _ told l ends) = let calm = code_text_calm bytes s ls ends in (calm.1, calm.2, calm.3)

@@ -1,35 +1,21 @@
 -- A run over an accepted program that nothing outside disturbed answers its queries.
-use Rattle.std.proofs.Common.{◌≡◌, ◌⊎◌, inl, inr, ℕ, ◌<◌, ◌≤◌, Bool, true, false, List, [], ◌∷◌, codes, length, Option, None, Some, Err, sym, ◌∙◌, ap, subst, arith}
+use Rattle.std.proofs.Common.{◌≡◌, ◌⊎◌, inl, inr, ℕ, ◌<◌, ◌≤◌, Bool, true, false, List, [], ◌∷◌, length, Option, None, Some, sym, ◌∙◌, ap, subst, arith}
 use Rattle.ap_outside.specs.Faults.{Rises}
-use Rattle.ap_outside.specs.Halting.{SinkCount}
-use Rattle.ap_outside.specs.declared.halting.Halt.{Halt}
-use Rattle.ap_outside.specs.declared.halting.Halt.TheVariants as halt
 use Rattle.ap_term.specs.AtomTable.{fixed_names}
 use Rattle.ap_term.specs.Goals.{Program}
 use Rattle.ap_clause.specs.Reads.{AcceptsProgram}
 use Rattle.ap_clause.proofs.OneResult.{not_both, one_program}
 use Rattle.ap_patterns.specs.declared.entries.Entries.{Entries}
-use Rattle.ap_top.specs.Words.{Asked, IsCommand}
+use Rattle.ap_top.specs.Words.{Asked, Shown}
 use Rattle.ap_top.specs.Status.{status_of, tally}
 use Rattle.ap_top.specs.Counts.{RunSinkCount}
-use Rattle.ap_top.specs.Ends.{SourceEnds, TextEnds, FileEnds, OtherEnds, RunEnds, IsFile, IsAnswering, NamesProgram, IsShowing, ShowsProgram, CodesProgram}
-use Rattle.ap_top.specs.ShowWords.{Shown, IsShow}
+use Rattle.ap_top.specs.Ends.{SourceEnds, TextEnds, FileEnds, RunEnds, IsFile, IsAnswering, NamesProgram, IsShowing, ShowsProgram, CodesProgram}
 use Rattle.ap_top.specs.Patterns.{AreEntries}
 use Rattle.ap_top.specs.Shows.{ProgramShows, TextShows, FileShows}
-use Rattle.ap_top.specs.CodeWords.{IsCode}
 use Rattle.ap_top.specs.Codes.{TextCodes, FileCodes}
-use Rattle.ap_top.proofs.ShowCommands.{show_is}
-use Rattle.ap_top.proofs.CodeWords.{one_code}
 use Rattle.ap_top.specs.declared.status.Status.{Status}
 use Rattle.ap_top.specs.declared.status.Status.TheVariants as status
-use Rattle.ap_top.proofs.Commands.{command_is}
-
--- words ask one thing
-one_command : (words : List (List ℕ)) (a b : Asked) → IsCommand words a → IsCommand words b → a ≡ b
-one_command words a b h k = same (sym (command_is words a h) ∙ command_is words b k)
-  where
-    same : Some a ≡ Some b → a ≡ b
-    same e = cc
+use Rattle.ap_top.proofs.Readings.{code_ends, run_ends, show_ends}
 
 one_content : (bytes other : List ℕ) → Some bytes ≡ Some other → bytes ≡ other
 one_content bytes other e = cc
@@ -66,39 +52,10 @@ module _ (source : Option (List ℕ)) (SourceRose : Type 0) (calm : SourceRose �
 
     pub run_answers : (words : List (List ℕ)) (entries : Option (List (List ℕ × List ℕ))) → NamesProgram words entries → (s : Status) (ls : List (List ℕ)) → RunEnds words entries source FilesRose SourceRose s ls
         → IsAnswering s
-    run_answers words entries names _ ls (RunEnds.other s _ none o) = absurd (none names.what names.command)
-    run_answers words entries names _ ls (RunEnds.named what s _ is ends) =
-        let same : what ≡ names.what = one_command words what names.what is names.command in
-        file_answers names.what entries names.bytes names.program names.table names.file names.short names.accepted s ls (subst (λ w. FileEnds w entries source FilesRose SourceRose s ls) same ends)
+    run_answers words entries names s ls ends =
+        file_answers names.what entries names.bytes names.program names.table names.file names.short names.accepted s ls (run_ends entries source FilesRose SourceRose words names.what names.command s ls ends)
 
 -- ---- `show`
-
-one_show : (words : List (List ℕ)) (a b : Shown) → IsShow words a → IsShow words b → a ≡ b
-one_show words a b h k = same (sym (show_is words a h) ∙ show_is words b k)
-  where
-    same : Some a ≡ Some b → a ≡ b
-    same e = cc
-
-abbrev second : List (List ℕ) → List ℕ
-second (a ∷ b ∷ words) = b
-second _ = []
-
-abbrev initial : List ℕ → ℕ
-initial (b ∷ bs) = b
-initial _ = 0
-
--- words of which the second begin apart are other words
-apart : (words others : List (List ℕ)) → initial (second words) < initial (second others) → words ≡ others → ⊥
-apart words others less e = let same = ap (λ w. initial (second w)) e in omega (arith, same, less)
-
-not_run_and_show : (words : List (List ℕ)) (a : Asked) (b : Shown) → IsCommand words a → IsShow words b → ⊥
-not_run_and_show words a b h k = apart (h.program ∷ (codes "run" ∷ h.behind)) (k.program ∷ (codes "show" ∷ k.behind)) (omega arith) (sym h.words_are ∙ k.words_are)
-
-not_run_and_code : (words : List (List ℕ)) (a : Asked) (file : List ℕ) → IsCommand words a → IsCode words file → ⊥
-not_run_and_code words a file h k = apart (k.program ∷ codes "code" ∷ file ∷ []) (h.program ∷ (codes "run" ∷ h.behind)) (omega arith) (sym k.words_are ∙ h.words_are)
-
-not_show_and_code : (words : List (List ℕ)) (a : Shown) (file : List ℕ) → IsShow words a → IsCode words file → ⊥
-not_show_and_code words a file h k = apart (k.program ∷ codes "code" ∷ file ∷ []) (h.program ∷ (codes "show" ∷ h.behind)) (omega arith) (sym k.words_are ∙ h.words_are)
 
 module _ (FilesRose : Type 0) (quiet : FilesRose → ⊥) where
   program_shows : (what : Shown) (program : Program) (table : List (List ℕ)) (E : Entries) → AreEntries what.entry program table E → (s : Status) (ls : List (List ℕ)) → ProgramShows what program table s ls → IsShowing s
@@ -125,17 +82,10 @@ module _ (FilesRose : Type 0) (quiet : FilesRose → ⊥) where
       let same : bytes ≡ other = one_content bytes other (sym f ∙ has.1 ∙ ap Some has.2) in
       text_shows what other program table E (subst (λ b. AcceptsProgram b fixed_names program table) same h) is s ls ends
 
-  other_shows : (words : List (List ℕ)) (entries : Option (List (List ℕ × List ℕ))) → ShowsProgram words entries → (s : Status) (ls : List (List ℕ)) → OtherEnds words entries FilesRose s ls → IsShowing s
-  other_shows words entries names _ ls (OtherEnds.usage _ none uncoded e) = absurd (none names.what names.command)
-  other_shows words entries names _ ls (OtherEnds.coded file s _ is ends) = absurd (not_show_and_code words names.what file names.command is)
-  other_shows words entries names _ ls (OtherEnds.shown what s _ is ends) =
-      let same : what ≡ names.what = one_show words what names.what is names.command in
-      file_shows names.what entries names.bytes names.program names.table names.calls names.file names.short names.accepted names.entry s ls (subst (λ w. FileShows w entries FilesRose s ls) same ends)
-
   pub run_shows : (source : Option (List ℕ)) (SourceRose : Type 0) (words : List (List ℕ)) (entries : Option (List (List ℕ × List ℕ))) → ShowsProgram words entries → (s : Status) (ls : List (List ℕ))
       → RunEnds words entries source FilesRose SourceRose s ls → IsShowing s
-  run_shows source SourceRose words entries names _ ls (RunEnds.other s _ none o) = other_shows words entries names s ls o
-  run_shows source SourceRose words entries names _ ls (RunEnds.named what s _ is f) = absurd (not_run_and_show words what names.what is names.command)
+  run_shows source SourceRose words entries names s ls ends =
+      file_shows names.what entries names.bytes names.program names.table names.calls names.file names.short names.accepted names.entry s ls (show_ends entries source FilesRose SourceRose words names.what names.command s ls ends)
 
 -- ---- `code`
 
@@ -157,29 +107,14 @@ module _ (FilesRose : Type 0) (quiet : FilesRose → ⊥) where
       let same : bytes ≡ other = one_content bytes other (sym f ∙ has.1 ∙ ap Some has.2) in
       text_codes other program table (subst (λ b. AcceptsProgram b fixed_names program table) same h) s ls ends
 
-  other_codes : (words : List (List ℕ)) (entries : Option (List (List ℕ × List ℕ))) → CodesProgram words entries → (s : Status) (ls : List (List ℕ)) → OtherEnds words entries FilesRose s ls → IsShowing s
-  other_codes words entries names _ ls (OtherEnds.usage _ unshown none e) = absurd (none names.wanted names.command)
-  other_codes words entries names _ ls (OtherEnds.shown what s _ is ends) = absurd (not_show_and_code words what names.wanted is names.command)
-  other_codes words entries names _ ls (OtherEnds.coded file s _ is ends) =
-      let same : file ≡ names.wanted = one_code words file names.wanted is names.command in
-      file_codes names.wanted entries names.bytes names.program names.table names.file names.short names.accepted s ls (subst (λ f. FileCodes f entries FilesRose s ls) same ends)
-
   pub run_codes : (source : Option (List ℕ)) (SourceRose : Type 0) (words : List (List ℕ)) (entries : Option (List (List ℕ × List ℕ))) → CodesProgram words entries → (s : Status) (ls : List (List ℕ))
       → RunEnds words entries source FilesRose SourceRose s ls → IsShowing s
-  run_codes source SourceRose words entries names _ ls (RunEnds.other s _ none o) = other_codes words entries names s ls o
-  run_codes source SourceRose words entries names _ ls (RunEnds.named what s _ is f) = absurd (not_run_and_code words what names.wanted is names.command)
+  run_codes source SourceRose words entries names s ls ends =
+      file_codes names.wanted entries names.bytes names.program names.table names.file names.short names.accepted s ls (code_ends entries source FilesRose SourceRose words names.wanted names.command s ls ends)
 
 pub shown_given_up : (before now : ℕ) (s : Status) → (Rises before now → ⊥) → (s ≡ status.NoMemory) ⊎ (s ≡ status.SinkFault) → RunSinkCount before now s → IsShowing s
 shown_given_up before now s calm (inl is) count = subst IsShowing (sym is) tt
 shown_given_up before now s calm (inr is) count = absurd (calm (subst (RunSinkCount before now) is count))
-
-pub sink_rose : (T : Type 0) (before now : ℕ) (e : Halt) → e ≡ halt.Sink → SinkCount {T = T} before now (Err e) → Rises before now
-sink_rose T before now halt.Sink is count = count
-sink_rose T before now halt.NoMemory is count = cc
-
-pub memory_stays : (T : Type 0) (before now : ℕ) (e : Halt) → e ≡ halt.NoMemory → SinkCount {T = T} before now (Err e) → now ≡ before
-memory_stays T before now halt.NoMemory is count = count
-memory_stays T before now halt.Sink is count = cc
 
 pub given_up : (before now : ℕ) (s : Status) → (Rises before now → ⊥) → (s ≡ status.NoMemory) ⊎ (s ≡ status.SinkFault) → RunSinkCount before now s → IsAnswering s
 given_up before now s calm (inl is) count = subst IsAnswering (sym is) tt

@@ -1,5 +1,5 @@
 -- From what a layer of the run has put to what the layer above it has put.
-use Rattle.std.proofs.Common.{◌≡◌, ◌≢◌, ◌⊎◌, inl, inr, ℕ, ◌+◌, ◌<◌, ◌≤◌, Bool, true, false, List, [], ◌∷◌, ◌++◌, length, length-append, Option, None, Some, option_map, Result, Ok, Err, sym, ◌∙◌, ap, subst, refl, arith, codes, append_assoc, append-nil, All, Contains}
+use Rattle.std.proofs.Common.{◌≡◌, ◌≢◌, ◌⊎◌, inl, inr, ℕ, ◌+◌, ◌<◌, ◌≤◌, Bool, true, false, List, [], ◌∷◌, ◌++◌, length, length-append, Option, None, Some, Result, Ok, Err, sym, ◌∙◌, ap, subst, refl, arith, codes, append_assoc, append-nil, All, Contains}
 use Rattle.std.proofs.lemmas.Grind.{common_steps}
 use Rattle.std.proofs.lemmas.List.Elements.{All-filter}
 use Rattle.std.specs.Io.KnownBytes.{Consumes, IsAtEnd}
@@ -18,17 +18,19 @@ use Rattle.ap_term.specs.AtomTable.{fixed_names}
 use Rattle.ap_term.specs.Goals.{Program}
 use Rattle.ap_clause.specs.Reads.{RefusesProgram}
 use Rattle.ap_clause.specs.declared.refusal.Refusal.{Refusal}
-use Rattle.ap_top.proofs.ShowLayers.{other_status}
-use Rattle.ap_top.specs.Words.{Asked, asked_of, IsCommand}
-use Rattle.ap_top.specs.declared.words.Command.{Command}
+use Rattle.ap_words.specs.Reading.{IsRead, Reading, usage}
+use Rattle.ap_top.specs.Words.{Asked}
 use Rattle.ap_top.specs.Output.{IsOutput, judged}
 use Rattle.ap_top.specs.Refusals.{refusal_line}
-use Rattle.ap_top.specs.Status.{status_of, tally}
-use Rattle.ap_top.specs.Ends.{SourceEnds, TextEnds, FileEnds, RunEnds, Whole, SaysNoMemory, IsTold, IsTaken}
-use Rattle.ap_top.specs.Counts.{FilesCount, RunSinkCount}
+use Rattle.ap_top.specs.Status.{status_of}
+use Rattle.ap_top.specs.Ends.{SourceEnds, TextEnds, FileEnds, AskedEnds, RunEnds, Whole, SaysNoMemory, IsTold, IsTaken}
 use Rattle.ap_top.specs.declared.status.Tally.{Tally}
 use Rattle.ap_top.specs.declared.status.Status.{Status}
 use Rattle.ap_top.specs.declared.status.Status.TheVariants as status
+use Rattle.ap_top.proofs.Statuses.{tally_calm}
+use Rattle.ap_top.proofs.ShowLayers.{show_status}
+use Rattle.ap_top.proofs.CodeLayers.{code_status}
+use Rattle.ap_top.proofs.LoadLayers.{load_calm}
 
 pub told_whole : (a b : Option (List ℕ)) (bytes : List ℕ) → Consumes a b bytes → IsAtEnd b → IsTold a bytes
 told_whole None b bytes f e = tt
@@ -106,60 +108,54 @@ file_read what (Some entries) source FilesRose SourceRose bytes has short s ls h
 -- ---- statuses that a layer doesn't end with
 
 abbrev IsOther : Status → Type 0
-IsOther s = (s ≢ status.FileFault) × (s ≢ status.SinkFault)
-
-tally_status : (spent refused : Bool) (s : Status) → s ≡ status_of (tally spent refused) → IsOther s
-tally_status spent true _ e = (λ f. let g : status.QueryRefused ≡ status.FileFault = sym e ∙ f in cc, λ f. let g : status.QueryRefused ≡ status.SinkFault = sym e ∙ f in cc)
-tally_status true false _ e = (λ f. let g : status.BudgetSpent ≡ status.FileFault = sym e ∙ f in cc, λ f. let g : status.BudgetSpent ≡ status.SinkFault = sym e ∙ f in cc)
-tally_status false false _ e = (λ f. let g : status.Done ≡ status.FileFault = sym e ∙ f in cc, λ f. let g : status.Done ≡ status.SinkFault = sym e ∙ f in cc)
+IsOther s = (s ≢ status.FileFault) × (s ≢ status.SinkFault) × (s ≢ status.Usage)
 
 source_status : (what : Asked) (program : Program) (table : List (List ℕ)) (source : Option (List ℕ)) (Rose : Type 0) (s : Status) (ls : List (List ℕ)) → SourceEnds what program table source Rose s ls → IsOther s
-source_status what program table source Rose _ ls (SourceEnds.fault i t b _ r k l o e) = (λ f. cc, λ f. cc)
-source_status what program table source Rose _ ls (SourceEnds.too_long i _ t l e) = (λ f. cc, λ f. cc)
-source_status what program table source Rose _ ls (SourceEnds.read i t s _ told l o e) = tally_status t.spent t.refused s e
+source_status what program table source Rose _ ls (SourceEnds.fault i t b _ r k l o e) = (λ f. cc, λ f. cc, λ f. cc)
+source_status what program table source Rose _ ls (SourceEnds.too_long i _ t l e) = (λ f. cc, λ f. cc, λ f. cc)
+source_status what program table source Rose _ ls (SourceEnds.read i t s _ told l o e) = let calm = tally_calm t.spent t.refused s e in (calm.0, calm.1, calm.3)
 
-text_status : (what : Asked) (bytes : List ℕ) (source : Option (List ℕ)) (Rose : Type 0) (s : Status) (ls : List (List ℕ)) → TextEnds what bytes source Rose s ls → IsOther s
-text_status what bytes source Rose _ ls (TextEnds.refused r _ n e) = (λ f. cc, λ f. cc)
+pub text_status : (what : Asked) (bytes : List ℕ) (source : Option (List ℕ)) (Rose : Type 0) (s : Status) (ls : List (List ℕ)) → TextEnds what bytes source Rose s ls → IsOther s
+text_status what bytes source Rose _ ls (TextEnds.refused r _ n e) = (λ f. cc, λ f. cc, λ f. cc)
 text_status what bytes source Rose _ ls (TextEnds.accepted program table s _ r p) = source_status what program table source Rose s ls p
 
-file_status : (what : Asked) (entries : Option (List (List ℕ × List ℕ))) (source : Option (List ℕ)) (FilesRose SourceRose : Type 0) (s : Status) (ls : List (List ℕ)) → FileEnds what entries source FilesRose SourceRose s ls → s ≢ status.SinkFault
-file_status what entries source FilesRose SourceRose _ ls (FileEnds.fault _ r e) = λ f. cc
-file_status what entries source FilesRose SourceRose _ ls (FileEnds.too_long _ r e) = λ f. cc
-file_status what entries source FilesRose SourceRose _ ls (FileEnds.read bytes s _ c l t) = (text_status what bytes source SourceRose s ls t).1
+file_status : (what : Asked) (entries : Option (List (List ℕ × List ℕ))) (source : Option (List ℕ)) (FilesRose SourceRose : Type 0) (s : Status) (ls : List (List ℕ)) → FileEnds what entries source FilesRose SourceRose s ls
+    → (s ≢ status.SinkFault) × (s ≢ status.Usage)
+file_status what entries source FilesRose SourceRose _ ls (FileEnds.fault _ r e) = (λ f. cc, λ f. cc)
+file_status what entries source FilesRose SourceRose _ ls (FileEnds.too_long _ r e) = (λ f. cc, λ f. cc)
+file_status what entries source FilesRose SourceRose _ ls (FileEnds.read bytes s _ c l t) = let other = text_status what bytes source SourceRose s ls t in (other.1, other.2)
 
-run_status : (words : List (List ℕ)) (entries : Option (List (List ℕ × List ℕ))) (source : Option (List ℕ)) (FilesRose SourceRose : Type 0) (s : Status) (ls : List (List ℕ)) → RunEnds words entries source FilesRose SourceRose s ls → s ≢ status.SinkFault
-run_status words entries source FilesRose SourceRose _ ls (RunEnds.other s _ n o) = (other_status words entries FilesRose s ls o).0
-run_status words entries source FilesRose SourceRose _ ls (RunEnds.named what s _ n f) = file_status what entries source FilesRose SourceRose s ls f
+module _ (r : Reading) (entries : Option (List (List ℕ × List ℕ))) (source : Option (List ℕ)) (FilesRose SourceRose : Type 0) where
+  asked_status : (s : Status) (ls : List (List ℕ)) → AskedEnds r entries source FilesRose SourceRose s ls → s ≢ status.SinkFault
+  asked_status _ ls (AskedEnds.unasked _ e l) = λ f. cc
+  asked_status _ ls (AskedEnds.helped _ e l) = λ f. cc
+  asked_status _ ls (AskedEnds.versioned _ e l) = λ f. cc
+  asked_status _ ls (AskedEnds.ran what s _ e ends) = (file_status what entries source FilesRose SourceRose s ls ends).0
+  asked_status _ ls (AskedEnds.shown what s _ e ends) = (show_status what entries FilesRose s ls ends).0
+  asked_status _ ls (AskedEnds.coded file s _ e ends) = (code_status file entries FilesRose s ls ends).0
+  asked_status _ ls (AskedEnds.loaded seed size workers s _ e ends) = (load_calm seed size s ls ends).1
 
--- over the bytes of a file that was read, the files' count stays
-pub files_kept : (a b : Option (List (List ℕ))) (what : Asked) (bytes : List ℕ) (source : Option (List ℕ)) (Rose : Type 0) (before now : ℕ) (r : Result Status Halt) → now ≡ before → Finishes a b (TextEnds what bytes source Rose) r → FilesCount before now r
-files_kept a b what bytes source Rose before now (Err e) same puts = omega (arith, same)
-files_kept a b what bytes source Rose before now (Ok status.FileFault) same puts = absurd ((text_status what bytes source Rose status.FileFault puts.0 puts.2).0 refl)
-files_kept a b what bytes source Rose before now (Ok status.Done) same puts = same
-files_kept a b what bytes source Rose before now (Ok status.BudgetSpent) same puts = same
-files_kept a b what bytes source Rose before now (Ok status.Usage) same puts = same
-files_kept a b what bytes source Rose before now (Ok status.ProgramRefused) same puts = same
-files_kept a b what bytes source Rose before now (Ok status.QueryRefused) same puts = same
-files_kept a b what bytes source Rose before now (Ok status.SinkFault) same puts = same
-files_kept a b what bytes source Rose before now (Ok status.SourceFault) same puts = same
-files_kept a b what bytes source Rose before now (Ok status.NoMemory) same puts = same
-files_kept a b what bytes source Rose before now (Ok status.QueriesTooLong) same puts = same
-files_kept a b what bytes source Rose before now (Ok status.EntryRefused) same puts = same
+  -- the usage goes with a reading of no command line only
+  asked_usage : (s : Status) (ls : List (List ℕ)) → AskedEnds r entries source FilesRose SourceRose s ls → s ≡ status.Usage → r ≡ usage
+  asked_usage _ ls (AskedEnds.unasked _ e l) is = e
+  asked_usage _ ls (AskedEnds.helped _ e l) is = cc
+  asked_usage _ ls (AskedEnds.versioned _ e l) is = cc
+  asked_usage _ ls (AskedEnds.ran what s _ e ends) is = absurd ((file_status what entries source FilesRose SourceRose s ls ends).1 is)
+  asked_usage _ ls (AskedEnds.shown what s _ e ends) is = absurd ((show_status what entries FilesRose s ls ends).2 is)
+  asked_usage _ ls (AskedEnds.coded file s _ e ends) is = absurd ((code_status file entries FilesRose s ls ends).2 is)
+  asked_usage _ ls (AskedEnds.loaded seed size workers s _ e ends) is = absurd ((load_calm seed size s ls ends).3 is)
 
--- no run that ends by itself has the status of a sink's fault, so the sink's count stayed
-pub sink_kept : (a b : Option (List (List ℕ))) (words : List (List ℕ)) (entries : Option (List (List ℕ × List ℕ))) (source : Option (List ℕ)) (FilesRose SourceRose : Type 0) (before now : ℕ) (s : Status) → now ≡ before →
-    Puts a b (RunEnds words entries source FilesRose SourceRose s) → RunSinkCount before now s
-sink_kept a b words entries source FilesRose SourceRose before now status.SinkFault same puts = absurd (run_status words entries source FilesRose SourceRose status.SinkFault puts.0 puts.2 refl)
-sink_kept a b words entries source FilesRose SourceRose before now status.FileFault same puts = same
-sink_kept a b words entries source FilesRose SourceRose before now status.Done same puts = same
-sink_kept a b words entries source FilesRose SourceRose before now status.BudgetSpent same puts = same
-sink_kept a b words entries source FilesRose SourceRose before now status.Usage same puts = same
-sink_kept a b words entries source FilesRose SourceRose before now status.ProgramRefused same puts = same
-sink_kept a b words entries source FilesRose SourceRose before now status.QueryRefused same puts = same
-sink_kept a b words entries source FilesRose SourceRose before now status.SourceFault same puts = same
-sink_kept a b words entries source FilesRose SourceRose before now status.NoMemory same puts = same
-sink_kept a b words entries source FilesRose SourceRose before now status.QueriesTooLong same puts = same
-sink_kept a b words entries source FilesRose SourceRose before now status.EntryRefused same puts = same
+-- no run that ends by itself has the status of a sink's fault
+pub run_status : (words : List (List ℕ)) (entries : Option (List (List ℕ × List ℕ))) (source : Option (List ℕ)) (FilesRose SourceRose : Type 0) (s : Status) (ls : List (List ℕ)) → RunEnds words entries source FilesRose SourceRose s ls → s ≢ status.SinkFault
+run_status words entries source FilesRose SourceRose _ ls (RunEnds.read r s _ is ends) = asked_status r entries source FilesRose SourceRose s ls ends
+
+pub run_usage : (words : List (List ℕ)) (entries : Option (List (List ℕ × List ℕ))) (source : Option (List ℕ)) (FilesRose SourceRose : Type 0) (s : Status) (ls : List (List ℕ)) → RunEnds words entries source FilesRose SourceRose s ls
+    → s ≡ status.Usage → IsRead words usage
+run_usage words entries source FilesRose SourceRose _ ls (RunEnds.read r s _ read ends) is = subst (IsRead words) (asked_usage r entries source FilesRose SourceRose s ls ends is) read
+
+pub given_up_usage : {A : Type 0} (s : Status) → (s ≡ status.NoMemory) ⊎ (s ≡ status.SinkFault) → s ≡ status.Usage → A
+given_up_usage s (inl memory) is = let clash : status.NoMemory ≡ status.Usage = sym memory ∙ is in cc
+given_up_usage s (inr sink) is = let clash : status.SinkFault ≡ status.Usage = sym sink ∙ is in cc
 
 -- what is said behind a front, at an end or cut
 pub gave_up : (E : Status → List (List ℕ) → Type 0) (front said : List (List ℕ)) → FrontOf (AnyOf E) front → SaysNoMemory said → Whole E status.NoMemory (front ++ said)
@@ -191,10 +187,6 @@ end_given_up a b c E s front memory sink (inl is) =
     subst (λ t. Puts a c (Whole E t)) (sym is) (puts_then a b c (FrontOf (AnyOf E)) SaysNoMemory (Whole E status.NoMemory) (gave_up E) front (memory is))
 end_given_up a b c E s front memory sink (inr is) =
     subst (λ t. Puts a c (Whole E t)) (sym is) (puts_then a b c (FrontOf (AnyOf E)) (CutOf SaysNoMemory) (Whole E status.SinkFault) (gave_up_cut E) front (sink is))
-
--- words that are read as no command line are none
-pub unread : (words : List (List ℕ)) (r : Option Command) → r ≡ None → ((what : Asked) → IsCommand words what → option_map asked_of r ≡ Some what) → (what : Asked) → IsCommand words what → ⊥
-unread words r e only what is = let none : None ≡ Some what = ap (option_map asked_of) (sym e) ∙ only what is in cc
 
 pub judged_ended : (whole : Bool) (text : Text) (ps : List Piece) → whole ≡ false → ps ≡ filter (λ p. p.ended) (pieces text) → ps ≡ judged whole text
 judged_ended whole text ps e h = h ∙ ap (λ b. judged b text) (sym e)

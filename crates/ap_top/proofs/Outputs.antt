@@ -28,7 +28,7 @@ or_false false = refl
 both_assoc : (a b c : Tally) → both (both a b) c ≡ both a (both b c)
 both_assoc a b c = ap (λ s. tally s ((a.refused || b.refused) || c.refused)) (or_assoc a.spent b.spent c.spent) ∙ ap (tally (a.spent || (b.spent || c.spent))) (or_assoc a.refused b.refused c.refused)
 
-both_none : (a : Tally) → both a (tally false false) ≡ a
+pub both_none : (a : Tally) → both a (tally false false) ≡ a
 both_none a = ap (λ s. tally s (a.refused || false)) (or_false a.spent) ∙ ap (tally a.spent) (or_false a.refused)
 
 module _ (budget limit : ℕ) (program : Program) (table : List (List ℕ)) where

@@ -16,16 +16,12 @@ use Rattle.ap_certify.specs.Certificate.{IsSoundAnnotation}
 use Rattle.ap_mel.specs.declared.annotations.Kind.{Kind}
 use Rattle.ap_mel.specs.Made.{IsMade}
 use Rattle.ap_top.specs.Refusals.{refusal_line}
-use Rattle.ap_top.specs.ShowWords.{Shown, shown_of, IsShow}
+use Rattle.ap_top.specs.Words.{Shown}
 use Rattle.ap_top.specs.Patterns.{AreEntries}
-use Rattle.ap_top.specs.Shows.{IsPrinted, ProgramShows, TextShows, FileShows}
-use Rattle.ap_top.specs.CodeWords.{IsCode}
-use Rattle.ap_top.specs.Ends.{OtherEnds}
-use Rattle.ap_top.proofs.CodeLayers.{code_status}
-use Rattle.ap_top.specs.Counts.{FilesCount, SourceCount}
-use Rattle.ap_top.specs.declared.show_words.ShowCommand.{ShowCommand}
+use Rattle.ap_top.specs.Shows.{kind_of, IsPrinted, ProgramShows, TextShows, FileShows}
 use Rattle.ap_top.specs.declared.status.Status.{Status}
 use Rattle.ap_top.specs.declared.status.Status.TheVariants as status
+use Rattle.ap_top.proofs.Statuses.{IsCalm}
 
 any_cut : (P : List (List ℕ) → Type 0) (ps : List (List ℕ)) → CutOf P ps → CutOf (AnyOf {T = Unit {0}} (λ _. P)) ps
 any_cut P ps cut = cut_map P (AnyOf {T = Unit {0}} (λ _. P)) (λ ls h. (tt, h)) ps cut
@@ -43,8 +39,8 @@ module _ (what : Shown) (program : Program) (table : List (List ℕ)) where
   pub entry_refused : ((E : Entries) → AreEntries what.entry program table E → ⊥) → (s : Status) (ls : List (List ℕ)) → (s ≡ status.EntryRefused) × (ls ≡ codes "refused: entry\n" ∷ []) → ProgramShows what program table s ls
   entry_refused none s ls h = subst (λ t. ProgramShows what program table t ls) (sym h.0) (ProgramShows.entry ls none h.1)
 
-  pub shown_lines : (names : List (List ℕ)) → names ≡ table → (E : Entries) → AreEntries what.entry program table E → (ls : List (List ℕ)) → IsPrinted what.kind E program names ls → ProgramShows what program table status.Done ls
-  shown_lines names same E is ls h = ProgramShows.shown ls (E, is, subst (λ n. IsPrinted what.kind E program n ls) same h)
+  pub shown_lines : (names : List (List ℕ)) → names ≡ table → (E : Entries) → AreEntries what.entry program table E → (ls : List (List ℕ)) → IsPrinted (kind_of what.groups) E program names ls → ProgramShows what program table status.Done ls
+  shown_lines names same E is ls h = ProgramShows.shown ls (E, is, subst (λ n. IsPrinted (kind_of what.groups) E program n ls) same h)
 
 pub printed_lines : (k : Kind) (E : Entries) (program annotated certified : Program) (table : List (List ℕ)) → annotated ≡ certified → IsMade k E program certified → IsSoundAnnotation program certified (Of E)
     → (ls : List (List ℕ)) → ls ≡ lines_of table annotated → IsPrinted k E program table ls
@@ -69,65 +65,16 @@ show_read what (Some entries) FilesRose bytes has short s ls h = FileShows.read 
 
 -- ---- statuses that a layer doesn't end with
 
-abbrev IsPlain : Status → Type 0
-IsPlain s = (s ≢ status.FileFault) × (s ≢ status.SinkFault) × (s ≢ status.SourceFault)
+program_calm : (what : Shown) (program : Program) (table : List (List ℕ)) (s : Status) (ls : List (List ℕ)) → ProgramShows what program table s ls → IsCalm s
+program_calm what program table _ ls (ProgramShows.entry _ n e) = (λ f. cc, λ f. cc, λ f. cc, λ f. cc)
+program_calm what program table _ ls (ProgramShows.shown _ i) = (λ f. cc, λ f. cc, λ f. cc, λ f. cc)
 
-program_status : (what : Shown) (program : Program) (table : List (List ℕ)) (s : Status) (ls : List (List ℕ)) → ProgramShows what program table s ls → IsPlain s
-program_status what program table _ ls (ProgramShows.entry _ n e) = (λ f. cc, λ f. cc, λ f. cc)
-program_status what program table _ ls (ProgramShows.shown _ i) = (λ f. cc, λ f. cc, λ f. cc)
+pub show_text_calm : (what : Shown) (bytes : List ℕ) (s : Status) (ls : List (List ℕ)) → TextShows what bytes s ls → IsCalm s
+show_text_calm what bytes _ ls (TextShows.refused r _ n e) = (λ f. cc, λ f. cc, λ f. cc, λ f. cc)
+show_text_calm what bytes _ ls (TextShows.accepted program table s _ r p) = program_calm what program table s ls p
 
-text_status : (what : Shown) (bytes : List ℕ) (s : Status) (ls : List (List ℕ)) → TextShows what bytes s ls → IsPlain s
-text_status what bytes _ ls (TextShows.refused r _ n e) = (λ f. cc, λ f. cc, λ f. cc)
-text_status what bytes _ ls (TextShows.accepted program table s _ r p) = program_status what program table s ls p
-
-abbrev IsQuiet : Status → Type 0
-IsQuiet s = (s ≢ status.SinkFault) × (s ≢ status.SourceFault)
-
-file_status : (what : Shown) (entries : Option (List (List ℕ × List ℕ))) (FilesRose : Type 0) (s : Status) (ls : List (List ℕ)) → FileShows what entries FilesRose s ls → IsQuiet s
-file_status what entries FilesRose _ ls (FileShows.fault _ r e) = (λ f. cc, λ f. cc)
-file_status what entries FilesRose _ ls (FileShows.too_long _ r e) = (λ f. cc, λ f. cc)
-file_status what entries FilesRose _ ls (FileShows.read bytes s _ c l t) = let k = text_status what bytes s ls t in (k.1, k.2)
-
-pub other_status : (words : List (List ℕ)) (entries : Option (List (List ℕ × List ℕ))) (FilesRose : Type 0) (s : Status) (ls : List (List ℕ)) → OtherEnds words entries FilesRose s ls → IsQuiet s
-other_status words entries FilesRose _ ls (OtherEnds.usage _ n m e) = (λ f. cc, λ f. cc)
-other_status words entries FilesRose _ ls (OtherEnds.shown what s _ n f) = file_status what entries FilesRose s ls f
-other_status words entries FilesRose _ ls (OtherEnds.coded file s _ n f) = code_status file entries FilesRose s ls f
-
--- over the bytes of a file that was read, the files' count stays
-pub show_files_kept : (a b : Option (List (List ℕ))) (what : Shown) (bytes : List ℕ) (before now : ℕ) (r : Result Status Halt) → now ≡ before → Finishes a b (TextShows what bytes) r → FilesCount before now r
-show_files_kept a b what bytes before now (Err e) same puts = omega (arith, same)
-show_files_kept a b what bytes before now (Ok status.FileFault) same puts = absurd ((text_status what bytes status.FileFault puts.0 puts.2).0 refl)
-show_files_kept a b what bytes before now (Ok status.Done) same puts = same
-show_files_kept a b what bytes before now (Ok status.BudgetSpent) same puts = same
-show_files_kept a b what bytes before now (Ok status.Usage) same puts = same
-show_files_kept a b what bytes before now (Ok status.ProgramRefused) same puts = same
-show_files_kept a b what bytes before now (Ok status.QueryRefused) same puts = same
-show_files_kept a b what bytes before now (Ok status.SinkFault) same puts = same
-show_files_kept a b what bytes before now (Ok status.SourceFault) same puts = same
-show_files_kept a b what bytes before now (Ok status.NoMemory) same puts = same
-show_files_kept a b what bytes before now (Ok status.QueriesTooLong) same puts = same
-show_files_kept a b what bytes before now (Ok status.EntryRefused) same puts = same
-
--- the source isn't touched
-pub other_source_kept : (a b : Option (List (List ℕ))) (words : List (List ℕ)) (entries : Option (List (List ℕ × List ℕ))) (FilesRose : Type 0) (count : ℕ) (r : Result Status Halt) → Finishes a b (OtherEnds words entries FilesRose) r
-    → SourceCount count count r
-other_source_kept a b words entries FilesRose count (Err e) puts = omega arith
-other_source_kept a b words entries FilesRose count (Ok status.SourceFault) puts = absurd ((other_status words entries FilesRose status.SourceFault puts.0 puts.2).1 refl)
-other_source_kept a b words entries FilesRose count (Ok status.FileFault) puts = refl
-other_source_kept a b words entries FilesRose count (Ok status.Done) puts = refl
-other_source_kept a b words entries FilesRose count (Ok status.BudgetSpent) puts = refl
-other_source_kept a b words entries FilesRose count (Ok status.Usage) puts = refl
-other_source_kept a b words entries FilesRose count (Ok status.ProgramRefused) puts = refl
-other_source_kept a b words entries FilesRose count (Ok status.QueryRefused) puts = refl
-other_source_kept a b words entries FilesRose count (Ok status.SinkFault) puts = refl
-other_source_kept a b words entries FilesRose count (Ok status.NoMemory) puts = refl
-other_source_kept a b words entries FilesRose count (Ok status.QueriesTooLong) puts = refl
-other_source_kept a b words entries FilesRose count (Ok status.EntryRefused) puts = refl
-
--- words that are read as no command line of `show` are none
-pub not_shown : (words : List (List ℕ)) (r : Option ShowCommand) → r ≡ None → ((what : Shown) → IsShow words what → option_map shown_of r ≡ Some what) → (what : Shown) → IsShow words what → ⊥
-not_shown words r e only what is = let none : None ≡ Some what = ap (option_map shown_of) (sym e) ∙ only what is in cc
-
-pub usage : (words : List (List ℕ)) (entries : Option (List (List ℕ × List ℕ))) (FilesRose : Type 0) → ((what : Shown) → IsShow words what → ⊥) → ((file : List ℕ) → IsCode words file → ⊥) →
-    (s : Status) (ls : List (List ℕ)) → (s ≡ status.Usage) × (ls ≡ codes "usage: andprolog run FILE | show FILE | code FILE | load SEED SIZE\n" ∷ []) → OtherEnds words entries FilesRose s ls
-usage words entries FilesRose unshown uncoded s ls h = subst (λ t. OtherEnds words entries FilesRose t ls) (sym h.0) (OtherEnds.usage ls unshown uncoded h.1)
+pub show_status : (what : Shown) (entries : Option (List (List ℕ × List ℕ))) (FilesRose : Type 0) (s : Status) (ls : List (List ℕ)) → FileShows what entries FilesRose s ls
+    → (s ≢ status.SinkFault) × (s ≢ status.SourceFault) × (s ≢ status.Usage)
+show_status what entries FilesRose _ ls (FileShows.fault _ r e) = (λ f. cc, λ f. cc, λ f. cc)
+show_status what entries FilesRose _ ls (FileShows.too_long _ r e) = (λ f. cc, λ f. cc, λ f. cc)
+show_status what entries FilesRose _ ls (FileShows.read bytes s _ c l t) = let calm = show_text_calm what bytes s ls t in (calm.1, calm.2, calm.3)

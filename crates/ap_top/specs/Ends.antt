@@ -11,12 +11,15 @@ use Rattle.ap_clause.specs.declared.refusal.Refusal.{Refusal}
 use Rattle.ap_top.specs.Output.{IsOutput, judged}
 use Rattle.ap_top.specs.Refusals.{refusal_line}
 use Rattle.ap_patterns.specs.declared.entries.Entries.{Entries}
-use Rattle.ap_top.specs.Words.{Asked, IsCommand}
-use Rattle.ap_top.specs.ShowWords.{Shown, IsShow}
+use Rattle.ap_words.specs.Asked.{codes_of, loads, runs, shows}
+use Rattle.ap_words.specs.Reading.{IsRead, Reading, asks, help, usage, version}
+use Rattle.ap_words.specs.declared.help.TheConstants.{HELP, VERSION_LINE}
+use Rattle.ap_top.specs.Words.{Asked, IsCode, IsCommand, IsShow, Shown}
 use Rattle.ap_top.specs.Patterns.{AreEntries}
 use Rattle.ap_top.specs.Shows.{FileShows}
-use Rattle.ap_top.specs.CodeWords.{IsCode}
 use Rattle.ap_top.specs.Codes.{FileCodes}
+use Rattle.ap_top.specs.Loads.{LoadEnds}
+use Rattle.ap_top.specs.TextLines.{text_lines}
 use Rattle.ap_top.specs.Status.{status_of}
 use Rattle.ap_top.specs.declared.status.Tally.{Tally}
 use Rattle.ap_top.specs.declared.status.Status.{Status}
@@ -57,17 +60,19 @@ pub data FileEnds (what : Asked) (entries : Option (List (List ℕ × List ℕ))
   read : (bytes : List ℕ) (status : Status) (lines : List (List ℕ)) → HasContent entries what.file (λ content. content ≡ bytes) → length bytes ≤ 16777216
       → TextEnds what bytes source SourceRose status lines → FileEnds what entries source FilesRose SourceRose status lines
 
--- words that aren't a command line of `run`
-pub data OtherEnds (words : List (List ℕ)) (entries : Option (List (List ℕ × List ℕ))) (FilesRose : Type 0) : Status → List (List ℕ) → Type 0 where
-  usage : (lines : List (List ℕ)) → ((what : Shown) → IsShow words what → ⊥) → ((file : List ℕ) → IsCode words file → ⊥) → lines ≡ codes "usage: andprolog run FILE | show FILE | code FILE | load SEED SIZE\n" ∷ [] → OtherEnds words entries FilesRose Usage lines
-  shown : (what : Shown) (status : Status) (lines : List (List ℕ)) → IsShow words what → FileShows what entries FilesRose status lines → OtherEnds words entries FilesRose status lines
-  coded : (file : List ℕ) (status : Status) (lines : List (List ℕ)) → IsCode words file → FileCodes file entries FilesRose status lines → OtherEnds words entries FilesRose status lines
+-- what a command line is read as
+pub data AskedEnds (r : Reading) (entries : Option (List (List ℕ × List ℕ))) (source : Option (List ℕ)) (FilesRose SourceRose : Type 0) : Status → List (List ℕ) → Type 0 where
+  unasked : (lines : List (List ℕ)) → r ≡ usage → lines ≡ codes "usage: andprolog run FILE | show FILE | code FILE | load SEED SIZE\n" ∷ [] → AskedEnds r entries source FilesRose SourceRose Usage lines
+  helped : (lines : List (List ℕ)) → r ≡ help → lines ≡ text_lines HELP.now → AskedEnds r entries source FilesRose SourceRose Done lines
+  versioned : (lines : List (List ℕ)) → r ≡ version → lines ≡ text_lines VERSION_LINE.now → AskedEnds r entries source FilesRose SourceRose Done lines
+  ran : (what : Asked) (status : Status) (lines : List (List ℕ)) → r ≡ asks (runs what) → FileEnds what entries source FilesRose SourceRose status lines → AskedEnds r entries source FilesRose SourceRose status lines
+  shown : (what : Shown) (status : Status) (lines : List (List ℕ)) → r ≡ asks (shows what) → FileShows what entries FilesRose status lines → AskedEnds r entries source FilesRose SourceRose status lines
+  coded : (file : List ℕ) (status : Status) (lines : List (List ℕ)) → r ≡ asks (codes_of file) → FileCodes file entries FilesRose status lines → AskedEnds r entries source FilesRose SourceRose status lines
+  loaded : (seed size workers : ℕ) (status : Status) (lines : List (List ℕ)) → r ≡ asks (loads seed size workers) → LoadEnds seed size status lines → AskedEnds r entries source FilesRose SourceRose status lines
 
 -- a command line
 pub data RunEnds (words : List (List ℕ)) (entries : Option (List (List ℕ × List ℕ))) (source : Option (List ℕ)) (FilesRose SourceRose : Type 0) : Status → List (List ℕ) → Type 0 where
-  other : (status : Status) (lines : List (List ℕ)) → ((what : Asked) → IsCommand words what → ⊥) → OtherEnds words entries FilesRose status lines → RunEnds words entries source FilesRose SourceRose status lines
-  named : (what : Asked) (status : Status) (lines : List (List ℕ)) → IsCommand words what → FileEnds what entries source FilesRose SourceRose status lines
-      → RunEnds words entries source FilesRose SourceRose status lines
+  read : (r : Reading) (status : Status) (lines : List (List ℕ)) → IsRead words r → AskedEnds r entries source FilesRose SourceRose status lines → RunEnds words entries source FilesRose SourceRose status lines
 
 -- the line that says that memory was wanting, or nothing, where memory was wanting for that too
 abbrev pub SaysNoMemory : List (List ℕ) → Type 0

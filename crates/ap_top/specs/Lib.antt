@@ -1,16 +1,13 @@
 pub mod Status
 pub mod Counts
 pub mod Words
-pub mod Parted
 pub mod Refusals
 pub mod Output
 pub mod Lines
-pub mod ShowWords
-pub mod ShowParted
 pub mod Patterns
 pub mod Shows
 pub mod TextLines
-pub mod CodeWords
 pub mod Codes
+pub mod Loads
 pub mod Ends
 pub mod Unasked

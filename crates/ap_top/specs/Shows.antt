@@ -11,8 +11,11 @@ use Rattle.ap_certify.specs.declared.certified.Scope.TheVariants.{Of}
 use Rattle.ap_certify.specs.Certificate.{IsSoundAnnotation}
 use Rattle.ap_mel.specs.Made.{IsMade}
 use Rattle.ap_mel.specs.declared.annotations.Kind.{Kind}
+use Rattle.ap_mel.specs.declared.annotations.Kind.TheVariants as kind
+use Rattle.ap_words.specs.declared.asked.Annotator.{Annotator}
+use Rattle.ap_words.specs.declared.asked.Annotator.TheVariants as annotator
 use Rattle.ap_top.specs.Refusals.{refusal_line}
-use Rattle.ap_top.specs.ShowWords.{Shown}
+use Rattle.ap_top.specs.Words.{Shown}
 use Rattle.ap_top.specs.Patterns.{AreEntries}
 use Rattle.ap_top.specs.declared.status.Status.{Status}
 use Rattle.ap_top.specs.declared.status.Status.TheVariants.{Done, FileFault, ProgramRefused, EntryRefused}
@@ -21,9 +24,14 @@ use Rattle.ap_top.specs.declared.status.Status.TheVariants.{Done, FileFault, Pro
 abbrev pub IsPrinted : Kind → Entries → Program → List (List ℕ) → List (List ℕ) → Type 0
 IsPrinted k E program table lines = (annotated : Program) × IsMade k E program annotated × IsSoundAnnotation program annotated (Of E) × (lines ≡ lines_of table annotated)
 
--- the same for the entries that are asked for
+abbrev pub kind_of : Annotator → Kind
+kind_of annotator.Mel = kind.Mel
+kind_of annotator.Udg = kind.Udg
+kind_of annotator.None = kind.None
+
+-- the same for the entries and the groups that are asked for
 abbrev pub IsShown : Shown → Program → List (List ℕ) → List (List ℕ) → Type 0
-IsShown what program table lines = (E : Entries) × AreEntries what.entry program table E × IsPrinted what.kind E program table lines
+IsShown what program table lines = (E : Entries) × AreEntries what.entry program table E × IsPrinted (kind_of what.groups) E program table lines
 
 -- an accepted program and its table of names
 pub data ProgramShows (what : Shown) (program : Program) (table : List (List ℕ)) : Status → List (List ℕ) → Type 0 where

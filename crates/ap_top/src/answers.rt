@@ -20,7 +20,7 @@ pub struct Bounds {
     /// How many calls it may make.
     pub budget: u64,
     /// How many of its answers are printed at most.
-    pub answers: usize,
+    pub answers: u64,
 }
 
 /// The bounds where none are given.
@@ -100,8 +100,8 @@ pub fn print_query<K: Sink>(
     ensures count { SinkCount (K.faults out.old) (K.faults out.new) result }
 {
     let lines = Lines { query, atoms };
-    let limit = bounds.answers as u64;
-    let end = solve(alloc, program, query, bounds.budget, limit, &lines, out)?;
+    let Bounds { budget, answers } = bounds;
+    let end = solve(alloc, program, query, budget, answers, &lines, out)?;
     put_line(end_line(end), out)?;
     Ok(is_spent(end))
 }

@@ -1,87 +1,57 @@
 //! The run, layer by layer: command line, file, program, source, queries.
 
-ghost use Rattle.std.specs.Prelude.{◌≡◌, ◌≤◌, ◌^◌, [], ◌∷◌, List, ℕ, map, length, IfOk, ◌⊎◌, true};
+ghost use Rattle.std.specs.Prelude.{◌≡◌, ◌≤◌, ◌^◌, [], ◌∷◌, map, ◌⊎◌};
 ghost use Rattle.ap_outside.specs.Faults.{Rises};
 ghost use Rattle.ap_outside.specs.Pieces.{Puts, CutOf};
 ghost use Rattle.ap_outside.specs.Halting.{Finishes, SinkCount};
-ghost use Rattle.ap_term.specs.AtomTable.{fixed_names};
-ghost use Rattle.ap_top.specs.Output.{IsOutput, judged};
-ghost use Rattle.ap_top.specs.Words.{Asked, IsCommand, asked_of};
-ghost use Rattle.ap_top.specs.Ends.{IsAnswering, NamesProgram, ShowsProgram, CodesProgram, IsShowing, SaysNoMemory, SourceEnds, TextEnds, FileEnds, OtherEnds, RunEnds, Whole};
+ghost use Rattle.ap_words.specs.Asked.{asked_of, run_of, runs};
+ghost use Rattle.ap_words.specs.Reading.{InRange, IsRead, asks, reading_of, usage};
+ghost use Rattle.ap_top.specs.Words.{Asked, IsCommand};
+ghost use Rattle.ap_top.specs.Ends.{AskedEnds, IsAnswering, NamesProgram, ShowsProgram, CodesProgram, IsShowing, SaysNoMemory, SourceEnds, TextEnds, FileEnds, RunEnds, Whole};
 ghost use Rattle.ap_top.specs.Unasked.{LeavesQuery};
 ghost use Rattle.ap_top.specs.Counts.{EndsSource, RunEndsSource, SourceCount, FilesCount, RunSinkCount, RunSourceCount, RunFilesCount};
 
 use crate::answers::Bounds;
-use crate::closing::close;
+use crate::closing::{close, tell};
 use crate::code::code_file;
-use crate::code_words::coded_by;
-use crate::queries::{print_pieces, print_refusal};
+use crate::load::load;
+use crate::queries::print_refusal;
 use crate::show::show_file;
-use crate::show_words::show_command_of;
 use crate::source::{DrainErr, LIMIT, drain};
-use crate::status::{Status, Tally};
-use crate::words::{Command, command_of};
+use crate::status::Status;
+use crate::texts::print_text;
 use ap_clause::{Refusal, program};
-use ap_lexer::{NoMemory, Piece, pieces};
 use ap_outside::{FileErr, Files, Gate, Got, Halt, PutErr, Sink, Source};
 use ap_term::{Atoms, Program};
+use ap_words::{Asked as What, HELP, Reading, Run, VERSION_LINE, read};
 use std::alloc::Global;
 
 const USAGE: &[u8] = b"usage: andprolog run FILE | show FILE | code FILE | load SEED SIZE\n";
-
-// The pieces of a text that are judged: all of a whole one, and of one that broke off those that had ended.
-fn judged(alloc: Global, text: &[u8], whole: bool) -> Result<Vec<Piece>, NoMemory>
-    ensures { IfOk result (λ v. v.items ≡ judged whole text.now) }
-{
-    let mut pieces = pieces(alloc, text)?;
-    if whole {
-        return Ok(pieces);
-    }
-    pieces.retain(|piece| piece.ended);
-    Ok(pieces)
-}
-
-// Prints what the pieces of a text come to that are judged.
-fn print_text<K: Sink>(
-    alloc: Global,
-    text: &[u8],
-    whole: bool,
-    program: &Program,
-    bounds: Bounds,
-    atoms: &mut Atoms,
-    out: &mut K,
-) -> Result<Tally, Halt>
-    requires budget { bounds.budget ≤ 2 ^ 54 }
-    requires query { LeavesQuery program.now atoms.old }
-    ensures lines { Finishes (K.pieces out.old) (K.pieces out.new) (IsOutput bounds.budget bounds.answers program.now atoms.old text.now (judged whole text.now)) result }
-    ensures count { SinkCount (K.faults out.old) (K.faults out.new) result }
-{
-    let Ok(pieces) = judged(alloc, text, whole) else {
-        return Err(Halt::NoMemory);
-    };
-    print_pieces(alloc, text, &pieces, program, bounds, atoms, out)
-}
 
 // The source, over an accepted program.
 fn run_source<S: Source, K: Sink>(
     alloc: Global,
     program: &Program,
-    command: &Command,
+    command: &Run,
     atoms: &mut Atoms,
     queries: &mut S,
     out: &mut K,
 ) -> Result<Status, Halt>
-    requires budget { command.now.bounds.budget ≤ 2 ^ 54 }
+    requires budget { command.now.budget ≤ 2 ^ 54 }
     requires query { LeavesQuery program.now atoms.old }
-    ensures lines { Finishes (K.pieces out.old) (K.pieces out.new) (SourceEnds (asked_of command.now) program.now atoms.old (S.left queries.old) (Rises (S.faults queries.old) (S.faults queries.new))) result }
+    ensures lines { Finishes (K.pieces out.old) (K.pieces out.new) (SourceEnds (run_of command.now) program.now atoms.old (S.left queries.old) (Rises (S.faults queries.old) (S.faults queries.new))) result }
     ensures sink { SinkCount (K.faults out.old) (K.faults out.new) result }
     ensures source { SourceCount (S.faults queries.old) (S.faults queries.new) result }
     ensures end { EndsSource (S.left queries.new) result }
 {
+    let bounds = Bounds {
+        budget: command.budget,
+        answers: command.answers,
+    };
     let mut text = Vec::new(alloc);
     match drain(&mut text, queries) {
         Err(DrainErr::Failed) => {
-            print_text(alloc, &text, false, program, command.bounds, atoms, out)?;
+            print_text(alloc, &text, false, program, bounds, atoms, out)?;
             close(b"fault: source\n", Status::SourceFault, out)
         }
         Err(DrainErr::TooLong) => {
@@ -89,7 +59,7 @@ fn run_source<S: Source, K: Sink>(
         }
         Err(DrainErr::NoMemory) => Err(Halt::NoMemory),
         Ok(()) => {
-            let tally = print_text(alloc, &text, true, program, command.bounds, atoms, out)?;
+            let tally = print_text(alloc, &text, true, program, bounds, atoms, out)?;
             Ok(tally.status())
         }
     }
@@ -99,12 +69,12 @@ fn run_source<S: Source, K: Sink>(
 fn run_text<S: Source, K: Sink>(
     alloc: Global,
     text: &[u8],
-    command: &Command,
+    command: &Run,
     queries: &mut S,
     out: &mut K,
 ) -> Result<Status, Halt>
-    requires { command.now.bounds.budget ≤ 2 ^ 54 }
-    ensures lines { Finishes (K.pieces out.old) (K.pieces out.new) (TextEnds (asked_of command.now) text.now (S.left queries.old) (Rises (S.faults queries.old) (S.faults queries.new))) result }
+    requires { command.now.budget ≤ 2 ^ 54 }
+    ensures lines { Finishes (K.pieces out.old) (K.pieces out.new) (TextEnds (run_of command.now) text.now (S.left queries.old) (Rises (S.faults queries.old) (S.faults queries.new))) result }
     ensures sink { SinkCount (K.faults out.old) (K.faults out.new) result }
     ensures source { SourceCount (S.faults queries.old) (S.faults queries.new) result }
     ensures end { EndsSource (S.left queries.new) result }
@@ -125,14 +95,14 @@ fn run_text<S: Source, K: Sink>(
 // The file that was asked for.
 fn run_file<F: Files, S: Source, K: Sink>(
     alloc: Global,
-    command: &Command,
+    command: &Run,
     files: &mut F,
     queries: &mut S,
     out: &mut K,
 ) -> Result<Status, Halt>
-    requires { command.now.bounds.budget ≤ 2 ^ 54 }
+    requires { command.now.budget ≤ 2 ^ 54 }
     ensures lines { Finishes (K.pieces out.old) (K.pieces out.new)
-        (FileEnds (asked_of command.now) (F.entries files.old) (S.left queries.old) (Rises (F.faults files.old) (F.faults files.new)) (Rises (S.faults queries.old) (S.faults queries.new))) result }
+        (FileEnds (run_of command.now) (F.entries files.old) (S.left queries.old) (Rises (F.faults files.old) (F.faults files.new)) (Rises (S.faults queries.old) (S.faults queries.new))) result }
     ensures sink { SinkCount (K.faults out.old) (K.faults out.new) result }
     ensures source { SourceCount (S.faults queries.old) (S.faults queries.new) result }
     ensures files { FilesCount (F.faults files.old) (F.faults files.new) result }
@@ -147,23 +117,52 @@ fn run_file<F: Files, S: Source, K: Sink>(
     }
 }
 
-// Words that aren't a command line of `run`.
-fn run_other<F: Files, K: Sink>(
+// What a command line asks for.
+fn run_asked<F: Files, S: Source, K: Sink>(
     alloc: Global,
-    words: &[&str],
+    asked: What,
     files: &mut F,
+    queries: &mut S,
     out: &mut K,
 ) -> Result<Status, Halt>
-    ensures lines { Finishes (K.pieces out.old) (K.pieces out.new) (OtherEnds (map (λ w. w.now) words.now) (F.entries files.old) (Rises (F.faults files.old) (F.faults files.new))) result }
+    requires { InRange (asks (asked_of asked)) }
+    ensures lines { Finishes (K.pieces out.old) (K.pieces out.new)
+        (AskedEnds (asks (asked_of asked.entry)) (F.entries files.old) (S.left queries.old) (Rises (F.faults files.old) (F.faults files.new)) (Rises (S.faults queries.old) (S.faults queries.new))) result }
     ensures sink { SinkCount (K.faults out.old) (K.faults out.new) result }
+    ensures source { SourceCount (S.faults queries.old) (S.faults queries.new) result }
     ensures files { FilesCount (F.faults files.old) (F.faults files.new) result }
+    ensures end { (what : Asked) → asks (asked_of asked.entry) ≡ asks (runs what) → EndsSource (S.left queries.new) result }
 {
-    if let Some(command) = show_command_of(words) {
-        return show_file(alloc, &command, files, out);
+    match asked {
+        What::Run(command) => run_file(alloc, &command, files, queries, out),
+        What::Show(command) => show_file(alloc, &command, files, out),
+        What::Code(file) => code_file(alloc, file, files, out),
+        // One worker answers as any number of them does.
+        What::Load { seed, size, .. } => load(alloc, seed, size, out),
     }
-    match coded_by(words) {
-        None => close(USAGE, Status::Usage, out),
-        Some(file) => code_file(alloc, file, files, out),
+}
+
+// What a command line is read as.
+fn run_reading<F: Files, S: Source, K: Sink>(
+    alloc: Global,
+    reading: Reading,
+    files: &mut F,
+    queries: &mut S,
+    out: &mut K,
+) -> Result<Status, Halt>
+    requires { InRange (reading_of reading) }
+    ensures lines { Finishes (K.pieces out.old) (K.pieces out.new)
+        (AskedEnds (reading_of reading.entry) (F.entries files.old) (S.left queries.old) (Rises (F.faults files.old) (F.faults files.new)) (Rises (S.faults queries.old) (S.faults queries.new))) result }
+    ensures sink { SinkCount (K.faults out.old) (K.faults out.new) result }
+    ensures source { SourceCount (S.faults queries.old) (S.faults queries.new) result }
+    ensures files { FilesCount (F.faults files.old) (F.faults files.new) result }
+    ensures end { (what : Asked) → reading_of reading.entry ≡ asks (runs what) → EndsSource (S.left queries.new) result }
+{
+    match reading {
+        Reading::Usage => close(USAGE, Status::Usage, out),
+        Reading::Help => tell(HELP, out),
+        Reading::Version => tell(VERSION_LINE, out),
+        Reading::Asks(asked) => run_asked(alloc, asked, files, queries, out),
     }
 }
 
@@ -182,10 +181,10 @@ fn run_words<F: Files, S: Source, K: Sink>(
     ensures files { FilesCount (F.faults files.old) (F.faults files.new) result }
     ensures end { (what : Asked) → IsCommand (map (λ w. w.now) words.now) what → EndsSource (S.left queries.new) result }
 {
-    match command_of(words) {
-        None => run_other(alloc, words, files, out),
-        Some(command) => run_file(alloc, &command, files, queries, out),
-    }
+    let Ok(reading) = read(alloc, words) else {
+        return Err(Halt::NoMemory);
+    };
+    run_reading(alloc, reading, files, queries, out)
 }
 
 // Says that memory was wanting, where there is memory for that.
@@ -212,6 +211,10 @@ fn give_up<K: Sink>(out: &mut K) -> Status
 /// in every query that is as the entry says.
 ///
 /// `code FILE` reads the file as a program and puts the lines of its code's listing.
+///
+/// `load SEED SIZE` makes a program, asks it a question, and puts the summary of the block in three lines.
+///
+/// `--help` and `--version` put their lines, and what is no command line the line of the usage.
 pub fn run<R, F: Files, S: Source, K: Sink, G: Gate>(
     _rt: &R,
     alloc: Global,
@@ -227,6 +230,9 @@ pub fn run<R, F: Files, S: Source, K: Sink, G: Gate>(
 
     // Where `run` answered the queries, the source has nothing left.
     ensures end { (what : Asked) → IsCommand (map (λ w. w.now) words.now) what → RunEndsSource (S.left queries.new) result }
+
+    // The usage only where the words are no command line, so never where they are plain.
+    ensures usage { result ≡ Status.Usage → IsRead (map (λ w. w.now) words.now) usage }
 
     // A fault's status only where that object's count rose; where it rose, that status or one that goes before it.
     ensures sink { RunSinkCount (K.faults out.old) (K.faults out.new) result }

@@ -1,24 +1,23 @@
 //! Floor: program. The top call: from the words of a command line and the outside to a status.
 //!
-//! It stands on the outside, on the reader of clauses, on the search and on the writer of answers, for `show` on the
-//! annotators, and for `code` on the compiler and its check. What is used above it is the contract of `run`: which lines
-//! are put, and which status they go with.
+//! It stands on the reader of command lines, on the outside, on the reader of clauses, on the search and on the writer of
+//! answers; for `show` on the annotators, for `code` on the compiler and its check, and for `load` on the generator of
+//! programs. What is used above it is the contract of `run`: which lines are put, and which status they go with.
 #![tactic(auto)]
 
 mod answers;
 mod closing;
 mod code;
-mod code_words;
 mod command;
+mod load;
 mod patterns;
 mod queries;
 mod refusals;
 mod show;
-mod show_words;
 mod source;
 mod status;
 mod text_lines;
-mod words;
+mod texts;
 
 pub use answers::{BOUNDS, Bounds};
 pub use command::run;

@@ -6,13 +6,12 @@ ghost use Rattle.ap_outside.specs.Halting.{Finishes, Prints, SinkCount};
 ghost use Rattle.ap_cge.specs.Printed.{lines_of};
 ghost use Rattle.ap_patterns.specs.Entry.{IsMarked};
 ghost use Rattle.ap_top.specs.Counts.{FilesCount};
-ghost use Rattle.ap_top.specs.ShowWords.{shown_of};
-ghost use Rattle.ap_top.specs.Shows.{IsPrinted, ProgramShows, TextShows, FileShows};
+ghost use Rattle.ap_words.specs.Asked.{show_of};
+ghost use Rattle.ap_top.specs.Shows.{kind_of, IsPrinted, ProgramShows, TextShows, FileShows};
 
 use crate::closing::close;
 use crate::patterns::entries_of;
 use crate::queries::print_refusal;
-use crate::show_words::ShowCommand;
 use crate::source::LIMIT;
 use crate::status::Status;
 use ap_cge::{Annotated, PrintErr, print};
@@ -21,7 +20,18 @@ use ap_mel::{Kind, annotate_sound};
 use ap_outside::{FileErr, Files, Got, Halt, Sink};
 use ap_patterns::Entries;
 use ap_term::{Atoms, Program};
+use ap_words::{Annotator, Show};
 use std::alloc::Global;
+
+fn kind_of(annotator: Annotator) -> Kind
+    ensures { result ≡ kind_of annotator }
+{
+    match annotator {
+        Annotator::Mel => Kind::Mel,
+        Annotator::Udg => Kind::Udg,
+        Annotator::None => Kind::None,
+    }
+}
 
 // The lines of an annotated program.
 fn print_lines<K: Sink>(
@@ -63,20 +73,21 @@ fn show_annotated<K: Sink>(
 fn show_program<K: Sink>(
     alloc: Global,
     program: &Program,
-    command: &ShowCommand,
+    command: &Show,
     atoms: &mut Atoms,
     out: &mut K,
 ) -> Result<Status, Halt>
-    ensures lines { Finishes (K.pieces out.old) (K.pieces out.new) (ProgramShows (shown_of command.now) program.now atoms.old) result }
+    ensures lines { Finishes (K.pieces out.old) (K.pieces out.new) (ProgramShows (show_of command.now) program.now atoms.old) result }
     ensures sink { SinkCount (K.faults out.old) (K.faults out.new) result }
 {
-    let Ok(found) = entries_of(alloc, command.options.pattern, program, atoms) else {
+    let Ok(found) = entries_of(alloc, command.entry, program, atoms) else {
         return Err(Halt::NoMemory);
     };
     match found {
         None => close(b"refused: entry\n", Status::EntryRefused, out),
         Some(entries) => {
-            show_annotated(alloc, program, &entries, command.options.kind, atoms, out)?;
+            let kind = kind_of(command.annotator);
+            show_annotated(alloc, program, &entries, kind, atoms, out)?;
             Ok(Status::Done)
         }
     }
@@ -86,10 +97,10 @@ fn show_program<K: Sink>(
 fn show_text<K: Sink>(
     alloc: Global,
     text: &[u8],
-    command: &ShowCommand,
+    command: &Show,
     out: &mut K,
 ) -> Result<Status, Halt>
-    ensures lines { Finishes (K.pieces out.old) (K.pieces out.new) (TextShows (shown_of command.now) text.now) result }
+    ensures lines { Finishes (K.pieces out.old) (K.pieces out.new) (TextShows (show_of command.now) text.now) result }
     ensures sink { SinkCount (K.faults out.old) (K.faults out.new) result }
 {
     let Ok(mut atoms) = Atoms::new(alloc) else {
@@ -108,11 +119,11 @@ fn show_text<K: Sink>(
 /// Shows the file that was asked for: a line for each clause, with the groups that may run side by side.
 pub fn show_file<F: Files, K: Sink>(
     alloc: Global,
-    command: &ShowCommand,
+    command: &Show,
     files: &mut F,
     out: &mut K,
 ) -> Result<Status, Halt>
-    ensures lines { Finishes (K.pieces out.old) (K.pieces out.new) (FileShows (shown_of command.now) (F.entries files.old) (Rises (F.faults files.old) (F.faults files.new))) result }
+    ensures lines { Finishes (K.pieces out.old) (K.pieces out.new) (FileShows (show_of command.now) (F.entries files.old) (Rises (F.faults files.old) (F.faults files.new))) result }
     ensures sink { SinkCount (K.faults out.old) (K.faults out.new) result }
     ensures files { FilesCount (F.faults files.old) (F.faults files.new) result }
 {

@@ -9,7 +9,7 @@ use Rattle.std.proofs.lemmas.Bool.{false≢true}
 use Rattle.ap_words.specs.Numbers.{is_numeral, number}
 use Rattle.ap_words.specs.Table.{Text}
 use Rattle.ap_words.specs.Values.{Values, given}
-use Rattle.ap_words.specs.Asked.{Asked, Show, asked_by, codes_of, load_by, loads, number_at, number_or, run, run_by, runs, show_by, shows, text_at}
+use Rattle.ap_words.specs.Asked.{Asked, Show, asked_by, codes_of, load_by, loads, number_at, number_or, run, run_by, runs, show_by, shows, text_at, workers_by}
 use Rattle.ap_words.specs.Reading.{InRange, asks}
 use Rattle.ap_words.proofs.Tests.{both}
 
@@ -51,34 +51,43 @@ number_or_in : (otherwise greatest n : ℕ) (w : Option Text) → 1 ≤ otherwis
 number_or_in otherwise greatest n None low high e = let same : otherwise ≡ n = cc in subst (λ m. (1 ≤ m) × (m ≤ greatest)) same (low, high)
 number_or_in otherwise greatest n (Some word) low high e = number_in 1 greatest n word e
 
+workers_in : (n : ℕ) (vs : Values) → workers_by vs ≡ Some n → (1 ≤ n) × (n ≤ 32)
+workers_in n vs e = number_or_in 1 32 n (given (codes "workers") vs) (omega arith) (omega arith) e
+
 run_in : (vs : Values) (what : Asked) → option_map runs (run_by vs) ≡ Some what → InRange (asks what)
-run_in vs what e = go (number_or 10000000 1 1000000000000 (given (codes "budget") vs)) (number_or 1000000 1 1000000000 (given (codes "answers") vs)) refl refl e
+run_in vs what e =
+    go (workers_by vs) (number_or 10000000 1 1000000000000 (given (codes "budget") vs)) (number_or 1000000 1 1000000000 (given (codes "answers") vs)) refl refl refl e
   where
     file : Text
     file = text_at (codes "FILE") vs
 
-    go : (b a : Option ℕ) → number_or 10000000 1 1000000000000 (given (codes "budget") vs) ≡ b → number_or 1000000 1 1000000000 (given (codes "answers") vs) ≡ a
-        → option_map runs (option_and_then (λ budget. option_map (run file budget) a) b) ≡ Some what → InRange (asks what)
-    go None a h k e = cc
-    go (Some budget) None h k e = cc
-    go (Some budget) (Some answers) h k e =
-        let same : runs (run file budget answers) ≡ what = cc in
+    go : (w b a : Option ℕ) → workers_by vs ≡ w → number_or 10000000 1 1000000000000 (given (codes "budget") vs) ≡ b → number_or 1000000 1 1000000000 (given (codes "answers") vs) ≡ a
+        → option_map runs (option_and_then (λ workers. option_and_then (λ budget. option_map (run file workers budget) a) b) w) ≡ Some what → InRange (asks what)
+    go None b a l h k e = cc
+    go (Some workers) None a l h k e = cc
+    go (Some workers) (Some budget) None l h k e = cc
+    go (Some workers) (Some budget) (Some answers) l h k e =
+        let same : runs (run file workers budget answers) ≡ what = cc in
+        let w = workers_in workers vs l in
         let b = number_or_in 10000000 1000000000000 budget (given (codes "budget") vs) (omega arith) (omega arith) h in
         let a = number_or_in 1000000 1000000000 answers (given (codes "answers") vs) (omega arith) (omega arith) k in
-        subst (λ w. InRange (asks w)) same (b.0, b.1, a.0, a.1)
+        subst (λ w. InRange (asks w)) same (w.0, w.1, b.0, b.1, a.0, a.1)
 
 load_in : (vs : Values) (what : Asked) → load_by vs ≡ Some what → InRange (asks what)
-load_in vs what e = go (number_at (codes "SEED") 0 4294967295 vs) (number_at (codes "SIZE") 1 10000 vs) refl refl e
+load_in vs what e = go (number_at (codes "SEED") 0 4294967295 vs) (number_at (codes "SIZE") 1 10000 vs) (workers_by vs) refl refl refl e
   where
-    go : (s z : Option ℕ) → number_at (codes "SEED") 0 4294967295 vs ≡ s → number_at (codes "SIZE") 1 10000 vs ≡ z → option_and_then (λ seed. option_map (loads seed) z) s ≡ Some what → InRange (asks what)
-    go None z h k e = cc
-    go (Some seed) None h k e = cc
-    go (Some seed) (Some size) h k e =
-        let same : loads seed size ≡ what = cc in
+    go : (s z w : Option ℕ) → number_at (codes "SEED") 0 4294967295 vs ≡ s → number_at (codes "SIZE") 1 10000 vs ≡ z → workers_by vs ≡ w
+        → option_and_then (λ seed. option_and_then (λ size. option_map (loads seed size) w) z) s ≡ Some what → InRange (asks what)
+    go None z w h k l e = cc
+    go (Some seed) None w h k l e = cc
+    go (Some seed) (Some size) None h k l e = cc
+    go (Some seed) (Some size) (Some workers) h k l e =
+        let same : loads seed size workers ≡ what = cc in
         let s = number_in 0 4294967295 seed (text_at (codes "SEED") vs) h in
         let z = number_in 1 10000 size (text_at (codes "SIZE") vs) k in
+        let w = workers_in workers vs l in
         let small : seed < 2 ^ 32 = omega (arith, s.1) in
-        subst (λ w. InRange (asks w)) same (small, z.0, z.1)
+        subst (λ w. InRange (asks w)) same (small, z.0, z.1, w.0, w.1)
 
 pub asked_in : (command : Text) (vs : Values) (what : Asked) → asked_by command vs ≡ Some what → InRange (asks what)
 asked_in command vs what e = go (bytes_eq command (codes "run")) (bytes_eq command (codes "show")) (bytes_eq command (codes "code")) e

@@ -10,14 +10,16 @@ use Rattle.ap_words.specs.declared.asked.Asked.TheVariants as kept
 use Rattle.ap_words.specs.declared.asked.Run.{Run as KeptRun}
 use Rattle.ap_words.specs.declared.asked.Show.{Show as KeptShow}
 
--- of `run`: the file, the calls that a query may make, and the answers that it may print
+-- of `run`: the file, how many workers may run its goals, the calls that a query may make, and the answers that it may
+-- print
 pub record Run : Type 0 where
   pub file : Text
+  pub workers : ℕ
   pub budget : ℕ
   pub answers : ℕ
 
-abbrev pub run : Text → ℕ → ℕ → Run
-run file budget answers = record { file = file; budget = budget; answers = answers }
+abbrev pub run : Text → ℕ → ℕ → ℕ → Run
+run file workers budget answers = record { file = file; workers = workers; budget = budget; answers = answers }
 
 -- of `show`: the file, the pattern of an entry, if there is one, and which groups are made
 pub record Show : Type 0 where
@@ -32,10 +34,10 @@ pub data Asked : Type 0 where
   runs : Run → Asked
   shows : Show → Asked
   codes_of : Text → Asked
-  loads : ℕ → ℕ → Asked
+  loads : ℕ → ℕ → ℕ → Asked
 
 abbrev pub run_of : KeptRun → Run
-run_of r = run r.file.now r.budget r.answers
+run_of r = run r.file.now r.workers r.budget r.answers
 
 abbrev pub show_of : KeptShow → Show
 show_of s = show s.file.now (option_map (λ w. w.now) s.entry) s.annotator
@@ -44,7 +46,7 @@ abbrev pub asked_of : Kept → Asked
 asked_of (kept.Run r) = runs (run_of r)
 asked_of (kept.Show s) = shows (show_of s)
 asked_of (kept.Code file) = codes_of file.now
-asked_of (kept.Load seed size) = loads seed size
+asked_of (kept.Load seed size workers) = loads seed size workers
 
 -- ---- by names
 
@@ -69,15 +71,20 @@ abbrev pub annotator_or : Option Text → Option Annotator
 annotator_or None = Some annotator.Mel
 annotator_or (Some word) = annotator_named word
 
+-- how many workers there are: 1 where none is given
+abbrev pub workers_by : Values → Option ℕ
+workers_by vs = number_or 1 1 32 (given (codes "workers") vs)
+
 abbrev pub run_by : Values → Option Run
-run_by vs = option_and_then (λ budget. option_map (run (text_at (codes "FILE") vs) budget) (number_or 1000000 1 1000000000 (given (codes "answers") vs)))
-    (number_or 10000000 1 1000000000000 (given (codes "budget") vs))
+run_by vs =
+    option_and_then (λ workers. option_and_then (λ budget. option_map (run (text_at (codes "FILE") vs) workers budget) (number_or 1000000 1 1000000000 (given (codes "answers") vs)))
+    (number_or 10000000 1 1000000000000 (given (codes "budget") vs))) (workers_by vs)
 
 abbrev pub show_by : Values → Option Show
 show_by vs = option_map (show (text_at (codes "FILE") vs) (given (codes "entry") vs)) (annotator_or (given (codes "annotator") vs))
 
 abbrev pub load_by : Values → Option Asked
-load_by vs = option_and_then (λ seed. option_map (loads seed) (number_at (codes "SIZE") 1 10000 vs)) (number_at (codes "SEED") 0 4294967295 vs)
+load_by vs = option_and_then (λ seed. option_and_then (λ size. option_map (loads seed size) (workers_by vs)) (number_at (codes "SIZE") 1 10000 vs)) (number_at (codes "SEED") 0 4294967295 vs)
 
 -- what a command asks for, where its numbers are in their ranges and the annotator is one that there is
 abbrev pub asked_by : Text → Values → Option Asked

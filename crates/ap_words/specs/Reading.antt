@@ -65,6 +65,6 @@ pub data IsRead (line : List Text) (r : Reading) : Type 0 where
 
 -- the numbers are in their ranges
 abbrev pub InRange : Reading → Type 0
-InRange (asks (runs r)) = (1 ≤ r.budget) × (r.budget ≤ 1000000000000) × (1 ≤ r.answers) × (r.answers ≤ 1000000000)
-InRange (asks (loads seed size)) = (seed < 2 ^ 32) × (1 ≤ size) × (size ≤ 10000)
+InRange (asks (runs r)) = (1 ≤ r.workers) × (r.workers ≤ 32) × (1 ≤ r.budget) × (r.budget ≤ 1000000000000) × (1 ≤ r.answers) × (r.answers ≤ 1000000000)
+InRange (asks (loads seed size workers)) = (seed < 2 ^ 32) × (1 ≤ size) × (size ≤ 10000) × (1 ≤ workers) × (workers ≤ 32)
 InRange _ = ⊤

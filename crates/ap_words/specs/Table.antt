@@ -13,7 +13,7 @@ abbrev pub words : List Text → List Text → Words
 words places options = record { places = places; options = options }
 
 abbrev pub run_words : Words
-run_words = words (codes "FILE" ∷ []) (codes "budget" ∷ codes "answers" ∷ [])
+run_words = words (codes "FILE" ∷ []) (codes "workers" ∷ codes "budget" ∷ codes "answers" ∷ [])
 
 abbrev pub show_words : Words
 show_words = words (codes "FILE" ∷ []) (codes "entry" ∷ codes "annotator" ∷ [])
@@ -22,7 +22,7 @@ abbrev pub code_words : Words
 code_words = words (codes "FILE" ∷ []) []
 
 abbrev pub load_words : Words
-load_words = words (codes "SEED" ∷ codes "SIZE" ∷ []) []
+load_words = words (codes "SEED" ∷ codes "SIZE" ∷ []) (codes "workers" ∷ [])
 
 -- the words of the command of a name
 abbrev pub words_of : Text → Option Words

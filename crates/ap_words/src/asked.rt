@@ -22,6 +22,8 @@ pub enum Annotator {
 #[derive(Clone, Copy, Debug)]
 pub struct Run<'a> {
     pub file: &'a str,
+    /// How many workers may run its goals.
+    pub workers: u64,
     /// The calls that a query may make.
     pub budget: u64,
     /// The answers that a query may print.
@@ -45,8 +47,10 @@ pub enum Asked<'a> {
     /// The code of the file of that name.
     Code(&'a str),
     /// A run of the program of that seed and size.
-    Load { seed: u32, size: u32 },
+    Load { seed: u32, size: u32, workers: u64 },
 }
+
+const MOST_WORKERS: u64 = 32;
 
 const MOST_CALLS: u64 = 1_000_000_000_000;
 
@@ -100,11 +104,13 @@ fn annotator_or(word: Option<&str>) -> Option<Annotator>
 fn run_by<'a>(values: &[Value<'a>]) -> Option<Run<'a>>
     ensures { option_map run_of result ≡ run_by (map value_of values.now) }
 {
+    let workers = number_or(1, MOST_WORKERS, given("workers", values))?;
     let budget = number_or(10_000_000, MOST_CALLS, given("budget", values))?;
     let answers = number_or(1_000_000, MOST_ANSWERS, given("answers", values))?;
     let file = text_at("FILE", values);
     Some(Run {
         file,
+        workers,
         budget,
         answers,
     })
@@ -128,7 +134,12 @@ fn load_by<'a>(values: &[Value]) -> Option<Asked<'a>>
 {
     let seed = number(0, u64::from(u32::MAX), text_at("SEED", values))? as u32;
     let size = number(1, MOST_ELEMENTS, text_at("SIZE", values))? as u32;
-    Some(Asked::Load { seed, size })
+    let workers = number_or(1, MOST_WORKERS, given("workers", values))?;
+    Some(Asked::Load {
+        seed,
+        size,
+        workers,
+    })
 }
 
 /// Gives what a command asks for, where its numbers are in their ranges and the annotator is one that there is.

@@ -13,7 +13,7 @@ pub struct Words {
 
 pub const RUN: Words = Words {
     places: &["FILE"],
-    options: &["budget", "answers"],
+    options: &["workers", "budget", "answers"],
 };
 
 pub const SHOW: Words = Words {
@@ -28,7 +28,7 @@ pub const CODE: Words = Words {
 
 pub const LOAD: Words = Words {
     places: &["SEED", "SIZE"],
-    options: &[],
+    options: &["workers"],
 };
 
 /// Gives the words of the command of a name.

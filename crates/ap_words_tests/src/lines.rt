@@ -6,28 +6,28 @@ use std::process::Abort;
 
 // The words behind the program's name, and what is asked: a command with its texts and numbers, a point where none is
 // given.
-static LINES: [(&[&str], &str); 66] = [
-    (&["run", "f.pl"], "run f.pl 10000000 1000000"),
-    (&["run", "f.pl", "--budget", "5"], "run f.pl 5 1000000"),
-    (&["run", "--budget", "5", "f.pl"], "run f.pl 5 1000000"),
-    (&["run", "f.pl", "--answers", "2"], "run f.pl 10000000 2"),
+static LINES: [(&[&str], &str); 73] = [
+    (&["run", "f.pl"], "run f.pl 1 10000000 1000000"),
+    (&["run", "f.pl", "--budget", "5"], "run f.pl 1 5 1000000"),
+    (&["run", "--budget", "5", "f.pl"], "run f.pl 1 5 1000000"),
+    (&["run", "f.pl", "--answers", "2"], "run f.pl 1 10000000 2"),
     (
         &["run", "--answers", "2", "f.pl", "--budget", "5"],
-        "run f.pl 5 2",
+        "run f.pl 1 5 2",
     ),
     (
         &["run", "--budget", "5", "--answers", "2", "f.pl"],
-        "run f.pl 5 2",
+        "run f.pl 1 5 2",
     ),
     (
         &["run", "f.pl", "--budget", "1000000000000"],
-        "run f.pl 1000000000000 1000000",
+        "run f.pl 1 1000000000000 1000000",
     ),
     (
         &["run", "f.pl", "--answers", "1000000000"],
-        "run f.pl 10000000 1000000000",
+        "run f.pl 1 10000000 1000000000",
     ),
-    (&["run", "run"], "run run 10000000 1000000"),
+    (&["run", "run"], "run run 1 10000000 1000000"),
     (&["show", "f.pl"], "show f.pl . mel"),
     (
         &["show", "f.pl", "--entry", "p(g,f)"],
@@ -43,9 +43,29 @@ static LINES: [(&[&str], &str); 66] = [
         "show f.pl p mel",
     ),
     (&["code", "f.pl"], "code f.pl"),
-    (&["load", "1", "3"], "load 1 3"),
-    (&["load", "0", "1"], "load 0 1"),
-    (&["load", "4294967295", "10000"], "load 4294967295 10000"),
+    (&["load", "1", "3"], "load 1 3 1"),
+    (&["load", "0", "1"], "load 0 1 1"),
+    (&["load", "4294967295", "10000"], "load 4294967295 10000 1"),
+    (
+        &["run", "--workers", "32", "f.pl"],
+        "run f.pl 32 10000000 1000000",
+    ),
+    (
+        &[
+            "run",
+            "--answers",
+            "2",
+            "--workers",
+            "4",
+            "f.pl",
+            "--budget",
+            "5",
+        ],
+        "run f.pl 4 5 2",
+    ),
+    (&["load", "1", "--workers", "2", "3"], "load 1 3 2"),
+    (&["run", "f.pl", "--workers", "33"], "usage"),
+    (&["load", "1", "3", "--workers", "0"], "usage"),
     (&["run", "f.pl", "--budget", "0"], "usage"),
     (&["run", "f.pl", "--budget", "1000000000001"], "usage"),
     (&["run", "f.pl", "--budget", "007"], "usage"),
@@ -60,28 +80,33 @@ static LINES: [(&[&str], &str); 66] = [
     (&["load", "1", "0"], "usage"),
     (&["load", "1", "10001"], "usage"),
     (&["show", "f.pl", "--annotator", "Mel"], "usage"),
-    (&["run", "f.pl", "--budget=5"], "run f.pl 5 1000000"),
+    (&["run", "f.pl", "--budget=5"], "run f.pl 1 5 1000000"),
     (
         &["run", "--budget=5", "f.pl", "--answers=2"],
-        "run f.pl 5 2",
+        "run f.pl 1 5 2",
     ),
     (
         &["run", "--budget=5", "--answers", "2", "f.pl"],
-        "run f.pl 5 2",
+        "run f.pl 1 5 2",
     ),
-    (&["run", "--", "-f.pl"], "run -f.pl 10000000 1000000"),
+    (
+        &["run", "f.pl", "--workers=2"],
+        "run f.pl 2 10000000 1000000",
+    ),
+    (&["load", "1", "3", "--workers=32"], "load 1 3 32"),
+    (&["run", "--", "-f.pl"], "run -f.pl 1 10000000 1000000"),
     (
         &["run", "--budget", "5", "--", "f.pl"],
-        "run f.pl 5 1000000",
+        "run f.pl 1 5 1000000",
     ),
-    (&["run", ""], "run  10000000 1000000"),
-    (&["run", "-"], "run - 10000000 1000000"),
+    (&["run", ""], "run  1 10000000 1000000"),
+    (&["run", "-"], "run - 1 10000000 1000000"),
     (&["show", "f.pl", "--entry="], "show f.pl  mel"),
     (&["show", "f.pl", "--entry", ""], "show f.pl  mel"),
     (&["show", "f.pl", "--entry=-(g,g)"], "show f.pl -(g,g) mel"),
     (&["show", "f.pl", "--annotator=none"], "show f.pl . none"),
     (&["code", "--", "f.pl"], "code f.pl"),
-    (&["load", "--", "1", "3"], "load 1 3"),
+    (&["load", "--", "1", "3"], "load 1 3 1"),
     (&[], "usage"),
     (&["walk"], "usage"),
     (&["run"], "usage"),
@@ -122,14 +147,23 @@ fn told(alloc: Global, reading: &Reading) -> Result<String, AllocError> {
         Reading::Version => String::from_str(alloc, "version"),
         Reading::Usage => String::from_str(alloc, "usage"),
         Reading::Asks(Asked::Run(run)) => {
-            format!(in alloc; "run {} {} {}", run.file, run.budget, run.answers)
+            format!(in alloc;
+                "run {} {} {} {}",
+                run.file, run.workers, run.budget, run.answers
+            )
         }
         Reading::Asks(Asked::Show(show)) => {
             let entry = show.entry.unwrap_or(".");
             format!(in alloc; "show {} {} {}", show.file, entry, name_of(show.annotator))
         }
         Reading::Asks(Asked::Code(file)) => format!(in alloc; "code {}", file),
-        Reading::Asks(Asked::Load { seed, size }) => format!(in alloc; "load {} {}", seed, size),
+        Reading::Asks(
+            Asked::Load {
+                seed,
+                size,
+                workers,
+            },
+        ) => format!(in alloc; "load {} {} {}", seed, size, workers),
     }
 }
 

@@ -1,9 +1,11 @@
-use Rattle.std.proofs.Common.{◌≡◌, ◌≤◌, length, rules}
+use Rattle.std.proofs.Common.{◌≡◌, ◌≤◌, length, refl, rules}
 use Rattle.ap_outside.specs.Faults.{Rises}
 use Rattle.ap_outside.specs.Files.{HasContent}
 use Rattle.ap_outside.proofs.Halts.{finishes_map, halts_at_once}
 use Rattle.ap_top.specs.Codes.{FileCodes, TextCodes}
-use Rattle.ap_top.proofs.CodeLayers.{code_fault, code_too_long, code_read, code_files_kept}
+use Rattle.ap_top.proofs.CodeLayers.{code_fault, code_too_long, code_read, code_text_calm}
+use Rattle.ap_top.specs.declared.status.Status.TheVariants as status
+use Rattle.ap_top.proofs.Statuses.{files_kept}
 use Rattle.ap_top.proofs.code.code_file.Goals as goal
 
 pub returns-in-Err-Failed-clause-lines : goal.returns-in-Err-Failed-clause-lines
@@ -37,4 +39,6 @@ returns-clause-lines g c =
     finishes_map _ _ (TextCodes c.deref.result.now) (FileCodes file entries Fault) _ (code_read file entries Fault c.deref.result.now has short) c.code_text.ensures.lines
 
 pub returns-clause-files : goal.returns-clause-files
-returns-clause-files g c = code_files_kept _ _ c.deref.result.now _ _ c.code_text.result (search rules) c.code_text.ensures.lines
+returns-clause-files g c =
+    let text = c.deref.result.now in
+    files_kept _ _ (TextCodes text) (λ ls ends. (code_text_calm text status.FileFault ls ends).0 refl) _ _ c.code_text.result (search rules) c.code_text.ensures.lines

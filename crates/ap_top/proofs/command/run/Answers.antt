@@ -1,4 +1,4 @@
-use Rattle.std.proofs.Common.{map, subst}
+use Rattle.std.proofs.Common.{map, refl, subst}
 use Rattle.ap_outside.specs.Faults.{Rises}
 use Rattle.ap_outside.specs.Pieces.{CutOf}
 use Rattle.ap_outside.specs.Halting.{AnyOf}
@@ -7,8 +7,9 @@ use Rattle.ap_top.specs.Ends.{RunEnds, Whole}
 use Rattle.ap_top.specs.declared.status.Status.TheVariants as status
 use Rattle.ap_top.specs.Counts.{RunSinkCount}
 use Rattle.ap_top.specs.declared.status.Status.{Status}
-use Rattle.ap_top.proofs.Complete.{run_answers, run_shows, run_codes, sink_rose, memory_stays, given_up, shown_given_up}
-use Rattle.ap_top.proofs.Layers.{sink_kept, sink_lines, memory_lines, end_given_up}
+use Rattle.ap_top.proofs.Complete.{run_answers, run_shows, run_codes, given_up, shown_given_up}
+use Rattle.ap_top.proofs.Statuses.{memory_stays, sink_kept, sink_rose}
+use Rattle.ap_top.proofs.Layers.{given_up_usage, run_status, run_usage, sink_lines, memory_lines, end_given_up}
 use Rattle.ap_top.proofs.command.run.Goals as goal
 
 pub returns-in-Ok-clause-lines : goal.returns-in-Ok-clause-lines
@@ -22,7 +23,10 @@ pub returns-in-Ok-clause-sink : goal.returns-in-Ok-clause-sink
 returns-in-Ok-clause-sink g c =
     let Fault = Rises (g.F.Files.faults c.args.files.now) (g.F.Files.faults c.run_words.new.files) in
     let Rose = Rises (g.S.Source.faults c.args.queries.now) (g.S.Source.faults c.run_words.new.queries) in
-    sink_kept _ _ (map (λ w. w.now) c.args.words.now) (g.F.Files.entries c.args.files.now) (g.S.Source.left c.args.queries.now) Fault Rose _ _ c.in-Ok.status c.in-Ok.ensures.sink c.in-Ok.ensures.lines
+    let words = map (λ w. w.now) c.args.words.now in
+    let entries = g.F.Files.entries c.args.files.now in
+    let left = g.S.Source.left c.args.queries.now in
+    sink_kept _ _ (RunEnds words entries left Fault Rose) (λ ls ends. run_status words entries left Fault Rose status.SinkFault ls ends refl) _ _ c.in-Ok.status c.in-Ok.ensures.sink c.in-Ok.ensures.lines
 
 pub returns-in-Err-Sink-clause-lines : goal.returns-in-Err-Sink-clause-lines
 returns-in-Err-Sink-clause-lines g c =
@@ -83,3 +87,12 @@ returns-in-Err-NoMemory-clause-codes g c =
     let before = memory_stays Status _ _ c.in-Err-NoMemory.field-0 c.in-Err-NoMemory.field-0-is c.in-Err-NoMemory.ensures.sink in
     λ names quiet still. shown_given_up (g.K.Sink.faults c.args.out.now) (g.K.Sink.faults c.give_up.new.out) c.give_up.result still c.give_up.ensures.only
     (subst (λ n. RunSinkCount n (g.K.Sink.faults c.give_up.new.out) c.give_up.result) before c.give_up.ensures.count)
+
+pub returns-in-Ok-clause-usage : goal.returns-in-Ok-clause-usage
+returns-in-Ok-clause-usage g c =
+    let Fault = Rises (g.F.Files.faults c.args.files.now) (g.F.Files.faults c.run_words.new.files) in
+    let Rose = Rises (g.S.Source.faults c.args.queries.now) (g.S.Source.faults c.run_words.new.queries) in
+    λ is. run_usage (map (λ w. w.now) c.args.words.now) (g.F.Files.entries c.args.files.now) (g.S.Source.left c.args.queries.now) Fault Rose c.in-Ok.status c.in-Ok.ensures.lines.0 c.in-Ok.ensures.lines.2 is
+
+pub returns-in-Err-NoMemory-clause-usage : goal.returns-in-Err-NoMemory-clause-usage
+returns-in-Err-NoMemory-clause-usage g c = λ is. given_up_usage c.give_up.result c.give_up.ensures.only is

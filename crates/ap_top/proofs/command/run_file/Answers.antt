@@ -1,15 +1,17 @@
-use Rattle.std.proofs.Common.{◌≡◌, ◌≤◌, length, rules}
+use Rattle.std.proofs.Common.{◌≡◌, ◌≤◌, length, refl, rules}
 use Rattle.ap_outside.specs.Faults.{Rises}
 use Rattle.ap_outside.specs.Files.{HasContent}
 use Rattle.ap_outside.proofs.Halts.{finishes_map, halts_at_once}
-use Rattle.ap_top.specs.Words.{asked_of}
+use Rattle.ap_words.specs.Asked.{run_of}
 use Rattle.ap_top.specs.Ends.{FileEnds, TextEnds}
-use Rattle.ap_top.proofs.Layers.{file_fault, file_too_long, file_read, files_kept}
+use Rattle.ap_top.proofs.Layers.{file_fault, file_too_long, file_read, text_status}
+use Rattle.ap_top.specs.declared.status.Status.TheVariants as status
+use Rattle.ap_top.proofs.Statuses.{files_kept}
 use Rattle.ap_top.proofs.command.run_file.Goals as goal
 
 pub returns-in-Err-Failed-clause-lines : goal.returns-in-Err-Failed-clause-lines
 returns-in-Err-Failed-clause-lines g c =
-    let what = asked_of c.args.command.now in
+    let what = run_of c.args.command.now in
     let entries = g.F.Files.entries c.args.files.now in
     let left = g.S.Source.left c.args.queries.now in
     let Fault = Rises (g.F.Files.faults c.args.files.now) (g.F.Files.faults c.read.new.self) in
@@ -20,11 +22,11 @@ pub returns-in-Err-NoMemory-clause-lines : goal.returns-in-Err-NoMemory-clause-l
 returns-in-Err-NoMemory-clause-lines g c =
     let Fault = Rises (g.F.Files.faults c.args.files.now) (g.F.Files.faults c.read.new.self) in
     let Rose = Rises (g.S.Source.faults c.args.queries.now) (g.S.Source.faults c.args.queries.now) in
-    halts_at_once (g.K.Sink.pieces c.args.out.now) (FileEnds (asked_of c.args.command.now) (g.F.Files.entries c.args.files.now) (g.S.Source.left c.args.queries.now) Fault Rose)
+    halts_at_once (g.K.Sink.pieces c.args.out.now) (FileEnds (run_of c.args.command.now) (g.F.Files.entries c.args.files.now) (g.S.Source.left c.args.queries.now) Fault Rose)
 
 pub returns-in-Ok-TooLong-clause-lines : goal.returns-in-Ok-TooLong-clause-lines
 returns-in-Ok-TooLong-clause-lines g c =
-    let what = asked_of c.args.command.now in
+    let what = run_of c.args.command.now in
     let entries = g.F.Files.entries c.args.files.now in
     let left = g.S.Source.left c.args.queries.now in
     let Fault = Rises (g.F.Files.faults c.args.files.now) (g.F.Files.faults c.read.new.self) in
@@ -33,7 +35,7 @@ returns-in-Ok-TooLong-clause-lines g c =
 
 pub returns-clause-lines : goal.returns-clause-lines
 returns-clause-lines g c =
-    let what = asked_of c.args.command.now in
+    let what = run_of c.args.command.now in
     let entries = g.F.Files.entries c.args.files.now in
     let left = g.S.Source.left c.args.queries.now in
     let Fault = Rises (g.F.Files.faults c.args.files.now) (g.F.Files.faults c.read.new.self) in
@@ -46,5 +48,8 @@ returns-clause-lines g c =
 
 pub returns-clause-files : goal.returns-clause-files
 returns-clause-files g c =
+    let what = run_of c.args.command.now in
+    let text = c.deref.result.now in
+    let left = g.S.Source.left c.args.queries.now in
     let Rose = Rises (g.S.Source.faults c.args.queries.now) (g.S.Source.faults c.run_text.new.queries) in
-    files_kept _ _ (asked_of c.args.command.now) c.deref.result.now (g.S.Source.left c.args.queries.now) Rose _ _ c.run_text.result (search rules) c.run_text.ensures.lines
+    files_kept _ _ (TextEnds what text left Rose) (λ ls ends. (text_status what text left Rose status.FileFault ls ends).0 refl) _ _ c.run_text.result (search rules) c.run_text.ensures.lines

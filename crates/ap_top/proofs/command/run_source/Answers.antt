@@ -2,7 +2,7 @@ use Rattle.std.proofs.Common.{◌≡◌, ◌≤◌, true, length, refl, Err, rul
 use Rattle.ap_outside.specs.Faults.{Rises}
 use Rattle.ap_outside.proofs.Puts.{puts_map}
 use Rattle.ap_outside.proofs.Halts.{finishes_map, passes_halt, halts_at_once}
-use Rattle.ap_top.specs.Words.{asked_of}
+use Rattle.ap_words.specs.Asked.{run_of}
 use Rattle.ap_top.specs.Output.{IsOutput, judged}
 use Rattle.ap_top.specs.Status.{status_of}
 use Rattle.ap_top.specs.Ends.{SourceEnds, IsTold, IsTaken}
@@ -17,7 +17,7 @@ returns-in_err-print_text-in-Err-Failed-clause-lines g c =
     let before = c.in-Err-Failed.ensures.taken (cc) in
     let told : IsTaken left c.deref.result.now = rw c.deref.ensures.value (taken_first left before.0 c.drain.new.all.items before.1) in
     let short : length c.deref.result.now ≤ 16777216 = rw c.deref.ensures.value c.in-Err-Failed.ensures.short in
-    taken_halts (asked_of c.args.command.now) c.args.program.now c.args.atoms.now left Rose c.deref.result.now (c.in-Err-Failed.ensures.cause (cc)) told short
+    taken_halts (run_of c.args.command.now) c.args.program.now c.args.atoms.now left Rose c.deref.result.now (c.in-Err-Failed.ensures.cause (cc)) told short
     _ _ c.print_text.result _ c.in_err-print_text-in-Err-Failed.field-0.0 c.in_err-print_text-in-Err-Failed.was same c.print_text.ensures.lines
 
 pub returns-in-Err-Failed-clause-lines : goal.returns-in-Err-Failed-clause-lines
@@ -27,13 +27,13 @@ returns-in-Err-Failed-clause-lines g c =
     let before = c.in-Err-Failed.ensures.taken (cc) in
     let told : IsTaken left c.deref.result.now = rw c.deref.ensures.value (taken_first left before.0 c.drain.new.all.items before.1) in
     let short : length c.deref.result.now ≤ 16777216 = rw c.deref.ensures.value c.in-Err-Failed.ensures.short in
-    source_fault (asked_of c.args.command.now) c.args.program.now c.args.atoms.now left Rose c.deref.result.now (c.in-Err-Failed.ensures.cause (cc)) told short
+    source_fault (run_of c.args.command.now) c.args.program.now c.args.atoms.now left Rose c.deref.result.now (c.in-Err-Failed.ensures.cause (cc)) told short
     _ _ _ c.in_ok-print_text-in-Err-Failed.field-0 c.close.result c.in_ok-print_text-in-Err-Failed.ensures.lines c.close.ensures.lines
 
 pub returns-in-Err-TooLong-clause-lines : goal.returns-in-Err-TooLong-clause-lines
 returns-in-Err-TooLong-clause-lines g c =
     let more = c.in-Err-TooLong.ensures.too_long (cc) in
-    let what = asked_of c.args.command.now in
+    let what = run_of c.args.command.now in
     let left = g.S.Source.left c.args.queries.now in
     let Rose = Rises (g.S.Source.faults c.args.queries.now) (g.S.Source.faults c.drain.new.source) in
     finishes_map _ _ _ (SourceEnds what c.args.program.now c.args.atoms.now left Rose) _
@@ -42,12 +42,12 @@ returns-in-Err-TooLong-clause-lines g c =
 pub returns-in-Err-NoMemory-clause-lines : goal.returns-in-Err-NoMemory-clause-lines
 returns-in-Err-NoMemory-clause-lines g c =
     let Rose = Rises (g.S.Source.faults c.args.queries.now) (g.S.Source.faults c.drain.new.source) in
-    halts_at_once (g.K.Sink.pieces c.args.out.now) (SourceEnds (asked_of c.args.command.now) c.args.program.now c.args.atoms.now (g.S.Source.left c.args.queries.now) Rose)
+    halts_at_once (g.K.Sink.pieces c.args.out.now) (SourceEnds (run_of c.args.command.now) c.args.program.now c.args.atoms.now (g.S.Source.left c.args.queries.now) Rose)
 
 pub returns-in_err-tally-in-Ok-clause-lines : goal.returns-in_err-tally-in-Ok-clause-lines
 returns-in_err-tally-in-Ok-clause-lines g c =
     let same : c.from_residual-in_err-tally-in-Ok.result ≡ Err c.in_err-tally-in-Ok.field-0.0 = search rules in
-    let what = asked_of c.args.command.now in
+    let what = run_of c.args.command.now in
     let text = c.deref-in-Ok.result.now in
     let left = g.S.Source.left c.args.queries.now in
     let Rose = Rises (g.S.Source.faults c.args.queries.now) (g.S.Source.faults c.drain.new.source) in
@@ -59,7 +59,7 @@ returns-in_err-tally-in-Ok-clause-lines g c =
 
 pub returns-clause-lines : goal.returns-clause-lines
 returns-clause-lines g c =
-    let what = asked_of c.args.command.now in
+    let what = run_of c.args.command.now in
     let text = c.deref-in-Ok.result.now in
     let left = g.S.Source.left c.args.queries.now in
     let Rose = Rises (g.S.Source.faults c.args.queries.now) (g.S.Source.faults c.drain.new.source) in

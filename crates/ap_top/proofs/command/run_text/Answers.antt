@@ -5,7 +5,7 @@ use Rattle.ap_outside.proofs.Halts.{finishes_map, passes_halt}
 use Rattle.ap_term.specs.AtomTable.{fixed_names}
 use Rattle.ap_clause.specs.Reads.{AcceptsProgram, RefusesProgram}
 use Rattle.ap_clause.specs.declared.refusal.Refusal.TheVariants as refusal
-use Rattle.ap_top.specs.Words.{asked_of}
+use Rattle.ap_words.specs.Asked.{run_of}
 use Rattle.ap_top.specs.Refusals.{refusal_line}
 use Rattle.ap_top.specs.Ends.{SourceEnds, TextEnds}
 use Rattle.ap_top.specs.declared.status.Status.TheVariants as status
@@ -24,7 +24,7 @@ run_source-requires-clause-query g c κs within =
 
 pub returns-in-Ok-program-clause-lines : goal.returns-in-Ok-program-clause-lines
 returns-in-Ok-program-clause-lines g c =
-    let what = asked_of c.args.command.now in
+    let what = run_of c.args.command.now in
     let text = c.args.text.now in
     let left = g.S.Source.left c.args.queries.now in
     let Rose = Rises (g.S.Source.faults c.args.queries.now) (g.S.Source.faults c.run_source.new.queries) in
@@ -36,7 +36,7 @@ returns-in-Ok-program-clause-lines g c =
 pub returns-in_err-print_refusal-in-Err : goal.returns-in_err-print_refusal-in-Err
 returns-in_err-print_refusal-in-Err g c =
     let same : c.from_residual.result ≡ Err c.in_err-print_refusal-in-Err.field-0.0 = search rules in
-    let what = asked_of c.args.command.now in
+    let what = run_of c.args.command.now in
     let text = c.args.text.now in
     let left = g.S.Source.left c.args.queries.now in
     let Rose = Rises (g.S.Source.faults c.args.queries.now) (g.S.Source.faults c.args.queries.now) in
@@ -54,7 +54,7 @@ returns-in_err-print_refusal-in-Err g c =
 
 pub returns : goal.returns
 returns g c =
-    let what = asked_of c.args.command.now in
+    let what = run_of c.args.command.now in
     let text = c.args.text.now in
     let left = g.S.Source.left c.args.queries.now in
     let Rose = Rises (g.S.Source.faults c.args.queries.now) (g.S.Source.faults c.args.queries.now) in

@@ -4,7 +4,7 @@ use Rattle.ap_outside.proofs.Halts.{finishes_map, passes_halt}
 use Rattle.ap_term.specs.AtomTable.{fixed_names}
 use Rattle.ap_clause.specs.Reads.{AcceptsProgram, RefusesProgram}
 use Rattle.ap_clause.specs.declared.refusal.Refusal.TheVariants as refusal
-use Rattle.ap_top.specs.ShowWords.{shown_of}
+use Rattle.ap_words.specs.Asked.{show_of}
 use Rattle.ap_top.specs.Refusals.{refusal_line}
 use Rattle.ap_top.specs.Shows.{ProgramShows, TextShows}
 use Rattle.ap_top.specs.declared.status.Status.TheVariants as status
@@ -14,7 +14,7 @@ use Rattle.ap_top.proofs.show.show_text.Goals as goal
 
 pub returns-in-Ok-program-clause-lines : goal.returns-in-Ok-program-clause-lines
 returns-in-Ok-program-clause-lines g c =
-    let what = shown_of c.args.command.now in
+    let what = show_of c.args.command.now in
     let text = c.args.text.now in
     let program = c.in-Ok-program.program in
     let table = c.program.new.atoms in
@@ -24,7 +24,7 @@ returns-in-Ok-program-clause-lines g c =
 pub returns-in_err-print_refusal-in-Err : goal.returns-in_err-print_refusal-in-Err
 returns-in_err-print_refusal-in-Err g c =
     let same : c.from_residual.result ≡ Err c.in_err-print_refusal-in-Err.field-0.0 = search rules in
-    let what = shown_of c.args.command.now in
+    let what = show_of c.args.command.now in
     let text = c.args.text.now in
     let r = c.in-Err.refusal in
     let other : r ≡ refusal.NoMemory → ⊥ = search rules in
@@ -38,7 +38,7 @@ returns-in_err-print_refusal-in-Err g c =
 
 pub returns : goal.returns
 returns g c =
-    let what = shown_of c.args.command.now in
+    let what = show_of c.args.command.now in
     let text = c.args.text.now in
     let r = c.in-Err.refusal in
     let other : r ≡ refusal.NoMemory → ⊥ = search rules in

@@ -4,7 +4,7 @@ use Rattle.ap_lexer.specs.Piece as lexer
 use Rattle.ap_outside.specs.Halting.{Finishes}
 use Rattle.ap_top.specs.Output.{IsOutput, judged}
 use Rattle.ap_top.proofs.Layers.{judged_own}
-use Rattle.ap_top.proofs.command.print_text.Goals as goal
+use Rattle.ap_top.proofs.texts.print_text.Goals as goal
 
 pub print_pieces-requires-clause-pieces : goal.print_pieces-requires-clause-pieces
 print_pieces-requires-clause-pieces g c κs within =

@@ -2,7 +2,7 @@ use Rattle.std.proofs.Common.{◌∙◌, ap, rules}
 use Rattle.std.specs.List.{filter}
 use Rattle.std.proofs.lemmas.Fn.{filter_same}
 use Rattle.ap_top.proofs.Layers.{judged_ended}
-use Rattle.ap_top.proofs.command.judged.Goals as goal
+use Rattle.ap_top.proofs.texts.judged.Goals as goal
 
 pub returns : goal.returns
 returns c =
