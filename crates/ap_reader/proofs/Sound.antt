@@ -1,7 +1,7 @@
 -- What the machine finds is a term, and is spelled by the words that it went over.
 use Rattle.std.proofs.Common.{◌≡◌, ℕ, ◌^◌, ◌<◌, ◌≤◌, List, [], ◌∷◌, ◌++◌, Bool, true, false, cond, leb, ltb, ◌&&◌, Some, refl, sym, ap, subst, ◌∙◌, append_assoc, codes, arith}
 use Rattle.std.proofs.lemmas.List.{append-nil}
-use Rattle.std.proofs.lemmas.Bool.{leb-true, ltb-true}
+use Rattle.std.proofs.lemmas.Bool.{leb-true, ltb-true, and_parts}
 use Rattle.ap_reader.specs.declared.word.Word.{Word}
 use Rattle.ap_reader.specs.declared.word.Word.TheVariants as w
 use Rattle.ap_reader.specs.Grammar.{Tree, Single, Positive, Negative, Prefix, Infix, Begin, Then, infix_rank, prefix_rank, spelled, each, priority, IsTerm, AreItems, IsWhole}
@@ -41,10 +41,6 @@ on_cond : (P : State → Type 0) (b : Bool) (x y : State) → (b ≡ true → P 
 on_cond P true x y f g = f refl
 on_cond P false x y f g = g refl
 
-both : (a b : Bool) → (a && b) ≡ true → (a ≡ true) × (b ≡ true)
-both true b e = (refl, e)
-both false b e = absurd (cc)
-
 pub kept_reduced : (m : ℕ) (words : List Word) (t : Tree) (s : List Frame) → Keeps m words (Has t s) → Keeps m words (reduced m t s)
 unfolding reduced
 kept_reduced m words t [] k = k
@@ -71,7 +67,7 @@ kept_prefixed : (words : List Word) (o : Word) (s : List Frame) → Keeps 0 word
 kept_prefixed words o s k =
     on_cond (Keeps 0 (words ++ o ∷ [])) (ltb 0 (prefix_rank o) && leb (prefix_rank o) (room s)) (Wants (AfterPrefix o ∷ s)) Stuck
     (λ e.
-    let tests = both (ltb 0 (prefix_rank o)) (leb (prefix_rank o) (room s)) e in
+    let tests = and_parts (ltb 0 (prefix_rank o)) (leb (prefix_rank o) (room s)) e in
     ((ltb-true 0 (prefix_rank o) tests.0, leb-true (prefix_rank o) (room s) tests.1, k.0), ap (λ x. x ++ o ∷ []) k.1))
     (λ e. tt)
 
@@ -79,7 +75,7 @@ kept_shifted : (words : List Word) (o : Word) (x : State) → Keeps (left_max (i
 kept_shifted words o (Has t s) k =
     on_cond (Keeps 0 (words ++ o ∷ [])) (ltb 0 (infix_rank o) && leb (infix_rank o) (room s)) (Wants (AfterInfix t o ∷ s)) Stuck
     (λ e.
-    let tests = both (ltb 0 (infix_rank o)) (leb (infix_rank o) (room s)) e in
+    let tests = and_parts (ltb 0 (infix_rank o)) (leb (infix_rank o) (room s)) e in
     ((ltb-true 0 (infix_rank o) tests.0, k.2, k.1, leb-true (infix_rank o) (room s) tests.1, k.0), sym (append_assoc (before s) (spelled t) (o ∷ [])) ∙ ap (λ x. x ++ o ∷ []) k.4))
     (λ e. tt)
 kept_shifted words o (Wants s) k = tt

@@ -1,8 +1,8 @@
 -- Tables of names that grow.
-use Rattle.std.proofs.Common.{◌≡◌, ℕ, zero, suc, ◌+◌, ◌≤◌, Bool, true, false, ◌||◌, cond, List, [], ◌∷◌, ◌++◌, length, Some, slice_get, refl, sym, ap, subst, ◌∙◌, append_assoc, arith, length-append}
+use Rattle.std.proofs.Common.{◌≡◌, ℕ, zero, suc, ◌+◌, ◌≤◌, Bool, true, false, cond, List, [], ◌∷◌, ◌++◌, length, Some, slice_get, refl, sym, ap, subst, ◌∙◌, append_assoc, arith, length-append}
 use Rattle.std.specs.Prelude.{bytes_eq}
 use Rattle.std.proofs.lemmas.List.{append-nil}
-use Rattle.std.proofs.lemmas.Bool.{false≢true}
+use Rattle.std.proofs.lemmas.Bool.{or_parts}
 use Rattle.std.proofs.lemmas.Slice.Eq.{bytes_eq-Decides}
 use Rattle.ap_lexer.specs.Lexeme.{Text}
 use Rattle.ap_term.specs.AtomTable.{is_held, insert_name, insert_names, IsWithoutRepeats, IsAtomTable}
@@ -17,16 +17,8 @@ some_held : (names : List Text) (a : ℕ) (q name : Text) → slice_get names a 
 some_held [] a q name e h = absurd (cc)
 some_held (x ∷ xs) zero q name e h =
     let same : x ≡ name = Some-inj e in
-    subst (λ n. bytes_eq q n ≡ false) same (first (bytes_eq q x) (is_held xs q) h)
-  where
-    first : (a b : Bool) → (a || b) ≡ false → a ≡ false
-    first true b k = absurd (false≢true (sym k))
-    first false b k = refl
-some_held (x ∷ xs) (suc a) q name e h = some_held xs a q name e (second (bytes_eq q x) (is_held xs q) h)
-  where
-    second : (a b : Bool) → (a || b) ≡ false → b ≡ false
-    second true b k = absurd (false≢true (sym k))
-    second false b k = k
+    subst (λ n. bytes_eq q n ≡ false) same (or_parts (bytes_eq q x) (is_held xs q) h).0
+some_held (x ∷ xs) (suc a) q name e h = some_held xs a q name e (or_parts (bytes_eq q x) (is_held xs q) h).1
 
 -- a name's place in a table without repeats, also when the table goes on
 place-prefix : (names more : List Text) (a : ℕ) (name : Text) → IsWithoutRepeats names → slice_get names a ≡ Some name → a ≡ place_of (names ++ more) name

@@ -1,4 +1,5 @@
 pub mod Operator
+pub mod Standard
 pub mod Word
 pub mod Grammar
 pub mod Machine

@@ -1,14 +1,20 @@
-//! Laws of the grammar and of steps.
+//! Laws of the tables, of the grammar and of steps.
 
 ghost use Rattle.std.specs.Prelude.{◌≡◌, ℕ, List, [], ◌∷◌, Some, map};
 ghost use Rattle.ap_lexer.specs.Token.{Placed};
 ghost use Rattle.ap_reader.specs.declared.word.Word.{Word};
+ghost use Rattle.ap_reader.specs.Standard.{TablesLaw};
 ghost use Rattle.ap_reader.specs.Grammar.{Tree, spelled, IsWhole};
 ghost use Rattle.ap_reader.specs.Machine.{parsed};
 ghost use Rattle.ap_reader.specs.Step.{postfix};
 ghost use Rattle.ap_reader.specs.Written.{Written, meaning};
 ghost use Rattle.ap_reader.specs.Evaluated.{ATerm, evaluated};
 ghost use Rattle.ap_reader.specs.Reading.{Spells, term_of};
+
+/// The operators and the limits of terms are those that are written out.
+pub fn tables_law()
+    ensures { TablesLaw }
+{}
 
 /// A list of words is spelled by at most one tree that keeps the rules.
 pub fn one_tree()

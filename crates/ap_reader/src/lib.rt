@@ -20,7 +20,7 @@ mod written;
 
 pub use depth::MAX_DEPTH;
 pub use error::ReadErr;
-pub use law::{one_term, one_tree, pass_is_exact, steps_make_the_term};
+pub use law::{one_term, one_tree, pass_is_exact, steps_make_the_term, tables_law};
 pub use leaf::Leaf;
 pub use operators::{Fixity, OPERATORS, Operator};
 pub use pass::Step;
