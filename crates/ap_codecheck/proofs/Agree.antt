@@ -1,22 +1,23 @@
 -- What code asks for doesn't depend on registers that aren't set.
-use Rattle.std.proofs.Common.{◌≡◌, ℕ, zero, suc, ◌+◌, ◌<◌, ◌≤◌, ◌==◌, if◌then◌else◌, Bool, true, false, ℤ, List, [], ◌∷◌, drop, Option, Some, None, refl, sym, ◌∙◌, ap, subst, eq-eqb, arith}
+use Rattle.std.proofs.Common.{◌≡◌, ℕ, zero, suc, ◌+◌, ◌<◌, ◌≤◌, ◌==◌, if◌then◌else◌, Bool, true, false, ℤ, List, ◌∷◌, Option, Some, None, refl, sym, ◌∙◌, ap, subst, inl, eq-eqb, arith}
 use Rattle.std.specs.List.{slice_get}
 use Rattle.std.proofs.lemmas.Bool.Decides.{nat_tests}
 use Rattle.ap_term.specs.Tree.{Tree, none, more, count_trees, node, atom, int}
 use Rattle.ap_instr.specs.declared.instruction.Slot.{Slot}
 use Rattle.ap_instr.specs.declared.instruction.Slot.TheVariants.{X, Y}
 use Rattle.ap_instr.specs.declared.instruction.Instr.{Instr}
-use Rattle.ap_instr.specs.declared.instruction.Instr.TheVariants.{GetVariable, GetValue, GetConstant, GetInteger, GetStructure, PutVariable, PutValue, PutConstant, PutInteger, PutStructure, UnifyVariable, UnifyValue, UnifyConstant, UnifyInteger, Allocate, Deallocate, Call, Execute, Proceed, Builtin, Jump, Fail, Try, Retry, Trust}
+use Rattle.ap_instr.specs.declared.instruction.Instr.TheVariants.{GetVariable, GetValue, GetConstant, GetInteger, GetStructure, PutVariable, PutValue, PutConstant, PutInteger, PutStructure, UnifyVariable, UnifyValue, UnifyConstant, UnifyInteger, Allocate, Deallocate, Call, Execute, Proceed, Builtin, Jump, Fail, Try, Retry, Trust, CheckGround, CheckIndep, AllocParcall, PushGoal, WaitAll}
 use Rattle.ap_instr.specs.declared.compiled.Predicate.{Predicate}
 use Rattle.ap_instr.specs.Code.{Compiled}
 use Rattle.ap_instr.specs.Builtin.{builtin_name, builtin_arity}
-use Rattle.ap_instr.specs.Step.{Step, get_constant, put_constant, unify_constant, call, execute, with_integer, with_predicate, step_of, steps_of}
+use Rattle.ap_instr.specs.Step.{Step, get_constant, put_constant, unify_constant, call, execute, push, with_integer, with_predicate, step_of}
+use Rattle.ap_instr.specs.Steps.{skipped, steps_from}
 use Rattle.ap_instr.specs.Runs.{set, read, set_x, set_y, spread, applied, lost}
-use Rattle.ap_codecheck.specs.Shape.{Shape, unset, is_set, write, with_target, passed, behind_argument, after}
+use Rattle.ap_codecheck.specs.Shape.{Shape, unset, is_set, write, with_target, passed, behind_argument, pushed, with_group, after}
 use Rattle.ap_codecheck.specs.Paths.{Leads, Reaches}
-use Rattle.ap_codecheck.specs.Rules.{arity_in, ArgumentsSet, ReadsSet, IsSound}
+use Rattle.ap_codecheck.specs.Rules.{arity_in, ArgumentsSet, ReadsSet, GoesOn, IsSound}
 use Rattle.ap_codecheck.specs.Laws.{Agree, Ignores, UnsetLaw}
-use Rattle.ap_index.proofs.Keyed.{drop_at}
+use Rattle.ap_instr.proofs.Steps.{steps_law}
 use Rattle.ap_codecheck.proofs.Stands.{stands, reaches-next}
 
 chosen : (b : Bool) (p q : Bool) (t u m n : Tree) → t ≡ u → (q ≡ true → m ≡ n) → (if b then p else q) ≡ true → (if b then t else m) ≡ (if b then u else n)
@@ -116,7 +117,7 @@ unify_int (Some z) js s k ts x y v w bs n l h = unify_const (int z) js s k ts x 
 unify_int None js s k none x y v w bs n l h = h
 unify_int None js s k (more t ts) x y v w bs n l h = h
 
-called : (o : Option Predicate) (js : List Step) (s : Shape) → ArgumentsSet (arity_in o) s → Ignores js (record { x = unset; y = s.y; room = s.room; pending = s.pending; target = s.target }) → Ignores (with_predicate o call ∷ js) s
+called : (o : Option Predicate) (js : List Step) (s : Shape) → ArgumentsSet (arity_in o) s → Ignores js (record { x = unset; y = s.y; room = s.room; pending = s.pending; target = s.target; group = s.group }) → Ignores (with_predicate o call ∷ js) s
 called None js s r k none x y v w bs n l h = h
 called None js s r k (more t ts) x y v w bs n l h = h
 called (Some p) js s r k none x y v w bs n l h =
@@ -124,14 +125,36 @@ called (Some p) js s r k none x y v w bs n l h =
     (h.0, h.1 ∙ ap (λ us. more (applied p.name us) h.0) same, k none lost y lost w h.0 n (record { registers = λ a e. refl; variables = l.variables; target = λ a e. refl }) h.2)
 called (Some p) js s r k (more t ts) x y v w bs n l h = h
 
+pushes : (o : Option Predicate) (i : ℕ) (js : List Step) (s : Shape) → ArgumentsSet (arity_in o) s → Ignores js (with_group (pushed i s.group) s) → Ignores (with_predicate o push ∷ js) s
+pushes None i js s r k none x y v w bs n l h = h
+pushes None i js s r k (more t ts) x y v w bs n l h = h
+pushes (Some p) i js s r k none x y v w bs n l h =
+    let same = arguments-agree s p.arity x y v w l r in
+    (h.0, h.1 ∙ ap (λ us. more (applied p.name us) h.0) same, k none x y v w h.0 n (record { registers = l.registers; variables = l.variables; target = l.target }) h.2)
+pushes (Some p) i js s r k (more t ts) x y v w bs n l h = h
+
 executed : (o : Option Predicate) (js : List Step) (s : Shape) → ArgumentsSet (arity_in o) s → Ignores (with_predicate o execute ∷ js) s
 executed None js s r none x y v w bs n l h = h
 executed None js s r (more t ts) x y v w bs n l h = h
 executed (Some p) js s r none x y v w bs n l h = h ∙ ap (λ us. more (applied p.name us) none) (arguments-agree s p.arity x y v w l r)
 executed (Some p) js s r (more t ts) x y v w bs n l h = h
 
+-- ---- where the steps go on behind an instruction
+
+abbrev goes_to : Instr → ℕ → ℕ
+goes_to (Jump l) at = l
+goes_to i at = at + 1
+
+goes-same : (i : Instr) (at : ℕ) → GoesOn i at → at + 1 + skipped i at ≡ goes_to i at
+goes-same (Jump l) at g = omega (arith, g)
+goes-same i at g = let same : at + 1 + 0 ≡ at + 1 = omega arith in same
+
+goes_forward : (i : Instr) (at : ℕ) → GoesOn i at → at < goes_to i at
+goes_forward (Jump l) at g = g
+goes_forward i at g = let less : at < at + 1 = omega arith in less
+
 -- an instruction, where what it reads is set and what stands behind it ignores the registers that aren't set behind it
-ignores : (code : Compiled) (i : Instr) (at : ℕ) (js : List Step) (s : Shape) → ReadsSet code i s → (Leads i at (at + 1) → Ignores js (after i s)) → Ignores (step_of code i ∷ js) s
+ignores : (code : Compiled) (i : Instr) (at : ℕ) (js : List Step) (s : Shape) → ReadsSet code i s → (Leads i at (goes_to i at) → Ignores js (after i s)) → Ignores (step_of code i ∷ js) s
 ignores code (GetVariable r a) at js s p k none x y v w bs n l h =
     k refl none (set_x r (x a) x) (set_y r (x a) y) (set_x r (v a) v) (set_y r (v a) w) bs n (write-agree s r x y v w (x a) (v a) (l.registers a p) l) h
 ignores code (GetVariable r a) at js s p k (more t ts) x y v w bs n l h = h
@@ -176,7 +199,7 @@ ignores code (Builtin b) at js s p k none x y v w bs n l h =
     let same = arguments-agree s (builtin_arity b) x y v w l p in
     (h.0, h.1 ∙ ap (λ us. more (applied (builtin_name b) us) h.0) same, k refl none x y v w h.0 n l h.2)
 ignores code (Builtin b) at js s p k (more t ts) x y v w bs n l h = h
-ignores code (Jump q) at js s p k none x y v w bs n l h = h
+ignores code (Jump q) at js s p k none x y v w bs n l h = k refl none x y v w bs n l h
 ignores code (Jump q) at js s p k (more t ts) x y v w bs n l h = h
 ignores code Fail at js s p k none x y v w bs n l h = h
 ignores code Fail at js s p k (more t ts) x y v w bs n l h = h
@@ -186,18 +209,37 @@ ignores code (Retry q) at js s p k none x y v w bs n l h = h
 ignores code (Retry q) at js s p k (more t ts) x y v w bs n l h = h
 ignores code (Trust q) at js s p k none x y v w bs n l h = h
 ignores code (Trust q) at js s p k (more t ts) x y v w bs n l h = h
+ignores code (CheckGround r q) at js s p k none x y v w bs n l h =
+    let same = read-agree s r x y v w l p in
+    let asked = h.1 in
+    (h.0, cc, k (inl refl) none x y v w h.0 n l h.2)
+ignores code (CheckGround r q) at js s p k (more t ts) x y v w bs n l h = h
+ignores code (CheckIndep r u q) at js s p k none x y v w bs n l h =
+    let first = read-agree s r x y v w l p.0 in
+    let second = read-agree s u x y v w l p.1 in
+    let asked = h.1 in
+    (h.0, cc, k (inl refl) none x y v w h.0 n l h.2)
+ignores code (CheckIndep r u q) at js s p k (more t ts) x y v w bs n l h = h
+ignores code (AllocParcall m) at js s p k none x y v w bs n l h =
+    (h.0, h.1, k refl none x y v w h.0 n (record { registers = l.registers; variables = l.variables; target = l.target }) h.2)
+ignores code (AllocParcall m) at js s p k (more t ts) x y v w bs n l h = h
+ignores code (PushGoal i q) at js s p k ts x y v w bs n l h = pushes (slice_get code.predicates q) i js s p (k refl) ts x y v w bs n l h
+ignores code WaitAll at js s p k none x y v w bs n l h =
+    k refl none lost y lost w bs n (record { registers = λ a e. refl; variables = l.variables; target = λ a e. refl }) h
+ignores code WaitAll at js s p k (more t ts) x y v w bs n l h = h
 
--- the code from a place on
-rest-ignores : (code : Compiled) (number : ℕ) (p : Predicate) → IsSound code → slice_get code.predicates number ≡ Some p → (is : List Instr) (at : ℕ) (s : Shape) → drop at code.instructions ≡ is → Reaches code p at s → Ignores (steps_of code is) s
-rest-ignores code number p sound e [] at s d r ts x y v w bs n l h = h
-rest-ignores code number p sound e (i ∷ is) at s d r ts x y v w bs n l h =
+-- ---- the code from a place on, of which so many instructions at most are left in the predicate
+
+rest-ignores : (code : Compiled) (number : ℕ) (p : Predicate) → IsSound code → slice_get code.predicates number ≡ Some p → (n at : ℕ) (s : Shape) → p.end ≤ at + n → Reaches code p at s → Ignores (steps_from code at) s
+rest-ignores code number p sound e zero at s h r = absurd (omega (arith, h, (stands code number p at s sound e r).place.before))
+rest-ignores code number p sound e (suc n) at s h r =
     let here = stands code number p at s sound e r in
-    let laid = drop_at code.instructions at here.instr here.held in
-    let same : here.instr ≡ i = cc in
-    let rest : drop (at + 1) code.instructions ≡ is = cc in
-    let P : Instr → Type 0 = λ j. slice_get code.instructions at ≡ Some j in
-    let Q : Instr → Type 0 = λ j. ReadsSet code j s in
-    ignores code i at (steps_of code is) s (subst Q same here.reads) (λ leads. rest-ignores code number p sound e is (at + 1) (after i s) rest (reaches-next code p at (at + 1) s i r (subst P same here.held) leads)) ts x y v w bs n l h
+    let further : at < goes_to here.instr at = goes_forward here.instr at here.on in
+    let same = steps_law code at here.instr here.held ∙ ap (λ k. step_of code here.instr ∷ steps_from code k) (goes-same here.instr at here.on) in
+    let P : List Step → Type 0 = λ js. Ignores js s in
+    subst P (sym same)
+    (ignores code here.instr at (steps_from code (goes_to here.instr at)) s here.reads
+    (λ leads. rest-ignores code number p sound e n (goes_to here.instr at) (after here.instr s) (omega arith) (reaches-next code p at (goes_to here.instr at) s here.instr r here.held leads)))
 
 pub unset-law : UnsetLaw
-unset-law code number p at s sound e r = rest-ignores code number p sound e (drop at code.instructions) at s refl r
+unset-law code number p at s sound e r = rest-ignores code number p sound e p.end at s (omega arith) r

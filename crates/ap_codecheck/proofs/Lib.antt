@@ -1,4 +1,5 @@
 pub mod Agree
+pub mod Following
 pub mod Marks
 pub mod Stands
 pub mod Tried

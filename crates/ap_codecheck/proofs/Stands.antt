@@ -6,7 +6,7 @@ use Rattle.ap_instr.specs.declared.instruction.Instr.{Instr}
 use Rattle.ap_instr.specs.declared.instruction.Instr.TheVariants.{UnifyVariable, UnifyValue, UnifyConstant, UnifyInteger}
 use Rattle.ap_instr.specs.declared.compiled.Predicate.{Predicate}
 use Rattle.ap_instr.specs.Code.{Compiled}
-use Rattle.ap_codecheck.specs.declared.rule.Rule.TheVariants.{Operand, Target, Unset, Environment, Argument, End, Called}
+use Rattle.ap_codecheck.specs.declared.rule.Rule.TheVariants.{Operand, Target, Unset, Environment, Argument, Group, End, Called}
 use Rattle.ap_codecheck.specs.Shape.{Shape, entry, after, write, passed, behind_argument}
 use Rattle.ap_codecheck.specs.Paths.{Leads, Begins, Reaches}
 use Rattle.ap_codecheck.specs.Rules.{is_argument}
@@ -27,6 +27,7 @@ stands code number p at s sound e r =
       reads = (sound Unset at).each number p e s r here.0 here.1;
       environment = (sound Environment at).each number p e s r here.0 here.1;
       turn = (sound Argument at).each number p e s r here.0 here.1;
+      group = (sound Group at).each number p e s r here.0 here.1;
       on = ends.1 here.0 here.1;
       known = (sound Called at).each number p e place here.0 here.1;
     }

@@ -10,7 +10,7 @@ use Rattle.ap_instr.specs.Code.{Compiled}
 use Rattle.ap_instr.specs.StandsFor.{tried, alternatives, clause_places}
 use Rattle.ap_index.proofs.Keyed.{drop_at}
 use Rattle.ap_codecheck.specs.declared.rule.Rule.{Rule}
-use Rattle.ap_codecheck.specs.declared.rule.Rule.TheVariants.{Operand, Target, Unset, Environment, Argument, End, Called}
+use Rattle.ap_codecheck.specs.declared.rule.Rule.TheVariants.{Operand, Target, Unset, Environment, Argument, Group, End, Called}
 use Rattle.ap_codecheck.specs.declared.rule.CodeErr.{CodeErr}
 use Rattle.ap_codecheck.specs.declared.rule.CodeErr.TheVariants.{Bad, NoMemory}
 use Rattle.ap_codecheck.specs.Shape.{Shape, entry}
@@ -18,14 +18,14 @@ use Rattle.ap_codecheck.specs.Paths.{IsPlaceOf, Begins, Reaches, Awaits}
 use Rattle.ap_codecheck.specs.Rules.{At, IsAlternative, IsSound}
 use Rattle.ap_codecheck.specs.Judged.{IsFine, IsFineFrom, FailsFrom, AreFine, AreAwaited, ArePathsFine, others, KeepsBelow, BreaksIn, KeepsAll, KeepsAllAt, Breaks}
 
-lt-or-eq : (k n : ℕ) → k < n + 1 → (k < n) ⊎ (k ≡ n)
+pub lt-or-eq : (k n : ℕ) → k < n + 1 → (k < n) ⊎ (k ≡ n)
 lt-or-eq k n h =
     elim (cases_order k n) [
       | inl e ↦ inr e
       | inr w ↦ elim w [ inl a ↦ inl a | inr b ↦ absurd (omega arith) ]
     ]
 
-lt-or-le : (k n : ℕ) → (k < n) ⊎ (n ≤ k)
+pub lt-or-le : (k n : ℕ) → (k < n) ⊎ (n ≤ k)
 lt-or-le k n =
     elim (cases_order k n) [
       | inl e ↦ inr (omega arith)
@@ -47,6 +47,7 @@ fails-breaks code p l NoMemory b f = tt
 fails-breaks code p l (Bad to Unset) b f = λ k. f.3 (k f.1 (l, f.0, b, f.2))
 fails-breaks code p l (Bad to Environment) b f = λ k. f.3 (k f.1 (l, f.0, b, f.2))
 fails-breaks code p l (Bad to Argument) b f = λ k. f.3 (k f.1 (l, f.0, b, f.2))
+fails-breaks code p l (Bad to Group) b f = λ k. f.3 (k f.1 (l, f.0, b, f.2))
 fails-breaks code p l (Bad to End) b f = λ k. f.3 (k.0 f.1 (l, f.0, b, f.2))
 fails-breaks code p l (Bad to Operand) b f = λ k. f.3 (λ i e. tt)
 fails-breaks code p l (Bad to Target) b f = λ k. f.3 (λ i e. tt)
@@ -243,6 +244,7 @@ keeps-all code p b h Called at = λ place i e. b Called at place place.before i 
 keeps-all code p b h Unset at = λ s r. reached_fine code p at s h r Unset
 keeps-all code p b h Environment at = λ s r. reached_fine code p at s h r Environment
 keeps-all code p b h Argument at = λ s r. reached_fine code p at s h r Argument
+keeps-all code p b h Group at = λ s r. reached_fine code p at s h r Group
 keeps-all code p b h End at =
     (λ s r. reached_fine code p at s h r End, h.awaited at, λ e. (let P : ℕ → Type 0 = λ k. IsPlaceOf code p k in subst P (sym e) h.start))
 

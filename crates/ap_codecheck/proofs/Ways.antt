@@ -1,18 +1,20 @@
--- A clause is gone through from its place on: what is fine from where one stands is fine from the clause's place.
-use Rattle.std.proofs.Common.{◌≡◌, ℕ, zero, suc, ◌<◌, ◌≤◌, min, length, List, Some, None, refl, sym, ap, subst, inl, inr, arith}
+-- Paths of a clause: a place is fine where all that its instruction leads to is.
+use Rattle.std.proofs.Common.{◌≡◌, ◌⊎◌, ℕ, zero, suc, ◌+◌, ◌<◌, ◌≤◌, min, length, true, List, Some, refl, sym, ap, subst, inl, inr, arith}
 use Rattle.std.specs.List.{slice_get}
 use Rattle.std.proofs.lemmas.Option.{slice_get_cases}
 use Rattle.ap_instr.specs.declared.instruction.Instr.{Instr}
+use Rattle.ap_instr.specs.declared.instruction.Instr.TheVariants.{Execute, Proceed, Jump, Fail, Try, Retry, Trust, CheckGround, CheckIndep}
 use Rattle.ap_instr.specs.declared.compiled.Predicate.{Predicate}
 use Rattle.ap_instr.specs.Code.{Compiled}
 use Rattle.ap_codecheck.specs.declared.rule.Rule.{Rule}
-use Rattle.ap_codecheck.specs.declared.rule.Rule.TheVariants.{Operand, Target, Unset, Environment, Argument, End, Called}
+use Rattle.ap_codecheck.specs.declared.rule.Rule.TheVariants.{Operand, Target, Unset, Environment, Argument, Group, End, Called}
 use Rattle.ap_codecheck.specs.declared.rule.CodeErr.{CodeErr}
 use Rattle.ap_codecheck.specs.declared.rule.CodeErr.TheVariants.{Bad, NoMemory}
-use Rattle.ap_codecheck.specs.Shape.{Shape, entry, after}
+use Rattle.ap_codecheck.specs.Shape.{Shape, after}
 use Rattle.ap_codecheck.specs.Paths.{IsPlaceOf, Leads, Path}
-use Rattle.ap_codecheck.specs.Rules.{At}
-use Rattle.ap_codecheck.specs.Judged.{KeepsWith, IsFine, IsFineFrom, FailsFrom, IsJudged, IsLed, FailsAt}
+use Rattle.ap_codecheck.specs.Rules.{GoesOn, At}
+use Rattle.ap_codecheck.specs.Walk.{is_inner, elsewhere}
+use Rattle.ap_codecheck.specs.Judged.{KeepsWith, IsFine, IsFineFrom, FailsFrom, IsJudged, FailsAt}
 
 -- a path goes on by the instruction at its end
 pub Path-more : (code : Compiled) (n a b to : ℕ) (s t : Shape) (i : Instr) → Path code n a s b t → slice_get code.instructions b ≡ Some i → Leads i b to → Path code (suc n) a s to (after i t)
@@ -35,17 +37,6 @@ place_below code p at end is a b c d =
     let long : length is ≡ length code.instructions = ap length d in
     record { from = a; before = omega arith; held = omega arith }
 
--- where one stands on the way from a clause's place
-pub record IsOn (code : Compiled) (p : Predicate) (start at : ℕ) (s : Shape) : Type 0 where
-  pub behind : p.start ≤ at
-  pub count : ℕ
-  pub path : Path code count start (entry p.arity) at s
-  pub rest : IsFineFrom code p at s → IsFineFrom code p start (entry p.arity)
-
-pub on-start : (code : Compiled) (p : Predicate) (start : ℕ) (s : Shape) → p.start ≤ start → s ≡ entry p.arity → IsOn code p start start s
-on-start code p start s h e =
-    record { behind = h; count = 0; path = (refl, sym e); rest = λ f. (let P : Shape → Type 0 = λ t. IsFineFrom code p start t in subst P e f) }
-
 fine_here : (code : Compiled) (p : Predicate) (at : ℕ) (s : Shape) → IsPlaceOf code p at → IsJudged code at s → (rule : Rule) → IsFine rule code p at s
 fine_here code p at s h j End = (h, j End)
 fine_here code p at s h j Operand = j Operand
@@ -53,6 +44,7 @@ fine_here code p at s h j Target = j Target
 fine_here code p at s h j Unset = j Unset
 fine_here code p at s h j Environment = j Environment
 fine_here code p at s h j Argument = j Argument
+fine_here code p at s h j Group = j Group
 fine_here code p at s h j Called = j Called
 
 -- the path of no instruction
@@ -62,34 +54,52 @@ fine_still code p at to s t h j e f rule =
     let Q : Shape → Type 0 = λ u. IsFine rule code p at u in
     subst P e (subst Q f (fine_here code p at s h j rule))
 
-pub fine-end : (code : Compiled) (p : Predicate) (at : ℕ) (s t : Shape) → IsPlaceOf code p at → IsJudged code at s → IsLed code at s t None → IsFineFrom code p at s
-fine-end code p at s t h j l zero to u q rule = fine_still code p at to s u h j q.0 q.1 rule
-fine-end code p at s t h j l (suc n) to u q rule = absurd (l q.0 q.2 q.1 q.3)
+-- a place is fine where all that its instruction leads to is
+pub fine-on : (code : Compiled) (p : Predicate) (at : ℕ) (s : Shape) (i : Instr) → IsPlaceOf code p at → slice_get code.instructions at ≡ Some i → IsJudged code at s
+    → ((to : ℕ) → Leads i at to → IsFineFrom code p to (after i s)) → IsFineFrom code p at s
+fine-on code p at s i h e j f zero to u q rule = fine_still code p at to s u h j q.0 q.1 rule
+fine-on code p at s i h e j f (suc n) to u q rule =
+    let same : q.0 ≡ i = same_instr code at q.0 i q.2 e in
+    let P : Instr → Type 0 = λ k. Leads k at q.1 in
+    let Q : Instr → Type 0 = λ k. Path code n q.1 (after k s) to u in
+    f q.1 (subst P same q.3) n to u (subst Q same q.4) rule
 
-pub fine-next : (code : Compiled) (p : Predicate) (at next : ℕ) (s t : Shape) → IsPlaceOf code p at → IsJudged code at s → IsLed code at s t (Some next) → IsFineFrom code p next t → IsFineFrom code p at s
-fine-next code p at next s t h j l f zero to u q rule = fine_still code p at to s u h j q.0 q.1 rule
-fine-next code p at next s t h j l f (suc n) to u q rule =
-    let led = l q.0 q.2 in
-    let P : ℕ → Type 0 = λ k. Path code n k t to u in
-    let Q : Shape → Type 0 = λ v. Path code n q.1 v to u in
-    f n to u (subst P (led.1 q.1 q.3) (subst Q (sym led.2) q.4)) rule
+-- where an instruction leads to: to the one behind it, or elsewhere
+pub leads-where : (i : Instr) (at to : ℕ) → Leads i at to → ((is_inner i ≡ true) × (to ≡ at + 1)) ⊎ (elsewhere i ≡ Some to)
+leads-where (Execute q) at to l = absurd l
+leads-where Proceed at to l = absurd l
+leads-where (Jump q) at to l = inr (ap Some (sym l))
+leads-where Fail at to l = absurd l
+leads-where (Try q) at to l = absurd l
+leads-where (Retry q) at to l = absurd l
+leads-where (Trust q) at to l = absurd l
+leads-where (CheckGround v q) at to l = elim l [ inl e ↦ inl (refl, e) | inr e ↦ inr (ap Some (sym e)) ]
+leads-where (CheckIndep v w q) at to l = elim l [ inl e ↦ inl (refl, e) | inr e ↦ inr (ap Some (sym e)) ]
+leads-where _ at to l = inl (refl, l)
 
-pub on-falls : (code : Compiled) (at next : ℕ) (s t : Shape) → at < length code.instructions → IsJudged code at s → IsLed code at s t (Some next) → at < next
-on-falls code at next s t h j l = let here = held_at code at h in (l here.0 here.1).3 (j End here.0 here.1)
+pub leads-behind : (i : Instr) (at : ℕ) → is_inner i ≡ true → Leads i at (at + 1)
+leads-behind (Execute q) at h = cc
+leads-behind Proceed at h = cc
+leads-behind (Jump q) at h = cc
+leads-behind Fail at h = cc
+leads-behind (Try q) at h = cc
+leads-behind (Retry q) at h = cc
+leads-behind (Trust q) at h = cc
+leads-behind (CheckGround v q) at h = inl refl
+leads-behind (CheckIndep v w q) at h = inl refl
+leads-behind _ at h = refl
 
-pub on-next : (code : Compiled) (p : Predicate) (start at next : ℕ) (s t : Shape) → IsOn code p start at s → IsPlaceOf code p at → IsJudged code at s → IsLed code at s t (Some next) → IsOn code p start next t
-on-next code p start at next s t o h j l =
-    let here = held_at code at h.held in
-    let led = l here.0 here.1 in
-    let falls : at < next = on-falls code at next s t h.held j l in
-    let behind : p.start ≤ at = o.behind in
-    let P : Shape → Type 0 = λ v. Path code (suc o.count) start (entry p.arity) next v in
-    record {
-      behind = omega arith;
-      count = suc o.count;
-      path = subst P (sym led.2) (Path-more code o.count start at next (entry p.arity) s here.0 o.path here.1 led.0);
-      rest = λ f. o.rest (fine-next code p at next s t h j l f);
-    }
+pub leads-elsewhere : (i : Instr) (at l : ℕ) → elsewhere i ≡ Some l → Leads i at l
+leads-elsewhere (Jump q) at l h = let same : l ≡ q = cc in same
+leads-elsewhere (CheckGround v q) at l h = let same : l ≡ q = cc in inr same
+leads-elsewhere (CheckIndep v w q) at l h = let same : l ≡ q = cc in inr same
+leads-elsewhere _ at l h = cc
+
+pub elsewhere-forward : (i : Instr) (at l : ℕ) → GoesOn i at → elsewhere i ≡ Some l → at < l
+elsewhere-forward (Jump q) at l g h = let same : q ≡ l = cc in subst (λ k. at < k) same g
+elsewhere-forward (CheckGround v q) at l g h = let same : q ≡ l = cc in subst (λ k. at < k) same g
+elsewhere-forward (CheckIndep v w q) at l g h = let same : q ≡ l = cc in subst (λ k. at < k) same g
+elsewhere-forward _ at l g h = cc
 
 -- a rule that isn't kept at the shape makes the place not fine
 unfine : (code : Compiled) (p : Predicate) (at : ℕ) (s : Shape) (rule : Rule) → (At code at (λ i. KeepsWith rule code i at s) → ⊥) → IsFine rule code p at s → ⊥
@@ -99,13 +109,28 @@ unfine code p at s Target b f = b f
 unfine code p at s Unset b f = b f
 unfine code p at s Environment b f = b f
 unfine code p at s Argument b f = b f
+unfine code p at s Group b f = b f
 unfine code p at s Called b f = b f
 
-pub on-bad : (code : Compiled) (p : Predicate) (start at : ℕ) (s : Shape) (e : CodeErr) → IsOn code p start at s → FailsAt code at s e → FailsFrom code p start (entry p.arity) e
-on-bad code p start at s NoMemory o b = tt
-on-bad code p start at s (Bad to rule) o b =
-    let P : ℕ → Type 0 = λ k. FailsFrom code p start (entry p.arity) (Bad k rule) in
-    subst P (sym b.0) (o.count, s, o.path, unfine code p at s rule b.1)
+-- an error behind a path is one from where the path begins
+pub fails-here : (code : Compiled) (p : Predicate) (from at n : ℕ) (r s : Shape) (e : CodeErr) → Path code n from r at s → FailsAt code at s e → FailsFrom code p from r e
+fails-here code p from at n r s NoMemory q b = tt
+fails-here code p from at n r s (Bad to rule) q b =
+    let P : ℕ → Type 0 = λ k. FailsFrom code p from r (Bad k rule) in
+    subst P (sym b.0) (n, s, q, unfine code p at s rule b.1)
 
-pub on-out : (code : Compiled) (p : Predicate) (start at : ℕ) (s : Shape) → IsOn code p start at s → (IsPlaceOf code p at → ⊥) → FailsFrom code p start (entry p.arity) (Bad at End)
-on-out code p start at s o b = (o.count, s, o.path, λ f. b f.0)
+pub fails-out : (code : Compiled) (p : Predicate) (from at n : ℕ) (r s : Shape) → Path code n from r at s → (IsPlaceOf code p at → ⊥) → FailsFrom code p from r (Bad at End)
+fails-out code p from at n r s q out = (n, s, q, λ f. out f.0)
+
+pub Path-append : (code : Compiled) (n m a b c : ℕ) (r s t : Shape) → Path code n a r b s → Path code m b s c t → (k : ℕ) × Path code k a r c t
+Path-append code zero m a b c r s t p q =
+    let P : ℕ → Type 0 = λ k. Path code m k s c t in
+    let Q : Shape → Type 0 = λ u. Path code m a u c t in
+    (m, subst Q (sym p.1) (subst P (sym p.0) q))
+Path-append code (suc n) m a b c r s t p q =
+    let rest = Path-append code n m p.1 b c (after p.0 r) s t p.4 q in
+    (suc rest.0, (p.0, p.1, p.2, p.3, rest.1))
+
+pub fails-behind : (code : Compiled) (p : Predicate) (n a b : ℕ) (r s : Shape) (e : CodeErr) → Path code n a r b s → FailsFrom code p b s e → FailsFrom code p a r e
+fails-behind code p n a b r s NoMemory q f = tt
+fails-behind code p n a b r s (Bad to rule) q f = let way = Path-append code n f.0 a b to r s f.1 q f.2 in (way.0, f.1, way.1, f.3)

@@ -1,16 +1,16 @@
 -- What the check says of one instruction, of one clause and of one predicate.
-use Rattle.std.specs.Prelude.{◌≡◌, ℕ, ◌+◌, ◌<◌, List, drop, slice_get, Option, Some, None}
+use Rattle.std.specs.Prelude.{◌≡◌, ℕ, ◌+◌, ◌<◌, List, drop, slice_get, Some}
 use Rattle.ap_instr.specs.declared.instruction.Instr.{Instr}
 use Rattle.ap_instr.specs.declared.compiled.Predicate.{Predicate}
 use Rattle.ap_instr.specs.Code.{Compiled}
 use Rattle.ap_codecheck.specs.declared.rule.Rule.{Rule}
-use Rattle.ap_codecheck.specs.declared.rule.Rule.TheVariants.{Operand, Target, Unset, Environment, Argument, End, Called}
+use Rattle.ap_codecheck.specs.declared.rule.Rule.TheVariants.{Operand, Target, Unset, Environment, Argument, Group, End, Called}
 use Rattle.ap_codecheck.specs.declared.rule.CodeErr.{CodeErr}
 use Rattle.ap_codecheck.specs.declared.rule.CodeErr.TheVariants.{Bad, NoMemory}
 use Rattle.ap_instr.specs.StandsFor.{tried, clause_places}
-use Rattle.ap_codecheck.specs.Shape.{Shape, entry, after}
-use Rattle.ap_codecheck.specs.Paths.{IsPlaceOf, Leads, Path, Awaits}
-use Rattle.ap_codecheck.specs.Rules.{InRange, GoesInside, CallsKnown, ReadsSet, FitsEnvironment, IsInTurn, GoesOn, IsAlternative, At, KeepsIn, Keeps}
+use Rattle.ap_codecheck.specs.Shape.{Shape, entry}
+use Rattle.ap_codecheck.specs.Paths.{IsPlaceOf, Path, Awaits}
+use Rattle.ap_codecheck.specs.Rules.{InRange, GoesInside, CallsKnown, ReadsSet, FitsEnvironment, IsInTurn, FitsGroup, GoesOn, IsAlternative, At, KeepsIn, Keeps}
 
 -- the rules that an instruction keeps by itself
 abbrev pub KeepsAlone : Rule → Compiled → Predicate → Instr → Type 0
@@ -28,6 +28,7 @@ abbrev pub KeepsWith : Rule → Compiled → Instr → ℕ → Shape → Type 0
 KeepsWith Unset code i at s = ReadsSet code i s
 KeepsWith Environment code i at s = FitsEnvironment i s
 KeepsWith Argument code i at s = IsInTurn i s
+KeepsWith Group code i at s = FitsGroup i s.group
 KeepsWith End code i at s = GoesOn i at
 KeepsWith _ code i at s = Unit {0}
 
@@ -48,12 +49,6 @@ FailsFrom code p at s NoMemory = Unit {0}
 -- the instruction at the place keeps them
 abbrev pub IsJudged : Compiled → ℕ → Shape → Type 0
 IsJudged code at s = (rule : Rule) → At code at (λ i. KeepsWith rule code i at s)
-
--- the one place and shape that the instruction at the place leads to, or that there is none
-abbrev pub IsLed : Compiled → ℕ → Shape → Shape → Option ℕ → Type 0
-IsLed code at s t None = At code at (λ i. (to : ℕ) → Leads i at to → ⊥)
-IsLed code at s t (Some next) =
-    At code at (λ i. Leads i at next × ((to : ℕ) → Leads i at to → to ≡ next) × (t ≡ after i s) × (GoesOn i at → at < next))
 
 -- an error names the place, whose instruction breaks the rule
 abbrev pub FailsAt : Compiled → ℕ → Shape → CodeErr → Type 0

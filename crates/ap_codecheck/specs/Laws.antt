@@ -1,14 +1,15 @@
 -- What a machine has of sound code.
-use Rattle.std.specs.Prelude.{◌≡◌, ℕ, ◌+◌, ◌<◌, true, List, length, drop, slice_get, Some, IfSome}
+use Rattle.std.specs.Prelude.{◌≡◌, ℕ, ◌+◌, ◌<◌, true, List, length, slice_get, Some, IfSome}
 use Rattle.ap_term.specs.Tree.{Tree, Trees, count_trees}
 use Rattle.ap_instr.specs.declared.instruction.Instr.{Instr}
 use Rattle.ap_instr.specs.declared.compiled.Predicate.{Predicate}
 use Rattle.ap_instr.specs.Code.{Compiled}
-use Rattle.ap_instr.specs.Step.{Step, steps_of}
+use Rattle.ap_instr.specs.Step.{Step}
+use Rattle.ap_instr.specs.Steps.{steps_from}
 use Rattle.ap_instr.specs.Runs.{Runs}
 use Rattle.ap_codecheck.specs.Shape.{Shape, entry, after}
 use Rattle.ap_codecheck.specs.Paths.{IsPlaceOf, Leads, Begins, Reaches}
-use Rattle.ap_codecheck.specs.Rules.{InRange, GoesInside, ReadsSet, FitsEnvironment, is_argument, IsInTurn, GoesOn, CallsKnown, IsSound}
+use Rattle.ap_codecheck.specs.Rules.{InRange, GoesInside, ReadsSet, FitsEnvironment, is_argument, IsInTurn, FitsGroup, GoesOn, CallsKnown, IsSound}
 use Rattle.ap_codecheck.specs.Walk.{IsLaid}
 
 -- an instruction that keeps the rules stands at the place
@@ -21,6 +22,7 @@ pub record Stands (code : Compiled) (p : Predicate) (at : ℕ) (s : Shape) : Typ
   pub reads : ReadsSet code instr s
   pub environment : FitsEnvironment instr s
   pub turn : IsInTurn instr s
+  pub group : FitsGroup instr s.group
   pub on : GoesOn instr at
   pub known : CallsKnown code instr
 
@@ -56,7 +58,7 @@ Ignores is s =
 abbrev pub UnsetLaw : Type 0
 UnsetLaw =
     (code : Compiled) (number : ℕ) (p : Predicate) (at : ℕ) (s : Shape) → IsSound code → slice_get code.predicates number ≡ Some p → Reaches code p at s
-    → Ignores (steps_of code (drop at code.instructions)) s
+    → Ignores (steps_from code at) s
 
 -- Code that is laid out clause by clause, each clause a walk, is sound, so that its check never names a broken rule.
 abbrev pub LaidLaw : Type 0

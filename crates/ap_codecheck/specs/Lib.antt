@@ -5,4 +5,5 @@ pub mod Marks
 pub mod Held
 pub mod Judged
 pub mod Walk
+pub mod Known
 pub mod Laws

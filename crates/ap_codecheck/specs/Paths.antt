@@ -1,7 +1,7 @@
 -- Where control can come to.
-use Rattle.std.specs.Prelude.{◌≡◌, ℕ, zero, suc, ◌+◌, ◌<◌, ◌≤◌, slice_get, length, Some}
+use Rattle.std.specs.Prelude.{◌≡◌, ◌⊎◌, ℕ, zero, suc, ◌+◌, ◌<◌, ◌≤◌, slice_get, length, Some}
 use Rattle.ap_instr.specs.declared.instruction.Instr.{Instr}
-use Rattle.ap_instr.specs.declared.instruction.Instr.TheVariants.{Execute, Proceed, Jump, Fail, Try, Retry, Trust}
+use Rattle.ap_instr.specs.declared.instruction.Instr.TheVariants.{Execute, Proceed, Jump, Fail, Try, Retry, Trust, CheckGround, CheckIndep}
 use Rattle.ap_instr.specs.declared.compiled.Predicate.{Predicate}
 use Rattle.ap_instr.specs.Code.{Compiled}
 use Rattle.ap_instr.specs.StandsFor.{clause_places}
@@ -13,7 +13,8 @@ pub record IsPlaceOf (code : Compiled) (p : Predicate) (at : ℕ) : Type 0 where
   pub before : at < p.end
   pub held : at < length code.instructions
 
--- an instruction at a place leads to another place
+-- An instruction at a place leads to another place: a check to the one behind it where it holds, and to the one that it
+-- names where it doesn't.
 abbrev pub Leads : Instr → ℕ → ℕ → Type 0
 Leads (Jump l) at to = to ≡ l
 Leads (Execute q) at to = ⊥
@@ -22,6 +23,8 @@ Leads Fail at to = ⊥
 Leads (Try l) at to = ⊥
 Leads (Retry l) at to = ⊥
 Leads (Trust l) at to = ⊥
+Leads (CheckGround v l) at to = (to ≡ at + 1) ⊎ (to ≡ l)
+Leads (CheckIndep v w l) at to = (to ≡ at + 1) ⊎ (to ≡ l)
 Leads i at to = to ≡ at + 1
 
 -- a path of so many instructions from a place and shape to another

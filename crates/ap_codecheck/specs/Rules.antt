@@ -1,18 +1,18 @@
 -- The rules that code has to keep, each at a place.
-use Rattle.std.specs.Prelude.{◌≡◌, ℕ, ◌<◌, ◌≤◌, nat_lt, Bool, true, false, slice_get, length, Option, Some, None, is_some, IfSome}
+use Rattle.std.specs.Prelude.{◌≡◌, ℕ, ◌+◌, ◌<◌, ◌≤◌, nat_lt, Bool, true, false, slice_get, length, Option, Some, None, is_some, IfSome}
 use Rattle.ap_instr.specs.declared.instruction.Slot.{Slot}
 use Rattle.ap_instr.specs.declared.instruction.Slot.TheVariants.{X, Y}
 use Rattle.ap_instr.specs.declared.instruction.Instr.{Instr}
-use Rattle.ap_instr.specs.declared.instruction.Instr.TheVariants.{GetVariable, GetValue, GetConstant, GetInteger, GetStructure, PutVariable, PutValue, PutConstant, PutInteger, PutStructure, UnifyVariable, UnifyValue, UnifyConstant, UnifyInteger, Allocate, Deallocate, Call, Execute, Proceed, Builtin, Jump, Try, Retry, Trust}
+use Rattle.ap_instr.specs.declared.instruction.Instr.TheVariants.{GetVariable, GetValue, GetConstant, GetInteger, GetStructure, PutVariable, PutValue, PutConstant, PutInteger, PutStructure, UnifyVariable, UnifyValue, UnifyConstant, UnifyInteger, Allocate, Deallocate, Call, Execute, Proceed, Builtin, Jump, Try, Retry, Trust, CheckGround, CheckIndep, AllocParcall, PushGoal, WaitAll}
 use Rattle.ap_instr.specs.declared.compiled.Predicate.{Predicate}
 use Rattle.ap_instr.specs.Builtin.{builtin_arity}
 use Rattle.ap_instr.specs.Code.{Compiled}
 use Rattle.ap_codecheck.specs.declared.rule.Rule.{Rule}
-use Rattle.ap_codecheck.specs.declared.rule.Rule.TheVariants.{Operand, Target, Unset, Environment, Argument, End, Called}
+use Rattle.ap_codecheck.specs.declared.rule.Rule.TheVariants.{Operand, Target, Unset, Environment, Argument, Group, End, Called}
 use Rattle.ap_codecheck.specs.Shape.{Shape, is_set}
 use Rattle.ap_codecheck.specs.Paths.{IsPlaceOf, Reaches, Awaits}
 
--- registers and permanent variables are numbered from 1
+-- registers, permanent variables and the goals of a group are numbered from 1
 abbrev pub IsNumbered : Slot → Type 0
 IsNumbered (X n) = 0 < n
 IsNumbered (Y n) = 0 < n
@@ -32,14 +32,20 @@ InRange code (PutStructure f n a) = 0 < a
 InRange code (UnifyVariable v) = IsNumbered v
 InRange code (UnifyValue v) = IsNumbered v
 InRange code (UnifyInteger i) = i < length code.integers
+InRange code (CheckGround v l) = IsNumbered v
+InRange code (CheckIndep v w l) = IsNumbered v × IsNumbered w
+InRange code (AllocParcall n) = 0 < n
+InRange code (PushGoal i q) = 0 < i
 InRange code _ = Unit {0}
 
--- a jump or choice goes to an instruction of the same predicate
+-- a jump, choice or check goes to an instruction of the same predicate
 abbrev pub GoesInside : Compiled → Predicate → Instr → Type 0
 GoesInside code p (Jump l) = IsPlaceOf code p l
 GoesInside code p (Try l) = IsPlaceOf code p l
 GoesInside code p (Retry l) = IsPlaceOf code p l
 GoesInside code p (Trust l) = IsPlaceOf code p l
+GoesInside code p (CheckGround v l) = IsPlaceOf code p l
+GoesInside code p (CheckIndep v w l) = IsPlaceOf code p l
 GoesInside code p _ = Unit {0}
 
 abbrev pub IsSet : Shape → Slot → Type 0
@@ -68,6 +74,9 @@ ReadsSet code (UnifyValue v) s = IsSet s v
 ReadsSet code (Call q) s = ArgumentsSet (arity_of code q) s
 ReadsSet code (Execute q) s = ArgumentsSet (arity_of code q) s
 ReadsSet code (Builtin b) s = ArgumentsSet (builtin_arity b) s
+ReadsSet code (CheckGround v l) s = IsSet s v
+ReadsSet code (CheckIndep v w l) s = IsSet s v × IsSet s w
+ReadsSet code (PushGoal i q) s = ArgumentsSet (arity_of code q) s
 ReadsSet code _ s = Unit {0}
 
 abbrev pub IsRoomFor : ℕ → Option ℕ → Type 0
@@ -79,8 +88,8 @@ abbrev pub HasRoom : Slot → Shape → Type 0
 HasRoom (X n) s = Unit {0}
 HasRoom (Y n) s = IsRoomFor n s.room
 
--- Permanent variables lie inside `allocate` and `deallocate`, which match. A call lies inside, since what stands behind it
--- is come back to by the environment; a clause is left outside.
+-- Permanent variables lie inside `allocate` and `deallocate`, which match. A call and the end of a group lie inside, since
+-- what stands behind them is come back to by the environment; a clause is left outside.
 abbrev pub FitsEnvironment : Instr → Shape → Type 0
 FitsEnvironment (GetVariable v a) s = HasRoom v s
 FitsEnvironment (GetValue v a) s = HasRoom v s
@@ -91,6 +100,9 @@ FitsEnvironment (UnifyValue v) s = HasRoom v s
 FitsEnvironment (Allocate n) s = is_some s.room ≡ false
 FitsEnvironment Deallocate s = is_some s.room ≡ true
 FitsEnvironment (Call q) s = is_some s.room ≡ true
+FitsEnvironment (CheckGround v l) s = HasRoom v s
+FitsEnvironment (CheckIndep v w l) s = HasRoom v s × HasRoom w s
+FitsEnvironment WaitAll s = is_some s.room ≡ true
 FitsEnvironment (Execute q) s = is_some s.room ≡ false
 FitsEnvironment Proceed s = is_some s.room ≡ false
 FitsEnvironment _ s = Unit {0}
@@ -106,9 +118,30 @@ is_argument _ = false
 abbrev pub IsInTurn : Instr → Shape → Type 0
 IsInTurn i s = is_argument i ≡ nat_lt 0 s.pending
 
--- A path goes on to its end: a jump leads forward, and no choice stands in a clause.
+-- whether an instruction puts an argument, or a part of one
+abbrev pub puts_argument : Instr → Bool
+puts_argument (PutVariable v a) = true
+puts_argument (PutValue v a) = true
+puts_argument (PutConstant c a) = true
+puts_argument (PutInteger i a) = true
+puts_argument (PutStructure f n a) = true
+puts_argument i = is_argument i
+
+-- Inside of a group of so many goals, some of which were pushed, each goal is pushed in its turn, and the group ends behind
+-- the last one; beside that arguments are put. Outside no goal is pushed and no group ends.
+abbrev pub FitsGroup : Instr → Option (ℕ × ℕ) → Type 0
+FitsGroup (PushGoal i q) None = ⊥
+FitsGroup WaitAll None = ⊥
+FitsGroup i None = Unit {0}
+FitsGroup (PushGoal i q) (Some g) = (i ≡ g.1 + 1) × (i ≤ g.0)
+FitsGroup WaitAll (Some g) = g.1 ≡ g.0
+FitsGroup i (Some g) = puts_argument i ≡ true
+
+-- A path goes on to its end: a jump or check leads forward, and no choice stands in a clause.
 abbrev pub GoesOn : Instr → ℕ → Type 0
 GoesOn (Jump l) at = at < l
+GoesOn (CheckGround v l) at = at < l
+GoesOn (CheckIndep v w l) at = at < l
 GoesOn (Try l) at = ⊥
 GoesOn (Retry l) at = ⊥
 GoesOn (Trust l) at = ⊥
@@ -119,10 +152,11 @@ IsAlternative (Retry l) = Unit {0}
 IsAlternative (Trust l) = Unit {0}
 IsAlternative _ = ⊥
 
--- a called predicate is in the table
+-- a predicate that is called, or is of a group's goal, is in the table
 abbrev pub CallsKnown : Compiled → Instr → Type 0
 CallsKnown code (Call q) = q < length code.predicates
 CallsKnown code (Execute q) = q < length code.predicates
+CallsKnown code (PushGoal i q) = q < length code.predicates
 CallsKnown code _ = Unit {0}
 
 -- a fact on the instruction at a place
@@ -138,6 +172,7 @@ KeepsIn Called code p at = IsPlaceOf code p at → At code at (CallsKnown code)
 KeepsIn Unset code p at = (s : Shape) → Reaches code p at s → At code at (λ i. ReadsSet code i s)
 KeepsIn Environment code p at = (s : Shape) → Reaches code p at s → At code at (λ i. FitsEnvironment i s)
 KeepsIn Argument code p at = (s : Shape) → Reaches code p at s → At code at (λ i. IsInTurn i s)
+KeepsIn Group code p at = (s : Shape) → Reaches code p at s → At code at (λ i. FitsGroup i s.group)
 KeepsIn End code p at =
     ((s : Shape) → Reaches code p at s → IsPlaceOf code p at × At code at (λ i. GoesOn i at))
     × (Awaits code p at → IsPlaceOf code p at × At code at IsAlternative)

@@ -10,6 +10,7 @@ mod paths;
 mod rule;
 mod shape;
 mod sound;
+mod walk;
 
 pub use rule::{CodeErr, Rule};
 pub use sound::{Sound, check};

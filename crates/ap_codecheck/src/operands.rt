@@ -37,6 +37,10 @@ fn in_range(code: &Code, instr: &Instr) -> bool
         Instr::UnifyVariable(v) => is_numbered(v),
         Instr::UnifyValue(v) => is_numbered(v),
         Instr::UnifyInteger(i) => (i as usize) < count,
+        Instr::CheckGround(v, _) => is_numbered(v),
+        Instr::CheckIndep(v, w, _) => is_numbered(v) && is_numbered(w),
+        Instr::AllocParcall(n) => n > 0,
+        Instr::PushGoal(i, _) => i > 0,
         _ => true,
     }
 }
@@ -55,6 +59,8 @@ fn goes_inside(code: &Code, p: &Predicate, instr: &Instr) -> bool
         Instr::Try(l) => is_place_of(code, p, l as usize),
         Instr::Retry(l) => is_place_of(code, p, l as usize),
         Instr::Trust(l) => is_place_of(code, p, l as usize),
+        Instr::CheckGround(_, l) => is_place_of(code, p, l as usize),
+        Instr::CheckIndep(_, _, l) => is_place_of(code, p, l as usize),
         _ => true,
     }
 }
@@ -66,6 +72,7 @@ fn calls_known(code: &Code, instr: &Instr) -> bool
     match *instr {
         Instr::Call(q) => (q as usize) < count,
         Instr::Execute(q) => (q as usize) < count,
+        Instr::PushGoal(_, q) => (q as usize) < count,
         _ => true,
     }
 }

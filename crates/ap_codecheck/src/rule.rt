@@ -9,7 +9,7 @@ use thiserror::Error;
 pub enum Rule {
     /// Operands are in range.
     Operand,
-    /// A jump or choice goes to an instruction of the same predicate.
+    /// A jump, choice or check goes to an instruction of the same predicate.
     Target,
     /// No register or permanent variable is read before it is written, on every path.
     Unset,
@@ -17,9 +17,11 @@ pub enum Rule {
     Environment,
     /// Argument instructions follow a structure and are as many as its arity.
     Argument,
+    /// A group has its goals, in order, and its end; between them arguments alone are put.
+    Group,
     /// Every path ends in `proceed`, `execute` or `fail`.
     End,
-    /// A called predicate is in the table.
+    /// A predicate that is called, or is of a goal of a group, is in the table.
     Called,
 }
 

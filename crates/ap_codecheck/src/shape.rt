@@ -1,8 +1,8 @@
 //! What is known at a place, as the check keeps it.
 
-ghost use Rattle.std.specs.Prelude.{◌≡◌, ◌==◌, ℕ, ◌<◌, ◌^◌, true, false, Some, None, OnOk, vec_len};
+ghost use Rattle.std.specs.Prelude.{◌≡◌, ◌==◌, ℕ, ◌<◌, ◌^◌, true, false, Some, None, IfOk, OnOk, vec_len};
 ghost use Rattle.ap_instr.specs.Runs.{set};
-ghost use Rattle.ap_codecheck.specs.Shape.{unset, entry, is_set, write, behind_argument, awaited, after};
+ghost use Rattle.ap_codecheck.specs.Shape.{unset, entry, is_set, write, behind_argument, awaited, with_group, pushed, after};
 ghost use Rattle.ap_codecheck.specs.Marks.{marked};
 
 use ap_instr::{Instr, Slot};
@@ -17,6 +17,7 @@ pub struct Shape {
     pub room: Option<u8>,
     pub pending: u8,
     pub target: Option<u32>,
+    pub group: Option<(u8, u8)>,
 }
 
 fn widen(marks: &mut Vec<bool>, at: usize) -> Result<(), NoMemory>
@@ -57,6 +58,12 @@ fn is_marked(marks: &[bool], at: usize) -> bool
     }
 }
 
+fn same_marks(some: &[bool], others: &[bool]) -> bool
+    ensures { result ≡ true → some.now ≡ others.now }
+{
+    some == others
+}
+
 impl Shape {
     ghost use Rattle.ap_codecheck.specs.Held.{shape_of};
 
@@ -67,6 +74,7 @@ impl Shape {
             room: None,
             pending: 0,
             target: None,
+            group: None,
         }
     }
 
@@ -79,6 +87,7 @@ impl Shape {
         self.room = None;
         self.pending = 0;
         self.target = None;
+        self.group = None;
         Ok(())
     }
 
@@ -116,7 +125,7 @@ impl Shape {
     }
 
     fn build(&mut self, arity: u8, a: u32) -> Result<(), NoMemory>
-        ensures { OnOk result (shape_of self.new ≡ record { x = set (shape_of self.old).x a (arity == 0); y = (shape_of self.old).y; room = self.old.room; pending = arity; target = awaited arity a }) }
+        ensures { OnOk result (shape_of self.new ≡ record { x = set (shape_of self.old).x a (arity == 0); y = (shape_of self.old).y; room = self.old.room; pending = arity; target = awaited arity a; group = self.old.group }) }
     {
         let is_whole = arity == 0;
         put(&mut self.x, a as usize, is_whole)?;
@@ -126,23 +135,45 @@ impl Shape {
     }
 
     fn read_structure(&mut self, arity: u8)
-        ensures { shape_of self.new ≡ record { x = (shape_of self.old).x; y = (shape_of self.old).y; room = self.old.room; pending = arity; target = None } }
+        ensures { shape_of self.new ≡ record { x = (shape_of self.old).x; y = (shape_of self.old).y; room = self.old.room; pending = arity; target = None; group = self.old.group } }
     {
         self.pending = arity;
         self.target = None;
     }
 
     fn set_room(&mut self, room: Option<u8>)
-        ensures { shape_of self.new ≡ record { x = (shape_of self.old).x; y = unset; room = room; pending = self.old.pending; target = self.old.target } }
+        ensures { shape_of self.new ≡ record { x = (shape_of self.old).x; y = unset; room = room; pending = self.old.pending; target = self.old.target; group = self.old.group } }
     {
         self.y.clear();
         self.room = room;
     }
 
     fn lose_registers(&mut self)
-        ensures { shape_of self.new ≡ record { x = unset; y = (shape_of self.old).y; room = self.old.room; pending = self.old.pending; target = self.old.target } }
+        ensures { shape_of self.new ≡ record { x = unset; y = (shape_of self.old).y; room = self.old.room; pending = self.old.pending; target = self.old.target; group = self.old.group } }
     {
         self.x.clear();
+    }
+
+    fn begin_group(&mut self, goals: u8)
+        ensures { shape_of self.new ≡ with_group (Some (goals, 0)) (shape_of self.old) }
+    {
+        self.group = Some((goals, 0));
+    }
+
+    fn push_goal(&mut self, number: u8)
+        ensures { shape_of self.new ≡ with_group (pushed number self.old.group) (shape_of self.old) }
+    {
+        self.group = match self.group {
+            Some((goals, _)) => Some((goals, number)),
+            None => None,
+        };
+    }
+
+    fn end_group(&mut self)
+        ensures { shape_of self.new ≡ record { x = unset; y = (shape_of self.old).y; room = self.old.room; pending = self.old.pending; target = self.old.target; group = None } }
+    {
+        self.lose_registers();
+        self.group = None;
     }
 
     /// As it is behind an instruction.
@@ -170,8 +201,37 @@ impl Shape {
             Instr::Allocate(n) => self.set_room(Some(n)),
             Instr::Deallocate => self.set_room(None),
             Instr::Call(_) => self.lose_registers(),
+            Instr::AllocParcall(n) => self.begin_group(n),
+            Instr::PushGoal(i, _) => self.push_goal(i),
+            Instr::WaitAll => self.end_group(),
             _ => {}
         }
         Ok(())
+    }
+
+    pub fn copy(&self) -> Result<Shape, NoMemory>
+        ensures { IfOk result (λ copy. shape_of copy ≡ shape_of self.now) }
+    {
+        Ok(Shape {
+            x: self.x.clone()?,
+            y: self.y.clone()?,
+            room: self.room,
+            pending: self.pending,
+            target: self.target,
+            group: self.group,
+        })
+    }
+
+    /// Whether the same is known here as there, as far as it is easily told.
+    pub fn is_same(&self, other: &Shape) -> bool
+        ensures { result ≡ true → shape_of self.now ≡ shape_of other.now }
+    {
+        if self.room != other.room || self.pending != other.pending {
+            return false;
+        }
+        if self.target != other.target || self.group != other.group {
+            return false;
+        }
+        same_marks(&self.x, &other.x) && same_marks(&self.y, &other.y)
     }
 }

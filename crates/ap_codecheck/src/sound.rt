@@ -8,7 +8,7 @@ ghost use Rattle.ap_codecheck.specs.Judged.{KeepsAll, KeepsAllAt, BreaksIn, Brea
 use crate::operands::check_operands;
 use crate::paths::check_paths;
 use crate::rule::{CodeErr, Rule};
-use crate::shape::Shape;
+use crate::walk::Walk;
 use ap_index::{Index, Link, Row, index_of};
 use ap_instr::{Code, Predicate};
 use std::alloc::Global;
@@ -48,30 +48,30 @@ fn check_query(code: &Code) -> Result<(), CodeErr>
     Ok(())
 }
 
-fn check_predicate(code: &Code, p: &Predicate, shape: &mut Shape) -> Result<(), CodeErr>
+fn check_predicate(code: &Code, p: &Predicate, walk: &mut Walk) -> Result<(), CodeErr>
     ensures ok { OnOk result (KeepsAll code.now p.now) }
     ensures bad { IfErr result (BreaksIn code.now p.now) }
 {
     check_operands(code, p)?;
-    check_paths(code, p, shape)
+    check_paths(code, p, walk)
 }
 
-fn check_numbered(code: &Code, number: usize, shape: &mut Shape) -> Result<(), CodeErr>
+fn check_numbered(code: &Code, number: usize, walk: &mut Walk) -> Result<(), CodeErr>
     requires { number < length code.now.predicates }
     ensures ok { OnOk result (KeepsAllAt code.now number) }
     ensures bad { IfErr result (Breaks code.now) }
 {
     let p = code.predicates()[number];
-    check_predicate(code, &p, shape)
+    check_predicate(code, &p, walk)
 }
 
 fn check_predicates(alloc: Global, code: &Code) -> Result<(), CodeErr>
     ensures ok { OnOk result ((number : ℕ) → KeepsAllAt code.now number) }
     ensures bad { IfErr result (Breaks code.now) }
 {
-    let mut shape = Shape::new(alloc);
+    let mut walk = Walk::new(alloc);
     for number in 0..code.predicates().len() {
-        check_numbered(code, number, &mut shape)?;
+        check_numbered(code, number, &mut walk)?;
     }
     Ok(())
 }

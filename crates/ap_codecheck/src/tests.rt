@@ -205,6 +205,167 @@ fn refuses_paths_without_an_end(rt: HostRuntime) -> Result<(), Fail> {
     Ok(())
 }
 
+/// A group of the first two arguments' goals, or these goals one after another where the arguments share a variable.
+fn group_of_two() -> [Instr; 20] {
+    [
+        Instr::Allocate(2),
+        Instr::GetVariable(Y1, 1),
+        Instr::PutVariable(Y2, 3),
+        Instr::CheckGround(Y1, 12),
+        Instr::CheckIndep(Y1, Y2, 12),
+        Instr::AllocParcall(2),
+        Instr::PutValue(Y1, 1),
+        Instr::PutStructure(Atom::at(fixed::TRUE), 1, 2),
+        Instr::UnifyValue(Y2),
+        Instr::PushGoal(1, 0),
+        Instr::PushGoal(2, 0),
+        Instr::WaitAll,
+        Instr::PutValue(Y1, 1),
+        Instr::PutValue(Y1, 2),
+        Instr::Call(0),
+        Instr::PutValue(Y1, 1),
+        Instr::PutValue(Y2, 2),
+        Instr::Call(0),
+        Instr::Deallocate,
+        Instr::Proceed,
+    ]
+}
+
+#[test]
+fn takes_groups(rt: HostRuntime) -> Result<(), Fail> {
+    let alloc = rt.alloc();
+    assert_eq!(rt; judged(alloc, &group_of_two())?, None);
+    let alone = [
+        Instr::Allocate(1),
+        Instr::GetVariable(Y1, 1),
+        Instr::AllocParcall(1),
+        Instr::PushGoal(1, 0),
+        Instr::WaitAll,
+        Instr::Jump(6),
+        Instr::Deallocate,
+        Instr::Proceed,
+    ];
+    assert_eq!(rt; judged(alloc, &alone)?, None);
+    Ok(())
+}
+
+/// What the check says of the group with another instruction at a place.
+fn judged_with(alloc: Global, at: usize, instr: Instr) -> Result<Option<(usize, Rule)>, Fail> {
+    let mut code = group_of_two();
+    if at < code.len() {
+        code[at] = instr;
+    }
+    judged(alloc, &code)
+}
+
+#[test]
+fn refuses_groups_that_are_not_whole(rt: HostRuntime) -> Result<(), Fail> {
+    let alloc = rt.alloc();
+    let c = Atom::at(fixed::TRUE);
+    let twice = judged_with(alloc, 10, Instr::PushGoal(1, 0))?;
+    assert_eq!(rt; twice, Some((10, Rule::Group)));
+    let second_first = judged_with(alloc, 9, Instr::PushGoal(2, 0))?;
+    assert_eq!(rt; second_first, Some((9, Rule::Group)));
+    let few = judged_with(alloc, 5, Instr::AllocParcall(3))?;
+    assert_eq!(rt; few, Some((11, Rule::Group)));
+    let many = judged_with(alloc, 5, Instr::AllocParcall(1))?;
+    assert_eq!(rt; many, Some((10, Rule::Group)));
+    let called = judged_with(alloc, 6, Instr::Call(0))?;
+    assert_eq!(rt; called, Some((6, Rule::Group)));
+    let ended = judged_with(alloc, 10, Instr::Fail)?;
+    assert_eq!(rt; ended, Some((10, Rule::Group)));
+    let got = judged_with(alloc, 6, Instr::GetConstant(c, 3))?;
+    assert_eq!(rt; got, Some((6, Rule::Group)));
+    let checked = judged_with(alloc, 6, Instr::CheckGround(Y1, 12))?;
+    assert_eq!(rt; checked, Some((6, Rule::Group)));
+    let begun = judged_with(alloc, 6, Instr::AllocParcall(2))?;
+    assert_eq!(rt; begun, Some((6, Rule::Group)));
+    let stray = [Instr::PushGoal(1, 0), Instr::Proceed];
+    assert_eq!(rt; judged(alloc, &stray)?, Some((0, Rule::Group)));
+    let end = [Instr::Allocate(0), Instr::WaitAll, Instr::Fail];
+    assert_eq!(rt; judged(alloc, &end)?, Some((1, Rule::Group)));
+    Ok(())
+}
+
+#[test]
+fn refuses_groups_that_break_other_rules(rt: HostRuntime) -> Result<(), Fail> {
+    let alloc = rt.alloc();
+    let c = Atom::at(fixed::TRUE);
+    let none = judged_with(alloc, 5, Instr::AllocParcall(0))?;
+    assert_eq!(rt; none, Some((5, Rule::Operand)));
+    let register = judged_with(alloc, 3, Instr::CheckGround(Slot::Y(0), 12))?;
+    assert_eq!(rt; register, Some((3, Rule::Operand)));
+    let outside = judged_with(alloc, 4, Instr::CheckIndep(Y1, Y2, 20))?;
+    assert_eq!(rt; outside, Some((4, Rule::Target)));
+    let back = judged_with(alloc, 4, Instr::CheckIndep(Y1, Y2, 4))?;
+    assert_eq!(rt; back, Some((4, Rule::End)));
+    let unknown = judged_with(alloc, 10, Instr::PushGoal(2, 1))?;
+    assert_eq!(rt; unknown, Some((10, Rule::Called)));
+    let unset = judged_with(alloc, 3, Instr::CheckGround(X4, 12))?;
+    assert_eq!(rt; unset, Some((3, Rule::Unset)));
+    let past = judged_with(alloc, 3, Instr::CheckGround(Slot::Y(3), 12))?;
+    assert_eq!(rt; past, Some((3, Rule::Environment)));
+    let kept = judged_with(alloc, 13, Instr::PutVariable(X4, 4))?;
+    assert_eq!(rt; kept, Some((14, Rule::Unset)));
+    let bare = [
+        Instr::AllocParcall(1),
+        Instr::PushGoal(1, 0),
+        Instr::WaitAll,
+    ];
+    assert_eq!(rt; judged(alloc, &bare)?, Some((2, Rule::Environment)));
+    let inside = [
+        Instr::PutStructure(c, 1, 3),
+        Instr::CheckGround(X1, 2),
+        Instr::Proceed,
+    ];
+    assert_eq!(rt; judged(alloc, &inside)?, Some((1, Rule::Argument)));
+    Ok(())
+}
+
+// Where two ways meet, what is set on one of them alone isn't set.
+#[test]
+fn judges_each_way(rt: HostRuntime) -> Result<(), Fail> {
+    let alloc = rt.alloc();
+    let c = Atom::at(fixed::TRUE);
+    let left_out = [
+        Instr::CheckGround(X1, 2),
+        Instr::PutConstant(c, 3),
+        Instr::GetConstant(c, 3),
+        Instr::Proceed,
+    ];
+    assert_eq!(rt; judged(alloc, &left_out)?, Some((2, Rule::Unset)));
+    let unread = [
+        Instr::CheckGround(X1, 2),
+        Instr::PutConstant(c, 3),
+        Instr::Proceed,
+    ];
+    assert_eq!(rt; judged(alloc, &unread)?, None);
+    let over = [
+        Instr::Jump(2),
+        Instr::GetConstant(c, 3),
+        Instr::CheckIndep(X1, Slot::X(2), 4),
+        Instr::Proceed,
+        Instr::GetConstant(c, 3),
+        Instr::Fail,
+    ];
+    assert_eq!(rt; judged(alloc, &over)?, Some((4, Rule::Unset)));
+    Ok(())
+}
+
+// 60 checks, behind each of which two ways join: 2 to the power of 60 paths.
+#[test]
+fn goes_on_once_where_ways_join(rt: HostRuntime) -> Result<(), Fail> {
+    let alloc = rt.alloc();
+    let mut code = Vec::new(alloc);
+    for number in 0..60u32 {
+        code.push(Instr::CheckGround(X1, 2 * number + 2))?;
+        code.push(Instr::Builtin(Builtin::True))?;
+    }
+    code.push(Instr::Proceed)?;
+    assert_eq!(rt; judged(alloc, &code)?, None);
+    Ok(())
+}
+
 #[test]
 fn gives_the_code_and_its_query_back(rt: HostRuntime) -> Result<(), Fail> {
     let alloc = rt.alloc();

@@ -18,6 +18,7 @@ use Rattle.ap_instr.specs.Runs.{arguments}
 use Rattle.ap_codegen.specs.CodeOf.{IsCodeOf}
 use Rattle.ap_codegen.specs.Permanent.{name, is_builtin, goal_code, asking, is_last_call, body_code, gets, clause_code}
 use Rattle.ap_codegen.proofs.PermanentReads.{reads}
+use Rattle.ap_codegen.specs.Sequential.{sequential}
 use Rattle.ap_codegen.specs.Paces.{Paces, inside}
 use Rattle.ap_codegen.proofs.Open.{asks_openly, calls_are_apart}
 use Rattle.ap_codegen.proofs.Pacing.{clause_paces}
@@ -179,10 +180,10 @@ module _ (c : Clause) (k0 k1 k2 : List Step) (s0 s1 : List ℕ) (goals : Trees) 
       let z : [] ++ gets (arguments c.head) 1 [] (count_trees (arguments c.head) + 1) ≡ gets (arguments c.head) 1 [] (count_trees (arguments c.head) + 1) = refl in
       cc
 
-  pub whole_code : IsClause c → IsCodeOf c k2
+  pub whole_code : IsClause c → IsCodeOf (sequential c) k2
   whole_code i =
       let d = goals_callable c.vars c.body i.body in
-      subst (IsCodeOf c) (sym whole) (record {
+      subst (IsCodeOf (sequential c)) (sym whole) (record {
         reads = λ rest. reads rest c d;
         openly = λ rest. asks_openly c.head (plain_goals c.body) rest d;
         apart = calls_are_apart c.head (plain_goals c.body) d;

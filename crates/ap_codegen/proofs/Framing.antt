@@ -5,7 +5,7 @@ use Rattle.std.proofs.lemmas.Bool.{false≢true}
 use Rattle.std.proofs.lemmas.List.{drop_more}
 use Rattle.ap_term.specs.Tree.{Tree, Trees, none, more}
 use Rattle.ap_term.specs.Goals.{Clause}
-use Rattle.ap_instr.specs.Step.{Step, get_variable, get_value, get_constant, get_structure, put_variable, put_value, put_constant, put_structure, unify_variable, unify_value, unify_constant, call, execute, builtin, proceed, frame, other}
+use Rattle.ap_instr.specs.Step.{Step, get_variable, get_value, get_constant, get_structure, put_variable, put_value, put_constant, put_structure, unify_variable, unify_value, unify_constant, call, execute, builtin, proceed, frame, jump, check_ground, check_indep, group, push, wait, other}
 use Rattle.ap_instr.specs.Runs.{Runs, IsOpen, AsksOpenly}
 use Rattle.ap_codegen.specs.declared.steps.Step.{Step as Emitted}
 use Rattle.ap_codegen.specs.declared.steps.Step.TheVariants.{Allocate, Deallocate}
@@ -36,6 +36,12 @@ through_step (builtin p n) is js h none x y bs r = (r.0, r.1, h none x y r.0 r.2
 through_step (execute p n) is js h none x y bs r = r
 through_step proceed is js h none x y bs r = r
 through_step frame is js h none x y bs r = h none x y bs r
+through_step jump is js h none x y bs r = h none x y bs r
+through_step (check_ground v) is js h none x y bs r = (r.0, r.1, h none x y r.0 r.2)
+through_step (check_indep v w) is js h none x y bs r = (r.0, r.1, h none x y r.0 r.2)
+through_step (group n) is js h none x y bs r = (r.0, r.1, h none x y r.0 r.2)
+through_step (push p n) is js h none x y bs r = (r.0, r.1, h none x y r.0 r.2)
+through_step wait is js h none x y bs r = h none _ _ bs r
 through_step (unify_variable v) is js h none x y bs r = absurd r
 through_step (unify_value v) is js h none x y bs r = absurd r
 through_step (unify_constant c) is js h none x y bs r = absurd r
@@ -72,6 +78,12 @@ open_through is js h o x y = let r = o x y in (r.0, h none x y r.0 r.1)
 openly_step : (i : Step) (is js : List Step) → Through is js → (AsksOpenly is → AsksOpenly js) → AsksOpenly (i ∷ is) → AsksOpenly (i ∷ js)
 openly_step (call p n) is js h a o = (open_through is js h o.0, a o.1)
 openly_step (builtin p n) is js h a o = (open_through is js h o.0, a o.1)
+openly_step (check_ground v) is js h a o = (open_through is js h o.0, a o.1)
+openly_step (check_indep v w) is js h a o = (open_through is js h o.0, a o.1)
+openly_step (group n) is js h a o = (open_through is js h o.0, a o.1)
+openly_step (push p n) is js h a o = (open_through is js h o.0, a o.1)
+openly_step wait is js h a o = (open_through is js h o.0, a o.1)
+openly_step jump is js h a o = (open_through is js h o.0, a o.1)
 openly_step (execute p n) is js h a o = tt
 openly_step proceed is js h a o = tt
 openly_step _ is js h a o = a o

@@ -31,7 +31,7 @@ get_before [] ys j l = absurd (omega arith)
 get_before (x ∷ xs) ys zero l = refl
 get_before (x ∷ xs) ys (suc j) l = get_before xs ys j (omega arith)
 
-length_both : {A : Type 0} (xs ys : List A) → length (xs ++ ys) ≡ length xs + length ys
+pub length_both : {A : Type 0} (xs ys : List A) → length (xs ++ ys) ≡ length xs + length ys
 length_both [] ys = omega arith
 length_both (x ∷ xs) ys = let e = length_both xs ys in omega (arith, e)
 
@@ -85,30 +85,30 @@ are_of code k bs (c ∷ p) h = go (heads k c.head) refl bs h (λ bs h. are_of co
     go false e bs h ih = ih bs h
 
 filled : (code : Compiled) (c : Clause) (is : List Instr) → AreInstructionsOf code c is → 0 < length is
-filled code c [] h = absurd (h.walks [])
+filled code c [] h = absurd (h.walks 0 [])
 filled code c (i ∷ is) h = omega arith
 
 not_try : (code : Compiled) (c : Clause) (is : List Instr) (l : ℕ) → AreInstructionsOf code c is → slice_get is 0 ≡ Some (Try l) → ⊥
 not_try code c [] l h e = cc
 not_try code c (i ∷ is) l h e =
     let same : i ≡ Try l = cc in
-    let w = subst (λ i. Walks code ((i ∷ is) ++ []) (entry (count_trees (arguments c.head)))) same (h.walks []) in
-    elim w.3 as (λ _. ⊥) [ inl q ↦ false≢true q | inr q ↦ false≢true q.0 ]
+    let w = subst (λ i. Walks code 0 0 ((i ∷ is) ++ []) (entry (count_trees (arguments c.head)))) same (h.walks 0 []) in
+    w.0.on
 
 -- where clauses begin and walk
 clause_at : (code : Compiled) (arity : ℕ) (xs : List Instr) (bs : List (List Instr)) (cs : List Clause) (at : ℕ) → at ≡ length xs → AreOf code arity bs cs
-    → (k l : ℕ) → slice_get (places at bs) k ≡ Some l → (at ≤ l) × Walks code (drop l (xs ++ together bs)) (entry arity)
+    → (k l : ℕ) → slice_get (places at bs) k ≡ Some l → (at ≤ l) × Walks code l 0 (drop l (xs ++ together bs)) (entry arity)
 clause_at code arity xs [] cs at e h k l d = cc
 clause_at code arity xs (b ∷ bs) [] at e h k l d = absurd h
 clause_at code arity xs (b ∷ bs) (c ∷ cs) at e h zero l d =
     let same : at ≡ l = cc in
     let front : drop l (xs ++ (b ++ together bs)) ≡ b ++ together bs = ap (λ n. drop n (xs ++ (b ++ together bs))) (sym same ∙ e) ∙ drop_append xs (b ++ together bs) in
-    (omega arith, subst (λ is. Walks code is (entry arity)) (sym front) (subst (λ n. Walks code (b ++ together bs) (entry n)) h.0.1 (h.0.0.walks (together bs))))
+    (omega arith, subst (λ is. Walks code l 0 is (entry arity)) (sym front) (subst (λ n. Walks code l 0 (b ++ together bs) (entry n)) h.0.1 (h.0.0.walks l (together bs))))
 clause_at code arity xs (b ∷ bs) (c ∷ cs) at e h (suc k) l d =
     let n : at + length b ≡ length (xs ++ b) = ap (λ m. m + length b) e ∙ sym (length_both xs b) in
     let r = clause_at code arity (xs ++ b) bs cs (at + length b) n h.1 k l d in
     let less : at + length b ≤ l = r.0 in
-    (omega arith, subst (λ is. Walks code (drop l is) (entry arity)) (append_assoc xs b (together bs)) r.1)
+    (omega arith, subst (λ is. Walks code l 0 (drop l is) (entry arity)) (append_assoc xs b (together bs)) r.1)
 
 -- ---- choices
 
@@ -273,5 +273,5 @@ block_laid code q k front bs later p coded a s e w = record {
             let at : base ≡ length (front ++ choices base bs) = omega (arith, n, m) in
             let r = clause_at code q.arity (front ++ choices base bs) bs cs base at of j l listed in
             let less : base ≤ l = r.0 in
-            (omega (arith, s), subst (λ is. Walks code (drop l is) (entry q.arity)) (append_assoc front (choices base bs) (together bs) ∙ sym taken) r.1)
+            (omega (arith, s), subst (λ is. Walks code l 0 (drop l is) (entry q.arity)) (append_assoc front (choices base bs) (together bs) ∙ sym taken) r.1)
         go (inr n) listed taken = let d : slice_get (places base []) j ≡ Some l = ap (λ bs. slice_get (places base bs) j) (sym n) ∙ listed in cc

@@ -3,6 +3,8 @@ pub mod PermanentReads
 pub mod Open
 pub mod Framing
 pub mod BodyTurns
+pub mod Straight
+pub mod Heads
 pub mod Placed
 pub mod Laying
 pub mod Growing

@@ -1,6 +1,6 @@
 -- Predicates made one after another.
 use Rattle.std.proofs.Common.{◌≡◌, ℕ, zero, suc, ◌+◌, ◌<◌, ◌≤◌, Bool, true, false, ◌==◌, ◌&&◌, ◌||◌, is_some, if◌then◌else◌, Option, ◌⊎◌, inl, inr, List, [], ◌∷◌, ◌++◌, map, length, drop, take, get_or, slice_get, Some, None, IfSome, refl, ap, sym, ◌∙◌, subst, arith, append_assoc}
-use Rattle.std.specs.List.{AllZip, filter}
+use Rattle.std.specs.List.{AllZip, IsDistinct, filter}
 use Rattle.std.proofs.lemmas.List.{map-append, take_more}
 use Rattle.std.proofs.lemmas.Option.{slice_get_within}
 use Rattle.std.proofs.lemmas.Bool.{false≢true}
@@ -10,19 +10,26 @@ use Rattle.ap_term.specs.declared.fixed.TheConstants.{TRUE, FAIL}
 use Rattle.ap_term.specs.Tree.{Tree, Trees, var, int, atom, node, none, more, count_trees}
 use Rattle.ap_term.specs.Substitution.{Subst}
 use Rattle.ap_term.specs.Builtins.{relation_named, named_answer, builtin}
-use Rattle.ap_term.specs.Goals.{Clause, Program}
+use Rattle.ap_term.specs.Goals.{Clause, Program, Query, joined}
 use Rattle.ap_instr.specs.declared.instruction.Instr.{Instr}
 use Rattle.ap_instr.specs.declared.compiled.Predicate.{Predicate}
 use Rattle.ap_instr.specs.Code.{Compiled}
-use Rattle.ap_instr.specs.StandsFor.{is_head_of, clauses_of, ReadsAt, alternatives, clause_places}
-use Rattle.ap_codegen.specs.Assembled.{Numbered, Grows, Holds, AreInstructionsOf, AreCoded, chosen, choices, together, heads, clauses_for, IsMade, StandsBeside}
+use Rattle.ap_instr.specs.StandsFor.{is_head_of, clauses_of, ReadsAt, alternatives, clause_places, IsOfClauses, asked, asked_query}
+use Rattle.ap_instr.specs.Groups.{AsksUnmarked}
+use Rattle.ap_instr.specs.Table.{Key, is_key, key_of, AreTiled}
+use Rattle.ap_tracked.specs.Tracked.{IsOneOf}
+use Rattle.ap_codegen.specs.Sequential.{sequential, sequential_program, sequential_query}
+use Rattle.ap_codegen.specs.Assembled.{Numbered, Grows, Holds, Keeps, AreSequences, ReadsInTurn, AreInstructionsOf, AreCoded, chosen, choices, together, heads, clauses_for, IsMade, StandsBeside}
 use Rattle.ap_instr.specs.Runs.{applied}
 use Rattle.ap_codegen.specs.Permanent.{is_builtin_key}
 use Rattle.ap_codegen.proofs.Growing.{push_get, grows_on, holds_less, zip_push, take_all}
 use Rattle.ap_codecheck.specs.Walk.{IsLaid}
 use Rattle.ap_codecheck.proofs.Walked.{laid-sound}
-use Rattle.ap_codegen.proofs.Placed.{drop_append, block_read}
-use Rattle.ap_codegen.proofs.Laying.{block_laid}
+use Rattle.ap_codegen.proofs.Straight.{both_sequences, sequence_at}
+use Rattle.ap_codegen.proofs.Placed.{drop_append, block_read, block_sequences}
+use Rattle.ap_codegen.proofs.Laying.{length_both, block_laid}
+use Rattle.ap_codegen.specs.Heads.{with_heads}
+use Rattle.ap_codegen.proofs.Heads.{tiled_push, one_kept, heads_there, heads_first, predicates_in_turn, take_map, kept_first, keys_same}
 
 get_some : {A : Type 0} (xs : List A) (i : ℕ) → i < length xs → (x : A) × (slice_get xs i ≡ Some x)
 get_some [] i l = absurd (omega arith)
@@ -60,7 +67,7 @@ pub made_more : (t u : Numbered) (is is' : List Instr) (qs qs' : List Predicate)
     → Grows t u → ((code : Compiled) → Holds u code → AreCoded code bs (clauses_for k p))
     → is' ≡ is ++ (choices (length is + chosen (length bs)) bs ++ together bs) → q.name ≡ k.0 → q.arity ≡ k.1 → q.start ≡ length is → q.end ≡ length is' → qs' ≡ qs ++ q ∷ []
     → slice_get t.predicates (length qs) ≡ Some k → is_builtin_key k ≡ false → IsMade t is qs p → IsMade u is' qs' p
-made_more t u is is' qs qs' q k bs p g coded ei n a s en eq here away made = record { named = named; apart = apart; placed = placed; laid = laid }
+made_more t u is is' qs qs' q k bs p g coded ei n a s en eq here away made = record { named = named; apart = apart; placed = placed; tiled = tiled; sequences = sequences; laid = laid }
   where
     at : (m : ℕ) (r : Predicate) → slice_get qs' m ≡ Some r → (slice_get qs m ≡ Some r) ⊎ ((m ≡ length qs) × (q ≡ r))
     at m r e = push_get qs q r m (ap (λ l. slice_get l m) (sym eq) ∙ e)
@@ -80,7 +87,7 @@ made_more t u is is' qs qs' q k bs p g coded ei n a s en eq here away made = rec
       | inr h ↦ ap (λ r. is_builtin_key (r.name, r.arity)) (sym h.1) ∙ ap is_builtin_key (sym key) ∙ away
     ]
 
-    placed : (code : Compiled) (later : List Instr) → Holds u code → code.instructions ≡ is' ++ later → (m : ℕ) (r : Predicate) → slice_get qs' m ≡ Some r → AllZip (ReadsAt code) (clause_places code r) (clauses_of r p)
+    placed : (code : Compiled) (later : List Instr) → Holds u code → code.instructions ≡ is' ++ later → (m : ℕ) (r : Predicate) → slice_get qs' m ≡ Some r → AllZip (ReadsInTurn code) (clause_places code r) (clauses_of r p)
     placed code later h e m r d = go (at m r d)
       where
         whole : code.instructions ≡ is ++ ((choices (length is + chosen (length bs)) bs ++ together bs) ++ later)
@@ -89,15 +96,36 @@ made_more t u is is' qs qs' q k bs p g coded ei n a s en eq here away made = rec
         behind : drop (length is) code.instructions ≡ choices (length is + chosen (length bs)) bs ++ (together bs ++ later)
         behind = ap (drop (length is)) whole ∙ drop_append is ((choices (length is + chosen (length bs)) bs ++ together bs) ++ later) ∙ append_assoc (choices (length is + chosen (length bs)) bs) (together bs) later
 
-        last : AllZip (ReadsAt code) (clause_places code q) (clauses_of q p)
+        last : AllZip (ReadsInTurn code) (clause_places code q) (clauses_of q p)
         last =
-            subst (λ at. AllZip (ReadsAt code) (alternatives at (drop at code.instructions)) (clauses_of q p)) (sym s)
-            (subst (λ cs. AllZip (ReadsAt code) (alternatives (length is) (drop (length is) code.instructions)) cs) (sym (same_clauses q k p n a))
+            subst (λ at. AllZip (ReadsInTurn code) (alternatives at (drop at code.instructions)) (clauses_of q p)) (sym s)
+            (subst (λ cs. AllZip (ReadsInTurn code) (alternatives (length is) (drop (length is) code.instructions)) cs) (sym (same_clauses q k p n a))
             (block_read code (length is) (length is + chosen (length bs)) bs later (clauses_for k p) (coded code h) refl behind))
 
-        go : (slice_get qs m ≡ Some r) ⊎ ((m ≡ length qs) × (q ≡ r)) → AllZip (ReadsAt code) (clause_places code r) (clauses_of r p)
+        go : (slice_get qs m ≡ Some r) ⊎ ((m ≡ length qs) × (q ≡ r)) → AllZip (ReadsInTurn code) (clause_places code r) (clauses_of r p)
         go (inl f) = made.placed code ((choices (length is + chosen (length bs)) bs ++ together bs) ++ later) (holds_less t u code g h) whole m r f
-        go (inr f) = subst (λ r. AllZip (ReadsAt code) (clause_places code r) (clauses_of r p)) f.1 last
+        go (inr f) = subst (λ r. AllZip (ReadsInTurn code) (clause_places code r) (clauses_of r p)) f.1 last
+
+    tiled : AreTiled 0 qs' (length is')
+    tiled =
+        let own : List Instr = choices (length is + chosen (length bs)) bs ++ together bs in
+        subst (λ qs. AreTiled 0 qs (length is')) (sym eq)
+        (tiled_push 0 qs q (length is) (length is') made.tiled s (let n = length_both is own in let m = ap length ei in omega (arith, n, m)) en)
+
+    sequences : (code : Compiled) (later : List Instr) → Holds u code → code.instructions ≡ is' ++ later → AreSequences code 0 is'
+    sequences code later h e =
+        subst (AreSequences code 0) (sym ei)
+        (both_sequences code 0 is own (made.sequences code (own ++ later) (holds_less t u code g h) whole)
+        (subst (λ n. AreSequences code n own) (let z : length is ≡ 0 + length is = omega arith in z) (block_sequences code (length is) (length is + chosen (length bs)) bs later (clauses_for k p) (coded code h) behind)))
+      where
+        own : List Instr
+        own = choices (length is + chosen (length bs)) bs ++ together bs
+
+        whole : code.instructions ≡ is ++ (own ++ later)
+        whole = e ∙ ap (λ l. l ++ later) ei ∙ append_assoc is own later
+
+        behind : drop (length is) code.instructions ≡ choices (length is + chosen (length bs)) bs ++ (together bs ++ later)
+        behind = ap (drop (length is)) whole ∙ drop_append is (own ++ later) ∙ append_assoc (choices (length is + chosen (length bs)) bs) (together bs) later
 
     laid : (code : Compiled) (later : List Instr) → Holds u code → code.instructions ≡ is' ++ later → (m : ℕ) (r : Predicate) → slice_get qs' m ≡ Some r → IsLaid code r
     laid code later h e m r d = go (at m r d)
@@ -132,10 +160,33 @@ no_builtin a (more t (more u none)) e = go (relation_named a) ((a == TRUE) || (a
     go (Some r) false e = absurd (false≢true (sym e))
 no_builtin a (more t (more u (more v ts))) e = refl
 
+-- ---- groups whose goals are called one after another
+
+-- the same clauses, whichever come first: those of a predicate, or those in that form
+clauses_in_turn : (q : Predicate) (p : Program) → clauses_of q (sequential_program p) ≡ sequential_program (clauses_of q p)
+clauses_in_turn q [] = refl
+clauses_in_turn q (c ∷ p) = go (is_head_of q c.head) (clauses_in_turn q p)
+  where
+    go : (b : Bool) → clauses_of q (sequential_program p) ≡ sequential_program (clauses_of q p)
+        → (if b then sequential c ∷ clauses_of q (sequential_program p) else clauses_of q (sequential_program p)) ≡ sequential_program (if b then c ∷ clauses_of q p else clauses_of q p)
+    go true e = ap (λ cs. sequential c ∷ cs) e
+    go false e = e
+
+zip_in_turn : (code : Compiled) (ns : List ℕ) (cs : Program) → AllZip (ReadsInTurn code) ns cs → AllZip (ReadsAt code) ns (sequential_program cs)
+zip_in_turn code [] [] h = tt
+zip_in_turn code [] (c ∷ cs) h = h
+zip_in_turn code (n ∷ ns) [] h = h
+zip_in_turn code (n ∷ ns) (c ∷ cs) h = (h.0, zip_in_turn code ns cs h.1)
+
+-- a query's clauses behind a program's
+pub joined_in_turn : (p : Program) (q : Query) → sequential_program (joined p (asked_query q)) ≡ joined (sequential_program p) (asked_query (sequential_query q))
+joined_in_turn p q = map-append sequential p (asked q ∷ q.lifted)
+
 -- where all predicates are made, the code stands for the program
 pub made_all : (t : Numbered) (is : List Instr) (qs : List Predicate) (p : Program) (code : Compiled) (m : ℕ) (k : ℕ × ℕ) → IsMade t is qs p → slice_get t.predicates (length qs) ≡ None
-    → slice_get t.predicates m ≡ Some k → code.instructions ≡ is → code.integers ≡ t.integers → code.predicates ≡ qs → code.query ≡ Some m → StandsBeside code k p
-made_all t is qs p code m k made ended at ei ez eq em = record {
+    → slice_get t.predicates m ≡ Some k → code.instructions ≡ is → code.integers ≡ t.integers → code.predicates ≡ qs → code.query ≡ Some m
+    → (own : Program) (first both : List Key) → first ≡ with_heads [] own → both ≡ with_heads first p → Keeps both t.predicates → Keeps first both → IsDistinct is_key t.predicates → filter (λ q. q.is_listed) qs ≡ take (length first) qs → StandsBeside code k own p
+made_all t is qs p code m k made ended at ei ez eq em own first both e1 e2 k2 k1 once flags = record {
   number = m;
   predicate = q.0;
   is_query = em;
@@ -143,14 +194,37 @@ made_all t is qs p code m k made ended at ei ez eq em = record {
   named = q.2;
   arity = q.3;
   stands = record {
-    reads = λ n r e. made.placed code [] holds (ei ∙ sym (append_nil is)) n r (ap (λ l. slice_get l n) (sym eq) ∙ e);
-    apart = λ n r ts e c. no_builtin r.name ts (ap (λ m. is_builtin_key (r.name, m)) c ∙ made.apart n r (ap (λ l. slice_get l n) (sym eq) ∙ e));
+    predicates = λ n r e. inl (clauses n r e);
+    calls = λ i n j r e f d. clauses n r d;
+    sequences = λ i l j e o.
+        let n : 0 + i + 1 ≡ i + 1 = omega arith in
+        subst (λ n. AsksUnmarked code n l) n (sequence_at code 0 is i l j (made.sequences code [] holds whole) (ap (λ is. slice_get is i) (sym ei) ∙ e) o);
+  };
+  whole = record {
+    has = λ j h. subst (IsOneOf j) (sym keys) (one_kept j both t.predicates k2 (subst (IsOneOf j) (sym e2) (heads_there j first p (subst (IsOneOf j) (predicates_in_turn p) h))));
+    once = subst (IsDistinct is_key) (sym keys) once;
+    listed =
+        ap (λ qs. map key_of (filter (λ q. q.is_listed) qs)) eq
+        ∙ ap (map key_of) flags
+        ∙ take_map key_of (length first) qs
+        ∙ ap (take (length first)) same
+        ∙ kept_first first t.predicates (λ i x e. k2 i x (k1 i x e))
+        ∙ e1
+        ∙ heads_first own
+        ∙ sym (predicates_in_turn own);
+    tiled = subst (λ qs. AreTiled 0 qs (length code.instructions)) (sym eq) (subst (λ is. AreTiled 0 qs (length is)) (sym ei) made.tiled);
   };
   sound =
-      laid-sound code (λ n r e. made.laid code [] holds (ei ∙ sym (append_nil is)) n r (ap (λ l. slice_get l n) (sym eq) ∙ e))
+      laid-sound code (λ n r e. made.laid code [] holds whole n r (ap (λ l. slice_get l n) (sym eq) ∙ e))
       (subst (λ o. IfSome o (λ n. n < length code.predicates)) (sym em) (slice_get_within code.predicates m q.0 q.1));
 }
   where
+    same : map key_of qs ≡ t.predicates
+    same = keys_same qs t.predicates made.named ended
+
+    keys : map key_of code.predicates ≡ t.predicates
+    keys = ap (map key_of) eq ∙ same
+
     append_nil : {A : Type 0} (xs : List A) → xs ++ [] ≡ xs
     append_nil [] = refl
     append_nil (x ∷ xs) = ap (λ l. x ∷ l) (append_nil xs)
@@ -176,6 +250,17 @@ made_all t is qs p code m k made ended at ei ez eq em = record {
 
     holds : Holds t code
     holds = record { integers = λ i z e. ap (λ l. slice_get l i) ez ∙ e; predicates = entry }
+
+    whole : code.instructions ≡ is ++ []
+    whole = ei ∙ sym (append_nil is)
+
+    clauses : (n : ℕ) (r : Predicate) → slice_get code.predicates n ≡ Some r → IsOfClauses code (sequential_program p) r
+    clauses n r e =
+        let own : slice_get qs n ≡ Some r = ap (λ l. slice_get l n) (sym eq) ∙ e in
+        record {
+          reads = subst (AllZip (ReadsAt code) (clause_places code r)) (sym (clauses_in_turn r p)) (zip_in_turn code (clause_places code r) (clauses_of r p) (made.placed code [] holds whole n r own));
+          apart = λ ts c. no_builtin r.name ts (ap (λ m. is_builtin_key (r.name, m)) c ∙ made.apart n r own);
+        }
 
     q : (q : Predicate) × (slice_get code.predicates m ≡ Some q) × (q.name ≡ k.0) × (q.arity ≡ k.1)
     q = entry m k at

@@ -11,7 +11,7 @@ use Rattle.ap_term.specs.Substitution.{instance_all}
 use Rattle.ap_term.specs.Builtins.{relation_named}
 use Rattle.ap_term.specs.WellFormed.{callable, all_callable}
 use Rattle.ap_instr.specs.declared.instruction.Slot.TheVariants.{Y}
-use Rattle.ap_instr.specs.Step.{Step, get_variable, get_value, put_variable, put_value, put_structure, unify_variable, unify_value, call, execute, builtin, proceed}
+use Rattle.ap_instr.specs.Step.{Step, get_variable, get_value, put_variable, put_value, put_structure, unify_variable, unify_value, call, execute, builtin, proceed, jump, check_ground, check_indep, group, push, wait}
 use Rattle.ap_instr.specs.Runs.{arguments, IsOpen, AsksOpenly}
 use Rattle.ap_codegen.specs.Permanent.{name, is_builtin, is_builtin_key, see, inner, place, fills, see_built, see_nested, build, nested, puts, goal_code, is_last_call, asking, body_code, see_all, see_taken, takes, get, opens, gets, clause_code}
 use Rattle.ap_codegen.specs.CodeOf.{calls_apart}
@@ -24,6 +24,12 @@ is_quiet (call p n) = false
 is_quiet (execute p n) = false
 is_quiet (builtin p n) = false
 is_quiet proceed = false
+is_quiet jump = false
+is_quiet (check_ground v) = false
+is_quiet (check_indep v w) = false
+is_quiet (group n) = false
+is_quiet (push p n) = false
+is_quiet wait = false
 is_quiet _ = true
 
 abbrev Quiet : List Step → Type 0
@@ -38,6 +44,12 @@ quiet_openly (call p n ∷ us) is q o = absurd (false≢true q)
 quiet_openly (execute p n ∷ us) is q o = absurd (false≢true q)
 quiet_openly (builtin p n ∷ us) is q o = absurd (false≢true q)
 quiet_openly (proceed ∷ us) is q o = absurd (false≢true q)
+quiet_openly (jump ∷ us) is q o = absurd (false≢true q)
+quiet_openly (check_ground v ∷ us) is q o = absurd (false≢true q)
+quiet_openly (check_indep v w ∷ us) is q o = absurd (false≢true q)
+quiet_openly (group n ∷ us) is q o = absurd (false≢true q)
+quiet_openly (push p n ∷ us) is q o = absurd (false≢true q)
+quiet_openly (wait ∷ us) is q o = absurd (false≢true q)
 quiet_openly (i ∷ us) is q o = quiet_openly us is q o
 
 quiet_apart : (us bs : List Step) → Quiet us → list_all calls_apart bs ≡ true → list_all calls_apart (us ++ bs) ≡ true
@@ -46,6 +58,12 @@ quiet_apart (call p n ∷ us) bs q o = absurd (false≢true q)
 quiet_apart (execute p n ∷ us) bs q o = absurd (false≢true q)
 quiet_apart (builtin p n ∷ us) bs q o = absurd (false≢true q)
 quiet_apart (proceed ∷ us) bs q o = absurd (false≢true q)
+quiet_apart (jump ∷ us) bs q o = absurd (false≢true q)
+quiet_apart (check_ground v ∷ us) bs q o = absurd (false≢true q)
+quiet_apart (check_indep v w ∷ us) bs q o = absurd (false≢true q)
+quiet_apart (group n ∷ us) bs q o = absurd (false≢true q)
+quiet_apart (push p n ∷ us) bs q o = absurd (false≢true q)
+quiet_apart (wait ∷ us) bs q o = absurd (false≢true q)
 quiet_apart (i ∷ us) bs q o = quiet_apart us bs q o
 
 -- ---- what is quiet

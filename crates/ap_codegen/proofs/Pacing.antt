@@ -94,17 +94,18 @@ not_one c = go (c + 1 + 1 == 1) refl
 
 -- ---- structures that are built, and those that are taken apart
 
-abbrev filling : (ℕ → Bool) → (ℕ → Bool) → Option ℕ → Option ℕ → ℕ → Shape
-filling x y r g p = record { x = x; y = y; room = r; pending = p; target = g }
+-- inside of a structure that began in a shape
+abbrev filling : (ℕ → Bool) → (ℕ → Bool) → Shape → Option ℕ → ℕ → Shape
+filling x y r g p = record { x = x; y = y; room = r.room; pending = p; target = g; group = r.group }
 
 less_one : (c : ℕ) → c + 1 - 1 ≡ c
 less_one c = omega arith
 
-behind_filling : (x y : ℕ → Bool) (r g : Option ℕ) (c : ℕ) → behind_argument (filling x y r g (c + 1 + 1)) ≡ filling x y r g (c + 1)
+behind_filling : (x y : ℕ → Bool) (r : Shape) (g : Option ℕ) (c : ℕ) → behind_argument (filling x y r g (c + 1 + 1)) ≡ filling x y r g (c + 1)
 behind_filling x y r g c = ap (λ b. passed b (filling x y r g (c + 1 + 1))) (not_one c) ∙ ap (filling x y r g) (less_one (c + 1))
 
-begun : (s : Shape) (f a c : ℕ) → after (PutStructure f (c + 1) a) s ≡ filling (set s.x a false) s.y s.room (Some a) (c + 1)
-begun s f a c = ap (λ b. record { x = set s.x a b; y = s.y; room = s.room; pending = c + 1; target = if b then None else Some a }) (not_zero c)
+begun : (s : Shape) (f a c : ℕ) → after (PutStructure f (c + 1) a) s ≡ filling (set s.x a false) s.y s (Some a) (c + 1)
+begun s f a c = ap (λ b. record { x = set s.x a b; y = s.y; room = s.room; pending = c + 1; target = if b then None else Some a; group = s.group }) (not_zero c)
 
 below : (n k : ℕ) → nat_le n k ≡ true → n ≤ k
 below n k e = grind (arith, nat_tests)
@@ -158,7 +159,7 @@ record Made (n : ℕ) (seen : List ℕ) (s z : Shape) : Type 0 where
   sees : Sees seen z.y
 
 written : (n a : ℕ) (seen : List ℕ) (s : Shape) (y : ℕ → Bool) → Fine n s → Sees seen y
-    → Built n a seen s (record { x = set s.x a true; y = y; room = s.room; pending = s.pending; target = s.target })
+    → Built n a seen s (record { x = set s.x a true; y = y; room = s.room; pending = s.pending; target = s.target; group = s.group })
 written n a seen s y f o = record {
   fine = record { settled = f.settled; room = f.room };
   keeps = λ w e. set_true s.x a w e;
@@ -167,7 +168,7 @@ written n a seen s y f o = record {
 }
 
 module _ (n : ℕ) where
-  fill_paces : (t : Tree) (seen : List ℕ) (m : ℕ) (rest : List Step) (x y : ℕ → Bool) (r g : Option ℕ) (p : ℕ) → 0 < m → numbered n t ≡ true → Sees seen y → IsThere t m x → r ≡ Some n → 0 < p
+  fill_paces : (t : Tree) (seen : List ℕ) (m : ℕ) (rest : List Step) (x y : ℕ → Bool) (r : Shape) (g : Option ℕ) (p : ℕ) → 0 < m → numbered n t ≡ true → Sees seen y → IsThere t m x → r.room ≡ Some n → 0 < p
       → ((z : ℕ → Bool) → Sees (see t seen) z → Paces rest (behind_argument (filling x z r g p))) → Paces (fill t seen m ∷ rest) (filling x y r g p)
   fill_paces (var v) seen m rest x y r g p l i o t e q c = go (has seen v) refl c
     where
@@ -179,8 +180,8 @@ module _ (n : ℕ) where
   fill_paces (atom a) seen m rest x y r g p l i o t e q c = (q, c y o)
   fill_paces (node a us) seen m rest x y r g p l i o t e q c = (l, t, q, c y o)
 
-  fills_paces : (t : Tree) (ts : Trees) (seen : List ℕ) (b m : ℕ) (rest : List Step) (x y : ℕ → Bool) (r g : Option ℕ) → 0 < b → 0 < m → numbered_all n (more t ts) ≡ true → Sees seen y → Temps (more t ts) b m x
-      → r ≡ Some n → ((z : ℕ → Bool) → Sees (see_all (more t ts) seen) z → Paces rest (filling (with_target g x) z r None 0)) → Paces (fills (more t ts) seen b m ++ rest) (filling x y r g (count_trees (more t ts)))
+  fills_paces : (t : Tree) (ts : Trees) (seen : List ℕ) (b m : ℕ) (rest : List Step) (x y : ℕ → Bool) (r : Shape) (g : Option ℕ) → 0 < b → 0 < m → numbered_all n (more t ts) ≡ true → Sees seen y → Temps (more t ts) b m x
+      → r.room ≡ Some n → ((z : ℕ → Bool) → Sees (see_all (more t ts) seen) z → Paces rest (filling (with_target g x) z r None 0)) → Paces (fills (more t ts) seen b m ++ rest) (filling x y r g (count_trees (more t ts)))
   fills_paces t none seen b m rest x y r g j l i o s e c =
       let d = both_true (numbered n t) (numbered_all n none) i in
       fill_paces t seen b rest x y r g 1 j d.0 o (first_temp t none b m x s) e (omega arith) c
@@ -196,15 +197,15 @@ module _ (n : ℕ) where
   structure_paces f none a seen b m rest s p j d l i o t k c = (
     p,
     k.settled,
-    c (filling (set s.x a true) s.y s.room None 0) (record { fine = record { settled = refl; room = k.room }; keeps = λ w e. set_true s.x a w e; sees = o; there = set_here s.x a true }),
+    c (filling (set s.x a true) s.y s None 0) (record { fine = record { settled = refl; room = k.room }; keeps = λ w e. set_true s.x a w e; sees = o; there = set_here s.x a true }),
   )
   structure_paces f (more u us) a seen b m rest s p j d l i o t k c = (
     p,
     k.settled,
     subst (Paces (fills (more u us) seen b m ++ rest)) (sym (begun s f a (count_trees us)))
-        (fills_paces u us seen b m rest (set s.x a false) s.y s.room (Some a) j (omega arith) i o
+        (fills_paces u us seen b m rest (set s.x a false) s.y s (Some a) j (omega arith) i o
         (temps_keep (more u us) b m s.x (set s.x a false) (λ h e. set_other s.x a false (place h b m) (place_apart h a b m d l) ∙ e) t) k.room
-        (λ z oz. c (filling (set (set s.x a false) a true) z s.room None 0) (record {
+        (λ z oz. c (filling (set (set s.x a false) a true) z s None 0) (record {
           fine = record { settled = refl; room = k.room };
           keeps = λ w e. set_twice s.x a w false e;
           sees = oz;
@@ -298,7 +299,7 @@ module _ (n : ℕ) where
 
   -- ---- heads
 
-  take_paces : (t : Tree) (seen : List ℕ) (m : ℕ) (rest : List Step) (x y : ℕ → Bool) (r : Option ℕ) (p : ℕ) → 0 < m → numbered n t ≡ true → Sees seen y → r ≡ Some n → 0 < p
+  take_paces : (t : Tree) (seen : List ℕ) (m : ℕ) (rest : List Step) (x y : ℕ → Bool) (r : Shape) (p : ℕ) → 0 < m → numbered n t ≡ true → Sees seen y → r.room ≡ Some n → 0 < p
       → ((u z : ℕ → Bool) → Grows x u → Sees (see t seen) z → IsThere t m u → Paces rest (behind_argument (filling u z r None p))) → Paces (take t seen m ∷ rest) (filling x y r None p)
   take_paces (var v) seen m rest x y r p l i o e q c = go (has seen v) refl c
     where
@@ -310,7 +311,7 @@ module _ (n : ℕ) where
   take_paces (atom a) seen m rest x y r p l i o e q c = (q, c x y (λ w h. h) o tt)
   take_paces (node a us) seen m rest x y r p l i o e q c = (l, q, c (set x m true) y (λ w h. set_true x m w h) o (set_here x m true))
 
-  takes_paces : (ts : Trees) (seen : List ℕ) (m : ℕ) (rest : List Step) (x y : ℕ → Bool) (r : Option ℕ) → 0 < m → numbered_all n ts ≡ true → Sees seen y → r ≡ Some n
+  takes_paces : (ts : Trees) (seen : List ℕ) (m : ℕ) (rest : List Step) (x y : ℕ → Bool) (r : Shape) → 0 < m → numbered_all n ts ≡ true → Sees seen y → r.room ≡ Some n
       → ((u z : ℕ → Bool) → Grows x u → Sees (see_all ts seen) z → Taken ts m u → Paces rest (filling u z r None 0)) → Paces (takes ts seen m ++ rest) (filling x y r None (count_trees ts))
   takes_paces none seen m rest x y r l i o e c = c x y (λ w h. h) o tt
   takes_paces (more t none) seen m rest x y r l i o e c =
@@ -344,9 +345,9 @@ module _ (n : ℕ) where
           p,
           h,
           f.settled,
-          subst (λ q. Paces q (filling s.x s.y s.room None (count_trees ts))) (sym (append_assoc (takes ts seen m) (opens ts seen1 m) rest))
-              (takes_paces ts seen m (opens ts seen1 m ++ rest) s.x s.y s.room l i o f.room (λ u z g1 o1 t1.
-              opens_paces ts seen1 m rest (filling u z s.room None 0) l i o1 (record { settled = refl; room = f.room }) t1 (λ v d.
+          subst (λ q. Paces q (filling s.x s.y s None (count_trees ts))) (sym (append_assoc (takes ts seen m) (opens ts seen1 m) rest))
+              (takes_paces ts seen m (opens ts seen1 m ++ rest) s.x s.y s l i o f.room (λ u z g1 o1 t1.
+              opens_paces ts seen1 m rest (filling u z s None 0) l i o1 (record { settled = refl; room = f.room }) t1 (λ v d.
               c v (record { fine = d.fine; keeps = λ w q. d.keeps w (g1 w q); sees = d.sees })))),
         )
 

@@ -12,7 +12,9 @@ use Rattle.ap_term.proofs.Solvable.{has-add_vars, has-add_all_vars}
 use Rattle.ap_instr.specs.declared.instruction.Slot.TheVariants.{Y}
 use Rattle.ap_instr.specs.Step.{Step, get_variable, get_value, put_variable, put_value, put_structure, unify_variable, unify_value, call, execute, builtin}
 use Rattle.ap_instr.specs.Runs.{Runs, Reads, set, spread, lost, applied, arguments}
+use Rattle.ap_instr.proofs.Ungrouped.{marked-calls}
 use Rattle.ap_codegen.specs.Permanent.{name, is_builtin, see, see_all, inner, place, fills, see_built, see_nested, build, nested, puts, see_puts, goal_code, is_last_call, asking, body_code, see_taken, see_opened, takes, get, opens, gets, clause_code}
+use Rattle.ap_codegen.specs.Sequential.{sequential}
 use Rattle.ap_codegen.proofs.Registers.{both_true, set_here, has_more, has_first}
 
 or_cases : (a b : Bool) → (a || b) ≡ true → (a ≡ true) ⊎ (b ≡ true)
@@ -739,22 +741,23 @@ module _ (bs : Trees) where
 
 -- ---- the whole clause
 
-pub reads : (rest : List Step) (c : Clause) → all_callable (plain_goals c.body) ≡ true → Reads (clause_code c.head (plain_goals c.body) ++ rest) c
+pub reads : (rest : List Step) (c : Clause) → all_callable (plain_goals c.body) ≡ true → Reads (clause_code c.head (plain_goals c.body) ++ rest) (sequential c)
 reads rest c i =
     let m : ℕ = count_trees (arguments c.head) + 1 in
+    let goals : Trees = plain_goals c.body in
     let seen : List ℕ = add_all_vars (arguments c.head) [] in
     let head : List Step = gets (arguments c.head) 1 [] m in
-    let body : List Step = body_code (plain_goals c.body) seen in
-    let split : clause_code c.head (plain_goals c.body) ++ rest ≡ head ++ (body ++ rest) = append_assoc head body rest in
+    let body : List Step = body_code goals seen in
+    let split : clause_code c.head goals ++ rest ≡ head ++ (body ++ rest) = append_assoc head body rest in
     record {
       only = λ x y bs r.
           let g = gets-only bs (arguments c.head) 1 [] m (body ++ rest) x y (let l : 1 + count_trees (arguments c.head) ≤ count_trees (arguments c.head) + 1 = omega arith in l) (subst (λ q. Runs q none x y bs) split r) in
-          let d = body-only (plain_goals c.body) seen rest g.0 g.1 bs i g.5 in
-          (d.0, g.4 ∙ seen_same_all (arguments c.head) [] g.1 d.0 d.1, d.2);
+          let d = body-only goals seen rest g.0 g.1 bs i g.5 in
+          (d.0, g.4 ∙ seen_same_all (arguments c.head) [] g.1 d.0 d.1, d.2 ∙ sym (marked-calls d.0 goals));
       each = λ x y bs a.
-          subst (Runs (clause_code c.head (plain_goals c.body) ++ rest) none x y) (sym a.2)
-          (subst (λ q. Runs q none x y (instance_all a.0 (plain_goals c.body))) (sym split)
-          (gets-each (instance_all a.0 (plain_goals c.body)) a.0 (arguments c.head) 1 [] m (body ++ rest) x y
+          subst (Runs (clause_code c.head goals ++ rest) none x y) (sym (a.2 ∙ marked-calls a.0 goals))
+          (subst (λ q. Runs q none x y (instance_all a.0 goals)) (sym split)
+          (gets-each (instance_all a.0 goals) a.0 (arguments c.head) 1 [] m (body ++ rest) x y
           (let l : 1 + count_trees (arguments c.head) ≤ count_trees (arguments c.head) + 1 = omega arith in l) (λ w o. absurd (false≢true o)) a.1
-          (λ x' y' a'. body-each a.0 (plain_goals c.body) seen rest x' y' i a')));
+          (λ x' y' a'. body-each a.0 goals seen rest x' y' i a')));
     }

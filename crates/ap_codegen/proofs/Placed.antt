@@ -1,25 +1,29 @@
 -- Clauses one behind another, with choice instructions before them, are read in order.
-use Rattle.std.proofs.Common.{◌≡◌, ℕ, zero, suc, ◌+◌, ◌<◌, ◌≤◌, ◌==◌, Bool, true, false, if◌then◌else◌, List, [], ◌∷◌, ◌++◌, length, drop, refl, ap, sym, ◌∙◌, subst, arith, append_assoc}
+use Rattle.std.proofs.Common.{◌≡◌, ℕ, zero, suc, ◌+◌, ◌<◌, ◌≤◌, ◌==◌, Bool, true, false, if◌then◌else◌, List, [], ◌∷◌, ◌++◌, length, drop, map, refl, ap, sym, ◌∙◌, subst, arith, append_assoc}
 use Rattle.std.specs.List.{AllZip}
-use Rattle.std.proofs.lemmas.List.{map-append}
 use Rattle.std.proofs.lemmas.Bool.Decides.{Decides-eqb}
 use Rattle.ap_term.specs.Tree.{Tree, Trees, var, none, more, count_trees}
 use Rattle.ap_term.specs.Substitution.{instance_all}
-use Rattle.ap_term.specs.Goals.{Clause, plain_goals}
+use Rattle.ap_term.specs.Goals.{Clause}
+use Rattle.ap_tracked.specs.Tracked.{placed}
+use Rattle.ap_tracked.specs.Marks.{marked}
 use Rattle.ap_instr.specs.declared.instruction.Instr.{Instr}
 use Rattle.ap_instr.specs.declared.instruction.Instr.TheVariants.{Fail, Try}
 use Rattle.ap_instr.specs.Code.{Compiled}
-use Rattle.ap_instr.specs.Step.{Step, other, steps_of as said}
-use Rattle.ap_instr.specs.Runs.{Reads, AsksOpenly, set, spread, arguments}
-use Rattle.ap_instr.specs.StandsFor.{tried, alternatives, ReadsAt}
-use Rattle.ap_codegen.specs.Assembled.{AreCoded, places, retries, choices, chosen, together}
+use Rattle.ap_instr.specs.Step.{Step, other}
+use Rattle.ap_instr.specs.Steps.{steps_behind}
+use Rattle.ap_instr.specs.Runs.{Reads, set, spread, arguments}
+use Rattle.ap_instr.specs.StandsFor.{tried, alternatives}
+use Rattle.ap_codegen.specs.Assembled.{ReadsInTurn, AreSequences, AreCoded, places, retries, choices, chosen, together}
+use Rattle.ap_codegen.specs.Sequential.{sequential}
 use Rattle.ap_codegen.proofs.Registers.{set_here}
+use Rattle.ap_codegen.proofs.Straight.{both_sequences}
 
 pub drop_append : {A : Type 0} (xs ys : List A) → drop (length xs) (xs ++ ys) ≡ ys
 drop_append [] ys = refl
 drop_append (x ∷ xs) ys = drop_append xs ys
 
-drop_twice : {A : Type 0} (m n : ℕ) (xs : List A) → drop (m + n) xs ≡ drop n (drop m xs)
+pub drop_twice : {A : Type 0} (m n : ℕ) (xs : List A) → drop (m + n) xs ≡ drop n (drop m xs)
 drop_twice zero n xs = let e : 0 + n ≡ n = omega arith in ap (λ k. drop k xs) e
 drop_twice (suc m) n [] = drop_nil (suc m + n) ∙ sym (drop_nil n)
   where
@@ -61,12 +65,12 @@ count_instance f (more t ts) = ap (λ n. n + 1) (count_instance f ts)
 not_other : (is : List Step) (c : Clause) → Reads (other ∷ is) c → ⊥
 not_other is c r =
     let ts : Trees = instance_all var (arguments c.head) in
-    r.each (loaded 1 ts) (λ w. var 0) (instance_all var (plain_goals c.body)) (var, ap (spread (loaded 1 ts) 1) (sym (count_instance var (arguments c.head))) ∙ spread_loaded 1 ts, refl)
+    r.each (loaded 1 ts) (λ w. var 0) (marked (map (placed var) c.body)) (var, ap (spread (loaded 1 ts) 1) (sym (count_instance var (arguments c.head))) ∙ spread_loaded 1 ts, refl)
 
-single : (code : Compiled) (at : ℕ) (is : List Instr) (c : Clause) → Reads (said code is) c → alternatives at is ≡ at ∷ []
+single : (code : Compiled) (at : ℕ) (is : List Instr) (c : Clause) → Reads (steps_behind code at 0 is) c → alternatives at is ≡ at ∷ []
 single code at [] c r = refl
-single code at (Try l ∷ is) c r = absurd (not_other (said code is) c r)
-single code at (Fail ∷ is) c r = absurd (not_other (said code is) c r)
+single code at (Try l ∷ is) c r = absurd (not_other (steps_behind code (at + 1) 0 is) c r)
+single code at (Fail ∷ is) c r = absurd (not_other (steps_behind code (at + 1) 0 is) c r)
 single code at (i ∷ is) c r = refl
 
 -- ---- places
@@ -80,17 +84,13 @@ length_retries at [] = refl
 length_retries at (is ∷ []) = refl
 length_retries at (is ∷ b ∷ bs) = ap suc (length_retries (at + length is) (b ∷ bs))
 
-places_read : (code : Compiled) (at : ℕ) (bs : List (List Instr)) (later : List Instr) (cs : List Clause) → AreCoded code bs cs → drop at code.instructions ≡ together bs ++ later → AllZip (ReadsAt code) (places at bs) cs
+places_read : (code : Compiled) (at : ℕ) (bs : List (List Instr)) (later : List Instr) (cs : List Clause) → AreCoded code bs cs → drop at code.instructions ≡ together bs ++ later → AllZip (ReadsInTurn code) (places at bs) cs
 places_read code at [] later [] h e = tt
 places_read code at [] later (c ∷ cs) h e = h
 places_read code at (is ∷ bs) later [] h e = h
 places_read code at (is ∷ bs) later (c ∷ cs) h e =
-    let d : drop at code.instructions ≡ is ++ (together bs ++ later) = e ∙ append_assoc is (together bs) later in
-    let f : said code (drop at code.instructions) ≡ said code is ++ said code (together bs ++ later) = ap (said code) d ∙ map-append _ is (together bs ++ later) in (
-      record {
-        reads = subst (λ q. Reads q c) (sym f) (h.0.says.reads (said code (together bs ++ later)));
-        openly = subst AsksOpenly (sym f) (h.0.says.openly (said code (together bs ++ later)));
-      },
+    let d : drop at code.instructions ≡ is ++ (together bs ++ later) = e ∙ append_assoc is (together bs) later in (
+      h.0.reads at (together bs ++ later) d,
       places_read code (at + length is) bs later cs h.1 (drop_twice at (length is) code.instructions ∙ ap (drop (length is)) d ∙ drop_append is (together bs ++ later)),
     )
 
@@ -109,16 +109,16 @@ block_places code start base [] later cs h b e = ap (alternatives start) e
 block_places code start base (is ∷ []) later [] h b e = absurd h
 block_places code start base (is ∷ []) later (c ∷ cs) h b e =
     let same : start ≡ base = omega (arith, b) in
-    single code start (drop start code.instructions) c (places_read code start (is ∷ []) later (c ∷ cs) h e).0.reads ∙ ap (λ n. n ∷ []) same
+    single code start (drop start code.instructions) (sequential c) (places_read code start (is ∷ []) later (c ∷ cs) h e).0.reads ∙ ap (λ n. n ∷ []) same
 block_places code start base (is ∷ i ∷ bs) later cs h b e = ap (alternatives start) e ∙ ap (λ l. base ∷ l) (tried_retries (base + length is) i bs (together (is ∷ i ∷ bs) ++ later))
 
 -- the clauses of a predicate whose instructions begin at a place
 pub block_read : (code : Compiled) (start base : ℕ) (bs : List (List Instr)) (later : List Instr) (cs : List Clause) → AreCoded code bs cs
     → base ≡ start + chosen (length bs) → drop start code.instructions ≡ choices base bs ++ (together bs ++ later)
-    → AllZip (ReadsAt code) (alternatives start (drop start code.instructions)) cs
-block_read code start base bs later cs h b e = subst (λ l. AllZip (ReadsAt code) l cs) (sym (block_places code start base bs later cs h b e)) (go bs cs h b e)
+    → AllZip (ReadsInTurn code) (alternatives start (drop start code.instructions)) cs
+block_read code start base bs later cs h b e = subst (λ l. AllZip (ReadsInTurn code) l cs) (sym (block_places code start base bs later cs h b e)) (go bs cs h b e)
   where
-    go : (bs : List (List Instr)) (cs : List Clause) → AreCoded code bs cs → base ≡ start + chosen (length bs) → drop start code.instructions ≡ choices base bs ++ (together bs ++ later) → AllZip (ReadsAt code) (places base bs) cs
+    go : (bs : List (List Instr)) (cs : List Clause) → AreCoded code bs cs → base ≡ start + chosen (length bs) → drop start code.instructions ≡ choices base bs ++ (together bs ++ later) → AllZip (ReadsInTurn code) (places base bs) cs
     go [] [] h b e = tt
     go [] (c ∷ cs) h b e = absurd h
     go (is ∷ []) cs h b e =
@@ -129,3 +129,31 @@ block_read code start base bs later cs h b e = subst (λ l. AllZip (ReadsAt code
         let n : base ≡ start + suc (length ks) = b ∙ ap (λ n. start + n) (chosen_many (length bs)) ∙ ap (λ n. start + suc n) (sym (length_retries (base + length is) (i ∷ bs))) in
         places_read code base (is ∷ i ∷ bs) later cs h
         (ap (λ k. drop k code.instructions) n ∙ drop_twice start (suc (length ks)) code.instructions ∙ ap (drop (suc (length ks))) e ∙ drop_append (choices base (is ∷ i ∷ bs)) (together (is ∷ i ∷ bs) ++ later))
+
+-- ---- checks
+
+retries_sequences : (code : Compiled) (from at : ℕ) (bs : List (List Instr)) → AreSequences code from (retries at bs)
+retries_sequences code from at [] = tt
+retries_sequences code from at (is ∷ []) = (λ l e. cc, tt)
+retries_sequences code from at (is ∷ b ∷ bs) = (λ l e. cc, retries_sequences code (from + 1) (at + length is) (b ∷ bs))
+
+choices_sequences : (code : Compiled) (from at : ℕ) (bs : List (List Instr)) → AreSequences code from (choices at bs)
+choices_sequences code from at [] = (λ l e. cc, tt)
+choices_sequences code from at (is ∷ []) = tt
+choices_sequences code from at (is ∷ b ∷ bs) = (λ l e. cc, retries_sequences code (from + 1) (at + length is) (b ∷ bs))
+
+together_sequences : (code : Compiled) (at : ℕ) (bs : List (List Instr)) (later : List Instr) (cs : List Clause) → AreCoded code bs cs → drop at code.instructions ≡ together bs ++ later → AreSequences code at (together bs)
+together_sequences code at [] later cs h e = tt
+together_sequences code at (is ∷ bs) later [] h e = absurd h
+together_sequences code at (is ∷ bs) later (c ∷ cs) h e =
+    let d : drop at code.instructions ≡ is ++ (together bs ++ later) = e ∙ append_assoc is (together bs) later in
+    both_sequences code at is (together bs) (h.0.sequences at (together bs ++ later) d)
+    (together_sequences code (at + length is) bs later cs h.1 (drop_twice at (length is) code.instructions ∙ ap (drop (length is)) d ∙ drop_append is (together bs ++ later)))
+
+-- each check of a predicate's instructions leads to its group as a sequence
+pub block_sequences : (code : Compiled) (start base : ℕ) (bs : List (List Instr)) (later : List Instr) (cs : List Clause) → AreCoded code bs cs
+    → drop start code.instructions ≡ choices base bs ++ (together bs ++ later) → AreSequences code start (choices base bs ++ together bs)
+block_sequences code start base bs later cs h e =
+    both_sequences code start (choices base bs) (together bs) (choices_sequences code start base bs)
+    (together_sequences code (start + length (choices base bs)) bs later cs h
+    (drop_twice start (length (choices base bs)) code.instructions ∙ ap (drop (length (choices base bs))) e ∙ drop_append (choices base bs) (together bs ++ later)))

@@ -6,7 +6,7 @@ use Rattle.ap_term.specs.Tree.{Tree, Trees, atom, node, none, more, count_trees}
 use Rattle.ap_instr.specs.declared.instruction.Slot.{Slot}
 use Rattle.ap_instr.specs.declared.instruction.Slot.TheVariants.{X, Y}
 use Rattle.ap_instr.specs.declared.instruction.Instr.TheVariants.{GetStructure, PutStructure, PutVariable, Call}
-use Rattle.ap_instr.specs.Step.{Step, get_variable, get_value, get_constant, get_structure, put_variable, put_value, put_constant, put_structure, unify_variable, unify_value, unify_constant, call, execute, builtin, proceed, frame, other}
+use Rattle.ap_instr.specs.Step.{Step, get_variable, get_value, get_constant, get_structure, put_variable, put_value, put_constant, put_structure, unify_variable, unify_value, unify_constant, call, execute, builtin, proceed}
 use Rattle.ap_instr.specs.Runs.{Runs, read, set_x, set_y, set, spread, applied, lost, IsOpen, AsksOpenly}
 use Rattle.ap_codecheck.specs.Shape.{Shape, is_set, write, passed, behind_argument, after}
 use Rattle.ap_codegen.specs.Paces.{Paces}
@@ -97,8 +97,7 @@ module _ (rest : List Step) where
   opens (get_value v a ∷ is) s f p x y = absurd (false≢true f)
   opens (get_constant t a ∷ is) s f p x y = absurd (false≢true f)
   opens (get_structure l n a ∷ is) s f p x y = absurd (false≢true f)
-  opens (frame ∷ is) s f p x y = absurd (false≢true f)
-  opens (other ∷ is) s f p x y = absurd (false≢true f)
+  opens (i ∷ is) s f p x y = absurd p
 
   is_open : (asked : Bool) (is : List Step) (s : Shape) → all_open (asked || true) is ≡ true → Paces is s → s.pending ≡ 0 → IsOpen (is ++ rest)
   is_open asked is s f p o x y = outside (is ++ rest) s x y o (opens is s (subst (λ b. all_open b is ≡ true) (or_true asked) f) p x y)
@@ -125,5 +124,4 @@ module _ (rest : List Step) where
       (is_open asked is s d p.2 p.1, asks_openly (asked || true) is s d p.2)
   asks_openly asked (execute g n ∷ is) s f p = tt
   asks_openly asked (proceed ∷ is) s f p = tt
-  asks_openly asked (frame ∷ is) s f p = absurd p
-  asks_openly asked (other ∷ is) s f p = absurd p
+  asks_openly asked (i ∷ is) s f p = absurd p

@@ -5,7 +5,7 @@ use Rattle.std.proofs.lemmas.Bool.Decides.{nat_tests}
 use Rattle.ap_instr.specs.declared.instruction.Slot.{Slot}
 use Rattle.ap_instr.specs.declared.instruction.Slot.TheVariants.{X, Y}
 use Rattle.ap_instr.specs.declared.instruction.Instr.TheVariants.{GetStructure, PutStructure, PutVariable, Call}
-use Rattle.ap_instr.specs.Step.{get_variable, get_value, get_constant, get_structure, put_variable, put_value, put_constant, put_structure, unify_variable, unify_value, unify_constant, call, execute, builtin, proceed, frame, other}
+use Rattle.ap_instr.specs.Step.{get_variable, get_value, get_constant, get_structure, put_variable, put_value, put_constant, put_structure, unify_variable, unify_value, unify_constant, call, execute, builtin, proceed}
 use Rattle.ap_instr.specs.Runs.{read, set_x, set_y, set}
 use Rattle.ap_codecheck.specs.Shape.{Shape, unset, is_set, write, with_target, passed, behind_argument, after}
 use Rattle.ap_codecheck.specs.Rules.{ArgumentsSet, IsRoomFor}
@@ -27,7 +27,7 @@ read_set s (Y n) = refl
 
 -- a register that is written is set
 abbrev set_in : Slot → Shape → Shape
-set_in v s = record { x = set_x v true s.x; y = set_y v true s.y; room = s.room; pending = s.pending; target = s.target }
+set_in v s = record { x = set_x v true s.x; y = set_y v true s.y; room = s.room; pending = s.pending; target = s.target; group = s.group }
 
 written : (v : Slot) (s : Shape) → set_in v s ≡ write v s
 written (X n) s = refl
@@ -282,5 +282,4 @@ module _ (room : Option ℕ) where
       (arguments_set k n s z d.0 h.sets p.0, h.pending ∙ p.1, relocated_paces cs k s z d.1 b h p.2)
   relocated_paces (kept (execute g n) u a ∷ cs) k s z f b h p = (arguments_set k n s z (both_true (all_same k n) true f).0 h.sets p.0, h.pending ∙ p.1, no_changes cs p.2)
   relocated_paces (kept proceed u a ∷ cs) k s z f b h p = (h.pending ∙ p.0, no_changes cs p.1)
-  relocated_paces (kept frame u a ∷ cs) k s z f b h p = absurd (false≢true f)
-  relocated_paces (kept other u a ∷ cs) k s z f b h p = absurd (false≢true f)
+  relocated_paces (kept i u a ∷ cs) k s z f b h p = absurd p

@@ -6,7 +6,7 @@ use Rattle.ap_term.specs.Tree.{Tree, Trees, node, none, more, count_trees}
 use Rattle.ap_instr.specs.declared.instruction.Slot.{Slot}
 use Rattle.ap_instr.specs.declared.instruction.Slot.TheVariants.{X, Y}
 use Rattle.ap_instr.specs.declared.instruction.Instr.TheVariants.{GetStructure, PutStructure, PutVariable, Call}
-use Rattle.ap_instr.specs.Step.{Step, get_variable, get_value, get_constant, get_structure, put_variable, put_value, put_constant, put_structure, unify_variable, unify_value, unify_constant, call, execute, builtin, proceed, frame, other}
+use Rattle.ap_instr.specs.Step.{Step, get_variable, get_value, get_constant, get_structure, put_variable, put_value, put_constant, put_structure, unify_variable, unify_value, unify_constant, call, execute, builtin, proceed}
 use Rattle.ap_instr.specs.Runs.{Runs, read, set_x, set_y, set, spread, applied, lost}
 use Rattle.ap_codecheck.specs.Shape.{Shape, write, passed, behind_argument, after}
 use Rattle.ap_codegen.specs.Paces.{Paces}
@@ -248,12 +248,11 @@ module _ (room : Option ℕ) where
       let q : (ds : Trees) → Alike rest cs none x y x' y' ds = λ ds. alike rest cs none k s x y x' y' ds d.1 p.2 c b h in
       (λ r. (r.0, r.1 ∙ ap (λ ts. more (applied g ts) r.0) e, (q r.0).0 r.2), λ r. (r.0, r.1 ∙ ap (λ ts. more (applied g ts) r.0) (sym e), (q r.0).1 r.2))
   alike rest (kept proceed u a ∷ cs) none k s x y x' y' bs f p c b h = (λ r. r, λ r. r)
-  alike rest (kept frame u a ∷ cs) none k s x y x' y' bs f p c b h = absurd (false≢true f)
-  alike rest (kept other u a ∷ cs) none k s x y x' y' bs f p c b h = (λ r. r, λ r. r)
   alike rest (dropped (get_variable v a) ∷ cs) none k s x y x' y' bs f p c b h =
       let n : ℕ = former k (X a) in
       alike rest cs none (set_former k v n) (write v s) (set_x v (x a) x) (set_y v (x a) y) x' y' bs f p.4 c (below_former k v n (b.formers (X a)) b) (held_former Tree Same k v (X a) n (x a) x y x' y' refl refl h)
   alike rest (dropped (put_value v a) ∷ cs) none k s x y x' y' bs f p c b h =
       let n : ℕ = former k v in
       alike rest cs none (set_former k (X a) n) (write (X a) s) (set x a (read v x y)) y x' y' bs f p.4 c (below_former k (X a) n (b.formers v) b) (held_former Tree Same k (X a) v n (read v x y) x y x' y' refl refl h)
+  alike rest (kept i u a ∷ cs) none k s x y x' y' bs f p c b h = absurd p
   alike rest (dropped i ∷ cs) none k s x y x' y' bs f p c b h = absurd (false≢true f)

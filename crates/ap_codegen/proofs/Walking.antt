@@ -1,5 +1,5 @@
 -- Steps with numbers of tables keep the rules of code.
-use Rattle.std.proofs.Common.{◌≡◌, ℕ, ◌<◌, nat_lt, ◌==◌, Bool, true, false, if◌then◌else◌, is_some, ℤ, List, [], ◌∷◌, ◌++◌, inl, inr, Option, Some, None, refl, ap, sym, ◌∙◌, subst, arith}
+use Rattle.std.proofs.Common.{◌≡◌, ℕ, ◌+◌, ◌<◌, nat_lt, ◌==◌, Bool, true, false, if◌then◌else◌, is_some, ℤ, List, [], ◌∷◌, ◌++◌, inl, inr, Option, Some, None, refl, ap, sym, ◌∙◌, subst, arith, length}
 use Rattle.std.specs.List.{AllZip, slice_get}
 use Rattle.std.proofs.lemmas.Bool.{false≢true}
 use Rattle.std.proofs.lemmas.Bool.Decides.{nat_tests}
@@ -9,14 +9,16 @@ use Rattle.ap_term.specs.Goals.{Clause}
 use Rattle.ap_instr.specs.declared.instruction.Slot.{Slot}
 use Rattle.ap_instr.specs.declared.instruction.Slot.TheVariants.{X, Y}
 use Rattle.ap_instr.specs.declared.instruction.Instr.{Instr}
-use Rattle.ap_instr.specs.declared.instruction.Instr.TheVariants.{GetVariable, GetValue, GetConstant, GetInteger, GetStructure, PutVariable, PutValue, PutConstant, PutInteger, PutStructure, UnifyVariable, UnifyValue, UnifyConstant, UnifyInteger, Allocate, Deallocate, Call, Execute, Proceed, Builtin, Jump, Fail, Try, Retry, Trust}
+use Rattle.ap_instr.specs.declared.instruction.Instr.TheVariants.{GetVariable, GetValue, GetConstant, GetInteger, GetStructure, PutVariable, PutValue, PutConstant, PutInteger, PutStructure, UnifyVariable, UnifyValue, UnifyConstant, UnifyInteger, Allocate, Deallocate, Call, Execute, Proceed, Builtin, Jump, Fail, Try, Retry, Trust, CheckGround, CheckIndep, AllocParcall, PushGoal, WaitAll}
 use Rattle.ap_instr.specs.declared.compiled.Predicate.{Predicate}
 use Rattle.ap_instr.specs.Code.{Compiled}
-use Rattle.ap_instr.specs.Step.{Step, get_constant, put_constant, unify_constant, call, execute, proceed, with_integer, with_predicate, step_of as said_by, steps_of as said}
-use Rattle.ap_instr.specs.Runs.{arguments}
+use Rattle.ap_instr.specs.Step.{Step, get_constant, put_constant, unify_constant, call, execute, proceed, push, with_integer, with_predicate, step_of as said_by, steps_of as said}
+use Rattle.ap_instr.specs.Steps.{steps_from}
+use Rattle.ap_instr.specs.Runs.{Reads, AsksOpenly, arguments}
+use Rattle.ap_instr.proofs.Steps.{span_law}
 use Rattle.ap_codecheck.specs.Shape.{Shape, entry, passed, after}
-use Rattle.ap_codecheck.specs.Rules.{ReadsSet, HasRoom, FitsEnvironment, IsInTurn, arity_in, ArgumentsSet, IsNumbered as IsFromOne}
-use Rattle.ap_codecheck.specs.Walk.{is_last, is_inner, Walks}
+use Rattle.ap_codecheck.specs.Rules.{ReadsSet, HasRoom, FitsEnvironment, IsInTurn, FitsGroup, GoesOn, arity_in, ArgumentsSet, IsNumbered as IsFromOne}
+use Rattle.ap_codecheck.specs.Walk.{is_inner, elsewhere, Walks}
 use Rattle.ap_codegen.specs.declared.steps.Step.{Step as Emitted}
 use Rattle.ap_codegen.specs.declared.steps.Step.TheVariants.{Allocate as EnterStep, Deallocate as LeaveStep}
 use Rattle.ap_codegen.specs.Emitted.{step_of, steps_of}
@@ -25,6 +27,8 @@ use Rattle.ap_codegen.specs.Framed.{leaving}
 use Rattle.ap_codegen.specs.Paces.{IsSlot, Paces, inside, ArePaced}
 use Rattle.ap_codegen.specs.CodeOf.{IsCodeOf}
 use Rattle.ap_codegen.specs.Assembled.{frame_of, IsSaid, IsAlone, AreAlone, AreInstructionsOf}
+use Rattle.ap_codegen.specs.Sequential.{sequential}
+use Rattle.ap_codegen.proofs.Straight.{Straight, no_jumps, straight_sequences, paced_straight}
 
 room_of : (v : Slot) (s : Shape) → IsSlot v s → HasRoom v s
 room_of (X n) s i = tt
@@ -42,6 +46,10 @@ turn_some s e = sym (go s.pending e)
   where
     go : (p : ℕ) → 0 < p → nat_lt 0 p ≡ true
     go p l = grind (arith, nat_tests)
+
+push_paces : (o : Option Predicate) (is : List Step) (s : Shape) → Paces (with_predicate o push ∷ is) s → ⊥
+push_paces None is s p = p
+push_paces (Some q) is s p = p
 
 -- an instruction within a clause
 record Inner (code : Compiled) (i : Instr) (is : List Step) (s : Shape) : Type 0 where
@@ -97,13 +105,18 @@ inner_walk code Fail is s e p = absurd p
 inner_walk code (Try l) is s e p = absurd p
 inner_walk code (Retry l) is s e p = absurd p
 inner_walk code (Trust l) is s e p = absurd p
+inner_walk code (CheckGround v l) is s e p = absurd p
+inner_walk code (CheckIndep v w l) is s e p = absurd p
+inner_walk code (AllocParcall n) is s e p = absurd p
+inner_walk code (PushGoal n q) is s e p = absurd (push_paces (slice_get code.predicates q) is s p)
+inner_walk code WaitAll is s e p = absurd p
 
 -- an instruction that ends a clause, where the environment was given back
 record Last (code : Compiled) (i : Instr) (is : List Step) (z : Shape) : Type 0 where
   reads : ReadsSet code i z
   fits : FitsEnvironment i z
   turn : IsInTurn i z
-  last : is_last i ≡ true
+  last : is_inner i ≡ false
   alone : is ≡ []
 
 last_walk : (code : Compiled) (i : Instr) (is : List Step) (s z : Shape) → ends (said_by code i) ≡ true → ((w : ℕ) → s.x w ≡ true → z.x w ≡ true) → z.pending ≡ s.pending → is_some z.room ≡ false → Paces (said_by code i ∷ is) s → Last code i is z
@@ -129,12 +142,33 @@ last_walk code (UnifyInteger j) is s z e x n r p = go (slice_get code.integers j
     go : (o : Option ℤ) → ends (with_integer o unify_constant) ≡ true → Paces (with_integer o unify_constant ∷ is) s → Last code (UnifyInteger j) is z
     go None e p = absurd p
     go (Some k) e p = absurd (false≢true e)
+last_walk code (PushGoal k q) is s z e x n r p = absurd (push_paces (slice_get code.predicates q) is s p)
 last_walk code (Call q) is s z e x n r p = go (slice_get code.predicates q) e p
   where
     go : (o : Option Predicate) → ends (with_predicate o call) ≡ true → Paces (with_predicate o call ∷ is) s → Last code (Call q) is z
     go None e p = absurd p
     go (Some k) e p = absurd (false≢true e)
 last_walk code _ is s z e x n r p = absurd (false≢true e)
+
+-- ---- an instruction outside of groups goes on behind it alone
+
+record Outside (i : Instr) (at : ℕ) (s : Shape) : Type 0 where
+  group : FitsGroup i s.group
+  on : GoesOn i at
+  alone : elsewhere i ≡ None
+
+outside_walk : (code : Compiled) (i : Instr) (at : ℕ) (is : List Step) (s z : Shape) → z.group ≡ None → Paces (said_by code i ∷ is) s → Outside i at z
+outside_walk code (Jump l) at is s z g p = absurd p
+outside_walk code Fail at is s z g p = absurd p
+outside_walk code (Try l) at is s z g p = absurd p
+outside_walk code (Retry l) at is s z g p = absurd p
+outside_walk code (Trust l) at is s z g p = absurd p
+outside_walk code (CheckGround v l) at is s z g p = absurd p
+outside_walk code (CheckIndep v w l) at is s z g p = absurd p
+outside_walk code (AllocParcall n) at is s z g p = absurd p
+outside_walk code (PushGoal n q) at is s z g p = absurd (push_paces (slice_get code.predicates q) is s p)
+outside_walk code WaitAll at is s z g p = absurd p
+outside_walk code i at is s z g p = record { group = subst (FitsGroup i) (sym g) tt; on = tt; alone = refl }
 
 -- ---- no instruction but one of an environment changes whether there is one
 
@@ -149,7 +183,22 @@ same_room code (UnifyConstant c) is s p = passed_room (s.pending == 1) s
 same_room code (UnifyInteger c) is s p = passed_room (s.pending == 1) s
 same_room code (Allocate n) is s p = absurd p
 same_room code Deallocate is s p = absurd p
+same_room code (PushGoal n q) is s p = absurd (push_paces (slice_get code.predicates q) is s p)
 same_room code _ is s p = refl
+
+passed_group : (b : Bool) (s : Shape) → (passed b s).group ≡ s.group
+passed_group true s = refl
+passed_group false s = refl
+
+same_group : (code : Compiled) (i : Instr) (is : List Step) (s : Shape) → Paces (said_by code i ∷ is) s → (after i s).group ≡ s.group
+same_group code (UnifyVariable v) is s p = passed_group (s.pending == 1) _
+same_group code (UnifyValue v) is s p = passed_group (s.pending == 1) s
+same_group code (UnifyConstant c) is s p = passed_group (s.pending == 1) s
+same_group code (UnifyInteger c) is s p = passed_group (s.pending == 1) s
+same_group code (AllocParcall n) is s p = absurd p
+same_group code (PushGoal n q) is s p = absurd (push_paces (slice_get code.predicates q) is s p)
+same_group code WaitAll is s p = absurd p
+same_group code _ is s p = refl
 
 -- ---- an instruction by itself
 
@@ -199,6 +248,11 @@ alone_walk code Fail is s p = absurd p
 alone_walk code (Try l) is s p = absurd p
 alone_walk code (Retry l) is s p = absurd p
 alone_walk code (Trust l) is s p = absurd p
+alone_walk code (CheckGround v l) is s p = absurd p
+alone_walk code (CheckIndep v w l) is s p = absurd p
+alone_walk code (AllocParcall n) is s p = absurd p
+alone_walk code (PushGoal n q) is s p = absurd (push_paces (slice_get code.predicates q) is s p)
+alone_walk code WaitAll is s p = absurd p
 
 -- ---- clauses with no environment
 
@@ -206,13 +260,22 @@ empty_said : (code : Compiled) (is : List Instr) → said code is ≡ [] → is 
 empty_said code [] e = refl
 empty_said code (i ∷ is) e = cc
 
-pub plain_walk : (code : Compiled) (is later : List Instr) (s : Shape) → s.room ≡ None → Paces (said code is) s → Walks code (is ++ later) s
-plain_walk code [] later s r p = absurd p
-plain_walk code (i ∷ is) later s r p = go (ends (said_by code i)) refl (λ q. plain_walk code is later (after i s) (same_room code i (said code is) s p ∙ r) q)
+-- an instruction that keeps the rules, and the walk behind it
+here : (code : Compiled) (i : Instr) (at : ℕ) (is : List Instr) (s : Shape) → ReadsSet code i s → FitsEnvironment i s → IsInTurn i s → Outside i at s → (is_inner i ≡ true → Walks code (at + 1) 0 is (after i s)) → Walks code at 0 (i ∷ is) s
+here code i at is s r f t o w = (record { reads = r; environment = f; turn = t; group = o.group; on = o.on }, w, λ l e. let n : elsewhere i ≡ None = o.alone in cc)
+
+pub plain_walk : (code : Compiled) (at : ℕ) (is later : List Instr) (s : Shape) → s.room ≡ None → s.group ≡ None → Paces (said code is) s → Walks code at 0 (is ++ later) s
+plain_walk code at [] later s r g p = absurd p
+plain_walk code at (i ∷ is) later s r g p =
+    go (ends (said_by code i)) refl (λ q. plain_walk code (at + 1) is later (after i s) (same_room code i (said code is) s p ∙ r) (same_group code i (said code is) s p ∙ g) q)
   where
-    go : (b : Bool) → ends (said_by code i) ≡ b → (Paces (said code is) (after i s) → Walks code (is ++ later) (after i s)) → Walks code (i ∷ (is ++ later)) s
-    go true e ih = let d = last_walk code i (said code is) s s e (λ w h. h) refl (ap is_some r) p in (d.reads, d.fits, d.turn, inl d.last)
-    go false e ih = let d = inner_walk code i (said code is) s e p in (d.reads, d.fits, d.turn, inr (d.inner, ih d.next))
+    go : (b : Bool) → ends (said_by code i) ≡ b → (Paces (said code is) (after i s) → Walks code (at + 1) 0 (is ++ later) (after i s)) → Walks code at 0 (i ∷ (is ++ later)) s
+    go true e ih =
+        let d = last_walk code i (said code is) s s e (λ w h. h) refl (ap is_some r) p in
+        here code i at (is ++ later) s d.reads d.fits d.turn (outside_walk code i at (said code is) s s g p) (λ h. absurd (false≢true (sym d.last ∙ h)))
+    go false e ih =
+        let d = inner_walk code i (said code is) s e p in
+        here code i at (is ++ later) s d.reads d.fits d.turn (outside_walk code i at (said code is) s s g p) (λ h. ih d.next)
 
 pub plain_alone : (code : Compiled) (is : List Instr) (s : Shape) → Paces (said code is) s → AreAlone code is
 plain_alone code [] s p = tt
@@ -220,7 +283,7 @@ plain_alone code (i ∷ is) s p = (alone_walk code i (said code is) s p, go (end
   where
     go : (b : Bool) → ends (said_by code i) ≡ b → (Paces (said code is) (after i s) → AreAlone code is) → AreAlone code is
     go true e ih =
-        let d = last_walk code i (said code is) s (record { x = s.x; y = s.y; room = None; pending = s.pending; target = s.target }) e (λ w h. h) refl refl p in
+        let d = last_walk code i (said code is) s (record { x = s.x; y = s.y; room = None; pending = s.pending; target = s.target; group = s.group }) e (λ w h. h) refl refl p in
         subst (AreAlone code) (sym (empty_said code is d.alone)) tt
     go false e ih = ih (inner_walk code i (said code is) s e p).next
 
@@ -238,19 +301,19 @@ none_left code (f ∷ fs) is h e = cc
 
 -- the walk and what each instruction keeps by itself
 abbrev pub Goes : Compiled → List Instr → Shape → Type 0
-Goes code is s = ((later : List Instr) → Walks code (is ++ later) s) × AreAlone code is
+Goes code is s = ((at : ℕ) (later : List Instr) → Walks code at 0 (is ++ later) s) × AreAlone code is
 
 turn_end : (t : Step) (ts : List Step) (s : Shape) → ends t ≡ true → Paces (t ∷ ts) s → false ≡ nat_lt 0 s.pending
 turn_end (execute q k) ts s e p = turn_none s p.1
 turn_end proceed ts s e p = turn_none s p.0
 turn_end _ ts s e p = absurd (false≢true e)
 
-pub left_walk : (code : Compiled) (n : ℕ) (fs : List Emitted) (is : List Instr) (s : Shape) → AllZip (IsSaid code) (leaving fs) is → s.room ≡ Some n → Paces (steps_of fs) s → Goes code is s
-left_walk code n [] is s h r p = absurd p
-left_walk code n (f ∷ fs) is s h r p = go (ends (step_of f)) refl is h (λ js z k q d. left_walk code n fs js z k q d)
+pub left_walk : (code : Compiled) (n : ℕ) (fs : List Emitted) (is : List Instr) (s : Shape) → AllZip (IsSaid code) (leaving fs) is → s.room ≡ Some n → s.group ≡ None → Paces (steps_of fs) s → Goes code is s
+left_walk code n [] is s h r g p = absurd p
+left_walk code n (f ∷ fs) is s h r g p = go (ends (step_of f)) refl is h (λ js z k q e d. left_walk code n fs js z k q e d)
   where
     go : (b : Bool) → ends (step_of f) ≡ b → (is : List Instr) → AllZip (IsSaid code) (if b then LeaveStep ∷ f ∷ leaving fs else f ∷ leaving fs) is
-        → ((js : List Instr) (z : Shape) → AllZip (IsSaid code) (leaving fs) js → z.room ≡ Some n → Paces (steps_of fs) z → Goes code js z) → Goes code is s
+        → ((js : List Instr) (z : Shape) → AllZip (IsSaid code) (leaving fs) js → z.room ≡ Some n → z.group ≡ None → Paces (steps_of fs) z → Goes code js z) → Goes code is s
     go true e [] h ih = absurd h
     go true e (j ∷ []) h ih = absurd h.1
     go true e (j ∷ i ∷ is) h ih =
@@ -260,15 +323,17 @@ left_walk code n (f ∷ fs) is s h r p = go (ends (step_of f)) refl is h (λ js 
         let none : is ≡ [] = none_left code fs is h.1.1 d.alone in
         let turn : false ≡ nat_lt 0 s.pending = turn_end (step_of f) (steps_of fs) s e p in
         subst (λ j. Goes code (j ∷ i ∷ is) s) (sym out) (
-          λ later. (tt, ap is_some r, turn, inr (refl, (d.reads, d.fits, d.turn, inl d.last))),
+          λ at later.
+              here code Deallocate at (i ∷ (is ++ later)) s tt (ap is_some r) turn (record { group = subst (FitsGroup Deallocate) (sym g) tt; on = tt; alone = refl }) (λ q1.
+              here code i (at + 1) (is ++ later) (after Deallocate s) d.reads d.fits d.turn (outside_walk code i (at + 1) (steps_of fs) s (after Deallocate s) g q) (λ h. absurd (false≢true (sym d.last ∙ h)))),
           ((tt, tt, λ q. tt), (alone_walk code i (steps_of fs) s q, subst (AreAlone code) (sym none) tt)),
         )
     go false e [] h ih = absurd h
     go false e (i ∷ is) h ih =
         let q : Paces (said_by code i ∷ steps_of fs) s = subst (λ t. Paces (t ∷ steps_of fs) s) (sym h.0.says) p in
         let d = inner_walk code i (steps_of fs) s (ap ends h.0.says ∙ e) q in
-        let k = ih is (after i s) h.1 (same_room code i (steps_of fs) s q ∙ r) d.next in
-        (λ later. (d.reads, d.fits, d.turn, inr (d.inner, k.0 later)), (alone_walk code i (steps_of fs) s q, k.1))
+        let k = ih is (after i s) h.1 (same_room code i (steps_of fs) s q ∙ r) (same_group code i (steps_of fs) s q ∙ g) d.next in
+        (λ at later. here code i at (is ++ later) s d.reads d.fits d.turn (outside_walk code i at (steps_of fs) s s g q) (λ q1. k.0 (at + 1) later), (alone_walk code i (steps_of fs) s q, k.1))
 
 -- ---- the instructions of a clause
 
@@ -281,7 +346,7 @@ zip_said code (e ∷ es) (i ∷ is) h = ap (λ t. t ∷ said code is) h.0.says �
 goes : (code : Compiled) (arity : ℕ) (es : List Emitted) (is : List Instr) → AllZip (IsSaid code) es is → ArePaced arity es → Goes code is (entry arity)
 goes code arity es is h (inl p) =
     let q : Paces (said code is) (entry arity) = subst (λ ts. Paces ts (entry arity)) (sym (zip_said code es is h)) p in
-    (λ later. plain_walk code is later (entry arity) refl q, plain_alone code is (entry arity) q)
+    (λ at later. plain_walk code at is later (entry arity) refl refl q, plain_alone code is (entry arity) q)
 goes code arity es is h (inr (vars, fs, e, p)) = inside_goes is (subst (λ es. AllZip (IsSaid code) es is) e h)
   where
     enters : (i : Instr) → frame_of i ≡ Some (Some vars) → i ≡ Allocate vars
@@ -292,10 +357,19 @@ goes code arity es is h (inr (vars, fs, e, p)) = inside_goes is (subst (λ es. A
     inside_goes : (is : List Instr) → AllZip (IsSaid code) (EnterStep vars ∷ leaving fs) is → Goes code is (entry arity)
     inside_goes [] h = absurd h
     inside_goes (i ∷ is) h =
-        let k = left_walk code vars fs is (inside vars arity) h.1 refl p in
-        subst (λ i. Goes code (i ∷ is) (entry arity)) (sym (enters i h.0.frame)) (λ later. (tt, refl, refl, inr (refl, k.0 later)), ((tt, tt, λ q. tt), k.1))
+        let k = left_walk code vars fs is (inside vars arity) h.1 refl refl p in
+        subst (λ i. Goes code (i ∷ is) (entry arity)) (sym (enters i h.0.frame)) (λ at later. here code (Allocate vars) at (is ++ later) (entry arity) tt refl refl (record { group = tt; on = tt; alone = refl }) (λ q1. k.0 (at + 1) later), ((tt, tt, λ q. tt), k.1))
 
-pub clause_instructions : (code : Compiled) (c : Clause) (es : List Emitted) (is : List Instr) → AllZip (IsSaid code) es is → IsCodeOf c (steps_of es) → ArePaced (count_trees (arguments c.head)) es → AreInstructionsOf code c is
-clause_instructions code c es is h k p =
-    let g = goes code (count_trees (arguments c.head)) es is h p in
-    record { says = subst (IsCodeOf c) (sym (zip_said code es is h)) k; walks = g.0; alone = g.1 }
+pub clause_instructions : (code : Compiled) (c : Clause) (es : List Emitted) (is : List Instr) → AllZip (IsSaid code) es is → IsCodeOf (sequential c) (steps_of es) → ArePaced (count_trees (arguments c.head)) es → AreInstructionsOf code c is
+clause_instructions code c es is h k p = record {
+  reads = λ at later d.
+      let rest : List Step = steps_from code (at + length is) in
+      let f : steps_from code at ≡ steps_of es ++ rest = span_law code at is later d (no_jumps code is straight) ∙ ap (λ ts. ts ++ rest) (zip_said code es is h) in
+      record { reads = subst (λ q. Reads q (sequential c)) (sym f) (k.reads rest); openly = subst AsksOpenly (sym f) (k.openly rest) };
+  sequences = λ at later d. straight_sequences code at is straight;
+  walks = (goes code (count_trees (arguments c.head)) es is h p).0;
+  alone = (goes code (count_trees (arguments c.head)) es is h p).1;
+}
+  where
+    straight : Straight (said code is)
+    straight = subst Straight (sym (zip_said code es is h)) (paced_straight (count_trees (arguments c.head)) es p)

@@ -1,5 +1,5 @@
 -- Code as it is put together: what its tables hold so far, and what it says wherever they hold that.
-use Rattle.std.specs.Prelude.{◌≡◌, ℕ, ◌+◌, Bool, false, ◌&&◌, ◌==◌, if◌then◌else◌, ℤ, List, [], ◌∷◌, ◌++◌, length, slice_get, Option, Some, None}
+use Rattle.std.specs.Prelude.{◌≡◌, ℕ, ◌+◌, Bool, false, ◌==◌, if◌then◌else◌, ℤ, List, [], ◌∷◌, ◌++◌, length, drop, slice_get, Option, Some, None}
 use Rattle.std.specs.List.{AllZip, filter, flat_map}
 use Rattle.ap_term.specs.Tree.{Tree, atom, node, count_trees}
 use Rattle.ap_term.specs.Goals.{Clause, Program}
@@ -7,7 +7,9 @@ use Rattle.ap_instr.specs.declared.instruction.Instr.{Instr}
 use Rattle.ap_instr.specs.declared.instruction.Instr.TheVariants.{Allocate, Deallocate, Fail, Try, Retry, Trust}
 use Rattle.ap_instr.specs.declared.compiled.Predicate.{Predicate}
 use Rattle.ap_instr.specs.Code.{Compiled}
-use Rattle.ap_instr.specs.Step.{step_of as said_by, steps_of as said}
+use Rattle.ap_instr.specs.Step.{step_of as said_by}
+use Rattle.ap_instr.specs.Groups.{otherwise, AsksUnmarked}
+use Rattle.ap_instr.specs.Table.{is_key, AreTiled, IsWhole}
 use Rattle.ap_instr.specs.Runs.{arguments}
 use Rattle.ap_codecheck.specs.Shape.{entry}
 use Rattle.ap_codecheck.specs.Walk.{Walks, IsLaid}
@@ -17,7 +19,7 @@ use Rattle.ap_codegen.specs.declared.steps.Step.TheVariants.{Allocate as EnterSt
 use Rattle.ap_codegen.specs.Emitted.{step_of}
 use Rattle.ap_instr.specs.StandsFor.{ReadsAt, clause_places, clauses_of, StandsFor}
 use Rattle.ap_codegen.specs.Permanent.{is_builtin_key}
-use Rattle.ap_codegen.specs.CodeOf.{IsCodeOf}
+use Rattle.ap_codegen.specs.Sequential.{sequential, sequential_program}
 
 -- the integers, and the names and arities of predicates, each at its number
 pub record Numbered : Type 0 where
@@ -65,10 +67,21 @@ abbrev pub AreAlone : Compiled → List Instr → Type 0
 AreAlone code [] = Unit {0}
 AreAlone code (i ∷ is) = IsAlone code i × AreAlone code is
 
--- the instructions are a clause's code, and keep the rules of code from the clause's first one on
+-- each check among instructions that stand from a place on leads to its group as a sequence
+abbrev pub AreSequences : Compiled → ℕ → List Instr → Type 0
+AreSequences code at [] = Unit {0}
+AreSequences code at (i ∷ is) = ((l : ℕ) → otherwise i ≡ Some l → AsksUnmarked code (at + 1) l) × AreSequences code (at + 1) is
+
+-- the code at a place reads as the clause, a group of which is its goals one after another
+abbrev pub ReadsInTurn : Compiled → ℕ → Clause → Type 0
+ReadsInTurn code at c = ReadsAt code at (sequential c)
+
+-- Wherever the instructions stand they read as the clause, and each check leads to its group as a sequence; and they keep the
+-- rules of code from the clause's first one on.
 pub record AreInstructionsOf (code : Compiled) (c : Clause) (is : List Instr) : Type 0 where
-  pub says : IsCodeOf c (said code is)
-  pub walks : (later : List Instr) → Walks code (is ++ later) (entry (count_trees (arguments c.head)))
+  pub reads : (at : ℕ) (later : List Instr) → drop at code.instructions ≡ is ++ later → ReadsInTurn code at c
+  pub sequences : (at : ℕ) (later : List Instr) → drop at code.instructions ≡ is ++ later → AreSequences code at is
+  pub walks : (at : ℕ) (later : List Instr) → Walks code at 0 (is ++ later) (entry (count_trees (arguments c.head)))
   pub alone : AreAlone code is
 
 -- each is its clause's code
@@ -99,9 +112,6 @@ chosen n = if 1 == n then 0 else n
 abbrev pub together : List (List Instr) → List Instr
 together bs = flat_map (λ is. is) bs
 
-abbrev pub is_key : ℕ × ℕ → ℕ × ℕ → Bool
-is_key k l = (k.0 == l.0) && (k.1 == l.1)
-
 -- whether a head is of this name and arity
 abbrev pub heads : ℕ × ℕ → Tree → Bool
 heads k (atom a) = is_key (a, 0) k
@@ -117,16 +127,20 @@ pub record IsMade (t : Numbered) (is : List Instr) (qs : List Predicate) (p : Pr
   pub named : (n : ℕ) (q : Predicate) → slice_get qs n ≡ Some q → slice_get t.predicates n ≡ Some (q.name, q.arity)
   pub apart : (n : ℕ) (q : Predicate) → slice_get qs n ≡ Some q → is_builtin_key (q.name, q.arity) ≡ false
   pub placed : (code : Compiled) (later : List Instr) → Holds t code → code.instructions ≡ is ++ later
-      → (n : ℕ) (q : Predicate) → slice_get qs n ≡ Some q → AllZip (ReadsAt code) (clause_places code q) (clauses_of q p)
+      → (n : ℕ) (q : Predicate) → slice_get qs n ≡ Some q → AllZip (ReadsInTurn code) (clause_places code q) (clauses_of q p)
+  pub tiled : AreTiled 0 qs (length is)
+  pub sequences : (code : Compiled) (later : List Instr) → Holds t code → code.instructions ≡ is ++ later → AreSequences code 0 is
   pub laid : (code : Compiled) (later : List Instr) → Holds t code → code.instructions ≡ is ++ later → (n : ℕ) (q : Predicate) → slice_get qs n ≡ Some q → IsLaid code q
 
--- sound code for a program, with the query's predicate in its table
-pub record StandsBeside (code : Compiled) (k : ℕ × ℕ) (p : Program) : Type 0 where
+-- sound code for clauses, groups of which are their goals one after another, with the query's predicate in its table, which
+-- lists those of some of them
+pub record StandsBeside (code : Compiled) (k : ℕ × ℕ) (own p : Program) : Type 0 where
   pub number : ℕ
   pub predicate : Predicate
   pub is_query : code.query ≡ Some number
   pub held : slice_get code.predicates number ≡ Some predicate
   pub named : predicate.name ≡ k.0
   pub arity : predicate.arity ≡ k.1
-  pub stands : StandsFor code p
+  pub stands : StandsFor code (sequential_program p)
+  pub whole : IsWhole code (sequential_program own) (sequential_program p)
   pub sound : IsSound code

@@ -4,7 +4,8 @@ use Rattle.std.specs.Borrow.{Bor}
 use Rattle.std.proofs.Common.{Vec, Global}
 use Rattle.indexmap.specs.IndexMap.{IndexMap, get}
 use Rattle.ap_term.specs.Goals.{Clause, Program}
-use Rattle.ap_codegen.specs.Assembled.{is_key, clauses_for}
+use Rattle.ap_instr.specs.Table.{is_key}
+use Rattle.ap_codegen.specs.Assembled.{clauses_for}
 
 abbrev pub listed : Option (Vec (Bor Clause) Global) → Program
 listed None = []

@@ -3,6 +3,8 @@ pub mod Permanent
 pub mod Waiting
 pub mod Assembled
 pub mod Temporary
+pub mod Sequential
+pub mod Heads
 pub mod CodeOf
 pub mod Framed
 pub mod Relocated

@@ -3,7 +3,7 @@ use Rattle.std.specs.Prelude.{◌≡◌, ℕ, ◌<◌, true, is_some, List, [], 
 use Rattle.ap_instr.specs.declared.instruction.Slot.{Slot}
 use Rattle.ap_instr.specs.declared.instruction.Slot.TheVariants.{X, Y}
 use Rattle.ap_instr.specs.declared.instruction.Instr.TheVariants.{GetStructure, PutVariable, PutStructure, Call}
-use Rattle.ap_instr.specs.Step.{Step, get_variable, get_value, get_constant, get_structure, put_variable, put_value, put_constant, put_structure, unify_variable, unify_value, unify_constant, call, execute, builtin, proceed, frame, other}
+use Rattle.ap_instr.specs.Step.{Step, get_variable, get_value, get_constant, get_structure, put_variable, put_value, put_constant, put_structure, unify_variable, unify_value, unify_constant, call, execute, builtin, proceed}
 use Rattle.ap_codecheck.specs.Shape.{Shape, entry, unset, write, behind_argument, after}
 use Rattle.ap_codecheck.specs.Rules.{IsSet, ArgumentsSet, IsRoomFor}
 use Rattle.ap_codegen.specs.declared.steps.Step.{Step as Emitted}
@@ -33,12 +33,11 @@ Paces (call p n ∷ is) s = ArgumentsSet n s × (is_some s.room ≡ true) × (s.
 Paces (builtin p n ∷ is) s = ArgumentsSet n s × (s.pending ≡ 0) × Paces is s
 Paces (execute p n ∷ is) s = ArgumentsSet n s × (s.pending ≡ 0) × (is ≡ [])
 Paces (proceed ∷ is) s = (s.pending ≡ 0) × (is ≡ [])
-Paces (frame ∷ is) s = ⊥
-Paces (other ∷ is) s = ⊥
+Paces (i ∷ is) s = ⊥
 
 -- where a clause begins, inside an environment for so many variables
 abbrev pub inside : ℕ → ℕ → Shape
-inside vars arity = record { x = (entry arity).x; y = unset; room = Some vars; pending = 0; target = None }
+inside vars arity = record { x = (entry arity).x; y = unset; room = Some vars; pending = 0; target = None; group = None }
 
 -- the steps of a clause with so many arguments, with no environment or inside one
 abbrev pub ArePaced : ℕ → List Emitted → Type 0

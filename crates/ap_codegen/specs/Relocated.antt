@@ -3,7 +3,7 @@
 use Rattle.std.specs.Prelude.{ℕ, zero, suc, ◌+◌, nat_le, Bool, true, false, ◌&&◌, ◌||◌, ◌==◌, not, ◌≡◌, ◌<◌, ◌≤◌, List, [], ◌∷◌, slice_index, Option, Some, None, is_some}
 use Rattle.ap_instr.specs.declared.instruction.Slot.{Slot}
 use Rattle.ap_instr.specs.declared.instruction.Slot.TheVariants.{X, Y}
-use Rattle.ap_instr.specs.Step.{Step, get_variable, get_value, get_constant, get_structure, put_variable, put_value, put_constant, put_structure, unify_variable, unify_value, unify_constant, call, execute, builtin, proceed, frame, other}
+use Rattle.ap_instr.specs.Step.{Step, get_variable, get_value, get_constant, get_structure, put_variable, put_value, put_constant, put_structure, unify_variable, unify_value, unify_constant, call, execute, builtin, proceed, frame, jump, check_ground, check_indep, group, push, wait, other}
 use Rattle.ap_instr.specs.Runs.{read, set_x, set_y}
 use Rattle.ap_codecheck.specs.Shape.{Shape, entry, unset}
 use Rattle.ap_codegen.specs.declared.steps.Step.{Step as Emitted}
@@ -148,8 +148,7 @@ is_kept room k (call p n) u b = is_some room && all_same k n
 is_kept room k (execute p n) u b = all_same k n
 is_kept room k (builtin p n) u b = all_same k n
 is_kept room k proceed u b = true
-is_kept room k frame u b = false
-is_kept room k other u b = false
+is_kept room k s u b = false
 
 abbrev pub accepts : Option ℕ → Known → Change → Bool
 accepts room k (kept s u b) = is_kept room k s u b
@@ -193,6 +192,12 @@ tests_nothing (get_value v a) = false
 tests_nothing (get_constant c a) = false
 tests_nothing (get_structure f n a) = false
 tests_nothing frame = false
+tests_nothing jump = false
+tests_nothing (check_ground v) = false
+tests_nothing (check_indep v w) = false
+tests_nothing (group n) = false
+tests_nothing (push p n) = false
+tests_nothing wait = false
 tests_nothing other = false
 tests_nothing _ = true
 
@@ -203,4 +208,4 @@ all_open asked (s ∷ is) = (not asked || tests_nothing s) && (ends s || all_ope
 
 -- where a clause begins, inside of an environment or outside
 abbrev pub within : Option ℕ → ℕ → Shape
-within room arity = record { x = (entry arity).x; y = unset; room = room; pending = 0; target = None }
+within room arity = record { x = (entry arity).x; y = unset; room = room; pending = 0; target = None; group = None }

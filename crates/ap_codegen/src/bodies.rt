@@ -8,6 +8,7 @@ ghost use Rattle.ap_term.specs.Goals.{plain_goals};
 ghost use Rattle.ap_instr.specs.Step.{execute};
 ghost use Rattle.ap_instr.specs.Runs.{arguments};
 ghost use Rattle.ap_codegen.specs.CodeOf.{IsCodeOf};
+ghost use Rattle.ap_codegen.specs.Sequential.{sequential};
 ghost use Rattle.ap_codegen.specs.Paces.{Paces, inside};
 ghost use Rattle.ap_codegen.specs.Emitted.{steps_of};
 ghost use Rattle.ap_codegen.specs.Permanent.{name, is_builtin, goal_code, asking, body_code, gets};
@@ -107,7 +108,7 @@ fn head(alloc: Global, code: &mut Vec<Step>, t: &Term, seen: &mut Vec<u64>) -> R
 
 /// The code of a clause but for its environment.
 pub fn permanent_code(alloc: Global, clause: &Clause) -> Result<Vec<Step>, NoMemory>
-    ensures code { IfOk result (λ code. IsCodeOf clause.now (steps_of code.items)) }
+    ensures code { IfOk result (λ code. IsCodeOf (sequential clause.now) (steps_of code.items)) }
     ensures paced { IfOk result (λ code. Paces (steps_of code.items) (inside clause.now.vars (count_trees (arguments clause.now.head)))) }
 {
     let goals = goals_of(alloc, clause.body())?;

@@ -1,7 +1,8 @@
 //! The clauses of each predicate, found by its name and arity.
 
 ghost use Rattle.std.specs.Prelude.{◌≡◌, ℕ, [], ◌∷◌, ◌++◌, if◌then◌else◌, map, IfOk, OnOk};
-ghost use Rattle.ap_codegen.specs.Assembled.{is_key, heads};
+ghost use Rattle.ap_instr.specs.Table.{is_key};
+ghost use Rattle.ap_codegen.specs.Assembled.{heads};
 ghost use Rattle.ap_codegen.specs.Index.{clauses_at, Indexes};
 
 use crate::permanent::count;

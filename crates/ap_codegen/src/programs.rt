@@ -1,14 +1,18 @@
 //! Code for a whole program beside a query.
 
-ghost use Rattle.std.specs.Prelude.{◌≡◌, ◌+◌, false, map, length, slice_get, Some, None, IfOk, OnOk};
+ghost use Rattle.std.specs.Prelude.{◌≡◌, ℕ, ◌+◌, nat_lt, false, if◌then◌else◌, map, length, take, slice_get, Some, None, IfOk, OnOk};
+ghost use Rattle.std.specs.List.{filter, IsDistinct};
 ghost use Rattle.ap_term.specs.declared.fixed.TheConstants.{QUERY};
 ghost use Rattle.ap_term.specs.Goals.{Program as Clauses};
 ghost use Rattle.ap_instr.specs.Code.{Compiled};
 ghost use Rattle.ap_instr.specs.StandsFor.{StandsForQuery};
+ghost use Rattle.ap_instr.specs.Table.{is_key, head_key};
 ghost use Rattle.ap_codecheck.specs.Rules.{IsSound};
 ghost use Rattle.ap_codegen.specs.Assembled.{Grows, Holds, AreInstructionsOf, AreCoded, IsMade, StandsBeside};
 ghost use Rattle.ap_codegen.specs.Index.{clauses_at, Indexes};
 ghost use Rattle.ap_codegen.specs.Permanent.{is_builtin_key};
+ghost use Rattle.ap_codegen.specs.Heads.{with_key, with_heads};
+ghost use Rattle.ap_codegen.specs.Sequential.{sequential_program, sequential_query};
 
 use crate::asking::asked_program;
 use crate::assembly::assemble;
@@ -85,6 +89,7 @@ fn add_predicate(
     requires { is_builtin_key (name, arity) ≡ false }
     ensures grows { OnOk result (Grows tables.old tables.new) }
     ensures count { OnOk result (length made.new.predicates.items ≡ length made.old.predicates.items + 1) }
+    ensures listed { OnOk result ((m : ℕ) → is_listed ≡ nat_lt (length made.old.predicates.items) m → filter (λ q. q.is_listed) made.old.predicates.items ≡ take m made.old.predicates.items → filter (λ q. q.is_listed) made.new.predicates.items ≡ take m made.new.predicates.items) }
     ensures made { OnOk result ((p : Clauses) → Indexes index.now p → slice_get tables.old.predicates (length made.old.predicates.items) ≡ Some (name, arity) → IsMade tables.old made.old.instructions.items made.old.predicates.items p → IsMade tables.new made.new.instructions.items made.new.predicates.items p) }
 {
     let start = above(0, made.instructions.len())?;
@@ -102,24 +107,38 @@ fn add_predicate(
 }
 
 /// A number for the predicate of this name and arity, unless it is that of built-in goals, which no clause answers.
-fn add_head(tables: &mut Tables, name: Atom, arity: u8) -> Result<(), NoMemory> {
+fn add_head(tables: &mut Tables, name: Atom, arity: u8) -> Result<(), NoMemory>
+    ensures keys { OnOk result (tables.new.predicates ≡ with_key tables.old.predicates (if is_builtin_key (name, arity) then None else Some (name, arity))) }
+    ensures grows { OnOk result (Grows tables.old tables.new) }
+{
     if is_apart(name, arity) {
         tables.predicate(name, arity)?;
     }
     Ok(())
 }
 
-/// Numbers for the predicates of clauses, in order.
-fn add_heads(tables: &mut Tables, clauses: &[Clause]) -> Result<(), NoMemory> {
-    for clause in clauses {
-        match clause.head() {
-            Term::Var(_) | Term::Int(_) => {}
-            Term::Atom(a) => add_head(tables, *a, 0)?,
-            Term::Node(a, args) => {
-                let arity = count(args)?;
-                add_head(tables, *a, arity)?;
-            }
+/// A number for the predicate of a clause.
+fn add_clause_head(tables: &mut Tables, clause: &Clause) -> Result<(), NoMemory>
+    ensures keys { OnOk result (tables.new.predicates ≡ with_key tables.old.predicates (head_key clause.now.head)) }
+    ensures grows { OnOk result (Grows tables.old tables.new) }
+{
+    match clause.head() {
+        Term::Var(_) | Term::Int(_) => Ok(()),
+        Term::Atom(a) => add_head(tables, *a, 0),
+        Term::Node(a, args) => {
+            let arity = count(args)?;
+            add_head(tables, *a, arity)
         }
+    }
+}
+
+/// Numbers for the predicates of clauses, in order.
+fn add_heads(tables: &mut Tables, clauses: &[Clause]) -> Result<(), NoMemory>
+    ensures keys { OnOk result (tables.new.predicates ≡ with_heads tables.old.predicates clauses.now) }
+    ensures grows { OnOk result (Grows tables.old tables.new) }
+{
+    for clause in clauses {
+        add_clause_head(tables, clause)?;
     }
     Ok(())
 }
@@ -133,6 +152,8 @@ fn predicates(
 ) -> Result<Made, NoMemory>
     ensures grows { OnOk result (Grows tables.old tables.new) }
     ensures all { IfOk result (λ made. slice_get tables.new.predicates (length made.predicates.items) ≡ None) }
+    ensures once { IfOk result (λ made. IsDistinct is_key tables.new.predicates) }
+    ensures listed { IfOk result (λ made. filter (λ q. q.is_listed) made.predicates.items ≡ take listed made.predicates.items) }
     ensures made { IfOk result (λ made. (p : Clauses) → Indexes index.now p → IsMade tables.new made.instructions.items made.predicates.items p) }
 {
     let mut made = Made {
@@ -156,7 +177,7 @@ fn compile_clauses(
     own: &[Clause],
     arity: u8,
 ) -> Result<Code, NoMemory>
-    ensures { IfOk result (λ code. StandsBeside code (QUERY, arity) clauses.now) }
+    ensures { IfOk result (λ code. StandsBeside code (QUERY, arity) own.now clauses.now) }
 {
     let mut tables = Tables::new(alloc);
     add_heads(&mut tables, own)?;
@@ -177,7 +198,7 @@ fn compile_clauses(
 /// Warren's (An Abstract Prolog Instruction Set, 1983). A group is compiled as its goals one after another. A structure of more
 /// than 255 arguments, and more than 4,294,967,295 places or registers, are want of memory.
 pub fn compile(alloc: Global, program: &Program, query: &Query) -> Result<Code, NoMemory>
-    ensures stands { IfOk result (λ code. StandsForQuery code program.now query.now) }
+    ensures stands { IfOk result (λ code. StandsForQuery code (sequential_program program.now) (sequential_query query.now)) }
     ensures sound { IfOk result (λ code. IsSound code) }
 {
     let own = program.as_slice();

@@ -1,6 +1,8 @@
 //! The numbers of integers and predicates, and instructions that have them.
 
 ghost use Rattle.std.specs.Prelude.{◌≡◌, false, [], length, slice_get, Some, IfOk, IfSome};
+ghost use Rattle.std.specs.List.{IsDistinct};
+ghost use Rattle.ap_instr.specs.Table.{is_key};
 
 use ap_term::{Atom, NoMemory};
 use indexmap::IndexSet;
@@ -29,6 +31,7 @@ impl Model for Tables {
 impl Tables {
     ghost use Rattle.ap_codegen.specs.Assembled.{Grows};
     ghost use Rattle.ap_codegen.specs.Permanent.{is_builtin_key};
+    ghost use Rattle.ap_codegen.specs.Heads.{with_key};
 
     pub fn new(alloc: Global) -> Tables
         ensures { result ≡ record { integers = []; predicates = [] } }
@@ -55,6 +58,7 @@ impl Tables {
     pub fn predicate(&mut self, name: Atom, arity: u8) -> Result<u32, NoMemory>
         requires { is_builtin_key (name, arity) ≡ false }
         ensures number { IfOk result (λ i. slice_get self.new.predicates i ≡ Some (name, arity)) }
+        ensures keys { IfOk result (λ _. self.new.predicates ≡ with_key self.old.predicates (Some (name, arity))) }
         ensures grows { IfOk result (λ _. Grows self.old self.new) }
     {
         let (i, _) = self.predicates.insert_full((name.number(), arity))?;
@@ -68,8 +72,9 @@ impl Tables {
     pub fn predicate_at(&self, number: usize) -> Option<(u32, u8)>
         ensures same { result ≡ slice_get self.now.predicates number }
         ensures apart { IfSome result (λ k. is_builtin_key k ≡ false) }
+        ensures once { IsDistinct is_key self.now.predicates }
     {
-        match self.predicates.get_index(number) {
+        match self.predicates.as_slice().get(number) {
             Some(key) => Some(*key),
             None => None,
         }

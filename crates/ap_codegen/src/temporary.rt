@@ -7,6 +7,7 @@ ghost use Rattle.ap_instr.specs.Runs.{arguments};
 ghost use Rattle.ap_codegen.specs.Emitted.{step_of, steps_of};
 ghost use Rattle.ap_codegen.specs.Temporary.{ends};
 ghost use Rattle.ap_codegen.specs.CodeOf.{IsCodeOf};
+ghost use Rattle.ap_codegen.specs.Sequential.{sequential};
 ghost use Rattle.ap_codegen.specs.Framed.{leaving};
 ghost use Rattle.ap_codegen.specs.Paces.{Paces, ArePaced, inside};
 
@@ -123,7 +124,7 @@ fn relocated(alloc: Global, steps: &[Step]) -> Result<Option<Vec<Step>>, NoMemor
 
 /// The code of a clause.
 pub fn clause_steps(alloc: Global, clause: &Clause) -> Result<Vec<Step>, NoMemory>
-    ensures code { IfOk result (λ code. IsCodeOf clause.now (steps_of code.items)) }
+    ensures code { IfOk result (λ code. IsCodeOf (sequential clause.now) (steps_of code.items)) }
     ensures paced { IfOk result (λ code. ArePaced (count_trees (arguments clause.now.head)) code.items) }
 {
     let steps = permanent_code(alloc, clause)?;

@@ -1,5 +1,5 @@
 -- Clauses that ask for another first argument than the one that is there.
-use Rattle.std.proofs.Common.{◌≡◌, ℕ, ℤ, Bool, true, false, not, ◌==◌, ◌&&◌, List, [], ◌∷◌, Option, Some, None, drop, slice_get, refl, ap, sym, ◌∙◌, subst, eq-eqb}
+use Rattle.std.proofs.Common.{◌≡◌, ℕ, ℤ, ◌+◌, Bool, true, false, not, ◌==◌, ◌&&◌, List, [], ◌∷◌, Option, Some, None, drop, slice_get, refl, ap, sym, ◌∙◌, subst, eq-eqb}
 use Rattle.std.specs.Prelude.{if◌then◌else◌}
 use Rattle.std.specs.List.{AllByRecursion}
 use Rattle.std.proofs.lemmas.Bool.{eqb-true, and_from}
@@ -11,7 +11,8 @@ use Rattle.ap_instr.specs.declared.instruction.Instr.TheVariants.{GetConstant, G
 use Rattle.ap_instr.specs.Code.{Compiled}
 use Rattle.ap_instr.specs.StandsFor.{alternatives, clause_places}
 use Rattle.ap_instr.specs.declared.compiled.Predicate.{Predicate}
-use Rattle.ap_instr.specs.Step.{Step, with_integer, get_constant, get_structure, steps_of}
+use Rattle.ap_instr.specs.Step.{Step, with_integer, get_constant, get_structure}
+use Rattle.ap_instr.specs.Steps.{steps_behind}
 use Rattle.ap_index.specs.declared.key.Key.{Key}
 use Rattle.ap_index.specs.declared.key.Key.TheVariants.{Atom, Integer, Structure}
 use Rattle.ap_index.specs.Keys.{same_key, integer_key, first_key}
@@ -65,18 +66,18 @@ module _ (code : Compiled) (cs : List Raw) (x y : ℕ → ℕ) (key : Key) (held
     structure f n a js true one e h = other-one asked other k h.0 (Structure f n) a one e (h.1.0, h.1.1, h.1.2)
     structure f n a js false one e h = let z : ⊥ = cc in z
 
-    none-asked : (is : List Instr) → first_key code is ≡ Some asked → Asked cs x y (steps_of code is) k bs → ⊥
-    none-asked [] e h = h.1
-    none-asked (GetConstant c a ∷ is) e h = constant c a (first_key code is) (steps_of code is) (a == 1) refl e h (none-asked is)
-    none-asked (GetInteger i a ∷ is) e h = listed (slice_get code.integers i) a (first_key code is) (steps_of code is) (a == 1) refl e h (none-asked is)
-    none-asked (GetStructure f n a ∷ is) e h = structure f n a (steps_of code is) (a == 1) refl e h
-    none-asked (Allocate n ∷ is) e h = none-asked is e h
-    none-asked (i ∷ is) e h = let z : ⊥ = cc in z
+    none-asked : (at : ℕ) (is : List Instr) → first_key code is ≡ Some asked → Asked cs x y (steps_behind code at 0 is) k bs → ⊥
+    none-asked at [] e h = h.1
+    none-asked at (GetConstant c a ∷ is) e h = constant c a (first_key code is) (steps_behind code (at + 1) 0 is) (a == 1) refl e h (none-asked (at + 1) is)
+    none-asked at (GetInteger i a ∷ is) e h = listed (slice_get code.integers i) a (first_key code is) (steps_behind code (at + 1) 0 is) (a == 1) refl e h (none-asked (at + 1) is)
+    none-asked at (GetStructure f n a ∷ is) e h = structure f n a (steps_behind code (at + 1) 0 is) (a == 1) refl e h
+    none-asked at (Allocate n ∷ is) e h = none-asked (at + 1) is e h
+    none-asked at (i ∷ is) e h = let z : ⊥ = cc in z
 
 module _ (code : Compiled) (cs : List Raw) (x : ℕ → ℕ) (key : Key) (held : (k : ℕ → Tree) → Fits cs k → IsKeyOf key (k (x 1))) where
   shut : (ls : List ℕ) → AllByRecursion (AsksOther code key) ls → AllByRecursion (IsShut code cs x) ls
   shut [] h = tt
-  shut (l ∷ ls) h = (λ y k bs. none-asked code cs x y key held h.0.asked h.0.other k bs (drop l code.instructions) h.0.asks, shut ls h.1)
+  shut (l ∷ ls) h = (λ y k bs. none-asked code cs x y key held h.0.asked h.0.other k bs l (drop l code.instructions) h.0.asks, shut ls h.1)
 
   pub passes-others : (ls rest : List ℕ) → LeavesOthers code key ls rest → PassesOver code cs x ls rest
   passes-others ls rest h = record { passed = h.passed; are = h.are; shut = shut h.passed h.others }

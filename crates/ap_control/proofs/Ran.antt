@@ -1,16 +1,17 @@
 -- Runs, one instruction behind another.
-use Rattle.std.proofs.Common.{◌≡◌, ℕ, zero, suc, ◌+◌, ◌≤◌, true, List, ◌∷◌, length, drop, slice_get, Some, ap, ◌∙◌, subst, arith}
+use Rattle.std.proofs.Common.{◌≡◌, ℕ, zero, suc, ◌+◌, ◌≤◌, true, false, List, ◌∷◌, length, drop, slice_get, Some, ap, ◌∙◌, subst, arith}
 use Rattle.std.proofs.lemmas.Option.{slice_get_within}
 use Rattle.ap_cells.specs.declared.cells.Raw.{Raw}
 use Rattle.ap_cells.specs.Store.{Store}
 use Rattle.ap_instr.specs.declared.instruction.Instr.{Instr}
 use Rattle.ap_instr.specs.Code.{Compiled}
 use Rattle.ap_instr.specs.Step.{step_of}
+use Rattle.ap_instr.specs.Steps.{steps_from}
 use Rattle.ap_steps.specs.Moves.{held, HoldPlaces, Moves, IsStuck}
-use Rattle.ap_steps.specs.Ways.{cells_of, room, wants, NoneOfControl, steps_from, Passed}
+use Rattle.ap_steps.specs.Ways.{cells_of, room, wants, is_transfer, NoneOfControl, Passed}
 use Rattle.ap_steps.proofs.Steps.{Moves-refl, Moves-trans, Moves-stuck}
 use Rattle.ap_steps.proofs.MemoryWants.{wants-on, wants-past}
-use Rattle.ap_steps.proofs.Places.{steps-here, room-here, none-room}
+use Rattle.ap_steps.proofs.Places.{steps-next, room-here, none-room}
 use Rattle.ap_control.specs.Runs.{Ran}
 use Rattle.ap_control.proofs.Openness.{openly-past}
 
@@ -20,21 +21,21 @@ ran-nowhere code at cs x y hx hy = record { moves = Moves-refl cs (held x) (held
 -- one instruction more, which stands at a place
 module _ (code : Compiled) (at place : ℕ) (cs : List Raw) (x y : List ℕ) (v : Store) (x' y' : List ℕ) (i : Instr) (e : slice_get code.instructions place ≡ Some i) where
   module _ (r : Ran code at cs x y place v.cells x' y') where
-    here : Moves cs (held x) (held y) (steps_from code at) v.cells (held x') (held y') (step_of code i ∷ steps_from code (place + 1))
-    here = subst (Moves cs (held x) (held y) (steps_from code at) v.cells (held x') (held y')) (steps-here code place i e) r.moves
+    here : is_transfer i ≡ false → Moves cs (held x) (held y) (steps_from code at) v.cells (held x') (held y') (step_of code i ∷ steps_from code (place + 1))
+    here goes_on = subst (Moves cs (held x) (held y) (steps_from code at) v.cells (held x') (held y')) (steps-next code place i e goes_on) r.moves
 
     pub ran-on : (n : ℕ) (w : Store) (x'' y'' : List ℕ) → Passed code i (place + 1) n v x' y' w x'' y'' → Ran code at cs x y (place + (1 + n)) w.cells x'' y''
     ran-on n w x'' y'' p =
         let q : place + 1 + n ≡ place + (1 + n) = omega arith in
         subst (λ m. Ran code at cs x y m w.cells x'' y'') q (record {
-          moves = Moves-trans cs v.cells w.cells (held x) (held y) (held x') (held y') (held x'') (held y'') (steps_from code at) (step_of code i ∷ steps_from code (place + 1)) (steps_from code (place + 1 + n)) here p.moves;
+          moves = Moves-trans cs v.cells w.cells (held x) (held y) (held x') (held y') (held x'') (held y'') (steps_from code at) (step_of code i ∷ steps_from code (place + 1)) (steps_from code (place + 1 + n)) (here p.goes_on) p.moves;
           openly = λ o. openly-past code place n i e p.goes_on p.arguments (r.openly o);
           holds_x = p.holds_x;
           holds_y = p.holds_y;
         })
 
-    pub ran-stuck : IsStuck v.cells (held x') (held y') (step_of code i ∷ steps_from code (place + 1)) → IsStuck cs (held x) (held y) (steps_from code at)
-    ran-stuck s = Moves-stuck cs v.cells (held x) (held y) (held x') (held y') (steps_from code at) (step_of code i ∷ steps_from code (place + 1)) here s
+    pub ran-stuck : (is_transfer i ≡ false) × IsStuck v.cells (held x') (held y') (step_of code i ∷ steps_from code (place + 1)) → IsStuck cs (held x) (held y) (steps_from code at)
+    ran-stuck s = Moves-stuck cs v.cells (held x) (held y) (held x') (held y') (steps_from code at) (step_of code i ∷ steps_from code (place + 1)) (here s.0) s.1
 
   pub room-on : (n : ℕ) (w : Store) (x'' y'' : List ℕ) → Passed code i (place + 1) n v x' y' w x'' y'' → room (drop place code.instructions) ≤ v.spare → room (drop (place + (1 + n)) code.instructions) ≤ w.spare
   room-on n w x'' y'' p h =

@@ -8,16 +8,17 @@ use Rattle.ap_cells.specs.declared.cells.Raw.{Raw}
 use Rattle.ap_cells.specs.Trees.{tree_at, trees}
 use Rattle.ap_instr.specs.declared.instruction.Slot.{Slot}
 use Rattle.ap_instr.specs.declared.instruction.Instr.{Instr}
-use Rattle.ap_instr.specs.declared.instruction.Instr.TheVariants.{Call, Execute}
+use Rattle.ap_instr.specs.declared.instruction.Instr.TheVariants.{Call, Execute, PushGoal}
 use Rattle.ap_instr.specs.declared.compiled.Predicate.{Predicate}
 use Rattle.ap_instr.specs.Code.{Compiled}
-use Rattle.ap_instr.specs.Step.{Step, get_variable, get_constant, get_structure, put_constant, unify_variable, call, execute, other, with_integer, with_predicate}
+use Rattle.ap_instr.specs.Step.{Step, get_variable, get_constant, get_structure, put_constant, unify_variable, call, execute, push, other, with_integer, with_predicate}
+use Rattle.ap_instr.specs.Steps.{steps_from, skipped}
+use Rattle.ap_instr.proofs.Steps.{steps_law}
 use Rattle.ap_instr.specs.Runs.{Runs, set, set_x, set_y, applied, spread, lost, IsOpen, AsksOpenly}
 use Rattle.ap_match.specs.Fits.{Fits}
 use Rattle.ap_match.proofs.Maps.{fits-own}
 use Rattle.ap_steps.specs.Moves.{held, IsStuck}
-use Rattle.ap_steps.specs.Ways.{is_transfer, steps_from}
-use Rattle.ap_steps.proofs.Places.{steps-here}
+use Rattle.ap_steps.specs.Ways.{is_transfer}
 use Rattle.ap_control.specs.Runs.{Ran, IsTransferAt}
 use Rattle.ap_control.specs.declared.taking.Want.{Want}
 use Rattle.ap_control.specs.declared.taking.Want.TheVariants.{Nothing, Binding, Arguments, More}
@@ -38,6 +39,10 @@ by-call (Some q) e is opens = call-opens q.name q.arity is opens
 by-execute : (o : Option Predicate) → IsWayByCall o Goal → (is : List Step) → AsksOpenly (with_predicate o execute ∷ is) → IsOpen (with_predicate o execute ∷ is)
 by-execute None e is opens = absurd (let z : ⊥ = cc in z)
 by-execute (Some q) e is opens = λ x y. (more (applied q.name (spread x 1 q.arity)) none, refl)
+
+by-push : (o : Option Predicate) → IsWayByCall o Goal → (is : List Step) → AsksOpenly (with_predicate o push ∷ is) → IsOpen (with_predicate o push ∷ is)
+by-push None e is opens = absurd (let z : ⊥ = cc in z)
+by-push (Some q) e is opens = λ x y. let r = opens.0 x y in (more (applied q.name (spread x 1 q.arity)) r.0, (r.0, refl, r.1))
 
 by-none : (o : Option Predicate) (f : ℕ → ℕ → Step) → IsWayByCall o Other → with_predicate o f ≡ other
 by-none None f e = refl
@@ -62,6 +67,12 @@ led-by-execute code p On h = absurd (never-on (slice_get code.predicates p) h)
 led-by-execute code p (Structure n a) h = absurd (never-structure n a (slice_get code.predicates p) h)
 led-by-execute code p Goal h = by-execute (slice_get code.predicates p) h
 led-by-execute code p Other h = λ t. by-none (slice_get code.predicates p) execute h
+
+pub led-by-push : (code : Compiled) (n p : ℕ) (way : Way) → IsWayByCall (slice_get code.predicates p) way → LeadsBy code (PushGoal n p) way
+led-by-push code n p On h = absurd (never-on (slice_get code.predicates p) h)
+led-by-push code n p (Structure m a) h = absurd (never-structure m a (slice_get code.predicates p) h)
+led-by-push code n p Goal h = by-push (slice_get code.predicates p) h
+led-by-push code n p Other h = λ t. by-none (slice_get code.predicates p) push h
 
 -- a constant is put, where it is an integer that the table has
 pub by-listed : (o : Option ℤ) (z : ℤ) → Some z ≡ o → (a : ℕ) (is : List Step) → IsOpen is → IsOpen (with_integer o (λ c. put_constant c a) ∷ is)
@@ -201,12 +212,12 @@ module _ (code : Compiled) (at : ℕ) (i : Instr) (stands : slice_get code.instr
 
   pub stuck-there : LeadsBy code i Other → (cs : List Raw) (x y : ℕ → ℕ) → IsStuck cs x y (steps_from code at)
   stuck-there leads cs x y =
-      subst (IsStuck cs x y) (sym (steps-here code at i stands ∙ ap (λ j. j ∷ steps_from code (at + 1)) (leads is-transfer))) (λ k bs a. a.1)
+      subst (IsStuck cs x y) (sym (steps_law code at i stands ∙ ap (λ j. j ∷ steps_from code (at + 1 + skipped i at)) (leads is-transfer))) (λ k bs a. a.1)
 
   pub opens-there : LeadsBy code i Goal → AsksOpenly (steps_from code at) → IsOpen (steps_from code at)
   opens-there leads o =
-      let here = steps-here code at i stands in
-      subst IsOpen (sym here) (leads (steps_from code (at + 1)) (subst AsksOpenly here o))
+      let here = steps_law code at i stands in
+      subst IsOpen (sym here) (leads (steps_from code (at + 1 + skipped i at)) (subst AsksOpenly here o))
 
 -- what is asked for there is asked for where the run began
 pub ran-takes : (code : Compiled) (at to : ℕ) (cs ds : List Raw) (x y x' y' : List ℕ) → Ran code at cs x y to ds x' y' → (AsksOpenly (steps_from code to) → IsOpen (steps_from code to))

@@ -6,10 +6,10 @@ use Rattle.ap_cells.specs.declared.cells.Raw.{Raw}
 use Rattle.ap_instr.specs.declared.instruction.Instr.{Instr}
 use Rattle.ap_instr.specs.declared.instruction.Instr.TheVariants.{GetConstant, GetInteger, Allocate, Deallocate}
 use Rattle.ap_instr.specs.Code.{Compiled}
+use Rattle.ap_instr.specs.Steps.{steps_from}
 use Rattle.ap_index.specs.declared.key.Key.{Key}
 use Rattle.ap_index.specs.declared.key.Key.TheVariants.{Atom, Integer, Structure}
 use Rattle.ap_steps.specs.Moves.{IsStuck}
-use Rattle.ap_steps.specs.Ways.{steps_from}
 
 -- the clause at a place can't be entered, whatever the Y registers hold
 abbrev pub IsShut : Compiled → List Raw → (ℕ → ℕ) → ℕ → Type 0

@@ -1,5 +1,6 @@
 //! Floor: engine. What a machine's control needs of code: the clauses of a predicate one after another, and which of them unify with a call,
-//! runs of instructions up to one that leads elsewhere, how many registers are written, and the built-in goals on two places.
+//! runs of instructions up to one that leads elsewhere, how many registers are written, the built-in goals on two places, and the checks
+//! of groups.
 //!
 //! Stands on `ap_steps` and `ap_standing`. What is used above: `run_to_transfer`, behind which the code asks for the same goals,
 //! `can_take`, which is so just where a clause's head unifies with the call, and `solve`, by which cells become what a built-in
@@ -7,6 +8,7 @@
 #![tactic(auto)]
 
 mod alternatives;
+mod checks;
 mod heads;
 mod relations;
 mod runs;
@@ -14,6 +16,7 @@ mod taking;
 mod widths;
 
 pub use alternatives::{Alternative, first, following, instruction_at};
+pub use checks::{are_apart, is_ground};
 pub use heads::{fails_at_once, first_possible, pass_over};
 pub use relations::solve;
 pub use runs::{run_to_transfer, used};

@@ -5,9 +5,10 @@ ghost use Rattle.ap_term.specs.Tree.{Tree, atom, int};
 ghost use Rattle.ap_cells.specs.declared.cells.Raw.{Raw};
 ghost use Rattle.ap_cells.specs.Store.{Keeps};
 ghost use Rattle.ap_instr.specs.Step.{Step, step_of};
+ghost use Rattle.ap_instr.specs.Steps.{steps_from};
 ghost use Rattle.ap_instr.specs.Runs.{set_x, IsOpen, AsksOpenly};
 ghost use Rattle.ap_steps.specs.Moves.{held, HoldPlaces, IsStuck};
-ghost use Rattle.ap_steps.specs.Ways.{is_transfer, AllHaveTargets, room, steps_from};
+ghost use Rattle.ap_steps.specs.Ways.{is_transfer, AllHaveTargets, room};
 ghost use Rattle.ap_control.specs.Runs.{IsTransferAt};
 ghost use Rattle.ap_control.specs.Taking.{CanAsk, HasWanted, HasStructure, PassesWanted, IsWayByCall, IsApart, IsOpenInside, LeadsBy};
 
@@ -27,7 +28,7 @@ enum Way {
     On,
     /// To the so many arguments of a structure, which is put in an X register.
     Structure(u8, u32),
-    /// To a goal, or to the end of the clause.
+    /// To a goal, to what belongs to a group or a jump, behind which the code is open, or to the end of the clause.
     Goal,
     /// Elsewhere, or nowhere, or that isn't told by the instruction alone.
     Other,
@@ -65,6 +66,12 @@ fn way_of(code: &Code, instr: Instr) -> Way
         Instr::Execute(number) => way_by_call(code, number),
         Instr::Proceed => Way::Goal,
         Instr::Builtin(_) => Way::Goal,
+        Instr::CheckGround(_, _) => Way::Goal,
+        Instr::CheckIndep(_, _, _) => Way::Goal,
+        Instr::AllocParcall(_) => Way::Goal,
+        Instr::PushGoal(_, number) => way_by_call(code, number),
+        Instr::WaitAll => Way::Goal,
+        Instr::Jump(_) => Way::Goal,
         _ => Way::Other,
     }
 }
@@ -286,7 +293,7 @@ pub fn surely_unifies(cells: &Cells, x: &[u32], code: &Code, at: usize) -> bool
     false
 }
 
-/// Whether an instruction of control leads to a goal, or ends the clause.
+/// Whether an instruction of control leads to a goal, or on where the code is open, or ends the clause.
 fn leads_on(code: &Code, at: usize) -> bool
     requires { IsTransferAt code.now at }
     ensures opens { result ≡ true → AsksOpenly (steps_from code.now at) → IsOpen (steps_from code.now at) }

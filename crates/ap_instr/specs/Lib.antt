@@ -3,5 +3,8 @@ pub mod Code
 pub mod Listing
 pub mod Shown
 pub mod Step
+pub mod Steps
 pub mod Runs
+pub mod Groups
+pub mod Table
 pub mod StandsFor

@@ -7,7 +7,7 @@ use Rattle.ap_writer.specs.Text.{name_at}
 use Rattle.ap_instr.specs.declared.instruction.Slot.{Slot}
 use Rattle.ap_instr.specs.declared.instruction.Slot.TheVariants.{X, Y}
 use Rattle.ap_instr.specs.declared.instruction.Instr.{Instr}
-use Rattle.ap_instr.specs.declared.instruction.Instr.TheVariants.{GetVariable, GetValue, GetConstant, GetInteger, GetStructure, PutVariable, PutValue, PutConstant, PutInteger, PutStructure, UnifyVariable, UnifyValue, UnifyConstant, UnifyInteger, Allocate, Deallocate, Call, Execute, Proceed, Builtin, Jump, Fail, Try, Retry, Trust}
+use Rattle.ap_instr.specs.declared.instruction.Instr.TheVariants.{GetVariable, GetValue, GetConstant, GetInteger, GetStructure, PutVariable, PutValue, PutConstant, PutInteger, PutStructure, UnifyVariable, UnifyValue, UnifyConstant, UnifyInteger, Allocate, Deallocate, Call, Execute, Proceed, Builtin, Jump, Fail, Try, Retry, Trust, CheckGround, CheckIndep, AllocParcall, PushGoal, WaitAll}
 use Rattle.ap_instr.specs.declared.compiled.Predicate.{Predicate}
 use Rattle.ap_instr.specs.Builtin.{builtin_name}
 use Rattle.ap_instr.specs.Code.{Compiled, instructions_of}
@@ -88,6 +88,11 @@ shown_instruction names Fail = shown (codes "fail") []
 shown_instruction names (Try l) = shown (codes "try") (place l ∷ [])
 shown_instruction names (Retry l) = shown (codes "retry") (place l ∷ [])
 shown_instruction names (Trust l) = shown (codes "trust") (place l ∷ [])
+shown_instruction names (CheckGround v l) = shown (codes "check_ground") (register v ∷ place l ∷ [])
+shown_instruction names (CheckIndep v w l) = shown (codes "check_indep") (register v ∷ register w ∷ place l ∷ [])
+shown_instruction names (AllocParcall n) = shown (codes "alloc_parcall") (number n ∷ [])
+shown_instruction names (PushGoal i p) = shown (codes "push_goal") (number i ∷ predicate p ∷ [])
+shown_instruction names WaitAll = shown (codes "wait_all") []
 
 -- operands, a blank before each
 abbrev pub operands_text : List (List ℕ) → Compiled → ℕ → List Operand → List ℕ

@@ -1,11 +1,13 @@
 -- What a clause's code means, without stores, cells or substitutions: which goals it asks for, over all instances.
-use Rattle.std.specs.Prelude.{◌≡◌, ℕ, zero, suc, ◌+◌, ◌==◌, if◌then◌else◌, List, [], ◌∷◌}
+use Rattle.std.specs.Prelude.{◌≡◌, ℕ, zero, suc, ◌+◌, ◌==◌, if◌then◌else◌, List, [], ◌∷◌, map}
 use Rattle.ap_term.specs.Tree.{Tree, Trees, atom, node, none, more, count_trees}
 use Rattle.ap_term.specs.Substitution.{instance_all}
-use Rattle.ap_term.specs.Goals.{Clause, plain_goals}
+use Rattle.ap_term.specs.Goals.{Clause}
+use Rattle.ap_tracked.specs.Tracked.{placed}
+use Rattle.ap_tracked.specs.Marks.{marked, ground_mark, apart_mark, group_mark}
 use Rattle.ap_instr.specs.declared.instruction.Slot.{Slot}
 use Rattle.ap_instr.specs.declared.instruction.Slot.TheVariants.{X, Y}
-use Rattle.ap_instr.specs.Step.{Step, get_variable, get_value, get_constant, get_structure, put_variable, put_value, put_constant, put_structure, unify_variable, unify_value, unify_constant, call, execute, builtin, proceed, frame}
+use Rattle.ap_instr.specs.Step.{Step, get_variable, get_value, get_constant, get_structure, put_variable, put_value, put_constant, put_structure, unify_variable, unify_value, unify_constant, call, execute, builtin, proceed, frame, jump, check_ground, check_indep, group, push, wait}
 
 -- a map with another value at one number
 abbrev pub set : {A : Type 0} → (ℕ → A) → ℕ → A → ℕ → A
@@ -44,7 +46,7 @@ abbrev pub lost : ℕ → Tree
 lost n = atom 0
 
 -- From these steps on, inside a structure whose arguments ts are still to come, registers that hold the trees x and y
--- can ask for the goals bs. A new variable is any tree.
+-- can ask for the goals bs, groups among them told by marks. A new variable is any tree.
 abbrev pub Runs : List Step → Trees → (ℕ → Tree) → (ℕ → Tree) → Trees → Type 0
 Runs [] ts x y bs = ⊥
 Runs (unify_variable v ∷ is) (more t ts) x y bs = Runs is ts (set_x v t x) (set_y v t y) bs
@@ -64,12 +66,18 @@ Runs (builtin p n ∷ is) none x y bs = (cs : Trees) × (bs ≡ more (applied p 
 Runs (execute p n ∷ is) none x y bs = bs ≡ more (applied p (spread x 1 n)) none
 Runs (proceed ∷ is) none x y bs = bs ≡ none
 Runs (frame ∷ is) none x y bs = Runs is none x y bs
+Runs (jump ∷ is) none x y bs = Runs is none x y bs
+Runs (check_ground v ∷ is) none x y bs = (cs : Trees) × (bs ≡ more ground_mark (more (read v x y) cs)) × Runs is none x y cs
+Runs (check_indep v w ∷ is) none x y bs = (cs : Trees) × (bs ≡ more apart_mark (more (read v x y) (more (read w x y) cs))) × Runs is none x y cs
+Runs (group n ∷ is) none x y bs = (cs : Trees) × (bs ≡ more (group_mark n) cs) × Runs is none x y cs
+Runs (push p n ∷ is) none x y bs = (cs : Trees) × (bs ≡ more (applied p (spread x 1 n)) cs) × Runs is none x y cs
+Runs (wait ∷ is) none x y bs = Runs is none lost y bs
 Runs (i ∷ is) none x y bs = ⊥
 
--- an instance of the clause has these arguments and this body
+-- an instance of the clause has these arguments and this body, its groups told by their marks
 abbrev pub Asks : Clause → (ℕ → Tree) → Trees → Type 0
 Asks c x bs =
-    (h : ℕ → Tree) × (spread x 1 (count_trees (arguments c.head)) ≡ instance_all h (arguments c.head)) × (bs ≡ instance_all h (plain_goals c.body))
+    (h : ℕ → Tree) × (spread x 1 (count_trees (arguments c.head)) ≡ instance_all h (arguments c.head)) × (bs ≡ marked (map (placed h) c.body))
 
 -- the code asks for just what the clause asks for
 pub record Reads (code : List Step) (c : Clause) : Type 0 where
@@ -80,12 +88,18 @@ pub record Reads (code : List Step) (c : Clause) : Type 0 where
 abbrev pub IsOpen : List Step → Type 0
 IsOpen is = (x y : ℕ → Tree) → (bs : Trees) × Runs is none x y bs
 
--- Behind each goal that they ask for the steps are open: all tests stand before the first goal, so that no goal is asked
--- for where the clause asks for none.
+-- Behind each goal that they ask for, and behind each other step of control, the steps are open: all tests stand before the
+-- first goal, so that no goal is asked for where the clause asks for none.
 abbrev pub AsksOpenly : List Step → Type 0
 AsksOpenly [] = Unit {0}
 AsksOpenly (call p n ∷ is) = IsOpen is × AsksOpenly is
 AsksOpenly (builtin p n ∷ is) = IsOpen is × AsksOpenly is
+AsksOpenly (check_ground v ∷ is) = IsOpen is × AsksOpenly is
+AsksOpenly (check_indep v w ∷ is) = IsOpen is × AsksOpenly is
+AsksOpenly (group n ∷ is) = IsOpen is × AsksOpenly is
+AsksOpenly (push p n ∷ is) = IsOpen is × AsksOpenly is
+AsksOpenly (wait ∷ is) = IsOpen is × AsksOpenly is
+AsksOpenly (jump ∷ is) = IsOpen is × AsksOpenly is
 AsksOpenly (execute p n ∷ is) = Unit {0}
 AsksOpenly (proceed ∷ is) = Unit {0}
 AsksOpenly (i ∷ is) = AsksOpenly is

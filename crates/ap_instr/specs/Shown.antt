@@ -20,4 +20,4 @@ operands_of None = []
 operands_of (Some o) = operand_of o ∷ []
 
 abbrev pub shown_of : Line → Shown
-shown_of line = record { word = line.word.now; operands = operands_of line.first ++ operands_of line.second }
+shown_of line = record { word = line.word.now; operands = operands_of line.first ++ (operands_of line.second ++ operands_of line.third) }

@@ -3,7 +3,7 @@ use Rattle.std.specs.Prelude.{ℕ, ℤ, List, map, slice_get, Option, Some, None
 use Rattle.ap_term.specs.Tree.{Tree, atom, int}
 use Rattle.ap_instr.specs.declared.instruction.Slot.{Slot}
 use Rattle.ap_instr.specs.declared.instruction.Instr.{Instr}
-use Rattle.ap_instr.specs.declared.instruction.Instr.TheVariants.{GetVariable, GetValue, GetConstant, GetInteger, GetStructure, PutVariable, PutValue, PutConstant, PutInteger, PutStructure, UnifyVariable, UnifyValue, UnifyConstant, UnifyInteger, Allocate, Deallocate, Call, Execute, Proceed, Builtin, Jump, Fail, Try, Retry, Trust}
+use Rattle.ap_instr.specs.declared.instruction.Instr.TheVariants.{GetVariable, GetValue, GetConstant, GetInteger, GetStructure, PutVariable, PutValue, PutConstant, PutInteger, PutStructure, UnifyVariable, UnifyValue, UnifyConstant, UnifyInteger, Allocate, Deallocate, Call, Execute, Proceed, Builtin, Jump, Fail, Try, Retry, Trust, CheckGround, CheckIndep, AllocParcall, PushGoal, WaitAll}
 use Rattle.ap_instr.specs.declared.compiled.Predicate.{Predicate}
 use Rattle.ap_instr.specs.Builtin.{builtin_name, builtin_arity}
 use Rattle.ap_instr.specs.Code.{Compiled}
@@ -27,6 +27,14 @@ pub data Step : Type 0 where
   proceed : Step
   -- an environment is made or given back
   frame : Step
+  -- the code goes on elsewhere
+  jump : Step
+  -- checks of a group, of what they are asked; so many goals of a group begin; one of them; their end
+  check_ground : Slot → Step
+  check_indep : Slot → Slot → Step
+  group : ℕ → Step
+  push : ℕ → ℕ → Step
+  wait : Step
   -- no instruction of a clause
   other : Step
 
@@ -60,11 +68,16 @@ step_of code (Call p) = with_predicate (slice_get code.predicates p) call
 step_of code (Execute p) = with_predicate (slice_get code.predicates p) execute
 step_of code Proceed = proceed
 step_of code (Builtin b) = builtin (builtin_name b) (builtin_arity b)
-step_of code (Jump l) = other
+step_of code (Jump l) = jump
 step_of code Fail = other
 step_of code (Try l) = other
 step_of code (Retry l) = other
 step_of code (Trust l) = other
+step_of code (CheckGround v l) = check_ground v
+step_of code (CheckIndep v w l) = check_indep v w
+step_of code (AllocParcall n) = group n
+step_of code (PushGoal i p) = with_predicate (slice_get code.predicates p) push
+step_of code WaitAll = wait
 
 abbrev pub steps_of : Compiled → List Instr → List Step
 steps_of code is = map (step_of code) is

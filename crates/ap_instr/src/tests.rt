@@ -27,6 +27,12 @@ const LISTED: &str = "q/2:
   put_structure +/2 A2
   builtin is
   builtin =<
+  check_ground Y1 @2
+  check_indep X3 Y2 @4
+  alloc_parcall 2
+  push_goal 1 q/2
+  push_goal 2 p/1
+  wait_all
   call q/2
   jump @0
   retry @1
@@ -86,6 +92,12 @@ fn instructions(alloc: Global, names: &Names) -> Result<Vec<Instr>, Fail> {
         Instr::PutStructure(Atom::at(fixed::PLUS), 2, 2),
         Instr::Builtin(Builtin::Relation(Relation::Is)),
         Instr::Builtin(Builtin::Relation(Relation::Compare(Op::Le))),
+        Instr::CheckGround(Slot::Y(1), 3),
+        Instr::CheckIndep(Slot::X(3), Slot::Y(2), 5),
+        Instr::AllocParcall(2),
+        Instr::PushGoal(1, 0),
+        Instr::PushGoal(2, 1),
+        Instr::WaitAll,
         Instr::Call(0),
         Instr::Jump(1),
         Instr::Retry(2),
@@ -115,14 +127,14 @@ fn lists_each_instruction(rt: HostRuntime) -> Result<(), Fail> {
         name: names.q,
         arity: 2,
         start: 1,
-        end: 29,
+        end: 35,
         is_listed: true,
     };
     let p = Predicate {
         name: names.p,
         arity: 1,
-        start: 29,
-        end: 31,
+        start: 35,
+        end: 37,
         is_listed: true,
     };
     let code = Code::new(

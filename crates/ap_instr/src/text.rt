@@ -34,6 +34,7 @@ struct Line {
     word: &'static str,
     first: Option<Operand>,
     second: Option<Operand>,
+    third: Option<Operand>,
 }
 
 fn alone(word: &'static str) -> Line
@@ -43,6 +44,7 @@ fn alone(word: &'static str) -> Line
         word,
         first: None,
         second: None,
+        third: None,
     }
 }
 
@@ -53,6 +55,7 @@ fn with_one(word: &'static str, first: Operand) -> Line
         word,
         first: Some(first),
         second: None,
+        third: None,
     }
 }
 
@@ -63,6 +66,18 @@ fn with_two(word: &'static str, first: Operand, second: Operand) -> Line
         word,
         first: Some(first),
         second: Some(second),
+        third: None,
+    }
+}
+
+fn with_three(word: &'static str, first: Operand, second: Operand, third: Operand) -> Line
+    ensures { shown_of result ≡ shown word.now (operand_of first ∷ operand_of second ∷ operand_of third ∷ []) }
+{
+    Line {
+        word,
+        first: Some(first),
+        second: Some(second),
+        third: Some(third),
     }
 }
 
@@ -124,6 +139,13 @@ fn line_of(atoms: &Atoms, instr: Instr) -> Line
         Instr::Try(l) => with_one("try", Place(l)),
         Instr::Retry(l) => with_one("retry", Place(l)),
         Instr::Trust(l) => with_one("trust", Place(l)),
+        Instr::CheckGround(v, l) => with_two("check_ground", Register(v), Place(l)),
+        Instr::CheckIndep(v, w, l) => {
+            with_three("check_indep", Register(v), Register(w), Place(l))
+        }
+        Instr::AllocParcall(n) => with_one("alloc_parcall", Number(n)),
+        Instr::PushGoal(i, p) => with_two("push_goal", Number(i), Predicate(p)),
+        Instr::WaitAll => alone("wait_all"),
     }
 }
 
@@ -246,6 +268,22 @@ fn push_behind(
     Ok(())
 }
 
+fn push_operands(
+    alloc: Global,
+    out: &mut Vec<u8>,
+    atoms: &Atoms,
+    code: &Code,
+    start: u32,
+    line: &Line,
+) -> Result<(), NoMemory>
+    ensures { OnOk result (out.new.items ≡ out.old.items ++ operands_text atoms.now code.now start (shown_of line.now).operands) }
+{
+    push_behind(alloc, out, atoms, code, start, line.first)?;
+    push_behind(alloc, out, atoms, code, start, line.second)?;
+    push_behind(alloc, out, atoms, code, start, line.third)?;
+    Ok(())
+}
+
 fn push_line(
     alloc: Global,
     out: &mut Vec<u8>,
@@ -259,8 +297,7 @@ fn push_line(
     let line = line_of(atoms, instr);
     out.extend_from_slice(b"  ")?;
     out.extend_from_slice(line.word.as_bytes())?;
-    push_behind(alloc, out, atoms, code, start, line.first)?;
-    push_behind(alloc, out, atoms, code, start, line.second)?;
+    push_operands(alloc, out, atoms, code, start, &line)?;
     out.push(b'\n')?;
     Ok(())
 }

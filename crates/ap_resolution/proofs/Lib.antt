@@ -1,3 +1,4 @@
+pub mod Agreeing
 pub mod Unified
 pub mod Resolution
 pub mod Variants

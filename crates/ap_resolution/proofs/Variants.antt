@@ -10,14 +10,14 @@ use Rattle.ap_term.specs.Laws.{KeepsApart}
 use Rattle.ap_term.proofs.Copies.{instance_var, instance_all_var, instance_all_twice}
 use Rattle.ap_term.proofs.Solutions.{same_var, instance_agree, instance_all_agree}
 use Rattle.ap_term.proofs.Renamings.{renumbered-renamed}
-use Rattle.ap_term.specs.Goals.{plain_goals}
 use Rattle.ap_term.proofs.Locals.{Local-each, LocalAll-each}
 use Rattle.ap_laws.specs.Renaming.{Renamed}
 use Rattle.ap_laws.specs.Laws.{Inverse}
 use Rattle.ap_laws.proofs.Local.{AllByRecursion-add_all_vars}
 use Rattle.ap_laws.proofs.Unifiers.{instance_all-at}
 use Rattle.ap_laws.proofs.Ways.{Renamed-both}
-use Rattle.ap_resolution.specs.Instances.{Inst}
+use Rattle.ap_tracked.specs.Marks.{marked}
+use Rattle.ap_tracked.specs.Instances.{Inst}
 use Rattle.ap_resolution.specs.Laws.{InstanceLaw, TupleLaw}
 
 -- the number of a variable
@@ -77,10 +77,10 @@ module _ (f g : ℕ → Tree) (ts us : Trees) (there : us ≡ instance_all f ts)
       apart x y h k e = sym (returned x h) ∙ ap (numbers g) e ∙ returned y k
 
 pub instances : InstanceLaw
-instances s = (λ x. var x, sym (instance_all_var (plain_goals s.goals)), sym (instance_all_var s.tuple))
+instances s = (λ x. var x, sym (instance_all_var (marked s.goals)), sym (instance_all_var s.tuple))
 
 pub tuples : TupleLaw
 tuples s t general =
     let i : Inst s general.0.0 t = general.0.1 in
-    let back : (f : ℕ → Tree) × (s.tuple ≡ instance_all f t) = general.1 (plain_goals s.goals) s.tuple (instances s) in
+    let back : (f : ℕ → Tree) × (s.tuple ≡ instance_all f t) = general.1 (marked s.goals) s.tuple (instances s) in
     ap renumbered i.2 ∙ same-part i.0 back.0 s.tuple t i.2 back.1 s.tuple (λ x o. o)

@@ -1,21 +1,19 @@
--- A state as the set of its instances: goals, groups read as conjunctions, with a tuple. No variable has a name in it.
-use Rattle.std.specs.Prelude.{◌≡◌, ℕ, ℤ, ◌↔◌, List, [], ◌∷◌}
+-- Sets of instances of states, and what a goal's call makes of a set. No variable has a name in it.
+use Rattle.std.specs.Prelude.{◌≡◌, ℕ, ℤ, ◌↔◌, List, [], ◌∷◌, map}
 use Rattle.ap_term.specs.declared.fixed.TheConstants.{UNIFY, IS}
 use Rattle.ap_term.specs.Tree.{Tree, Trees, int, node, none, more, append_trees}
 use Rattle.ap_term.specs.Substitution.{instance, instance_all}
-use Rattle.ap_term.specs.Goals.{Clause, plain_goals}
-use Rattle.ap_term.specs.Search.{State}
-
--- an instance of the state has these goals and this tuple
-abbrev pub Inst : State → Trees → Trees → Type 0
-Inst s gs t = (f : ℕ → Tree) × (gs ≡ instance_all f (plain_goals s.goals)) × (t ≡ instance_all f s.tuple)
+use Rattle.ap_term.specs.Goals.{Clause}
+use Rattle.ap_tracked.specs.Tracked.{placed, Tracked}
+use Rattle.ap_tracked.specs.Marks.{marked}
+use Rattle.ap_tracked.specs.Instances.{Inst}
 
 -- the same goals with the same tuples
 abbrev pub SameSet : (Trees → Trees → Type 0) → (Trees → Trees → Type 0) → Type 0
 SameSet I J = (gs t : Trees) → I gs t ↔ J gs t
 
 -- the instances of the only state; of none, where there is no state
-abbrev pub IsSetOf : (Trees → Trees → Type 0) → List State → Type 0
+abbrev pub IsSetOf : (Trees → Trees → Type 0) → List Tracked → Type 0
 IsSetOf I [] = (gs t : Trees) → I gs t → ⊥
 IsSetOf I (s ∷ ss) = SameSet I (Inst s) × (ss ≡ [])
 
@@ -32,7 +30,7 @@ IsGeneralTuple I t = ((gs : Trees) × I gs t) × ((hs us : Trees) → I hs us �
 -- the body of an instance of the clause takes the place of the first goal, which is its head
 abbrev pub Resolved : (Trees → Trees → Type 0) → Clause → Trees → Trees → Type 0
 Resolved I c gs t =
-    (h : ℕ → Tree) × (qs : Trees) × I (more (instance h c.head) qs) t × (gs ≡ append_trees (instance_all h (plain_goals c.body)) qs)
+    (h : ℕ → Tree) × (qs : Trees) × I (more (instance h c.head) qs) t × (gs ≡ append_trees (marked (map (placed h) c.body)) qs)
 
 -- the first goal is left out
 abbrev pub Behind : (Trees → Trees → Type 0) → Trees → Trees → Type 0

@@ -1,7 +1,7 @@
 //! Floor: model. What a call makes of a state, told of its instances alone. A machine that keeps its terms in cells stands for a state
 //! where both have the same instances; so it never has to name variables as the state does.
 //!
-//! Stands on `ap_term` and `ap_laws`. Each function here has an empty body; its contract is a law.
+//! Stands on `ap_term`, `ap_laws`, `ap_tracked` and `ap_graft`. Each function here has an empty body; its contract is a law.
 #![tactic(auto)]
 
 ghost use Rattle.ap_resolution.specs.Laws.{ResolutionLaw, InstanceLaw, TupleLaw, BuiltinLaw};

@@ -4,7 +4,8 @@ use Rattle.std.proofs.lemmas.List.{take-append-le, take_all}
 use Rattle.std.specs.List.{AllByRecursion}
 use Rattle.ap_instr.specs.Code.{Compiled}
 use Rattle.ap_steps.specs.Moves.{held, IsStuck}
-use Rattle.ap_steps.specs.Ways.{AllHaveTargets, IsRoomFor, steps_from}
+use Rattle.ap_instr.specs.Steps.{steps_from}
+use Rattle.ap_steps.specs.Ways.{AllHaveTargets, IsRoomFor}
 use Rattle.ap_standing.specs.Machine.{Point, Machine}
 use Rattle.ap_standing.specs.Holds.{HoldsRest}
 use Rattle.ap_standing.proofs.Calls.{skipped}

@@ -1,16 +1,21 @@
 -- What a machine stands for that has a tuple's places in its argument registers, and nothing else.
-use Rattle.std.proofs.Common.{◌≡◌, ℕ, zero, suc, ◌+◌, ◌-◌, ◌<◌, ◌≤◌, List, [], ◌∷◌, length, Option, Some, slice_get, refl, ap, ap₂, sym, ◌∙◌, subst, arith}
+use Rattle.std.proofs.Common.{◌≡◌, ℕ, zero, suc, ◌+◌, ◌-◌, ◌<◌, ◌≤◌, true, if◌then◌else◌, List, [], ◌∷◌, map, length, Option, Some, slice_get, refl, ap, ap₂, sym, ◌∙◌, subst, arith}
 use Rattle.ap_term.specs.declared.fixed.TheConstants.{QUERY}
-use Rattle.ap_term.specs.Tree.{Tree, Trees, none, more, count_trees, append_trees}
+use Rattle.ap_term.specs.Tree.{Tree, Trees, var, atom, none, more, count_trees, append_trees}
 use Rattle.ap_term.specs.Substitution.{instance, instance_all, shift}
-use Rattle.ap_term.specs.WellFormed.{IsQuery}
-use Rattle.ap_term.specs.Goals.{Query, plain_goals}
+use Rattle.ap_term.specs.WellFormed.{in_range, IsQuery}
+use Rattle.ap_term.specs.Goals.{Query}
 use Rattle.ap_term.specs.UpToNames.{SameUpToNames}
-use Rattle.ap_term.specs.Search.{variables, start}
+use Rattle.ap_term.specs.Search.{variables}
 use Rattle.ap_term.proofs.Copies.{instance_all_twice}
 use Rattle.ap_term.specs.Vars.{Local, LocalAll}
 use Rattle.ap_term.proofs.Locals.{instance_all-same}
-use Rattle.ap_laws.proofs.Conjunctions.{query}
+use Rattle.ap_tracked.specs.Tracked.{placed, renamed}
+use Rattle.ap_tracked.specs.Marks.{marked}
+use Rattle.ap_tracked.proofs.Marks.{marks}
+use Rattle.ap_graft.specs.Starts.{tracked_start}
+use Rattle.ap_graft.proofs.Starts.{starting}
+use Rattle.ap_resolution.proofs.Agreeing.{marked-agree}
 use Rattle.ap_cells.specs.declared.cells.Raw.{Raw}
 use Rattle.ap_cells.specs.Trees.{tree_at, trees, span}
 use Rattle.ap_instr.specs.declared.compiled.Predicate.{Predicate}
@@ -18,13 +23,15 @@ use Rattle.ap_instr.specs.Code.{Compiled}
 use Rattle.ap_instr.specs.Runs.{applied, arguments, spread, Asks}
 use Rattle.ap_instr.specs.StandsFor.{ReadsAt, asked}
 use Rattle.ap_match.specs.Fits.{Fits}
-use Rattle.ap_resolution.specs.Instances.{Inst, SameSet}
+use Rattle.ap_tracked.specs.Instances.{Inst}
+use Rattle.ap_resolution.specs.Instances.{SameSet}
 use Rattle.ap_steps.specs.Moves.{held}
 use Rattle.ap_steps.specs.Standing.{Standing, tuple_under, AtCall, InCode}
-use Rattle.ap_steps.specs.Ways.{steps_from}
+use Rattle.ap_instr.specs.Steps.{steps_from}
 use Rattle.ap_standing.specs.Machine.{calling, inside}
-use Rattle.ap_standing.specs.Holds.{AtCallOf, Holds}
+use Rattle.ap_standing.specs.Holds.{IsApart, AtCallOf, Holds}
 use Rattle.ap_standing.specs.Laws.{machine}
+use Rattle.ap_standing.proofs.Named.{named-applied, named-placed}
 use Rattle.ap_section.specs.Started.{called}
 use Rattle.ap_section.proofs.Names.{count-same, instance-same}
 
@@ -111,38 +118,47 @@ module _ (code : Compiled) (cs : List Raw) (base first count : ℕ) (ts : Trees)
           ),
     )
 
-    pub holds-call : LocalAll (λ v. v < next) ts → Holds code (machine cs x y [] roots [] (calling number)) (called q.name ts next ∷ [])
-    holds-call below = (
+    pub holds-call : IsApart q → LocalAll (λ v. v < next) ts → Holds code (machine cs x y [] roots [] (calling number)) (called q.name ts next ∷ [])
+    holds-call apart below = (
       called q.name ts next ∷ [],
       [],
       (subst (λ (o : Option Predicate). SameSet (AtCallOf code here x o) (Inst (called q.name ts next))) (sym known) at-call, refl),
-      ((((Local-applied (λ v. v < next) q.name ts below, tt), below), tt, refl), tt),
-      tt,
+      ((((Local-applied (λ v. v < next) q.name ts below, tt), below, omega arith, tt), (named-applied q.name ts, tt), refl), tt),
+      λ r e. subst IsApart (let d : Some q ≡ Some r = sym known ∙ e in let f : q ≡ r = cc in f) apart,
       tt,
       refl,
       refl,
     )
 
   -- where the question begins
-  module _ (width : count ≡ count_trees ts) (at : ℕ) (q : Query) (reads : ReadsAt code at (asked q)) (same : SameUpToNames ts (variables q.question.vars)) where
+  module _ (width : count ≡ count_trees ts) (at : ℕ) (q : Query) (reads : ReadsAt code at (asked q)) (same : SameUpToNames ts (variables q.question.vars)) (good : IsQuery q) where
+    -- the question's variables stay what they are
+    own-name : (h : ℕ → Tree) (x : ℕ) → in_range q.question.vars x ≡ true → instance h (renamed q.question.vars 0 x) ≡ h x
+    own-name h x r = ap (λ b. instance h (if b then var (x + 0) else atom 0)) r ∙ ap h (let z : x + 0 ≡ x = omega arith in z)
+
+    body-is : (h : ℕ → Tree) → instance_all h (marked (tracked_start q).goals) ≡ marked (map (placed h) q.question.body)
+    body-is h =
+        sym (marks.places h (renamed q.question.vars 0) q.question.body)
+        ∙ marked-agree (λ x. instance h (renamed q.question.vars 0 x)) h q.question.vars (own-name h) q.question.body good.question.body
+
     head-arguments : arguments (asked q).head ≡ variables q.question.vars
     head-arguments = arguments-applied QUERY (variables q.question.vars)
 
     head-count : count_trees (arguments (asked q).head) ≡ count
     head-count = ap count_trees head-arguments ∙ sym (count-same ts (variables q.question.vars) same) ∙ sym width
 
-    in-question : SameSet (InCode code here (held x) (held y) (steps_from code at)) (Inst (start q))
+    in-question : SameSet (InCode code here (held x) (held y) (steps_from code at)) (Inst (tracked_start q))
     in-question gs t = (
       λ h.
           let a : Asks (asked q) (λ w. h.0 (held x w)) h.1 = reads.reads.only (λ w. h.0 (held x w)) (λ w. h.0 (held y w)) h.1 h.4 in (
             a.0,
-            h.5 ∙ ap (append_trees h.1) h.6.0 ∙ append-none h.1 ∙ a.2,
+            h.5 ∙ ap (append_trees h.1) h.6.0 ∙ append-none h.1 ∙ a.2 ∙ sym (body-is a.0),
             h.6.1 ∙ same-places h.0 ∙ ap (spread (λ w. h.0 (held x w)) 1) (sym head-count) ∙ a.1 ∙ ap (instance_all a.0) head-arguments,
           ),
       λ h.
           let i = instance-same ts (variables q.question.vars) same h.0 in
           let o = own i.0 in
-          let bs : Trees = instance_all h.0 (plain_goals q.question.body) in
+          let bs : Trees = marked (map (placed h.0) q.question.body) in
           let a : Asks (asked q) (λ w. o.0 (held x w)) bs = (
             h.0,
             ap (spread (λ w. o.0 (held x w)) 1) head-count ∙ o.2 ∙ i.1 ∙ ap (instance_all h.0) (sym head-arguments),
@@ -154,12 +170,19 @@ module _ (code : Compiled) (cs : List Raw) (base first count : ℕ) (ts : Trees)
             none,
             o.1,
             reads.reads.each (λ w. o.0 (held x w)) (λ w. o.0 (held y w)) bs a,
-            h.1 ∙ sym (append-none bs),
+            h.1 ∙ body-is h.0 ∙ sym (append-none bs),
             (refl, h.2 ∙ sym i.1 ∙ sym o.2 ∙ sym (same-places o.0)),
           ),
     )
 
-    pub holds-question : IsQuery q → Holds code (machine cs x y [] roots [] (inside at)) (start q ∷ [])
-    holds-question good =
-        let l = query q good in
-        (start q ∷ [], [], (in-question, refl), ((l.0, l.1, refl), tt), reads.openly, tt, refl, refl)
+    pub holds-question : Holds code (machine cs x y [] roots [] (inside at)) (tracked_start q ∷ [])
+    holds-question = (
+      tracked_start q ∷ [],
+      [],
+      (in-question, refl),
+      ((starting.below q good, named-placed (renamed q.question.vars 0) q.question.vars q.question.body good.question.body, refl), tt),
+      reads.openly,
+      tt,
+      refl,
+      refl,
+    )

@@ -5,7 +5,9 @@ use Rattle.ap_term.specs.Tree.{Tree, Trees, count_trees}
 use Rattle.ap_term.specs.Substitution.{instance_all, shift}
 use Rattle.ap_term.specs.Goals.{Program, Query}
 use Rattle.ap_term.specs.UpToNames.{SameUpToNames}
-use Rattle.ap_term.specs.Search.{State, variables, start}
+use Rattle.ap_term.specs.Search.{variables}
+use Rattle.ap_tracked.specs.Tracked.{Tracked}
+use Rattle.ap_graft.specs.Starts.{tracked_start}
 use Rattle.ap_cells.specs.Store.{Store}
 use Rattle.ap_cells.specs.Trees.{trees, span}
 use Rattle.ap_instr.specs.declared.compiled.Predicate.{Predicate}
@@ -27,7 +29,7 @@ use Rattle.ap_section.proofs.Beginnings.{holds-call, holds-question}
 use Rattle.ap_section.proofs.Questions.{question, question-reads}
 
 -- what always holds of a section holds of it
-pub Sane-new : (v : Store) (k : Kept) (x y roots : List ℕ) (n : ℕ) → k ≡ record { returns = []; moments = [] } → HasBottom v → HoldPlaces (length v.cells) x → y ≡ replicate n 0
+pub Sane-new : (v : Store) (k : Kept) (x y roots : List ℕ) (n : ℕ) → k ≡ record { returns = []; moments = []; forks = [] } → HasBottom v → HoldPlaces (length v.cells) x → y ≡ replicate n 0
     → AllByRecursion (λ r. r < length v.cells) roots → Sane v k x y roots
 Sane-new v k x y roots n new bottom hold zeros places =
     subst (λ (u : Kept). Sane v u x y roots) (sym new)
@@ -58,9 +60,9 @@ pub record HoldsTuple (v : Store) (ts : Trees) (x roots : List ℕ) : Type 0 whe
   pub each : (i : ℕ) → i < count → held roots i ≡ first + i
 
 module _ (code : Compiled) (v : Store) (k : Kept) (x y roots : List ℕ) (next : Kind) (number : ℕ) (ts : Trees)
-    (new : k ≡ record { returns = []; moments = [] }) (t : HoldsTuple v ts x roots) (q : Predicate) (known : slice_get code.predicates number ≡ Some q) (arity : q.arity ≡ count_trees ts)
+    (new : k ≡ record { returns = []; moments = []; forks = [] }) (t : HoldsTuple v ts x roots) (q : Predicate) (known : slice_get code.predicates number ≡ Some q) (arity : q.arity ≡ count_trees ts)
     (step : IsFirst code number (now_of next)) where
-  stands : (now : Now) (ss : List State) → now_of next ≡ now → Holds code (machine v.cells x y [] roots [] now) ss → Holds code (machine_of v k x y roots next) ss
+  stands : (now : Now) (ss : List Tracked) → now_of next ≡ now → Holds code (machine v.cells x y [] roots [] now) ss → Holds code (machine_of v k x y roots next) ss
   stands now ss e h =
       subst (λ (u : Kept). Holds code (machine_of v u x y roots next) ss) (sym new)
       (subst (λ (n : Now). Holds code (machine v.cells x y [] roots [] n) ss) (sym e) h)
@@ -68,16 +70,16 @@ module _ (code : Compiled) (v : Store) (k : Kept) (x y roots : List ℕ) (next :
   at-call : (IsQuestion code number → ⊥) → IsAtCall code number ts (machine_of v k x y roots next)
   at-call other = record {
     points = ap (λ (u : Kept). map (point_of v) u.moments) new;
-    holds = λ r n is below.
+    holds = λ r n is apart below.
         let same : q ≡ r = (let e : Some q ≡ Some r = sym known ∙ is in cc) in
         stands (calling number) (called r.name ts n ∷ []) (step.calls other)
-        (holds-call code v.cells t.base t.first t.count ts x y roots t.within t.tuple t.args t.len t.each number r is (t.width ∙ sym arity ∙ ap (λ (u : Predicate). u.arity) same) n below);
+        (holds-call code v.cells t.base t.first t.count ts x y roots t.within t.tuple t.args t.len t.each number r is (t.width ∙ sym arity ∙ ap (λ (u : Predicate). u.arity) same) n apart below);
   }
 
-  asked : code.query ≡ Some number → (p : Program) (u : Query) → IsAsked code p u → SameUpToNames ts (variables u.question.vars) → Holds code (machine_of v k x y roots next) (start u ∷ [])
+  asked : code.query ≡ Some number → (p : Program) (u : Query) → IsAsked code p u → SameUpToNames ts (variables u.question.vars) → Holds code (machine_of v k x y roots next) (tracked_start u ∷ [])
   asked e p u is same =
       let a = question code p u is number e in
-      stands (inside a.3) (start u ∷ []) (step.asks a)
+      stands (inside a.3) (tracked_start u ∷ []) (step.asks a)
       (holds-question code v.cells t.base t.first t.count ts x y roots t.within t.tuple t.args t.len t.each t.width a.3 u (question-reads code p u is number e) same is.is_query)
 
   pub started : (rest : ℕ) (room : Room) → IsFor code (record { machine = machine_of v k x y roots next; spent = 0; budget = rest; room = room })

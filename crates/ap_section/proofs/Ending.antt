@@ -1,7 +1,7 @@
 -- The states that are left where a search ends.
 use Rattle.std.proofs.Common.{◌≡◌, ℕ, ◌+◌, ◌<◌, List, length, ◌∙◌}
 use Rattle.std.specs.List.{AllByRecursion}
-use Rattle.ap_term.specs.Search.{State}
+use Rattle.ap_tracked.specs.Tracked.{Tracked}
 use Rattle.ap_instr.specs.Code.{Compiled}
 use Rattle.ap_standing.specs.Holds.{Holds}
 use Rattle.ap_section.specs.declared.advance.Turn.{Turn}
@@ -12,7 +12,7 @@ use Rattle.ap_section.proofs.Resting.{goals-left, answer-first, none-left}
 
 -- the states that are left
 pub states-left : (code : Compiled) (n : ℕ) (old new : Paused) → AllByRecursion (λ r. r < length new.machine.cells) new.machine.roots → (turn : Turn) → Ends code n old new turn
-    → (ss : List State) → Holds code new.machine ss → AreStates new.machine ss turn
+    → (ss : List Tracked) → Holds code new.machine ss → AreStates new.machine ss turn
 states-left code n old new inside Answer h ss held = answer-first code new.machine inside h ss held
 states-left code n old new inside Failed h ss held = none-left code new.machine h ss held
 states-left code n old new inside Spent h ss held = goals-left code new.machine h.0 ss held

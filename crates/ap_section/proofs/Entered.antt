@@ -6,7 +6,7 @@ use Rattle.std.specs.List.{AllByRecursion}
 use Rattle.ap_term.specs.Tree.{Trees}
 use Rattle.ap_term.specs.Goals.{Program}
 use Rattle.ap_term.specs.WellFormed.{IsProgram}
-use Rattle.ap_term.specs.Search.{State}
+use Rattle.ap_tracked.specs.Tracked.{Tracked}
 use Rattle.std.specs.Prelude.{IfSome}
 use Rattle.ap_cells.specs.declared.cells.Raw.{Raw}
 use Rattle.ap_instr.specs.declared.compiled.Predicate.{Predicate}
@@ -21,7 +21,7 @@ use Rattle.ap_standing.proofs.Calls.{turned, taken, skipped, renamed}
 use Rattle.ap_standing.proofs.Turns.{SameSet-trans, rest-none, AtCall-registers}
 use Rattle.ap_standing.proofs.Machines.{points-failed, failed-points}
 use Rattle.ap_section.specs.View.{Paused}
-use Rattle.ap_resolution.specs.Instances.{Inst}
+use Rattle.ap_tracked.specs.Instances.{Inst}
 use Rattle.ap_control.specs.declared.alternatives.Alternative.{Alternative}
 use Rattle.ap_control.specs.Heads.{IsShut, PassesOver}
 use Rattle.ap_section.specs.Choices.{Stays, AtNewest, Returned, LeavesOut, places_of, called_point, points_left}
@@ -32,7 +32,7 @@ use Rattle.ap_section.proofs.Alternatives.{Returned-trans}
 -- what is left depends on the call's own arguments alone
 regiven : (code : Compiled) (roots : List ℕ) (qs : List Point) (point other : Point) → other.cells ≡ point.cells → other.returns ≡ point.returns → other.predicate ≡ point.predicate
     → (q : Predicate) → slice_get code.predicates point.predicate ≡ Some q → SameArguments q.arity (held other.arguments) (held point.arguments)
-    → (ls : List ℕ) (ss : List State) → HoldsRest code roots point ls qs ss → HoldsRest code roots other ls qs ss
+    → (ls : List ℕ) (ss : List Tracked) → HoldsRest code roots point ls qs ss → HoldsRest code roots other ls qs ss
 regiven code roots qs point other ec er ep q known args ls ss h =
     let u = h.0 in
     let n : ℕ = u.predicate.arity in
@@ -52,7 +52,7 @@ regiven code roots qs point other ec er ep q known args ls ss h =
             (AtCall-registers code (standing_at roots point) (held other.arguments) (held point.arguments) u.predicate.name n (subst (λ (p : Predicate). SameArguments p.arity (held other.arguments) (held point.arguments)) eq args))
             u.same;
         plain = u.plain;
-        opens = u.opens;
+        first = u.first;
         ordinary = u.ordinary;
         heads = u.heads;
         good = u.good;
@@ -75,7 +75,7 @@ module _ (code : Compiled) (cs : List Raw) (x y : List ℕ) (ws : List Return) (
   here = record { cells = cs; returns = ws; arguments = x; predicate = number; place = 0; behind = None }
 
   -- clauses that can't be entered have no children
-  passed : (ls rest : List ℕ) → PassesOver code cs (held x) ls rest → (ss : List State) → HoldsRest code roots here ls qs ss → HoldsRest code roots here rest qs ss
+  passed : (ls rest : List ℕ) → PassesOver code cs (held x) ls rest → (ss : List Tracked) → HoldsRest code roots here ls qs ss → HoldsRest code roots here rest qs ss
   passed ls rest p ss h = go p.passed ls p.are p.shut h
     where
       go : (ks ls : List ℕ) → ls ≡ ks ++ rest → AllByRecursion (IsShut code cs (held x)) ks → HoldsRest code roots here ls qs ss → HoldsRest code roots here rest qs ss
@@ -85,7 +85,7 @@ module _ (code : Compiled) (cs : List Raw) (x y : List ℕ) (ws : List Return) (
           (skipped code roots qs here k (ks ++ rest) x y (λ n w a b. refl) (shut.0 (held y)) ss (subst (λ us. HoldsRest code roots here us qs ss) e h))
 
   -- the children by the clauses that are left
-  turned-to : (rest : List ℕ) → PassesOver code cs (held x) (clause_places code q) rest → (ss : List State) → Holds code before ss → (ts : List State) × Turned p 1 ss ts × HoldsRest code roots here rest qs ts
+  turned-to : (rest : List ℕ) → PassesOver code cs (held x) (clause_places code q) rest → (ss : List Tracked) → Holds code before ss → (ts : List Tracked) × Turned p 1 ss ts × HoldsRest code roots here rest qs ts
   turned-to rest over ss h =
       let t = turned code roots qs p good stands q here known x y (λ w a b. refl) ss h in
       (t.0, t.1, passed (clause_places code q) rest over t.0 t.2)
@@ -101,7 +101,7 @@ module _ (code : Compiled) (cs : List Raw) (x y : List ℕ) (ws : List Return) (
       (t.0, t.1, taken code roots qs here l ls qs x y (λ n w a b. refl) (λ left u. rest-none code roots here qs left (passed ls [] none left u)) t.0 t.2)
 
   -- a choice point for the call, with clauses that are left
-  kept-for : (a : Alternative) (left : List State) → HoldsRest code roots here (a.place ∷ places_from code a.behind) qs left → HoldsPoints code roots (called_point number q.arity a before ∷ qs) left
+  kept-for : (a : Alternative) (left : List Tracked) → HoldsRest code roots here (a.place ∷ places_from code a.behind) qs left → HoldsPoints code roots (called_point number q.arity a before ∷ qs) left
   kept-for a left h =
       regiven code roots qs here (called_point number q.arity a before) refl refl refl q known (λ w c b. get_or-take (q.arity + 1) x w 0 b) (a.place ∷ places_from code a.behind) left h
 
@@ -130,7 +130,7 @@ module _ (code : Compiled) (s u : Paused) (back : Returned s u) (due : s.machine
   same : at.point ≡ q
   same = let e : at.point ∷ at.others ≡ q ∷ qs = sym at.points ∙ back.points ∙ is in cc
 
-  left-of : (ss : List State) → Holds code s.machine ss → HoldsRest code u.machine.roots q (places code q) qs ss
+  left-of : (ss : List Tracked) → Holds code s.machine ss → HoldsRest code u.machine.roots q (places code q) qs ss
   left-of ss h =
       subst (λ rs. HoldsPoints code rs (q ∷ qs) ss) (sym back.stays.roots)
       (subst (λ ps. HoldsPoints code s.machine.roots ps ss) is (failed-points code s.machine due ss h))
@@ -142,12 +142,12 @@ module _ (code : Compiled) (s u : Paused) (back : Returned s u) (due : s.machine
       points-failed code u.machine (back.now ∙ due) opens ss (subst (λ ps. HoldsPoints code u.machine.roots ps ss) (sym (back.points ∙ is)) l)
 
   pub retaken : (t : Paused) → Returned s t → Returned t u → (rest : List ℕ) → LeavesOut code t.machine (places_from code q.behind) rest → (points : List Point)
-      → ((left : List State) → HoldsRest code u.machine.roots q rest qs left → HoldsPoints code u.machine.roots points left) → (place : ℕ) → q.place ≡ place
+      → ((left : List Tracked) → HoldsRest code u.machine.roots q rest qs left → HoldsPoints code u.machine.roots points left) → (place : ℕ) → q.place ≡ place
       → KeepsStanding code s.machine (machine u.machine.cells u.machine.x u.machine.y u.machine.returns u.machine.roots points (inside place))
   retaken t first second rest out points keep place ep ss h =
       let roots : List ℕ = u.machine.roots in
-      let keeps : (left : List State) → HoldsRest code roots q (places_from code q.behind) qs left → HoldsRest code roots q rest qs left =
-      subst (λ rs. (left : List State) → HoldsRest code rs q (places_from code q.behind) qs left → HoldsRest code rs q rest qs left) (sym second.stays.roots) (out.keeps q qs (first.points ∙ is))
+      let keeps : (left : List Tracked) → HoldsRest code roots q (places_from code q.behind) qs left → HoldsRest code roots q rest qs left =
+      subst (λ rs. (left : List Tracked) → HoldsRest code rs q (places_from code q.behind) qs left → HoldsRest code rs q rest qs left) (sym second.stays.roots) (out.keeps q qs (first.points ∙ is))
       in
       let t = taken code roots qs q q.place (places_from code q.behind) points u.machine.x u.machine.y (λ n w a b. at.x w ∙ ap (λ (p : Point). held p.arguments w) same) (λ left r. keep left (keeps left r)) ss (left-of ss h) in
       subst (λ l. Holds code (machine u.machine.cells u.machine.x u.machine.y u.machine.returns roots points (inside l)) ss) ep
@@ -155,7 +155,7 @@ module _ (code : Compiled) (s u : Paused) (back : Returned s u) (due : s.machine
       (subst (λ ws. Holds code (machine q.cells u.machine.x u.machine.y ws roots points (inside q.place)) ss) (sym (at.returns ∙ ap (λ (p : Point). p.returns) same)) t))
 
 -- what the other clauses' places are called
-pub named-anew : (code : Compiled) (roots : List ℕ) (q : Point) (qs : List Point) (place : ℕ) (behind : Option ℕ) (left : List State)
+pub named-anew : (code : Compiled) (roots : List ℕ) (q : Point) (qs : List Point) (place : ℕ) (behind : Option ℕ) (left : List Tracked)
     → HoldsRest code roots q (place ∷ places_from code behind) qs left → HoldsPoints code roots (record q { place = place; behind = behind } ∷ qs) left
 named-anew code roots q qs place behind left h = renamed code roots qs q (record q { place = place; behind = behind }) refl refl refl refl (place ∷ places_from code behind) left h
 
@@ -217,7 +217,7 @@ module _ (code : Compiled) (s t u n r : Paused) (q : Point) (qs : List Point) (i
   is-whole : r ≡ whole
   is-whole = er ∙ ap (λ (n : Paused). record n { machine = record n.machine { now = inside place } }) (en q qs (back.points ∙ is))
 
-  keep : (roots : List ℕ) (found : Option Alternative) (left : List State) → HoldsRest code roots q (places_of code found) qs left → HoldsPoints code roots (points_left found q qs) left
+  keep : (roots : List ℕ) (found : Option Alternative) (left : List Tracked) → HoldsRest code roots q (places_of code found) qs left → HoldsPoints code roots (points_left found q qs) left
   keep roots None left h = rest-none code roots q qs left h
   keep roots (Some a) left h = named-anew code roots q qs a.place a.behind left h
 

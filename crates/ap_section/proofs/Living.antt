@@ -2,13 +2,13 @@
 use Rattle.std.proofs.Common.{◌≡◌, ℕ, List, [], ◌∷◌, ◌++◌, refl, ap, sym, ◌∙◌, subst}
 use Rattle.std.specs.List.{AllByRecursion}
 use Rattle.ap_term.specs.Tree.{Tree, Trees, append_trees}
-use Rattle.ap_term.specs.Search.{State}
+use Rattle.ap_tracked.specs.Tracked.{Tracked}
 use Rattle.ap_cells.specs.declared.cells.Raw.{Raw}
 use Rattle.ap_instr.specs.Code.{Compiled}
 use Rattle.ap_resolution.specs.Instances.{IsSetOf}
 use Rattle.ap_steps.specs.Moves.{held}
 use Rattle.ap_steps.specs.Standing.{InCode}
-use Rattle.ap_steps.specs.Ways.{steps_from}
+use Rattle.ap_instr.specs.Steps.{steps_from}
 use Rattle.ap_steps.proofs.RegisterMaps.{funext}
 use Rattle.ap_standing.specs.Machine.{Point, Now, calling, inside, returning, failed, Machine, standing_at, places_from}
 use Rattle.ap_standing.specs.Holds.{HoldsPoints}
@@ -76,7 +76,7 @@ UnifiesAtNewest-same code m m' e place h q qs is = h q qs (e ∙ is)
 -- ---- what is left
 
 -- of a choice point that is kept for a clause that can be taken a state is left
-pub some-left : (code : Compiled) (roots : List ℕ) (q : Point) (qs : List Point) → IsLive code q → (ss : List State) → HoldsPoints code roots (q ∷ qs) ss → ss ≡ [] → ⊥
+pub some-left : (code : Compiled) (roots : List ℕ) (q : Point) (qs : List Point) → IsLive code q → (ss : List Tracked) → HoldsPoints code roots (q ∷ qs) ss → ss ≡ [] → ⊥
 some-left code roots q qs live ss h none_left =
     let s : Split code roots q q.place (places_from code q.behind) qs ss = split code roots q q.place (places_from code q.behind) qs ss h in
     let takes = live s.openly in

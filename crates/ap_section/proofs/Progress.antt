@@ -2,16 +2,16 @@
 use Rattle.std.proofs.Common.{◌≡◌, ℕ, zero, suc, ◌+◌, ◌-◌, ◌<◌, ◌≤◌, List, [], ◌∷◌, ◌++◌, length, drop, refl, sym, ◌∙◌, subst, arith}
 use Rattle.ap_term.specs.Goals.{Program}
 use Rattle.ap_term.specs.WellFormed.{IsProgram}
-use Rattle.ap_term.specs.Search.{State, children}
+use Rattle.ap_tracked.specs.Tracked.{Tracked, children}
 use Rattle.ap_instr.specs.Code.{Compiled}
 use Rattle.ap_instr.specs.StandsFor.{StandsFor}
 use Rattle.ap_steps.specs.Ways.{AllHaveTargets, IsRoomFor}
 use Rattle.ap_standing.specs.Holds.{Turned}
-use Rattle.ap_standing.specs.Laws.{KeepsStanding, IsTurn}
+use Rattle.ap_standing.specs.Laws.{IsTurn}
 use Rattle.ap_section.specs.Live.{AreLive, KeepsLive}
 use Rattle.ap_section.specs.View.{Paused, IsFor}
 use Rattle.ap_section.specs.Choices.{Stays}
-use Rattle.ap_section.specs.Advanced.{Advanced}
+use Rattle.ap_section.specs.Advanced.{CallsApart, GoesOn, Advanced}
 
 pub Stays-refl : (s : Paused) → Stays s s
 Stays-refl s = record { x = refl; y = refl; roots = refl; spent = refl; budget = refl; room = refl }
@@ -37,7 +37,7 @@ for-same code s t u e ex ey er live f = let g : IsFor code s = subst (IsFor code
 
 -- ---- turns
 
-Turned-then : (p : Program) (m n : ℕ) (ss ts us : List State) → Turned p m ss ts → Turned p n ts us → Turned p (m + n) ss us
+Turned-then : (p : Program) (m n : ℕ) (ss ts us : List Tracked) → Turned p m ss ts → Turned p n ts us → Turned p (m + n) ss us
 Turned-then p zero n ss ts us h k = subst (λ i. Turned p i ss us) (let q : n ≡ 0 + n = omega arith in q) (subst (λ vs. Turned p n vs us) h k)
 Turned-then p (suc m) n [] ts us h k = absurd h
 Turned-then p (suc m) n (s ∷ ss) ts us h k =
@@ -61,11 +61,15 @@ Advanced-then code r s t h k = record {
     sum : (s.spent - r.spent) + (t.spent - s.spent) ≡ t.spent - r.spent
     sum = let a : r.spent ≤ s.spent = h.more in let b : s.spent ≤ t.spent = k.more in omega arith
 
+-- code for a program calls only predicates of clauses
+pub calls-apart : (code : Compiled) (p : Program) → StandsFor code p → CallsApart code
+calls-apart code p stands at n i q here calls known = (stands.calls at n i q here calls known).apart
+
 -- moves that are no calls
-pub settled : (code : Compiled) (s t : Paused) → KeepsStanding code s.machine t.machine → Stays s t → KeepsLive code s.machine t.machine → Advanced code s t
+pub settled : (code : Compiled) (s t : Paused) → GoesOn code s.machine t.machine → Stays s t → KeepsLive code s.machine t.machine → Advanced code s t
 settled code s t keeps h live = record {
   more = let a : t.spent ≡ s.spent = h.spent in omega arith;
-  turned = λ p good stands ss k. (ss, subst (λ n. Turned p n ss ss) (let a : t.spent ≡ s.spent = h.spent in let q : 0 ≡ t.spent - s.spent = omega arith in q) refl, keeps ss k);
+  turned = λ p good stands ss k. (ss, subst (λ n. Turned p n ss ss) (let a : t.spent ≡ s.spent = h.spent in let q : 0 ≡ t.spent - s.spent = omega arith in q) refl, keeps (calls-apart code p stands) ss k);
   budget = h.budget;
   roots = h.roots;
   x = h.x;
@@ -94,7 +98,7 @@ counted code s t turn h live = record {
 
 -- nothing was done
 pub stopped : (code : Compiled) (s : Paused) → Advanced code s s
-stopped code s = settled code s s (λ ss h. h) (Stays-refl s) (λ l. l)
+stopped code s = settled code s s (λ a ss h. h) (Stays-refl s) (λ l. l)
 
 -- what came out is what there was
 pub unchanged : (code : Compiled) (s t : Paused) → t ≡ s → Advanced code s t

@@ -13,7 +13,9 @@ use Rattle.ap_term.proofs.Solutions.{same_var, same_test}
 use Rattle.ap_instr.specs.declared.compiled.Predicate.{Predicate}
 use Rattle.ap_instr.specs.Code.{Compiled}
 use Rattle.ap_instr.specs.Runs.{applied}
-use Rattle.ap_instr.specs.StandsFor.{ReadsAt, is_head_of, clauses_of, clause_places, asked, asked_query}
+use Rattle.ap_term.specs.Builtins.{builtin}
+use Rattle.ap_instr.specs.StandsFor.{ReadsAt, IsOfClauses, is_head_of, clauses_of, clause_places, asked, asked_query}
+use Rattle.ap_standing.proofs.Turns.{of-clauses}
 use Rattle.ap_section.specs.Started.{HasName, NoneIsFor, IsAsked, IsQuestion}
 
 pub query-is : (o : Option ℕ) (n : ℕ) → false ≡ not (option_eq nat_eq o (Some n)) → o ≡ Some n
@@ -61,6 +63,13 @@ pub count-variables : (n : ℕ) → count_trees (variables n) ≡ n
 count-variables zero = refl
 count-variables (suc n) = count-push (variables n) (var (suc n)) ∙ omega (arith, count-variables n)
 
+-- `?-` names no built-in goal
+query-apart : (ts : Trees) → builtin (applied QUERY ts) ≡ None
+query-apart none = refl
+query-apart (more t none) = refl
+query-apart (more t (more u none)) = refl
+query-apart (more t (more u (more v ts))) = refl
+
 module _ (code : Compiled) (p : Program) (q : Query) (is : IsAsked code p q) where
   only : clauses_of is.stands.predicate (joined p (asked_query q)) ≡ asked q ∷ []
   only =
@@ -85,8 +94,13 @@ module _ (code : Compiled) (p : Program) (q : Query) (is : IsAsked code p q) whe
     known : slice_get code.predicates number ≡ Some is.stands.predicate
     known = subst (λ n. slice_get code.predicates n ≡ Some is.stands.predicate) same is.stands.held
 
+    own : IsOfClauses code (joined p (asked_query q)) is.stands.predicate
+    own =
+        of-clauses code (joined p (asked_query q)) is.stands.predicate (is.stands.stands.predicates number is.stands.predicate known)
+        (λ ts e. ap (λ n. builtin (applied n ts)) is.stands.named ∙ query-apart ts)
+
     begun : (at : ℕ) × (clause_places code is.stands.predicate ≡ at ∷ []) × ReadsAt code at (asked q)
-    begun = single (clause_places code is.stands.predicate) (subst (AllZip (ReadsAt code) (clause_places code is.stands.predicate)) only (is.stands.stands.reads number is.stands.predicate known))
+    begun = single (clause_places code is.stands.predicate) (subst (AllZip (ReadsAt code) (clause_places code is.stands.predicate)) only own.reads)
 
     pub question : IsQuestion code number
     question = (e, is.stands.predicate, known, begun.0, begun.1)

@@ -1,14 +1,14 @@
 -- A section whose instructions were taken, or taken back.
 use Rattle.std.proofs.Common.{◌≡◌, ℕ, ◌<◌, ◌≤◌, List, ◌++◌, length, take, drop, map, replicate, Option, ap, ap₂, sym, ◌∙◌, subst, arith}
 use Rattle.std.proofs.lemmas.List.{take_all, take-append-le, length-replicate}
-use Rattle.ap_term.specs.Search.{State}
+use Rattle.ap_tracked.specs.Tracked.{Tracked}
 use Rattle.ap_cells.specs.declared.cells.Raw.{Raw}
 use Rattle.ap_cells.specs.Store.{Store, Keeps, IsTrail, IsMark, freed, undone}
 use Rattle.ap_instr.specs.Code.{Compiled}
 use Rattle.ap_environments.specs.Kept.{Moment, Kept}
 use Rattle.ap_steps.specs.Moves.{held, HoldPlaces, IsStuck}
 use Rattle.ap_steps.specs.Standing.{Return}
-use Rattle.ap_steps.specs.Ways.{steps_from}
+use Rattle.ap_instr.specs.Steps.{steps_from}
 use Rattle.ap_standing.specs.Machine.{Now, inside, failed, Machine}
 use Rattle.ap_standing.specs.Holds.{Holds}
 use Rattle.ap_standing.specs.Laws.{machine}
@@ -105,7 +105,7 @@ moved-ran code at cs cs' ds x x₁ y y₁ x' r y' t o ec ex ey er et h =
     (subst (λ us. RanOrStuck code at us x₁ y₁ o ds r t) ec h))))
 
 -- what a section stands for, in the words of its fields
-pub opened : (code : Compiled) (ss : List State) (s : Paused) (m : Machine) (now : Now) → m ≡ s.machine → s.machine.now ≡ now → Holds code s.machine ss → Holds code (record m { now = now }) ss
+pub opened : (code : Compiled) (ss : List Tracked) (s : Paused) (m : Machine) (now : Now) → m ≡ s.machine → s.machine.now ≡ now → Holds code s.machine ss → Holds code (record m { now = now }) ss
 opened code ss s m now e d h = subst (λ n. Holds code (record m { now = n }) ss) (ap (λ q. q.now) e ∙ d) (subst (λ q. Holds code q ss) (sym e) h)
 
 module _ (code : Compiled) (v w : Store) (k : Kept) (x y x' y' roots : List ℕ) (at : ℕ) (s : Sane v k x y roots) (keeps : Keeps v w) where
@@ -113,14 +113,14 @@ module _ (code : Compiled) (v w : Store) (k : Kept) (x y x' y' roots : List ℕ)
   same_points = points-keep v w (length x) (length y) roots (length v.cells) (length v.trail) k.moments keeps s.moments
 
   -- the instructions were taken
-  pub ran-holds : (to : ℕ) → Ran code at v.cells x y to w.cells x' y' → (ss : List State) → Holds code (machine v.cells x y k.returns roots (map (point_of v) k.moments) (inside at)) ss
+  pub ran-holds : (to : ℕ) → Ran code at v.cells x y to w.cells x' y' → (ss : List Tracked) → Holds code (machine v.cells x y k.returns roots (map (point_of v) k.moments) (inside at)) ss
       → Holds code (machine w.cells x' y' k.returns roots (map (point_of w) k.moments) (inside to)) ss
   ran-holds to r ss h =
       subst (λ qs. Holds code (machine w.cells x' y' k.returns roots qs (inside to)) ss) (sym same_points)
       (went code roots (map (point_of v) k.moments) k.returns v.cells w.cells x y x' y' at to r.moves s.returns s.inside r.openly ss h)
 
   -- they can't be taken
-  pub stuck-holds : IsStuck v.cells (held x) (held y) (steps_from code at) → (ss : List State) → Holds code (machine v.cells x y k.returns roots (map (point_of v) k.moments) (inside at)) ss
+  pub stuck-holds : IsStuck v.cells (held x) (held y) (steps_from code at) → (ss : List Tracked) → Holds code (machine v.cells x y k.returns roots (map (point_of v) k.moments) (inside at)) ss
       → Holds code (machine w.cells x' y' k.returns roots (map (point_of w) k.moments) failed) ss
   stuck-holds st ss h =
       subst (λ qs. Holds code (machine w.cells x' y' k.returns roots qs failed) ss) (sym same_points)

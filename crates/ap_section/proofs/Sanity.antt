@@ -54,7 +54,7 @@ module _ (v : Store) (k : Kept) (x y roots : List ℕ) (m : Moment)
   length-fewer (suc n) [] = omega arith
   length-fewer (suc n) (x ∷ xs) = let i = length-fewer n xs in omega arith
 
-  pub Sane-kept : Sane v (record { returns = k.returns; moments = m ∷ k.moments }) x y roots
+  pub Sane-kept : Sane v (record k { moments = m ∷ k.moments }) x y roots
   Sane-kept =
       let some : 1 ≤ length v.cells = h.bottom.mark.fewer in
       record {
@@ -148,7 +148,7 @@ module _ (v : Store) (k l : Kept) (x y roots : List ℕ) (m : Moment) (ms : List
   renamed-moment place behind = record { choice = record m.choice { place = place; behind = behind }; returns = m.returns; arguments = m.arguments }
 
   -- other clauses are named
-  pub Sane-renamed : (place : ℕ) (behind : Option ℕ) → l ≡ record { returns = k.returns; moments = renamed-moment place behind ∷ ms } → Sane v l x y roots
+  pub Sane-renamed : (place : ℕ) (behind : Option ℕ) → l ≡ record k { moments = renamed-moment place behind ∷ ms } → Sane v l x y roots
   Sane-renamed place behind e = subst (λ j. Sane v j x y roots) (sym e) (record {
     x = h.x;
     y = h.y;
@@ -164,7 +164,7 @@ module _ (v : Store) (k l : Kept) (x y roots : List ℕ) (m : Moment) (ms : List
   AreMoments-more a b a' b' (q ∷ qs) la lb g = (let c : q.choice.cells ≤ a = g.0 in omega arith, let c : q.choice.trail ≤ b = g.1 in omega arith, g.2, g.3)
 
   -- it is forgotten
-  pub Sane-forgotten : l ≡ record { returns = k.returns; moments = ms } → Sane v l x y roots
+  pub Sane-forgotten : l ≡ record k { moments = ms } → Sane v l x y roots
   Sane-forgotten e = subst (λ j. Sane v j x y roots) (sym e) (record {
     x = h.x;
     y = h.y;
@@ -182,7 +182,7 @@ module _ (v : Store) (k l : Kept) (x y roots : List ℕ) (next : Kind) (spent bu
   abbrev seen : List Point → List Return → Paused → Paused
   seen ps ws t = record t { machine = record t.machine { points = ps; returns = ws } }
 
-  pub points-forgotten : ((m : Moment) (ms : List Moment) → k.moments ≡ m ∷ ms → l ≡ record { returns = k.returns; moments = ms }) → (q : Point) (qs : List Point) → s.machine.points ≡ q ∷ qs
+  pub points-forgotten : ((m : Moment) (ms : List Moment) → k.moments ≡ m ∷ ms → l ≡ record k { moments = ms }) → (q : Point) (qs : List Point) → s.machine.points ≡ q ∷ qs
       → ◌≡◌ {A = Paused} (record { machine = machine_of v l x y roots next; spent = spent; budget = budget; room = room }) (record s { machine = record s.machine { points = qs } })
   points-forgotten f q qs e =
       let ep : map (point_of v) k.moments ≡ q ∷ qs = ap (λ (t : Paused). t.machine.points) view ∙ e in
@@ -194,7 +194,7 @@ module _ (v : Store) (k l : Kept) (x y roots : List ℕ) (next : Kind) (spent bu
       ∙ ap (λ (t : Paused). record t { machine = record t.machine { points = qs } }) view
 
   pub points-renamed : (place : ℕ) (behind : Option ℕ)
-      → ((m : Moment) (ms : List Moment) → k.moments ≡ m ∷ ms → l ≡ record { returns = k.returns; moments = record { choice = record m.choice { place = place; behind = behind }; returns = m.returns; arguments = m.arguments } ∷ ms })
+      → ((m : Moment) (ms : List Moment) → k.moments ≡ m ∷ ms → l ≡ record k { moments = record { choice = record m.choice { place = place; behind = behind }; returns = m.returns; arguments = m.arguments } ∷ ms })
       → (q : Point) (qs : List Point) → s.machine.points ≡ q ∷ qs
       → ◌≡◌ {A = Paused} (record { machine = machine_of v l x y roots next; spent = spent; budget = budget; room = room }) (record s { machine = record s.machine { points = record q { place = place; behind = behind } ∷ qs } })
   points-renamed place behind f q qs e =
@@ -231,7 +231,7 @@ module _ (v w : Store) (old new : Kept) (x y : List ℕ) (c : Choice) (m : Momen
 
   pub went-back : w.cells ≡ undone v c.cells c.trail → ((n t : ℕ) → n ≤ c.cells → t ≤ c.trail → IsMark v.cells v.trail n t → IsMark w.cells w.trail n t)
       → ((n t : ℕ) → n ≤ c.cells → t ≤ c.trail → IsMark v.cells v.trail n t → undone w n t ≡ undone v n t)
-      → new ≡ record { returns = m.returns; moments = old.moments } → ((n : ℕ) → held x n ≡ held m.arguments n) → (n : ℕ) → y ≡ replicate n 0 → WentBack v w old new x y m
+      → new ≡ record old { returns = m.returns } → ((n : ℕ) → held x n ≡ held m.arguments n) → (n : ℕ) → y ≡ replicate n 0 → WentBack v w old new x y m
   went-back cells older leads kept hx n ey = record {
     cells = subst (λ (d : Choice). w.cells ≡ undone v d.cells d.trail) (sym choice) cells;
     older = subst (λ (d : Choice). (n t : ℕ) → n ≤ d.cells → t ≤ d.trail → IsMark v.cells v.trail n t → IsMark w.cells w.trail n t) (sym choice) older;

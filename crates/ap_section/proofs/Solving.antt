@@ -38,12 +38,12 @@ module _ (code : Compiled) (cs ds : List Raw) (ws : List Return) (roots : List �
   goal-turn True r e s =
       subst (λ us. IsTurn code p (machine cs x y ws roots qs (inside at)) (machine us x y ws roots qs (behind_goal at r))) (sym s.0)
       (subst (λ b. IsTurn code p (machine cs x y ws roots qs (inside at)) (machine cs x y ws roots qs (behind_goal at b))) (sym s.1)
-      (true-turn code cs ds ws roots qs x y at p good hx (steps-at code at (builtin_instr True) e)))
+      (true-turn code cs ds ws roots qs x y at p good hx (steps-at code at (builtin_instr True) e (λ d. cc))))
   goal-turn Fail r e s =
       subst (λ b. IsTurn code p (machine cs x y ws roots qs (inside at)) (machine ds x y ws roots qs (behind_goal at b))) (sym s.1)
-      (fail-turn code cs ds ws roots qs x y at p good hx (steps-at code at (builtin_instr Fail) e))
+      (fail-turn code cs ds ws roots qs x y at p good hx (steps-at code at (builtin_instr Fail) e (λ d. cc)))
   goal-turn (Relation relation) r e s =
-      solved-turn code cs ds ws roots qs x y at p good hx relation r (steps-at code at (builtin_instr (Relation relation)) e) hy hw hr s
+      solved-turn code cs ds ws roots qs x y at p good hx relation r (steps-at code at (builtin_instr (Relation relation)) e (λ d. cc)) hy hw hr s
 
 -- ---- the section after a goal
 

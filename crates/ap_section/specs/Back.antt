@@ -13,6 +13,6 @@ pub record WentBack (v w : Store) (old new : Kept) (x y : List ℕ) (m : Moment)
   pub cells : w.cells ≡ undone v m.choice.cells m.choice.trail
   pub older : (n t : ℕ) → n ≤ m.choice.cells → t ≤ m.choice.trail → IsMark v.cells v.trail n t → IsMark w.cells w.trail n t
   pub leads : (n t : ℕ) → n ≤ m.choice.cells → t ≤ m.choice.trail → IsMark v.cells v.trail n t → undone w n t ≡ undone v n t
-  pub kept : new ≡ record { returns = m.returns; moments = old.moments }
+  pub kept : new ≡ record old { returns = m.returns }
   pub hold_x : (n : ℕ) → held x n ≡ held m.arguments n
   pub hold_y : (n : ℕ) → held y n ≡ 0

@@ -1,6 +1,6 @@
 -- What a section's moves keep.
 use Rattle.std.specs.Prelude.{◌≡◌, ℕ, ◌+◌, ◌≤◌, List, [], ◌∷◌, length, take, Option, None, Some}
-use Rattle.ap_term.specs.Search.{State}
+use Rattle.ap_tracked.specs.Tracked.{Tracked}
 use Rattle.ap_instr.specs.Code.{Compiled}
 use Rattle.ap_control.specs.declared.alternatives.Alternative.{Alternative}
 use Rattle.ap_steps.specs.Moves.{held}
@@ -41,7 +41,7 @@ places_of code (Some a) = a.place ∷ places_from code a.behind
 -- of the newest choice point's clauses at these places only some need be tried
 pub record LeavesOut (code : Compiled) (m : Machine) (ls rest : List ℕ) : Type 0 where
   pub fewer : length rest ≤ length ls
-  pub keeps : (q : Point) (qs : List Point) → m.points ≡ q ∷ qs → (ss : List State) → HoldsRest code m.roots q ls qs ss → HoldsRest code m.roots q rest qs ss
+  pub keeps : (q : Point) (qs : List Point) → m.points ≡ q ∷ qs → (ss : List Tracked) → HoldsRest code m.roots q ls qs ss → HoldsRest code m.roots q rest qs ss
 
 -- a choice point for a call on the argument registers, with an alternative
 abbrev pub called_point : ℕ → ℕ → Alternative → Machine → Point

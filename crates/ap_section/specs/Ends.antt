@@ -1,6 +1,6 @@
 -- Why a section came back, and what that says of the model's states.
 use Rattle.std.specs.Prelude.{◌≡◌, ℕ, ◌+◌, ◌<◌, ◌≤◌, List, []}
-use Rattle.ap_term.specs.Search.{State}
+use Rattle.ap_tracked.specs.Tracked.{Tracked}
 use Rattle.ap_instr.specs.Code.{Compiled}
 use Rattle.ap_standing.specs.Machine.{Machine}
 use Rattle.ap_section.specs.declared.advance.Turn.{Turn}
@@ -27,7 +27,7 @@ IsEndOf s AnswerDue end = end ≡ Answer
 IsEndOf s Nothing end = end ≡ Failed
 
 -- what the states are that a machine stands for which came back
-abbrev pub AreStates : Machine → List State → Turn → Type 0
+abbrev pub AreStates : Machine → List Tracked → Turn → Type 0
 AreStates m ss Answer = IsAnswer (tuple_of m) ss
 AreStates m ss Failed = ss ≡ []
 AreStates m ss Spent = HasGoals ss

@@ -1,7 +1,7 @@
 -- Where a search may come to rest, and what a list of states begins with.
 use Rattle.std.specs.Prelude.{◌≡◌, List, [], ◌∷◌, slice_get, Some, None}
 use Rattle.ap_term.specs.Tree.{Trees}
-use Rattle.ap_term.specs.Search.{State}
+use Rattle.ap_tracked.specs.Tracked.{Tracked}
 use Rattle.ap_term.specs.UpToNames.{SameUpToNames}
 use Rattle.ap_cells.specs.Trees.{tree_at, trees}
 use Rattle.ap_instr.specs.declared.builtins.Builtin.{Builtin}
@@ -31,11 +31,11 @@ abbrev pub tuple_of : Machine → Trees
 tuple_of m = tuple_under (tree_at (trees m.cells)) m.roots
 
 -- the first state is an answer, with that tuple up to names
-abbrev pub IsAnswer : Trees → List State → Type 0
+abbrev pub IsAnswer : Trees → List Tracked → Type 0
 IsAnswer t [] = ⊥
 IsAnswer t (s ∷ ss) = (s.goals ≡ []) × (s.fault ≡ None) × SameUpToNames t s.tuple
 
 -- the first state has goals
-abbrev pub HasGoals : List State → Type 0
+abbrev pub HasGoals : List Tracked → Type 0
 HasGoals [] = ⊥
 HasGoals (s ∷ ss) = s.goals ≡ [] → ⊥

@@ -3,27 +3,29 @@ use Rattle.std.specs.Prelude.{◌≡◌, ℕ, ◌<◌, [], ◌∷◌, length, sl
 use Rattle.std.specs.List.{AllByRecursion}
 use Rattle.ap_term.specs.declared.fixed.TheConstants.{QUERY}
 use Rattle.ap_term.specs.Tree.{Tree, Trees, atom, node, count_trees}
-use Rattle.ap_term.specs.Goals.{call, Clause, Program, Query}
+use Rattle.ap_term.specs.Goals.{Clause, Program, Query}
 use Rattle.ap_term.specs.UpToNames.{SameUpToNames}
 use Rattle.ap_term.specs.WellFormed.{IsQuery}
-use Rattle.ap_term.specs.Search.{State, variables, start}
+use Rattle.ap_term.specs.Search.{variables}
 use Rattle.ap_term.specs.Vars.{LocalAll}
+use Rattle.ap_tracked.specs.Tracked.{call, Tracked}
+use Rattle.ap_graft.specs.Starts.{tracked_start}
 use Rattle.ap_instr.specs.declared.compiled.Predicate.{Predicate}
 use Rattle.ap_instr.specs.Code.{Compiled}
 use Rattle.ap_instr.specs.Runs.{applied}
 use Rattle.ap_instr.specs.StandsFor.{clause_places, StandsForQuery}
 use Rattle.ap_standing.specs.Machine.{Machine, Now, calling, inside}
-use Rattle.ap_standing.specs.Holds.{Holds}
+use Rattle.ap_standing.specs.Holds.{IsApart, Holds}
 use Rattle.ap_section.specs.View.{Paused, IsFor}
 
 -- the state in which the call of a name on a tuple begins, whose variables are below a number
-abbrev pub called : ℕ → Trees → ℕ → State
+abbrev pub called : ℕ → Trees → ℕ → Tracked
 called name ts next = record { goals = call (applied name ts) ∷ []; tuple = ts; next = next; steps = 0; fault = None }
 
--- the machine is at the call of a predicate on a tuple, and there is no other way on
+-- the machine is at the call of a predicate of clauses on a tuple, and there is no other way on
 pub record IsAtCall (code : Compiled) (number : ℕ) (ts : Trees) (m : Machine) : Type 0 where
   pub points : m.points ≡ []
-  pub holds : (q : Predicate) (next : ℕ) → slice_get code.predicates number ≡ Some q → LocalAll (λ x. x < next) ts → Holds code m (called q.name ts next ∷ [])
+  pub holds : (q : Predicate) (next : ℕ) → slice_get code.predicates number ≡ Some q → IsApart q → LocalAll (λ x. x < next) ts → Holds code m (called q.name ts next ∷ [])
 
 -- whether a tree has a name
 abbrev pub HasName : ℕ → Tree → Type 0
@@ -60,4 +62,4 @@ pub record Started (code : Compiled) (ts : Trees) (number rest : ℕ) (s : Pause
   pub budget : s.budget ≡ rest
   pub roots : length s.machine.roots ≡ count_trees ts
   pub calls : (IsQuestion code number → ⊥) → IsAtCall code number ts s.machine
-  pub asks : code.query ≡ Some number → (p : Program) (q : Query) → IsAsked code p q → SameUpToNames ts (variables q.question.vars) → Holds code s.machine (start q ∷ [])
+  pub asks : code.query ≡ Some number → (p : Program) (q : Query) → IsAsked code p q → SameUpToNames ts (variables q.question.vars) → Holds code s.machine (tracked_start q ∷ [])

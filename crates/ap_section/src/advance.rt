@@ -1,7 +1,7 @@
 //! The search, one call after another.
 
 ghost use Rattle.std.specs.Prelude.{◌≡◌, ◌+◌, ◌-◌, ◌^◌, ◌<◌, ◌≤◌, List, max, true, false, None, Some, Ok, IfOk, IfSome, IfNone, OnErr, slice_get};
-ghost use Rattle.ap_term.specs.Search.{State};
+ghost use Rattle.ap_tracked.specs.Tracked.{Tracked};
 ghost use Rattle.ap_ledger.specs.Counts.{capped};
 ghost use Rattle.ap_instr.specs.declared.instruction.Instr.TheVariants.{Builtin as builtin_instr};
 ghost use Rattle.ap_instr.specs.declared.compiled.Predicate.{Predicate};
@@ -181,7 +181,7 @@ impl Section {
         ensures few { self.new.spent ≤ self.old.spent + inferences }
         ensures share { share.new ≡ capped (share.old + (self.new.spent - self.old.spent)) }
         ensures end { IfOk result (λ turn. Ends sound.now inferences self.old self.new turn) }
-        ensures states { IfOk result (λ turn. (ss : List State) → Holds sound.now self.new.machine ss → AreStates self.new.machine ss turn) }
+        ensures states { IfOk result (λ turn. (ss : List Tracked) → Holds sound.now self.new.machine ss → AreStates self.new.machine ss turn) }
         ensures stopped { result ≡ Ok Turn.Stopped → H.asked hook.new }
         ensures asked { H.asked hook.old → H.asked hook.new }
     {

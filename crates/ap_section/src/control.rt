@@ -1,7 +1,7 @@
 //! Instructions of control, and control that comes back.
 
 ghost use Rattle.std.specs.Prelude.{◌≡◌, ℕ, ◌+◌, ◌<◌, ◌≤◌, List, [], length, drop, slice_get, None, Some, true, false, IfOk, IfSome, IfNone, MatchOption, OnOk, OnErr};
-ghost use Rattle.ap_term.specs.Search.{State};
+ghost use Rattle.ap_tracked.specs.Tracked.{Tracked};
 ghost use Rattle.ap_cells.specs.Store.{Keeps};
 ghost use Rattle.ap_instr.specs.declared.compiled.Predicate.{Predicate};
 ghost use Rattle.ap_instr.specs.Code.{Compiled};
@@ -12,6 +12,7 @@ ghost use Rattle.ap_standing.specs.Machine.{inside, returning, failed};
 ghost use Rattle.ap_standing.specs.Holds.{Holds};
 ghost use Rattle.ap_standing.specs.Laws.{KeepsStanding};
 ghost use Rattle.ap_section.specs.View.{IsFor};
+ghost use Rattle.ap_section.specs.Advanced.{GoesOn};
 ghost use Rattle.ap_section.specs.Choices.{Stays};
 ghost use Rattle.ap_section.specs.Lasting.{moves_left, SameRest};
 ghost use Rattle.ap_section.specs.Due.{IsDue};
@@ -141,11 +142,12 @@ impl Section {
         }
     }
 
-    /// Control is at an instruction of control, which leads on, or to what is due. Without memory nothing changes.
+    /// Control is at an instruction of control, which leads on, or to what is due. Without memory nothing changes; code of a
+    /// group is want of memory.
     pub(crate) fn transfer(&mut self, code: &Code, at: usize) -> Result<Option<Due>, NoMemory>
         requires here { self.old.machine.now ≡ inside at }
         requires leads { IsTransferAt code.now at }
-        ensures holds { KeepsStanding code.now self.old.machine self.new.machine }
+        ensures holds { GoesOn code.now self.old.machine self.new.machine }
         ensures stays { Stays self.old self.new }
         ensures fewer { IfOk result (λ found. IfNone found (moves_left code.now self.new.machine < moves_left code.now self.old.machine)) }
         ensures due { IfOk result (λ found. IfSome found (λ due. IsDue code.now self.new.machine due)) }
@@ -173,11 +175,17 @@ impl Section {
                 }
                 Instr::Builtin(builtin) => return Ok(Some(Due::Goal(builtin, at))),
                 Instr::Proceed => self.next = Now::Returning,
-                Instr::Jump(_) => self.next = Now::Failed,
                 Instr::Fail => self.next = Now::Failed,
                 Instr::Try(_) => self.next = Now::Failed,
                 Instr::Retry(_) => self.next = Now::Failed,
                 Instr::Trust(_) => self.next = Now::Failed,
+                // Only code of groups has these, and a section has no room for a group.
+                Instr::Jump(_) => return Err(NoMemory),
+                Instr::CheckGround(_, _) => return Err(NoMemory),
+                Instr::CheckIndep(_, _, _) => return Err(NoMemory),
+                Instr::AllocParcall(_) => return Err(NoMemory),
+                Instr::PushGoal(_, _) => return Err(NoMemory),
+                Instr::WaitAll => return Err(NoMemory),
                 _ => unreachable!(),
             },
         }
@@ -187,7 +195,7 @@ impl Section {
     /// Control comes back to the innermost return. False where there is none.
     pub(crate) fn come_back(&mut self) -> bool
         requires { self.old.machine.now ≡ returning }
-        ensures holds { (code : Compiled) (ss : List State) → Holds code self.old.machine ss → Holds code self.new.machine ss }
+        ensures holds { (code : Compiled) (ss : List Tracked) → Holds code self.old.machine ss → Holds code self.new.machine ss }
         ensures stays { Stays self.old self.new }
         ensures ended { result ≡ false → self.new ≡ self.old }
         ensures fewer { result ≡ true → (code : Compiled) → moves_left code self.new.machine < moves_left code self.old.machine }

@@ -4,6 +4,7 @@ ghost use Rattle.std.specs.Prelude.{◌≡◌, ◌≤◌, ◌<◌, Some, None, t
 ghost use Rattle.ap_standing.specs.Machine.{calling, inside};
 ghost use Rattle.ap_standing.specs.Laws.{KeepsStanding};
 ghost use Rattle.ap_section.specs.View.{IsFor};
+ghost use Rattle.ap_section.specs.Advanced.{GoesOn};
 ghost use Rattle.ap_section.specs.Live.{KeepsLive};
 ghost use Rattle.ap_section.specs.Choices.{Stays};
 ghost use Rattle.ap_section.specs.Lasting.{moves_left};
@@ -49,7 +50,7 @@ impl Section {
     fn go_inside(&mut self, code: &Code, at: usize) -> Result<Option<Due>, NoMemory>
         requires here { self.old.machine.now ≡ inside at }
         requires is_for { IsFor code.now self.old }
-        ensures holds { KeepsStanding code.now self.old.machine self.new.machine }
+        ensures holds { GoesOn code.now self.old.machine self.new.machine }
         ensures stays { Stays self.old self.new }
         ensures fewer { IfOk result (λ found. IfNone found (moves_left code.now self.new.machine < moves_left code.now self.old.machine)) }
         ensures due { IfOk result (λ found. IfSome found (λ due. IsDue code.now self.new.machine due)) }
@@ -64,7 +65,7 @@ impl Section {
     /// One move that is no call, or what is due.
     fn go_on(&mut self, sound: &Sound) -> Result<Option<Due>, NoMemory>
         requires { IsFor sound.now self.old }
-        ensures holds { KeepsStanding sound.now self.old.machine self.new.machine }
+        ensures holds { GoesOn sound.now self.old.machine self.new.machine }
         ensures stays { Stays self.old self.new }
         ensures fewer { IfOk result (λ found. IfNone found (moves_left sound.now self.new.machine < moves_left sound.now self.old.machine)) }
         ensures due { IfOk result (λ found. IfSome found (λ due. IsDue sound.now self.new.machine due)) }
@@ -92,7 +93,7 @@ impl Section {
     /// Goes on, without a call, to what is due.
     pub(crate) fn find_due(&mut self, sound: &Sound) -> Result<Due, NoMemory>
         requires { IsFor sound.now self.old }
-        ensures holds { KeepsStanding sound.now self.old.machine self.new.machine }
+        ensures holds { GoesOn sound.now self.old.machine self.new.machine }
         ensures stays { Stays self.old self.new }
         ensures due { IfOk result (λ due. IsDue sound.now self.new.machine due) }
         ensures live { KeepsLive sound.now self.old.machine self.new.machine }

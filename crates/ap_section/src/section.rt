@@ -4,7 +4,7 @@ ghost use Rattle.std.specs.Prelude.{◌≡◌, ◌+◌, ◌-◌, ◌^◌, ◌<�
 ghost use Rattle.ap_term.specs.UpToNames.{SameUpToNames};
 ghost use Rattle.std.specs.List.{AllByRecursion};
 ghost use Rattle.ap_term.specs.Tree.{count_trees};
-ghost use Rattle.ap_term.specs.Search.{State};
+ghost use Rattle.ap_tracked.specs.Tracked.{Tracked};
 ghost use Rattle.ap_instr.specs.Code.{Compiled};
 ghost use Rattle.ap_standing.specs.Machine.{failed};
 ghost use Rattle.ap_standing.specs.Holds.{Holds};
@@ -126,8 +126,8 @@ impl Section {
     /// Whether an alternative is left. At an answer that says whether another state is.
     pub fn has_more(&self) -> bool
         ensures none { result ≡ false → self.now.machine.points ≡ [] }
-        ensures more { result ≡ true → (code : Compiled) → IsFor code self.now → IsAtAnswer self.now.machine → (s : State) (ss : List State) → Holds code self.now.machine (s ∷ ss) → ss ≡ [] → ⊥ }
-        ensures last { result ≡ false → (code : Compiled) → IsAtAnswer self.now.machine → (s : State) (ss : List State) → Holds code self.now.machine (s ∷ ss) → ss ≡ [] }
+        ensures more { result ≡ true → (code : Compiled) → IsFor code self.now → IsAtAnswer self.now.machine → (s : Tracked) (ss : List Tracked) → Holds code self.now.machine (s ∷ ss) → ss ≡ [] → ⊥ }
+        ensures last { result ≡ false → (code : Compiled) → IsAtAnswer self.now.machine → (s : Tracked) (ss : List Tracked) → Holds code self.now.machine (s ∷ ss) → ss ≡ [] }
     {
         match self.environments.newest() {
             Some(_) => true,
@@ -139,7 +139,7 @@ impl Section {
     pub fn redo(&mut self)
         ensures failed { self.new ≡ record self.old { machine = record self.old.machine { now = failed } } }
         ensures is_for { (code : Compiled) → IsFor code self.old → IsFor code self.new }
-        ensures left { IsAtAnswer self.old.machine → (code : Compiled) (s : State) (ss : List State) → Holds code self.old.machine (s ∷ ss) → Holds code self.new.machine ss }
+        ensures left { IsAtAnswer self.old.machine → (code : Compiled) (s : Tracked) (ss : List Tracked) → Holds code self.old.machine (s ∷ ss) → Holds code self.new.machine ss }
     {
         self.next = Now::Failed;
     }
@@ -148,7 +148,7 @@ impl Section {
     pub fn answer(&self) -> Result<Parcelled, NoMemory>
         ensures tuple { IfOk result (λ parcel. SameUpToNames parcel (tuple_of self.now.machine)) }
         ensures width { IfOk result (λ parcel. count_trees parcel ≡ length self.now.machine.roots) }
-        ensures answered { IfOk result (λ parcel. IsAtAnswer self.now.machine → (code : Compiled) (s : State) (ss : List State) → Holds code self.now.machine (s ∷ ss) → SameUpToNames parcel s.tuple) }
+        ensures answered { IfOk result (λ parcel. IsAtAnswer self.now.machine → (code : Compiled) (s : Tracked) (ss : List Tracked) → Holds code self.now.machine (s ∷ ss) → SameUpToNames parcel s.tuple) }
     {
         let mut packing = Packing::new(self.alloc);
         copy_out(self.alloc, &self.cells, &self.roots, &mut packing)

@@ -1,32 +1,33 @@
 -- A built-in goal is one turn of the model.
 use Rattle.std.proofs.Common.{◌≡◌, ℕ, ℤ, zero, suc, ◌+◌, ◌<◌, Bool, true, false, List, [], ◌∷◌, ◌++◌, length, Option, Some, None, refl, ap, ap₂, sym, ◌∙◌, subst}
 use Rattle.std.specs.List.{AllByRecursion}
-use Rattle.ap_term.specs.declared.builtins.Op.TheVariants.{Eq, Ne, Lt, Gt, Le, Ge}
 use Rattle.ap_term.specs.declared.builtins.Relation.{Relation}
 use Rattle.ap_term.specs.declared.builtins.Relation.TheVariants.{Unify, NotUnify, Same, NotSame, Is, Compare}
 use Rattle.ap_term.specs.declared.fixed.TheConstants.{TRUE, FAIL, UNIFY, IS}
 use Rattle.ap_term.specs.Tree.{Tree, Trees, int, node, none, more, append_trees}
 use Rattle.ap_term.specs.Substitution.{instance, instance_all}
-use Rattle.ap_term.specs.Goals.{Part, call, Program, opened, plain_goals}
+use Rattle.ap_term.specs.Goals.{Program}
 use Rattle.ap_term.specs.WellFormed.{IsProgram}
 use Rattle.ap_term.specs.Arithmetic.{eval}
-use Rattle.ap_term.specs.Builtins.{builtin, relation_answer, unified_value}
-use Rattle.ap_term.specs.Search.{State, children}
+use Rattle.ap_term.specs.Builtins.{builtin, unified_value}
+use Rattle.ap_tracked.specs.Tracked.{Goal, call, Tracked, children}
+use Rattle.ap_tracked.specs.Marks.{marked}
+use Rattle.ap_tracked.specs.Instances.{Inst}
 use Rattle.ap_cells.specs.declared.cells.Raw.{Raw}
 use Rattle.ap_cells.specs.Trees.{tree_at, trees}
 use Rattle.ap_instr.specs.Builtin.{relation_name}
 use Rattle.ap_instr.specs.Code.{Compiled}
 use Rattle.ap_instr.specs.Step.{Step, builtin as builtin_step}
+use Rattle.ap_instr.specs.Steps.{steps_from}
 use Rattle.ap_instr.specs.Runs.{Runs, applied, spread, IsOpen, AsksOpenly}
 use Rattle.ap_match.specs.Fits.{Fits, Becomes, Answered}
 use Rattle.ap_match.proofs.Maps.{fits-own}
-use Rattle.ap_resolution.specs.Instances.{Inst, SameSet, IsSetOf, IsGeneralGoal, Behind, Equated, Valued}
+use Rattle.ap_resolution.specs.Instances.{SameSet, IsSetOf, IsGeneralGoal, Behind, Equated, Valued}
 use Rattle.ap_resolution.proofs.Unified.{IsSetOf-same}
 use Rattle.ap_resolution.proofs.Variants.{instances}
 use Rattle.ap_resolution.proofs.Builtins.{builtins}
 use Rattle.ap_steps.specs.Moves.{held, HoldPlaces}
 use Rattle.ap_steps.specs.Standing.{Return, Standing, Waits, InCode}
-use Rattle.ap_steps.specs.Ways.{steps_from}
 use Rattle.ap_steps.proofs.Steps.{Runs-agree}
 use Rattle.ap_standing.specs.Machine.{Point, inside, failed, AreWithin}
 use Rattle.ap_standing.specs.Holds.{SetOf, IsOpenAt, AreOpen, Holds, Turned}
@@ -34,7 +35,8 @@ use Rattle.ap_standing.specs.Solved.{GivenValue, Tested, Solved}
 use Rattle.ap_standing.specs.Laws.{machine, behind_goal}
 use Rattle.ap_standing.proofs.Children.{plain-children, no-state}
 use Rattle.ap_standing.proofs.Moved.{Waits-agree, some-waits}
-use Rattle.ap_standing.proofs.Turns.{SameSet-trans, SameSet-sym, first-call}
+use Rattle.ap_standing.proofs.FirstGoals.{first-call}
+use Rattle.ap_standing.proofs.Turns.{SameSet-trans, SameSet-sym, relation-answered}
 use Rattle.ap_standing.proofs.Calls.{Begins, begins}
 
 -- ---- goals on registers
@@ -61,20 +63,6 @@ Valued-same I J z h gs t = (
   λ b. (b.0, (h (more (node IS (more (int z) (more b.0 none))) gs) t).0 b.1),
   λ b. (b.0, (h (more (node IS (more (int z) (more b.0 none))) gs) t).1 b.1),
 )
-
--- the answer that the model gives
-relation-answered : (r : Relation) (t u : Tree) → builtin (node (relation_name r) (more t (more u none))) ≡ Some (relation_answer r t u)
-relation-answered Unify t u = refl
-relation-answered NotUnify t u = refl
-relation-answered Same t u = refl
-relation-answered NotSame t u = refl
-relation-answered Is t u = refl
-relation-answered (Compare Eq) t u = refl
-relation-answered (Compare Ne) t u = refl
-relation-answered (Compare Lt) t u = refl
-relation-answered (Compare Gt) t u = refl
-relation-answered (Compare Le) t u = refl
-relation-answered (Compare Ge) t u = refl
 
 module _ (code : Compiled) (cs : List Raw) (ws : List Return) (roots : List ℕ) (x y : List ℕ) (is : List Step) where
   abbrev st : List Raw → Standing
@@ -204,10 +192,10 @@ module _ (code : Compiled) (cs : List Raw) (ws : List Return) (roots : List ℕ)
   abbrev SetBehind : List Raw → Bool → Trees → Trees → Type 0
   SetBehind ds r = SetOf code (machine ds x y ws roots [] (behind_goal at r))
 
-  no-children : (p : Program) (s : State) (ds : List Raw) → children p s ≡ [] → IsSetOf (SetBehind ds false) (children p s)
+  no-children : (p : Program) (s : Tracked) (ds : List Raw) → children p s ≡ [] → IsSetOf (SetBehind ds false) (children p s)
   no-children p s ds e = subst (IsSetOf (SetBehind ds false)) (sym e) (λ gs t i. i)
 
-  module _ (p : Program) (s : State) (f : Tree) (rest : List Part) (opens : opened s.goals ≡ call f ∷ rest) where
+  module _ (p : Program) (s : Tracked) (f : Tree) (rest : List Goal) (opens : s.goals ≡ call f ∷ rest) where
     holds-behind : (q n : ℕ) → SameSet (here q n) (Inst s) → IsGeneralGoal (Inst s) (applied q (spread place 1 n)) → builtin (applied q (spread place 1 n)) ≡ Some (Some []) → IsSetOf (SetBehind cs true) (children p s)
     holds-behind q n same g e =
         IsSetOf-same (Behind (Inst s)) (SetBehind cs true)
@@ -259,21 +247,21 @@ module _ (code : Compiled) (cs : List Raw) (ws : List Return) (roots : List ℕ)
   -- a turn, whose children are the set behind the goal
   module _ (qs : List Point) (p : Program) (good : IsProgram p) (q n : ℕ) (is_at : steps_from code at ≡ builtin_step q n ∷ is) (hx : HoldPlaces (length cs) x) where
     turn : (ds : List Raw) (r : Bool)
-        → ((s : State) (f : Tree) (rest : List Part) → opened s.goals ≡ call f ∷ rest → SameSet (here q n) (Inst s) → IsGeneralGoal (Inst s) (applied q (spread place 1 n)) → IsSetOf (SetBehind ds r) (children p s))
-        → (ss : List State) → Holds code (machine cs x y ws roots qs (inside at)) ss
-        → (ts : List State) × Turned p 1 ss ts × Holds code (machine ds x y ws roots qs (behind_goal at r)) ts
+        → ((s : Tracked) (f : Tree) (rest : List Goal) → s.goals ≡ call f ∷ rest → SameSet (here q n) (Inst s) → IsGeneralGoal (Inst s) (applied q (spread place 1 n)) → IsSetOf (SetBehind ds r) (children p s))
+        → (ss : List Tracked) → Holds code (machine cs x y ws roots qs (inside at)) ss
+        → (ts : List Tracked) × Turned p 1 ss ts × Holds code (machine ds x y ws roots qs (behind_goal at r)) ts
     turn ds r child_set ss h =
         let openly : IsOpen is × AsksOpenly is = subst AsksOpenly is_at h.4 in
         let at_goal : IsSetOf (here q n) h.0 = subst (λ js. IsSetOf (InCode code (record { cells = cs; returns = ws; roots = roots }) (held x) (held y) js) h.0) is_at h.2 in
         let some = some-goal code cs ws roots x y is q n hx openly.0 h.5 in
         let b : Begins (here q n) h.1 ss = begins (here q n) h.0 h.1 ss at_goal h.3 (more (applied q (spread place 1 n)) some.0, some.1, some.2) h.7 in
-        let s : State = b.0 in
-        let m : here q n (plain_goals s.goals) s.tuple = (b.2 (plain_goals s.goals) s.tuple).1 (instances s) in
+        let s : Tracked = b.0 in
+        let m : here q n (marked s.goals) s.tuple = (b.2 (marked s.goals) s.tuple).1 (instances s) in
         let g : Tree = applied q (spread (λ w. m.0 (held x w)) 1 n) in
-        let e : plain_goals s.goals ≡ more g (append_trees m.4.0 m.2) = m.5 ∙ ap (λ bs. append_trees bs m.2) m.4.1 in
-        let f = first-call s.goals g (append_trees m.4.0 m.2) e in (
+        let e : marked s.goals ≡ more g (append_trees m.4.0 m.2) = m.5 ∙ ap (λ bs. append_trees bs m.2) m.4.1 in
+        let f = first-call s.goals q (spread (λ w. m.0 (held x w)) 1 n) (append_trees m.4.0 m.2) e in (
           children p s ++ h.1,
-          subst (λ us. Turned p 1 us (children p s ++ h.1)) (sym b.1) (λ d. no-more g (append_trees m.4.0 m.2) (ap plain_goals (sym d) ∙ e), refl),
+          subst (λ us. Turned p 1 us (children p s ++ h.1)) (sym b.1) (λ d. no-more g (append_trees m.4.0 m.2) (ap marked (sym d) ∙ e), refl),
           (
             children p s,
             h.1,
@@ -300,20 +288,20 @@ module _ (code : Compiled) (cs ds : List Raw) (ws : List Return) (roots : List �
   -- a goal with two arguments
   pub solved-turn : (relation : Relation) (r : Bool) → steps_from code at ≡ builtin_step (relation_name relation) 2 ∷ steps_from code (at + 1)
       → HoldPlaces (length cs) y → AreWithin (length cs) ws → AllByRecursion (λ r. r < length cs) roots → Solved relation cs ds (held x 1) (held x 2) r
-      → (ss : List State) → Holds code (machine cs x y ws roots qs (inside at)) ss
-      → (ts : List State) × Turned p 1 ss ts × Holds code (machine ds x y ws roots qs (behind_goal at r)) ts
+      → (ss : List Tracked) → Holds code (machine cs x y ws roots qs (inside at)) ss
+      → (ts : List Tracked) × Turned p 1 ss ts × Holds code (machine ds x y ws roots qs (behind_goal at r)) ts
   solved-turn relation r is_at hy hw hr solved =
       turn code cs ws roots x y at qs p good (relation_name relation) 2 is_at hx ds r
       (λ s f rest opens same g. solved-set code cs ws roots x y at p s f rest opens hx hy hw hr relation ds r solved same g)
 
   pub true-turn : steps_from code at ≡ builtin_step TRUE 0 ∷ steps_from code (at + 1)
-      → (ss : List State) → Holds code (machine cs x y ws roots qs (inside at)) ss
-      → (ts : List State) × Turned p 1 ss ts × Holds code (machine cs x y ws roots qs (inside (at + 1))) ts
+      → (ss : List Tracked) → Holds code (machine cs x y ws roots qs (inside at)) ss
+      → (ts : List Tracked) × Turned p 1 ss ts × Holds code (machine cs x y ws roots qs (inside (at + 1))) ts
   true-turn is_at =
       turn code cs ws roots x y at qs p good TRUE 0 is_at hx cs true (λ s f rest opens same g. holds-behind code cs ws roots x y at p s f rest opens TRUE 0 same g refl)
 
   pub fail-turn : steps_from code at ≡ builtin_step FAIL 0 ∷ steps_from code (at + 1)
-      → (ss : List State) → Holds code (machine cs x y ws roots qs (inside at)) ss
-      → (ts : List State) × Turned p 1 ss ts × Holds code (machine ds x y ws roots qs failed) ts
+      → (ss : List Tracked) → Holds code (machine cs x y ws roots qs (inside at)) ss
+      → (ts : List Tracked) × Turned p 1 ss ts × Holds code (machine ds x y ws roots qs failed) ts
   fail-turn is_at =
       turn code cs ws roots x y at qs p good FAIL 0 is_at hx ds false (λ s f rest opens same g. fails-behind code cs ws roots x y at p s f rest opens FAIL 0 ds g refl)

@@ -3,34 +3,37 @@ use Rattle.std.proofs.Common.{◌≡◌, ℕ, ◌<◌, List, [], ◌∷◌, ◌+
 use Rattle.std.specs.List.{AllByRecursion}
 use Rattle.ap_term.specs.Tree.{Tree, Trees, none, more}
 use Rattle.ap_term.specs.Substitution.{instance, instance_all}
-use Rattle.ap_term.specs.Goals.{Program, plain_goals}
+use Rattle.ap_term.specs.Goals.{Program}
 use Rattle.ap_term.specs.WellFormed.{IsProgram}
 use Rattle.ap_term.specs.UpToNames.{SameUpToNames}
-use Rattle.ap_term.specs.Search.{State, children}
+use Rattle.ap_tracked.specs.Tracked.{Tracked, children}
+use Rattle.ap_tracked.specs.Marks.{marked}
+use Rattle.ap_tracked.specs.Instances.{Inst}
 use Rattle.ap_cells.specs.declared.cells.Raw.{Raw}
 use Rattle.ap_cells.specs.Trees.{tree_at, trees}
 use Rattle.ap_instr.specs.declared.compiled.Predicate.{Predicate}
 use Rattle.ap_instr.specs.Code.{Compiled}
-use Rattle.ap_instr.specs.StandsFor.{StandsFor, clause_places}
+use Rattle.ap_instr.specs.Steps.{steps_from}
+use Rattle.ap_instr.specs.StandsFor.{StandsFor, IsOfClauses, clause_places}
 use Rattle.ap_match.proofs.Maps.{fits-own}
-use Rattle.ap_resolution.specs.Instances.{Inst, SameSet, IsSetOf}
+use Rattle.ap_resolution.specs.Instances.{SameSet, IsSetOf}
 use Rattle.ap_resolution.proofs.Variants.{instances, tuples}
 use Rattle.ap_steps.specs.Moves.{held, IsStuck}
 use Rattle.ap_steps.specs.Standing.{Standing, tuple_under, AtCall, InCode}
-use Rattle.ap_steps.specs.Ways.{steps_from}
 use Rattle.ap_standing.specs.Machine.{Point, calling, inside, returning, standing_at}
 use Rattle.ap_standing.specs.Holds.{AtReturn, AtCallOf, AreOpen, IsPlain, HoldsPoints, HoldsRest, Holds, Turned}
 use Rattle.ap_standing.specs.Laws.{machine, SameArguments}
 use Rattle.ap_standing.proofs.Children.{no-state}
 use Rattle.ap_standing.proofs.Moved.{stuck, some-call, some-return}
-use Rattle.ap_standing.proofs.Turns.{no-goals, called, Split, split}
+use Rattle.ap_standing.proofs.FirstGoals.{no-goals}
+use Rattle.ap_standing.proofs.Turns.{of-clauses, called, Split, split}
 use Rattle.ap_standing.proofs.Machines.{a-state}
 
 -- a list of states that begins with one
-abbrev pub Begins : (I : Trees → Trees → Type 0) → List State → List State → Type 0
-Begins I left ss = (s : State) × (ss ≡ s ∷ left) × SameSet I (Inst s) × IsPlain s
+abbrev pub Begins : (I : Trees → Trees → Type 0) → List Tracked → List Tracked → Type 0
+Begins I left ss = (s : Tracked) × (ss ≡ s ∷ left) × SameSet I (Inst s) × IsPlain s
 
-pub begins : (I : Trees → Trees → Type 0) (here left ss : List State) → IsSetOf I here → AllByRecursion IsPlain here → (gs t : Trees) × I gs t → ss ≡ here ++ left → Begins I left ss
+pub begins : (I : Trees → Trees → Type 0) (here left ss : List Tracked) → IsSetOf I here → AllByRecursion IsPlain here → (gs t : Trees) × I gs t → ss ≡ here ++ left → Begins I left ss
 begins I here left ss is plain some e =
     let a = a-state I here is some in
     let p : AllByRecursion IsPlain (a.0 ∷ []) = subst (AllByRecursion IsPlain) a.1 plain in
@@ -41,15 +44,16 @@ module _ (code : Compiled) (roots : List ℕ) (qs : List Point) where
 
   pub turned : (p : Program) → IsProgram p → StandsFor code p → (q : Predicate) (point : Point) → slice_get code.predicates point.predicate ≡ Some q
       → (x y : List ℕ) → SameArguments q.arity (held x) (held point.arguments)
-      → (ss : List State) → Holds code (machine point.cells x y point.returns roots qs (calling point.predicate)) ss
-      → (ts : List State) × Turned p 1 ss ts × HoldsRest code roots point (clause_places code q) qs ts
+      → (ss : List Tracked) → Holds code (machine point.cells x y point.returns roots qs (calling point.predicate)) ss
+      → (ts : List Tracked) × Turned p 1 ss ts × HoldsRest code roots point (clause_places code q) qs ts
   turned p good stands q point known x y args ss h =
       let st : Standing = standing_at roots point in
       let I : Trees → Trees → Type 0 = AtCall code st (held x) q.name q.arity in
       let is : IsSetOf I h.0 = subst (λ f. IsSetOf (AtCallOf code st x f) h.0) known h.2 in
       let b = begins I h.0 h.1 ss is h.3 (some-call code st (held x) q.name q.arity h.5) h.7 in
-      let c = called code p good stands q roots point known (held x) b.0 args b.3 h.5 b.2 in
-      let ts : List State = children p b.0 ++ h.1 in (
+      let own : IsOfClauses code p q = of-clauses code p q (stands.predicates point.predicate q known) (h.4 q known) in
+      let c = called code p good q own roots point known (held x) b.0 args b.3 h.5 b.2 in
+      let ts : List Tracked = children p b.0 ++ h.1 in (
         ts,
         subst (λ us. Turned p 1 us ts) (sym b.1) (c.2, refl),
         (c.0, h.1, h.6, ap (λ us. us ++ h.1) (sym c.1)),
@@ -59,8 +63,8 @@ module _ (code : Compiled) (roots : List ℕ) (qs : List Point) where
 
   -- control comes to the first clause that is left
   pub taken : (point : Point) (l : ℕ) (ls : List ℕ) (points : List Point) (x y : List ℕ) → ((n : ℕ) → SameArguments n (held x) (held point.arguments))
-      → ((left : List State) → HoldsRest code roots point ls qs left → HoldsPoints code roots points left)
-      → (ss : List State) → HoldsRest code roots point (l ∷ ls) qs ss → Holds code (machine point.cells x y point.returns roots points (inside l)) ss
+      → ((left : List Tracked) → HoldsRest code roots point ls qs left → HoldsPoints code roots points left)
+      → (ss : List Tracked) → HoldsRest code roots point (l ∷ ls) qs ss → Holds code (machine point.cells x y point.returns roots points (inside l)) ss
   taken point l ls points x y args keep ss h =
       let s : Split code roots point l ls qs ss = split code roots point l ls qs ss h in
       (s.here, s.left, s.is_set (held x) (held y) args, s.plain, s.openly, s.returns, keep s.left s.others, s.same)
@@ -68,7 +72,7 @@ module _ (code : Compiled) (roots : List ℕ) (qs : List Point) where
   -- a clause that can't be taken is left out
   pub skipped : (point : Point) (l : ℕ) (ls : List ℕ) (x y : List ℕ) → ((n : ℕ) → SameArguments n (held x) (held point.arguments))
       → IsStuck point.cells (held x) (held y) (steps_from code l)
-      → (ss : List State) → HoldsRest code roots point (l ∷ ls) qs ss → HoldsRest code roots point ls qs ss
+      → (ss : List Tracked) → HoldsRest code roots point (l ∷ ls) qs ss → HoldsRest code roots point ls qs ss
   skipped point l ls x y args is_stuck ss h =
       let s : Split code roots point l ls qs ss = split code roots point l ls qs ss h in
       let none_here : s.here ≡ [] =
@@ -78,7 +82,7 @@ module _ (code : Compiled) (roots : List ℕ) (qs : List Point) where
 
   -- what is left doesn't depend on how the choice point names it
   pub renamed : (point other : Point) → other.cells ≡ point.cells → other.returns ≡ point.returns → other.arguments ≡ point.arguments → other.predicate ≡ point.predicate
-      → (ls : List ℕ) (ss : List State) → HoldsRest code roots point ls qs ss → HoldsRest code roots other ls qs ss
+      → (ls : List ℕ) (ss : List Tracked) → HoldsRest code roots point ls qs ss → HoldsRest code roots other ls qs ss
   renamed point other ec er ea ep ls ss h =
       let u = h.0 in (
         record {
@@ -92,7 +96,7 @@ module _ (code : Compiled) (roots : List ℕ) (qs : List Point) where
               (subst (λ ws. SameSet (AtCall code (record { cells = point.cells; returns = ws; roots = roots }) (held other.arguments) u.predicate.name u.predicate.arity) (Inst u.state)) (sym er)
               (subst (λ xs. SameSet (AtCall code (standing_at roots point) (held xs) u.predicate.name u.predicate.arity) (Inst u.state)) (sym ea) u.same));
           plain = u.plain;
-          opens = u.opens;
+          first = u.first;
           ordinary = u.ordinary;
           heads = u.heads;
           good = u.good;
@@ -111,17 +115,17 @@ module _ (code : Compiled) (roots : List ℕ) (qs : List Point) where
   general_tuple f k n ts h (r ∷ rs) w = ap (λ t. more t (tuple_under k rs)) (h r w.0) ∙ ap (more (instance f (ts r))) (general_tuple f k n ts h rs w.1)
 
   -- the first state has no goals, and the tuple that the machine's places have, up to names
-  pub answered : (cs : List Raw) (x y : List ℕ) → AllByRecursion (λ r. r < length cs) roots → (ss : List State) → Holds code (machine cs x y [] roots qs returning) ss
-      → (s : State) × (left : List State) × (ss ≡ s ∷ left) × (s.goals ≡ []) × (s.fault ≡ None) × SameUpToNames (tuple_under (tree_at (trees cs)) roots) s.tuple × HoldsPoints code roots qs left
+  pub answered : (cs : List Raw) (x y : List ℕ) → AllByRecursion (λ r. r < length cs) roots → (ss : List Tracked) → Holds code (machine cs x y [] roots qs returning) ss
+      → (s : Tracked) × (left : List Tracked) × (ss ≡ s ∷ left) × (s.goals ≡ []) × (s.fault ≡ None) × SameUpToNames (tuple_under (tree_at (trees cs)) roots) s.tuple × HoldsPoints code roots qs left
   answered cs x y inside_roots ss h =
       let st : Standing = record { cells = cs; returns = []; roots = roots } in
       let I : Trees → Trees → Type 0 = AtReturn code st in
       let b = begins I h.0 h.1 ss h.2 h.3 (some-return code st h.5) h.7 in
-      let own : I (plain_goals b.0.goals) b.0.tuple = (b.2 (plain_goals b.0.goals) b.0.tuple).1 (instances b.0) in (
+      let own : I (marked b.0.goals) b.0.tuple = (b.2 (marked b.0.goals) b.0.tuple).1 (instances b.0) in (
         b.0,
         h.1,
         b.1,
-        no-goals b.0.goals b.3.1 own.2.0,
+        no-goals b.0.goals own.2.0,
         b.3.2,
         tuples b.0 (tuple_under (tree_at (trees cs)) roots) (
           (none, (b.2 none (tuple_under (tree_at (trees cs)) roots)).0 (tree_at (trees cs), fits-own cs, (refl, refl))),

@@ -1,67 +1,62 @@
 -- Children of a state by some clauses of a program.
-use Rattle.std.proofs.Common.{◌≡◌, ℕ, ◌+◌, ◌==◌, ◌&&◌, Bool, true, false, cond, List, [], ◌∷◌, ◌++◌, map, None, refl, ap, ap₂, sym, ◌∙◌, subst}
+use Rattle.std.proofs.Common.{◌≡◌, ℕ, ◌==◌, ◌&&◌, Bool, true, false, cond, List, [], ◌∷◌, ◌++◌, None, refl, ap, ap₂, sym, ◌∙◌, subst, arith}
 use Rattle.std.specs.List.{AllByRecursion, flat_map}
 use Rattle.std.proofs.lemmas.Bool.{false≢true}
 use Rattle.std.proofs.lemmas.Bool.Decides.{Decides-eqb}
-use Rattle.std.proofs.lemmas.List.{append-nil, map-append}
+use Rattle.std.proofs.lemmas.List.{append-nil}
 use Rattle.std.proofs.lemmas.List.Elements.{All-head, All-tail}
 use Rattle.ap_term.specs.Tree.{Tree, Trees, var, int, atom, node, none, more, count_trees}
 use Rattle.ap_term.specs.Substitution.{instance, instance_all}
-use Rattle.ap_term.specs.Goals.{Part, call, Clause, Program, opened, plain_goals}
+use Rattle.ap_term.specs.Goals.{Clause, Program}
 use Rattle.ap_term.specs.WellFormed.{callable, numbered, IsClause, IsProgram}
 use Rattle.ap_term.specs.Builtins.{builtin}
-use Rattle.ap_term.specs.Search.{State, children, children_by, child, ways_by, clause_way}
-use Rattle.ap_laws.specs.Plain.{HasFullGroups}
-use Rattle.ap_laws.specs.Renaming.{IsBelow}
-use Rattle.ap_term.proofs.NoFaults.{children-none as children-unfaulted}
-use Rattle.ap_laws.proofs.Names.{IsBelow-children}
-use Rattle.ap_laws.proofs.Views.{HasFullGroups-children}
 use Rattle.ap_laws.proofs.Ways.{and_both}
+use Rattle.ap_tracked.specs.Tracked.{Goal, call, opened, Tracked, clause_children, call_children, children_by, children}
+use Rattle.ap_tracked.specs.Marks.{marked}
+use Rattle.ap_tracked.specs.Instances.{Inst}
+use Rattle.ap_graft.specs.Variables.{Below, IsTrackedBelow}
+use Rattle.ap_graft.proofs.Variables.{over-children}
 use Rattle.ap_instr.specs.declared.compiled.Predicate.{Predicate}
 use Rattle.ap_instr.specs.Runs.{applied}
 use Rattle.ap_instr.specs.StandsFor.{is_head_of, clauses_of}
-use Rattle.ap_resolution.specs.Instances.{Inst, IsSetOf, Resolved}
+use Rattle.ap_resolution.specs.Instances.{IsSetOf, Resolved}
 use Rattle.ap_resolution.proofs.Resolution.{resolution}
 use Rattle.ap_resolution.proofs.Variants.{instances}
 use Rattle.ap_steps.specs.Standing.{IsHead}
-use Rattle.ap_standing.specs.Holds.{IsPlain}
+use Rattle.ap_standing.specs.Holds.{AreNamed, IsPlain}
+use Rattle.ap_standing.proofs.Named.{named-children, count_instance}
 
-module _ (s : State) (g : Tree) (rest : List Part) (opens : opened s.goals ≡ call g ∷ rest) (ordinary : builtin g ≡ None) where
-  pub children-clauses : (p : Program) → children p s ≡ map (child s rest) (flat_map (clause_way s.next g) p)
-  children-clauses p = ap (children_by p s) opens ∙ ap (λ a. map (child s rest) (ways_by p s.next g a)) ordinary
+module _ (s : Tracked) (g : Tree) (rest : List Goal) (first : s.goals ≡ call g ∷ rest) (ordinary : builtin g ≡ None) where
+  pub children-clauses : (p : Program) → children p s ≡ flat_map (clause_children s g rest) p
+  children-clauses p = ap (λ gs. children_by p s (opened gs)) first ∙ ap (call_children p s g rest) ordinary
 
-  pub children-one : (c : Clause) → children (c ∷ []) s ≡ map (child s rest) (clause_way s.next g c)
-  children-one c = children-clauses (c ∷ []) ∙ ap (map (child s rest)) (append-nil (clause_way s.next g c))
+  pub children-one : (c : Clause) → children (c ∷ []) s ≡ clause_children s g rest c
+  children-one c = children-clauses (c ∷ []) ∙ append-nil (clause_children s g rest c)
 
   pub children-split : (c : Clause) (cs : Program) → children (c ∷ cs) s ≡ children (c ∷ []) s ++ children cs s
-  children-split c cs =
-      children-clauses (c ∷ cs) ∙ map-append (child s rest) (clause_way s.next g c) (flat_map (clause_way s.next g) cs)
-      ∙ ap₂ ◌++◌ (sym (children-one c)) (sym (children-clauses cs))
+  children-split c cs = children-clauses (c ∷ cs) ∙ ap₂ ◌++◌ (sym (children-one c)) (sym (children-clauses cs))
 
   pub children-none : children [] s ≡ []
   children-none = children-clauses []
 
   -- a clause's child has the instances that come by an instance of the clause
-  pub resolves : (c : Clause) → IsBelow s → IsSetOf (Resolved (Inst s) c) (children (c ∷ []) s)
-  resolves c below = subst (IsSetOf (Resolved (Inst s) c)) (sym (children-one c)) (resolution s g rest c below opens)
+  pub resolves : (c : Clause) → IsTrackedBelow s → IsClause c → IsSetOf (Resolved (Inst s) c) (children (c ∷ []) s)
+  resolves c below good = subst (IsSetOf (Resolved (Inst s) c)) (sym (children-one c)) (resolution s g rest c below good first)
 
-pub plain-children : (p : Program) → IsProgram p → (s : State) → IsPlain s → AllByRecursion IsPlain (children p s)
-plain-children p good s plain = both (children p s) (IsBelow-children p good s plain.0) (HasFullGroups-children p good s plain.1) (children-unfaulted p s)
+pub plain-children : (p : Program) → IsProgram p → (s : Tracked) → IsPlain s → AllByRecursion IsPlain (children p s)
+plain-children p good s plain =
+    both (children p s) (over-children Below 0 (λ n m x l q. omega (arith, l, q)) (λ n m x l k q. q) p good s plain.0) (named-children p good s plain.1)
   where
-    both : (ss : List State) → AllByRecursion IsBelow ss → AllByRecursion HasFullGroups ss → AllByRecursion (λ t. t.fault ≡ None) ss → AllByRecursion IsPlain ss
-    both [] h k f = tt
-    both (t ∷ ts) h k f = ((h.0, k.0, f.0), both ts h.1 k.1 f.1)
+    both : (ss : List Tracked) → AllByRecursion IsTrackedBelow ss → AllByRecursion (λ t. AreNamed t.goals × (t.fault ≡ None)) ss → AllByRecursion IsPlain ss
+    both [] h k = tt
+    both (t ∷ ts) h k = ((h.0, k.0.0, k.0.1), both ts h.1 k.1)
 
 -- where there are no instances there is no state
-pub no-state : (I : Trees → Trees → Type 0) (ss : List State) → IsSetOf I ss → ((gs t : Trees) → I gs t → ⊥) → ss ≡ []
+pub no-state : (I : Trees → Trees → Type 0) (ss : List Tracked) → IsSetOf I ss → ((gs t : Trees) → I gs t → ⊥) → ss ≡ []
 no-state I [] h empty = refl
-no-state I (s ∷ ss) h empty = absurd (empty (plain_goals s.goals) s.tuple ((h.0 (plain_goals s.goals) s.tuple).1 (instances s)))
+no-state I (s ∷ ss) h empty = absurd (empty (marked s.goals) s.tuple ((h.0 (marked s.goals) s.tuple).1 (instances s)))
 
 -- ---- clauses of other predicates
-
-count_instance : (f : ℕ → Tree) (ts : Trees) → count_trees (instance_all f ts) ≡ count_trees ts
-count_instance f none = refl
-count_instance f (more t ts) = ap (λ n. n + 1) (count_instance f ts)
 
 both_tests : (a b c d : ℕ) → a ≡ b → c ≡ d → ((a == b) && (c == d)) ≡ true
 both_tests a b c d e f = ap₂ ◌&&◌ ((Decides-eqb a b).1 e) ((Decides-eqb c d).1 f)
@@ -90,11 +85,11 @@ is_head q (node a (more t ts)) c e =
     ((Decides-eqb a q.name).0 k.0, sym ((Decides-eqb (count_trees (more t ts)) q.arity).0 k.1))
 
 -- a state whose first goal is a call of the predicate
-module _ (q : Predicate) (s : State) (g : Tree) (rest : List Part) (opens : opened s.goals ≡ call g ∷ rest) (ordinary : builtin g ≡ None) (below : IsBelow s)
+module _ (q : Predicate) (s : Tracked) (g : Tree) (rest : List Goal) (first : s.goals ≡ call g ∷ rest) (ordinary : builtin g ≡ None) (below : IsTrackedBelow s)
     (calls : (h : Tree) (gs us : Trees) → Inst s (more h gs) us → (vs : Trees) × (count_trees vs ≡ q.arity) × (h ≡ applied q.name vs)) where
   others : (c : Clause) → IsClause c → is_head_of q c.head ≡ false → children (c ∷ []) s ≡ []
   others c good other =
-      no-state (Resolved (Inst s) c) (children (c ∷ []) s) (resolves s g rest opens ordinary c below)
+      no-state (Resolved (Inst s) c) (children (c ∷ []) s) (resolves s g rest first ordinary c below good)
       (λ gs t r.
       let k = calls (instance r.0 c.head) r.1 t r.2 in
       false≢true (sym other ∙ is_head_of-instance q r.0 c.head k.0 (callable-head c good) k.2 k.1))
@@ -107,8 +102,8 @@ module _ (q : Predicate) (s : State) (g : Tree) (rest : List Part) (opens : open
   children-own (c ∷ cs) good = go (is_head_of q c.head) refl (children-own cs (All-tail IsClause c cs good))
     where
       go : (b : Bool) → is_head_of q c.head ≡ b → children cs s ≡ children (clauses_of q cs) s → children (c ∷ cs) s ≡ children (cond b (c ∷ clauses_of q cs) (clauses_of q cs)) s
-      go true e ih = children-split s g rest opens ordinary c cs ∙ ap (λ ss. children (c ∷ []) s ++ ss) ih ∙ sym (children-split s g rest opens ordinary c (clauses_of q cs))
-      go false e ih = children-split s g rest opens ordinary c cs ∙ ap (λ ss. ss ++ children cs s) (others c (All-head IsClause c cs good) e) ∙ ih
+      go true e ih = children-split s g rest first ordinary c cs ∙ ap (λ ss. children (c ∷ []) s ++ ss) ih ∙ sym (children-split s g rest first ordinary c (clauses_of q cs))
+      go false e ih = children-split s g rest first ordinary c cs ∙ ap (λ ss. ss ++ children cs s) (others c (All-head IsClause c cs good) e) ∙ ih
 
 abbrev pub AreHeads : Predicate → Program → Type 0
 AreHeads q ds = AllByRecursion (λ d. IsHead d.head q.name q.arity) ds

@@ -1,4 +1,6 @@
+pub mod Named
 pub mod Children
+pub mod FirstGoals
 pub mod Moved
 pub mod Turns
 pub mod Machines

@@ -6,13 +6,13 @@ use Rattle.ap_cells.specs.declared.cells.Raw.{Raw}
 use Rattle.ap_cells.specs.Trees.{tree_at, trees}
 use Rattle.ap_instr.specs.Code.{Compiled}
 use Rattle.ap_instr.specs.Step.{Step}
+use Rattle.ap_instr.specs.Steps.{steps_from}
 use Rattle.ap_instr.specs.Runs.{Runs, lost}
 use Rattle.ap_match.specs.Fits.{Agree}
 use Rattle.ap_match.proofs.Maps.{fits-own}
 use Rattle.ap_resolution.specs.Instances.{SameSet}
 use Rattle.ap_steps.specs.Moves.{held, Moves, IsStuck}
 use Rattle.ap_steps.specs.Standing.{Return, Standing, tuple_under, Waits, AtCall, InCode}
-use Rattle.ap_steps.specs.Ways.{steps_from}
 use Rattle.ap_steps.proofs.RegisterMaps.{funext}
 use Rattle.ap_standing.specs.Holds.{AtReturn, AreOpen}
 use Rattle.ap_standing.specs.Machine.{AreWithin}

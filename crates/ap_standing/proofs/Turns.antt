@@ -1,31 +1,37 @@
 -- A call is one turn of the model, and clauses are taken one after another.
-use Rattle.std.proofs.Common.{◌≡◌, ℕ, zero, suc, ◌+◌, ◌<◌, ◌≤◌, List, [], ◌∷◌, ◌++◌, slice_get, Some, None, refl, ap, ap₂, sym, ◌∙◌, subst, arith}
+use Rattle.std.proofs.Common.{◌≡◌, ℕ, zero, suc, ◌+◌, ◌<◌, ◌≤◌, ◌⊎◌, inl, inr, List, [], ◌∷◌, ◌++◌, slice_get, Some, None, refl, ap, ap₂, sym, ◌∙◌, subst, arith}
 use Rattle.std.specs.List.{AllZip, AllByRecursion}
 use Rattle.std.proofs.lemmas.List.{append_assoc}
 use Rattle.std.proofs.lemmas.List.Elements.{All-nil, All-cons, All-head, All-tail, All-filter}
-use Rattle.ap_term.specs.Tree.{Tree, Trees, none, more, count_trees, append_trees}
+use Rattle.ap_term.specs.Tree.{Tree, Trees, atom, node, none, more, count_trees}
 use Rattle.ap_term.specs.Substitution.{instance}
-use Rattle.ap_term.specs.Goals.{Part, call, group, Clause, Program, opened, plain_goals}
+use Rattle.ap_term.specs.Goals.{Clause, Program}
 use Rattle.ap_term.specs.WellFormed.{IsClause, IsProgram}
-use Rattle.ap_term.specs.Builtins.{builtin}
-use Rattle.ap_term.specs.Search.{State, children}
-use Rattle.ap_term.proofs.GoalLists.{plain_goals-opened}
-use Rattle.ap_laws.specs.Plain.{AreGroups}
-use Rattle.ap_laws.proofs.Views.{StartsWithCall, StartsWithCall-opened}
+use Rattle.ap_term.specs.declared.builtins.Op.TheVariants.{Eq, Ne, Lt, Gt, Le, Ge}
+use Rattle.ap_term.specs.declared.builtins.Relation.{Relation}
+use Rattle.ap_term.specs.declared.builtins.Relation.TheVariants.{Unify, NotUnify, Same, NotSame, Is, Compare}
+use Rattle.ap_term.specs.Builtins.{builtin, relation_answer}
+use Rattle.ap_tracked.specs.Tracked.{Goal, call, Tracked, children}
+use Rattle.ap_tracked.specs.Marks.{marked}
+use Rattle.ap_tracked.specs.Instances.{Inst}
+use Rattle.ap_instr.specs.declared.builtins.Builtin.{Builtin}
+use Rattle.ap_instr.specs.declared.builtins.Builtin.TheVariants.{True, Fail, Relation as relation_goal}
 use Rattle.ap_instr.specs.declared.compiled.Predicate.{Predicate}
+use Rattle.ap_instr.specs.Builtin.{relation_name, builtin_name, builtin_arity}
+use Rattle.ap_instr.specs.Steps.{steps_from}
 use Rattle.ap_instr.specs.Code.{Compiled}
 use Rattle.ap_instr.specs.Runs.{applied, spread, AsksOpenly}
-use Rattle.ap_instr.specs.StandsFor.{ReadsAt, StandsFor, clauses_of, clause_places, is_head_of}
-use Rattle.ap_resolution.specs.Instances.{Inst, SameSet, IsSetOf, Resolved}
+use Rattle.ap_instr.specs.StandsFor.{ReadsAt, IsOfClauses, IsOfBuiltin, clauses_of, clause_places, is_head_of}
+use Rattle.ap_resolution.specs.Instances.{SameSet, IsSetOf, Resolved}
 use Rattle.ap_resolution.proofs.Unified.{IsSetOf-same}
 use Rattle.ap_resolution.proofs.Variants.{instances}
 use Rattle.ap_steps.specs.Moves.{held}
 use Rattle.ap_steps.specs.Standing.{Standing, AtCall, InCode}
-use Rattle.ap_steps.specs.Ways.{steps_from}
 use Rattle.ap_steps.proofs.Entry.{entry}
 use Rattle.ap_standing.specs.Machine.{Point, standing_at}
-use Rattle.ap_standing.specs.Holds.{AreOpen, IsPlain, Untried, HoldsPoints, HoldsRest}
+use Rattle.ap_standing.specs.Holds.{IsApart, AreOpen, IsPlain, Untried, HoldsPoints, HoldsRest}
 use Rattle.ap_standing.specs.Laws.{SameArguments}
+use Rattle.ap_standing.proofs.FirstGoals.{first-call}
 use Rattle.ap_standing.proofs.Children.{children-none, children-split, resolves, plain-children, AreHeads, heads-of, children-own}
 
 -- ---- sets
@@ -58,30 +64,39 @@ AtCall-registers code st x y p n h gs t = (
   λ m. (m.0, m.1, m.2, m.3 ∙ ap (λ ts. more (applied p ts) m.1) (sym (spread-same (λ w. m.0 (x w)) (λ w. m.0 (y w)) 1 n (λ w a b. ap m.0 (h w (omega arith) (omega arith))))), m.4),
 )
 
--- ---- first goals
+-- ---- predicates
 
-pub first-call : (ps : List Part) (g : Tree) (gs : Trees) → plain_goals ps ≡ more g gs → (rest : List Part) × (opened ps ≡ call g ∷ rest)
-first-call ps g gs e = go (opened ps) refl (StartsWithCall-opened ps)
-  where
-    go : (qs : List Part) → opened ps ≡ qs → StartsWithCall qs → (rest : List Part) × (opened ps ≡ call g ∷ rest)
-    go [] q s = absurd (let d : none ≡ more g gs = sym (ap plain_goals q) ∙ plain_goals-opened ps ∙ e in let z : ⊥ = cc in z)
-    go (call t ∷ rest) q s =
-        let d : more t (plain_goals rest) ≡ more g gs = sym (ap plain_goals q) ∙ plain_goals-opened ps ∙ e in
-        let f : t ≡ g = cc in
-        (rest, q ∙ ap (λ u. call u ∷ rest) f)
-    go (group cs ts ∷ rest) q s = absurd s
+-- the answer that the model gives
+pub relation-answered : (r : Relation) (t u : Tree) → builtin (node (relation_name r) (more t (more u none))) ≡ Some (relation_answer r t u)
+relation-answered Unify t u = refl
+relation-answered NotUnify t u = refl
+relation-answered Same t u = refl
+relation-answered NotSame t u = refl
+relation-answered Is t u = refl
+relation-answered (Compare Eq) t u = refl
+relation-answered (Compare Ne) t u = refl
+relation-answered (Compare Lt) t u = refl
+relation-answered (Compare Gt) t u = refl
+relation-answered (Compare Le) t u = refl
+relation-answered (Compare Ge) t u = refl
 
-pub no-goals : (ps : List Part) → AreGroups ps → plain_goals ps ≡ none → ps ≡ []
-no-goals [] h e = refl
-no-goals (call t ∷ ps) h e = absurd (let z : ⊥ = cc in z)
-no-goals (group cs none ∷ ps) h e = absurd h
-no-goals (group cs (more t ts) ∷ ps) h e = absurd (let d : more t (append_trees ts (plain_goals ps)) ≡ none = e in let z : ⊥ = cc in z)
+some-arguments : (b : Builtin) → (ts : Trees) × (count_trees ts ≡ builtin_arity b) × (builtin (applied (builtin_name b) ts) ≡ None → ⊥)
+some-arguments True = (none, refl, λ e. cc)
+some-arguments Fail = (none, refl, λ e. cc)
+some-arguments (relation_goal r) = (more (atom 0) (more (atom 0) none), refl, λ e. let d : None ≡ Some (relation_answer r (atom 0) (atom 0)) = sym e ∙ relation-answered r (atom 0) (atom 0) in let z : ⊥ = cc in z)
+
+-- a predicate that isn't that of built-in goals is one of clauses
+pub of-clauses : (code : Compiled) (p : Program) (q : Predicate) → IsOfClauses code p q ⊎ IsOfBuiltin code q → IsApart q → IsOfClauses code p q
+of-clauses code p q (inl k) apart = k
+of-clauses code p q (inr b) apart =
+    let s = some-arguments b.goal in
+    absurd (s.2 (ap (λ n. builtin (applied n s.0)) b.name ∙ apart s.0 (s.1 ∙ b.arity)))
 
 -- ---- a call
 
-module _ (code : Compiled) (p : Program) (good : IsProgram p) (stands : StandsFor code p) (q : Predicate) (roots : List ℕ) (point : Point) (known : slice_get code.predicates point.predicate ≡ Some q) where
+module _ (code : Compiled) (p : Program) (good : IsProgram p) (q : Predicate) (stands : IsOfClauses code p q) (roots : List ℕ) (point : Point) (known : slice_get code.predicates point.predicate ≡ Some q) where
   -- what is known of a state at whose first goal the machine is
-  pub called : (x : ℕ → ℕ) (s : State) → SameArguments q.arity x (held point.arguments) → IsPlain s → AreOpen code point.returns
+  pub called : (x : ℕ → ℕ) (s : Tracked) → SameArguments q.arity x (held point.arguments) → IsPlain s → AreOpen code point.returns
       → SameSet (AtCall code (standing_at roots point) x q.name q.arity) (Inst s)
       → (u : Untried code roots point (clause_places code q)) × (children u.clauses u.state ≡ children p s) × (s.goals ≡ [] → ⊥)
   called x s args plain open_returns same = (
@@ -94,22 +109,22 @@ module _ (code : Compiled) (p : Program) (good : IsProgram p) (stands : StandsFo
       known = known;
       same = SameSet-trans (AtCall code st (held point.arguments) q.name q.arity) (AtCall code st x q.name q.arity) (Inst s) (SameSet-sym (AtCall code st x q.name q.arity) (AtCall code st (held point.arguments) q.name q.arity) (AtCall-registers code st x (held point.arguments) q.name q.arity args)) same;
       plain = plain;
-      opens = f.1;
+      first = f.1;
       ordinary = ordinary;
       heads = heads-of q p good;
       good = All-filter (λ c. is_head_of q c.head) IsClause p good;
-      reads = stands.reads point.predicate q known;
+      reads = stands.reads;
       open_returns = open_returns;
     },
     sym (children-own q s g f.0 f.1 ordinary plain.0 calls p good),
-    λ e. absurd (let d : none ≡ more g m.1 = ap plain_goals (sym e) ∙ m.3 in let z : ⊥ = cc in z),
+    λ e. absurd (let d : none ≡ more g m.1 = ap marked (sym e) ∙ m.3 in let z : ⊥ = cc in z),
   )
     where
       st : Standing
       st = standing_at roots point
 
-      m : AtCall code st x q.name q.arity (plain_goals s.goals) s.tuple
-      m = (same (plain_goals s.goals) s.tuple).1 (instances s)
+      m : AtCall code st x q.name q.arity (marked s.goals) s.tuple
+      m = (same (marked s.goals) s.tuple).1 (instances s)
 
       ts : Trees
       ts = spread (λ w. m.0 (x w)) 1 q.arity
@@ -117,11 +132,11 @@ module _ (code : Compiled) (p : Program) (good : IsProgram p) (stands : StandsFo
       g : Tree
       g = applied q.name ts
 
-      f : (rest : List Part) × (opened s.goals ≡ call g ∷ rest)
-      f = first-call s.goals g m.1 m.3
+      f : (rest : List Goal) × (s.goals ≡ call g ∷ rest)
+      f = first-call s.goals q.name ts m.1 m.3
 
       ordinary : builtin g ≡ None
-      ordinary = stands.apart point.predicate q ts known (count_spread (λ w. m.0 (x w)) 1 q.arity)
+      ordinary = stands.apart ts (count_spread (λ w. m.0 (x w)) 1 q.arity)
 
       calls : (h : Tree) (gs us : Trees) → Inst s (more h gs) us → (vs : Trees) × (count_trees vs ≡ q.arity) × (h ≡ applied q.name vs)
       calls h gs us i =
@@ -134,17 +149,17 @@ module _ (code : Compiled) (p : Program) (good : IsProgram p) (stands : StandsFo
 -- ---- clauses that are left
 
 -- no clause is left
-pub rest-none : (code : Compiled) (roots : List ℕ) (q : Point) (qs : List Point) (ss : List State) → HoldsRest code roots q [] qs ss → HoldsPoints code roots qs ss
+pub rest-none : (code : Compiled) (roots : List ℕ) (q : Point) (qs : List Point) (ss : List Tracked) → HoldsRest code roots q [] qs ss → HoldsPoints code roots qs ss
 rest-none code roots q qs ss h = subst (HoldsPoints code roots qs) (sym (h.3 ∙ ap (λ us. us ++ h.1) (go h.0.clauses h.0.reads))) h.2
   where
     go : (cs : Program) → AllZip (ReadsAt code) [] cs → children cs h.0.state ≡ []
-    go [] r = children-none h.0.state h.0.goal h.0.rest h.0.opens h.0.ordinary
+    go [] r = children-none h.0.state h.0.goal h.0.rest h.0.first h.0.ordinary
     go (c ∷ cs) r = absurd r
 
 -- the first clause that is left, and the others
-pub record Split (code : Compiled) (roots : List ℕ) (q : Point) (l : ℕ) (ls : List ℕ) (qs : List Point) (ss : List State) : Type 0 where
-  pub here : List State
-  pub left : List State
+pub record Split (code : Compiled) (roots : List ℕ) (q : Point) (l : ℕ) (ls : List ℕ) (qs : List Point) (ss : List Tracked) : Type 0 where
+  pub here : List Tracked
+  pub left : List Tracked
   pub same : ss ≡ here ++ left
   pub plain : AllByRecursion IsPlain here
   pub openly : AsksOpenly (steps_from code l)
@@ -152,7 +167,7 @@ pub record Split (code : Compiled) (roots : List ℕ) (q : Point) (l : ℕ) (ls 
   pub others : HoldsRest code roots q ls qs left
   pub is_set : (x y : ℕ → ℕ) → ((n : ℕ) → SameArguments n x (held q.arguments)) → IsSetOf (InCode code (standing_at roots q) x y (steps_from code l)) here
 
-pub split : (code : Compiled) (roots : List ℕ) (q : Point) (l : ℕ) (ls : List ℕ) (qs : List Point) (ss : List State) → HoldsRest code roots q (l ∷ ls) qs ss → Split code roots q l ls qs ss
+pub split : (code : Compiled) (roots : List ℕ) (q : Point) (l : ℕ) (ls : List ℕ) (qs : List Point) (ss : List Tracked) → HoldsRest code roots q (l ∷ ls) qs ss → Split code roots q l ls qs ss
 split code roots q l ls qs ss h = go u.clauses refl
   where
     u : Untried code roots q (l ∷ ls)
@@ -177,7 +192,7 @@ split code roots q l ls qs ss h = go u.clauses refl
         record {
           here = children (c ∷ []) u.state;
           left = children cs u.state ++ h.1;
-          same = h.3 ∙ ap (λ us. us ++ h.1) (ap (λ ds. children ds u.state) e ∙ children-split u.state u.goal u.rest u.opens u.ordinary c cs) ∙ append_assoc (children (c ∷ []) u.state) (children cs u.state) h.1;
+          same = h.3 ∙ ap (λ us. us ++ h.1) (ap (λ ds. children ds u.state) e ∙ children-split u.state u.goal u.rest u.first u.ordinary c cs) ∙ append_assoc (children (c ∷ []) u.state) (children cs u.state) h.1;
           plain = plain-children (c ∷ []) one u.state u.plain;
           openly = reads.0.openly;
           returns = u.open_returns;
@@ -191,7 +206,7 @@ split code roots q l ls qs ss h = go u.clauses refl
               known = u.known;
               same = u.same;
               plain = u.plain;
-              opens = u.opens;
+              first = u.first;
               ordinary = u.ordinary;
               heads = heads.1;
               good = All-tail IsClause c cs good;
@@ -208,5 +223,5 @@ split code roots q l ls qs ss h = go u.clauses refl
               (SameSet-trans (Resolved (Inst u.state) c) (Resolved (AtCall code st x p n) c) (InCode code st x y (steps_from code l))
               (Resolved-same (Inst u.state) (AtCall code st x p n) c (SameSet-sym (AtCall code st x p n) (Inst u.state) at_call))
               (SameSet-sym (InCode code st x y (steps_from code l)) (Resolved (AtCall code st x p n) c) (entry code st x y p n (steps_from code l) c heads.0 reads.0.reads)))
-              (children (c ∷ []) u.state) (resolves u.state u.goal u.rest u.opens u.ordinary c u.plain.0);
+              (children (c ∷ []) u.state) (resolves u.state u.goal u.rest u.first u.ordinary c u.plain.0 (All-head IsClause c cs good));
         }

@@ -1,9 +1,10 @@
 -- Calls and the entry of a clause.
-use Rattle.std.proofs.Common.{◌≡◌, ℕ, drop, refl, ap, sym, ◌∙◌, subst}
+use Rattle.std.proofs.Common.{◌≡◌, ℕ, map, refl, ap, sym, ◌∙◌, subst}
 use Rattle.ap_term.specs.Tree.{Tree, Trees, var, int, atom, node, none, more, count_trees, append_trees}
 use Rattle.ap_term.specs.Substitution.{instance, instance_all}
-use Rattle.ap_term.specs.Goals.{plain_goals}
-use Rattle.ap_instr.specs.Step.{steps_of}
+use Rattle.ap_tracked.specs.Tracked.{placed}
+use Rattle.ap_tracked.specs.Marks.{marked}
+use Rattle.ap_instr.specs.Steps.{steps_from}
 use Rattle.ap_instr.specs.Runs.{Runs, Asks, applied, arguments, spread, lost}
 use Rattle.ap_resolution.specs.Instances.{Resolved}
 use Rattle.ap_steps.specs.Moves.{held}
@@ -64,11 +65,11 @@ entry code s x y p n is c head reads = λ gs t. (there gs t, back gs t)
         ap (spread (λ w. k (x w)) 1) (sym count) ∙ sym (applied-same p (instance_all h (arguments c.head)) (spread (λ w. k (x w)) 1 n) (sym (head-instance c.head p n head h) ∙ e.0))
         in (
           k,
-          instance_all h (plain_goals c.body),
+          marked (map (placed h) c.body),
           r.2.1,
           r.2.2,
-          reads.each (λ w. k (x w)) (λ w. k (y w)) (instance_all h (plain_goals c.body)) (h, args, refl),
-          r.3 ∙ ap (append_trees (instance_all h (plain_goals c.body))) e.1,
+          reads.each (λ w. k (x w)) (λ w. k (y w)) (marked (map (placed h) c.body)) (h, args, refl),
+          r.3 ∙ ap (append_trees (marked (map (placed h) c.body))) e.1,
           r.2.4,
         )
 
@@ -92,10 +93,10 @@ calls_are = record {
     λ m.
         let k : ℕ → Tree = m.0 in
         let e : gs ≡ m.2 = m.5 ∙ ap (λ b. append_trees b m.2) m.4 in
-        (k, m.6.0, m.6.1, m.3, subst (λ u. Runs (steps_of code (drop w.place code.instructions)) none u (λ n. k (held w.y n)) m.6.0) (unset-lost k unset (is_unset k m.3)) m.6.2, e ∙ m.6.3, m.6.4),
+        (k, m.6.0, m.6.1, m.3, subst (λ u. Runs (steps_from code w.place) none u (λ n. k (held w.y n)) m.6.0) (unset-lost k unset (is_unset k m.3)) m.6.2, e ∙ m.6.3, m.6.4),
     λ m.
         let k : ℕ → Tree = m.0 in
-        (k, none, gs, m.3, refl, refl, (m.1, m.2, subst (λ u. Runs (steps_of code (drop w.place code.instructions)) none u (λ n. k (held w.y n)) m.1) (sym (unset-lost k unset (is_unset k m.3))) m.4, m.5, m.6)),
+        (k, none, gs, m.3, refl, refl, (m.1, m.2, subst (λ u. Runs (steps_from code w.place) none u (λ n. k (held w.y n)) m.1) (sym (unset-lost k unset (is_unset k m.3))) m.4, m.5, m.6)),
   );
 }
   where

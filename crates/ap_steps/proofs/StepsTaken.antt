@@ -6,12 +6,13 @@ use Rattle.ap_instr.specs.declared.instruction.Slot.{Slot}
 use Rattle.ap_instr.specs.Code.{Compiled}
 use Rattle.ap_instr.specs.declared.instruction.Instr.{Instr}
 use Rattle.ap_instr.specs.Step.{Step, get_variable, put_variable, put_value, put_constant, frame, step_of}
+use Rattle.ap_instr.specs.Steps.{steps_from}
 use Rattle.ap_cells.specs.Store.{Store}
 use Rattle.ap_instr.specs.Runs.{set, read, set_x, set_y}
 use Rattle.ap_match.specs.Fits.{Fits, cell_tree, Becomes}
 use Rattle.ap_steps.specs.Moves.{held, HoldPlaces, Moves, Taken}
 use Rattle.ap_steps.specs.declared.run.Outcome.TheVariants.{On}
-use Rattle.ap_steps.specs.Ways.{is_transfer, cells_of, came_to, NoneOfControl, steps_from, StepTaken, CameTo}
+use Rattle.ap_steps.specs.Ways.{is_transfer, cells_of, came_to, NoneOfControl, StepTaken, CameTo}
 use Rattle.ap_steps.proofs.RegisterMaps.{funext}
 use Rattle.ap_steps.proofs.Steps.{variable-taken, put_value-taken, put_constant-taken, put_variable-taken}
 
@@ -57,7 +58,7 @@ plain-taken code i at cs ds x y x' y' false t = t (steps_from code at)
 pub came : (code : Compiled) (i : Instr) (at n : ℕ) (v w : Store) (x y x' y' : List ℕ) (b : Bool) → is_transfer i ≡ false → StepTaken code (step_of code i) at n v.cells (held x) (held y) w.cells (held x') (held y') b
     → (b ≡ true → NoneOfControl code.instructions at n) → (b ≡ true → HoldPlaces (length w.cells) x') → (b ≡ true → HoldPlaces (length w.cells) y') → (b ≡ true → v.spare ≤ w.spare + cells_of i) → CameTo code i at v x y (came_to b n) w x' y'
 came code i at n v w x y x' y' true e t arguments hx hy spare = record { goes_on = e; arguments = arguments refl; moves = t; holds_x = hx refl; holds_y = hy refl; spare = spare refl }
-came code i at n v w x y x' y' false e t arguments hx hy spare = t
+came code i at n v w x y x' y' false e t arguments hx hy spare = (e, t)
 
 -- one without arguments
 pub came-plain : (code : Compiled) (i : Instr) (at : ℕ) (v w : Store) (x y x' y' : List ℕ) (b : Bool) → is_transfer i ≡ false → Taken v.cells (held x) (held y) (step_of code i) w.cells (held x') (held y') b

@@ -5,12 +5,13 @@ use Rattle.ap_cells.specs.declared.cells.Raw.{Raw}
 use Rattle.ap_cells.specs.Trees.{tree_at, trees}
 use Rattle.ap_instr.specs.Code.{Compiled}
 use Rattle.ap_instr.specs.Step.{get_structure, put_structure}
+use Rattle.ap_instr.specs.Steps.{steps_from}
 use Rattle.ap_instr.specs.Runs.{set, spread}
 use Rattle.ap_match.specs.Fits.{Fits, Becomes, Answered}
 use Rattle.ap_steps.specs.Moves.{IsStuck}
 use Rattle.ap_steps.specs.Arguments.{BuiltAll, IsStuckInside, KeepTrees}
 use Rattle.ap_steps.specs.Found.{MatchedAll}
-use Rattle.ap_steps.specs.Ways.{steps_from, StepTaken}
+use Rattle.ap_steps.specs.Ways.{StepTaken}
 use Rattle.ap_steps.proofs.RegisterMaps.{funext}
 use Rattle.ap_steps.proofs.NewCells.{asked-of}
 use Rattle.ap_steps.proofs.StructureSteps.{node-args, node-name, spread-count, structure-built, structure-stuck, structure-found, found-stuck, another-stuck, got-apart, got-built}

@@ -7,11 +7,11 @@ use Rattle.ap_cells.specs.declared.cells.Raw.{Raw}
 use Rattle.ap_cells.specs.Trees.{tree_at, trees}
 use Rattle.ap_instr.specs.Code.{Compiled}
 use Rattle.ap_instr.specs.Step.{Step}
+use Rattle.ap_instr.specs.Steps.{steps_from}
 use Rattle.ap_instr.specs.Runs.{Runs, spread}
 use Rattle.ap_match.specs.Fits.{Fits}
 use Rattle.ap_steps.specs.declared.arguments.Parts.{Parts}
 use Rattle.ap_steps.specs.declared.arguments.Parts.TheVariants.{Fresh, Values, Stuck}
-use Rattle.ap_steps.specs.Ways.{steps_from}
 
 -- under a map that fits the cells, inside a structure whose arguments ts are still to come, the steps ask for these goals
 abbrev pub AskedInside : List Raw → (ℕ → ℕ) → (ℕ → ℕ) → List Step → Trees → (ℕ → Tree) → Trees → Type 0

@@ -5,10 +5,10 @@ use Rattle.ap_term.specs.Tree.{Tree, Trees}
 use Rattle.ap_cells.specs.declared.cells.Raw.{Raw}
 use Rattle.ap_instr.specs.Code.{Compiled}
 use Rattle.ap_instr.specs.Step.{Step}
+use Rattle.ap_instr.specs.Steps.{steps_from}
 use Rattle.ap_instr.specs.Runs.{spread}
 use Rattle.ap_match.specs.Fits.{Agree}
 use Rattle.ap_steps.specs.Arguments.{AskedInside}
-use Rattle.ap_steps.specs.Ways.{steps_from}
 
 -- The steps `is`, with n arguments from place q on to come, ask for the same goals now as the steps `js` did before, with m
 -- from place p on to come, and places keep their trees.

@@ -1,10 +1,11 @@
 -- What a machine at a place in code stands for: goals and a tuple, under each map that fits its cells.
-use Rattle.std.specs.Prelude.{◌≡◌, ℕ, List, [], ◌∷◌, drop}
+use Rattle.std.specs.Prelude.{◌≡◌, ℕ, List, [], ◌∷◌}
 use Rattle.ap_term.specs.Tree.{Tree, Trees, none, more, atom, node, count_trees, append_trees}
 use Rattle.ap_term.specs.Goals.{Clause}
 use Rattle.ap_cells.specs.declared.cells.Raw.{Raw}
 use Rattle.ap_instr.specs.Code.{Compiled}
-use Rattle.ap_instr.specs.Step.{Step, call, execute, proceed, steps_of}
+use Rattle.ap_instr.specs.Step.{Step, call, execute, proceed}
+use Rattle.ap_instr.specs.Steps.{steps_from}
 use Rattle.ap_instr.specs.Runs.{Runs, Reads, applied, spread, lost}
 use Rattle.ap_match.specs.Fits.{Fits}
 use Rattle.ap_resolution.specs.Instances.{SameSet, Resolved}
@@ -29,7 +30,7 @@ tuple_under k (r ∷ rs) = more (k r) (tuple_under k rs)
 abbrev pub Waits : Compiled → List Return → List ℕ → (ℕ → Tree) → Trees → Trees → Type 0
 Waits code [] roots k qs t = (qs ≡ none) × (t ≡ tuple_under k roots)
 Waits code (w ∷ ws) roots k qs t =
-    (bs : Trees) × (rs : Trees) × Runs (steps_of code (drop w.place code.instructions)) none lost (λ n. k (held w.y n)) bs × (qs ≡ append_trees bs rs) × Waits code ws roots k rs t
+    (bs : Trees) × (rs : Trees) × Runs (steps_from code w.place) none lost (λ n. k (held w.y n)) bs × (qs ≡ append_trees bs rs) × Waits code ws roots k rs t
 
 -- at a call of a name on the first n registers
 abbrev pub AtCall : Compiled → Standing → (ℕ → ℕ) → ℕ → ℕ → Trees → Trees → Type 0
@@ -61,6 +62,6 @@ returning s w = record { cells = s.cells; returns = w ∷ s.returns; roots = s.r
 
 -- A call keeps what is stood for, and so does coming back from one; the last call of a clause needs no return.
 pub record CallLaw : Type 0 where
-  pub calls : (code : Compiled) (s : Standing) (x : ℕ → ℕ) (w : Return) (p n : ℕ) → SameSet (InCode code s x (held w.y) (call p n ∷ steps_of code (drop w.place code.instructions))) (AtCall code (returning s w) x p n)
+  pub calls : (code : Compiled) (s : Standing) (x : ℕ → ℕ) (w : Return) (p n : ℕ) → SameSet (InCode code s x (held w.y) (call p n ∷ steps_from code w.place)) (AtCall code (returning s w) x p n)
   pub executes : (code : Compiled) (s : Standing) (x y : ℕ → ℕ) (p n : ℕ) (is : List Step) → SameSet (InCode code s x y (execute p n ∷ is)) (AtCall code s x p n)
-  pub proceeds : (code : Compiled) (s : Standing) (x y : ℕ → ℕ) (w : Return) (is : List Step) (unset : ℕ) → ((k : ℕ → Tree) → Fits s.cells k → k unset ≡ atom 0) → SameSet (InCode code (returning s w) x y (proceed ∷ is)) (InCode code s (λ n. unset) (held w.y) (steps_of code (drop w.place code.instructions)))
+  pub proceeds : (code : Compiled) (s : Standing) (x y : ℕ → ℕ) (w : Return) (is : List Step) (unset : ℕ) → ((k : ℕ → Tree) → Fits s.cells k → k unset ≡ atom 0) → SameSet (InCode code (returning s w) x y (proceed ∷ is)) (InCode code s (λ n. unset) (held w.y) (steps_from code w.place))

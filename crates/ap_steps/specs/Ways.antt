@@ -4,9 +4,11 @@ use Rattle.std.specs.List.{list_any}
 use Rattle.ap_cells.specs.declared.cells.Raw.{Raw}
 use Rattle.ap_cells.specs.Store.{Store}
 use Rattle.ap_instr.specs.declared.instruction.Instr.{Instr}
-use Rattle.ap_instr.specs.declared.instruction.Instr.TheVariants.{GetValue, GetStructure, PutVariable, PutConstant, PutInteger, PutStructure, UnifyValue, Allocate, Deallocate, Call, Execute, Proceed, Builtin, Jump, Fail, Try, Retry, Trust}
+use Rattle.ap_instr.specs.declared.instruction.Instr.TheVariants.{GetValue, GetStructure, PutVariable, PutConstant, PutInteger, PutStructure, UnifyValue, Allocate, Deallocate, Call, Execute, Proceed, Builtin, Jump, Fail, Try, Retry, Trust, CheckGround, CheckIndep, AllocParcall, PushGoal, WaitAll}
 use Rattle.ap_instr.specs.Code.{Compiled}
-use Rattle.ap_instr.specs.Step.{Step, step_of, steps_of}
+use Rattle.ap_instr.specs.Step.{Step, step_of}
+use Rattle.ap_instr.specs.Steps.{steps_from, skipped}
+use Rattle.ap_instr.specs.Runs.{AsksOpenly}
 use Rattle.ap_steps.specs.declared.room.Room.{Room}
 use Rattle.ap_steps.specs.declared.run.Outcome.{Outcome}
 use Rattle.ap_steps.specs.declared.run.Outcome.TheVariants.{On, Transfer, Stuck}
@@ -25,6 +27,11 @@ is_control Fail = true
 is_control (Try l) = true
 is_control (Retry l) = true
 is_control (Trust l) = true
+is_control (CheckGround v l) = true
+is_control (CheckIndep v w l) = true
+is_control (AllocParcall n) = true
+is_control (PushGoal i q) = true
+is_control WaitAll = true
 is_control _ = false
 
 -- an instruction of control that doesn't lead to the next one: all but those that make and give back an environment
@@ -81,9 +88,6 @@ abbrev pub AllHaveTargets : List Instr → ℕ → ℕ → Type 0
 AllHaveTargets [] xs ys = Unit {0}
 AllHaveTargets (i ∷ is) xs ys = HasTargets i xs ys × (is_control i ≡ false → AllHaveTargets is xs ys)
 
-abbrev pub steps_from : Compiled → ℕ → List Step
-steps_from code at = steps_of code (drop at code.instructions)
-
 -- a step with n arguments, whose instructions stand from a place on: it was taken with them, or can't be, whatever comes
 -- behind
 abbrev pub StepTaken : Compiled → Step → ℕ → ℕ → List Raw → (ℕ → ℕ) → (ℕ → ℕ) → List Raw → (ℕ → ℕ) → (ℕ → ℕ) → Bool → Type 0
@@ -108,4 +112,9 @@ pub record Passed (code : Compiled) (i : Instr) (at n : ℕ) (v : Store) (x y : 
 abbrev pub CameTo : Compiled → Instr → ℕ → Store → List ℕ → List ℕ → Outcome → Store → List ℕ → List ℕ → Type 0
 CameTo code i at v x y (On n) w x' y' = Passed code i at n v x y w x' y'
 CameTo code i at v x y Transfer w x' y' = (is_transfer i ≡ true) × (w ≡ v) × (x' ≡ x) × (y' ≡ y)
-CameTo code i at v x y Stuck w x' y' = IsStuck v.cells (held x) (held y) (step_of code i ∷ steps_from code at)
+CameTo code i at v x y Stuck w x' y' = (is_transfer i ≡ false) × IsStuck v.cells (held x) (held y) (step_of code i ∷ steps_from code at)
+
+-- A jump keeps what the code asks for: it goes on at the jump's place, or, where that isn't further on, at the next instruction.
+pub record JumpLaw : Type 0 where
+  pub moves : (code : Compiled) (at l : ℕ) (cs : List Raw) (x y : ℕ → ℕ) → slice_get code.instructions at ≡ Some (Jump l) → Moves cs x y (steps_from code at) cs x y (steps_from code (at + 1 + skipped (Jump l) at))
+  pub openly : (code : Compiled) (at l : ℕ) → slice_get code.instructions at ≡ Some (Jump l) → AsksOpenly (steps_from code at) → AsksOpenly (steps_from code (at + 1 + skipped (Jump l) at))

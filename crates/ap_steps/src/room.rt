@@ -24,6 +24,11 @@ pub(crate) fn is_transfer(instr: &Instr) -> bool
         Instr::Try(_) => true,
         Instr::Retry(_) => true,
         Instr::Trust(_) => true,
+        Instr::CheckGround(_, _) => true,
+        Instr::CheckIndep(_, _, _) => true,
+        Instr::AllocParcall(_) => true,
+        Instr::PushGoal(_, _) => true,
+        Instr::WaitAll => true,
         _ => false,
     }
 }

@@ -12,7 +12,7 @@ use Rattle.ap_term.specs.Goals.{Program}
 use Rattle.ap_term.specs.Search.{State}
 use Rattle.ap_term.specs.Blocks as blocks
 use Rattle.ap_term.specs.Blocks.{no_more, budget_spent, stopped, error}
-use Rattle.ap_standing.specs.Holds.{Turned}
+use Rattle.ap_worker.specs.Turns.{Turned}
 use Rattle.ap_worker.specs.declared.emission.End.{End}
 use Rattle.ap_worker.specs.declared.emission.End.TheVariants.{NoMore, Spent, Stopped, Error}
 use Rattle.ap_worker.specs.Ends.{end_of}

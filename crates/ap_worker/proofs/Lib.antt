@@ -6,3 +6,5 @@ pub mod Reaching
 pub mod SolvedBlocks
 pub mod Solving
 pub mod Spans
+pub mod Ungrouped
+pub mod Untracking

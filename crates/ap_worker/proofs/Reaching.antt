@@ -4,7 +4,7 @@ use Rattle.std.proofs.lemmas.Bool.{cases_lt}
 use Rattle.ap_term.specs.Tree.{Trees}
 use Rattle.ap_term.specs.Goals.{Part, Program}
 use Rattle.ap_term.specs.Search.{State, Found, Outcome, outcome_by, outcome_of, Met, cut, meets, found_by, search, done, open_states, with_outcomes, by_goals, turn, children}
-use Rattle.ap_standing.specs.Holds.{Turned}
+use Rattle.ap_worker.specs.Turns.{Turned}
 use Rattle.ap_worker.specs.Reached.{with_answers, IsOnTheWay, Reaches}
 
 with_answers-twice : (xs ys : List Trees) (f : Found) → with_answers (xs ++ ys) f ≡ with_answers xs (with_answers ys f)

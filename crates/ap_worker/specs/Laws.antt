@@ -4,8 +4,8 @@ use Rattle.ap_term.specs.Tree.{Trees}
 use Rattle.ap_term.specs.Goals.{Program}
 use Rattle.ap_term.specs.Search.{State}
 use Rattle.ap_term.specs.Blocks.{End, IsBlock}
-use Rattle.ap_standing.specs.Holds.{Turned}
 use Rattle.ap_worker.specs.Reached.{Reaches, IsSolved}
+use Rattle.ap_worker.specs.Turns.{Turned}
 
 -- The lines of a solved query and how they end are a block of it.
 abbrev pub SolvedLaw : Type 0

@@ -5,8 +5,7 @@ ghost use Rattle.ap_term.specs.Tree.{Trees, count_trees};
 ghost use Rattle.ap_term.specs.Goals.{Program};
 ghost use Rattle.ap_term.specs.Search.{State};
 ghost use Rattle.ap_term.specs.UpToNames.{SameUpToNames};
-ghost use Rattle.ap_standing.specs.Holds.{Turned};
-ghost use Rattle.ap_worker.specs.Turns.{StandsAt, IsAnswer};
+ghost use Rattle.ap_worker.specs.Turns.{Turned, StandsAt, IsAnswer};
 
 use ap_term::{Args, NoMemory};
 use std::alloc::Global;

@@ -17,6 +17,7 @@ use ap_term::{Program, Query};
 use std::alloc::Global;
 
 /// Searches a query beside a program by code, and puts the lines of its answers as they are found, as many as the limit at most.
+/// The goals of a group are called one after another.
 pub fn solve<A: Answers, K: Sink>(
     alloc: Global,
     program: &Program,

@@ -1,7 +1,7 @@
 //! A section that searches beside its code.
 
 ghost use Rattle.std.specs.Prelude.{◌≡◌, List, [], ◌∷◌, length, IfOk};
-ghost use Rattle.ap_term.specs.Goals.{Program, joined};
+ghost use Rattle.ap_term.specs.Goals.{Program, Query as Asked, joined};
 ghost use Rattle.ap_term.specs.WellFormed.{IsProgram};
 ghost use Rattle.ap_term.specs.Search.{start};
 ghost use Rattle.ap_instr.specs.StandsFor.{asked_query};
@@ -52,15 +52,15 @@ impl<'a> Model for Searching<'a> {
 }
 
 impl Searching<'_> {
-    /// The search of a query, where it begins.
+    /// The search of a query, where it begins, by code for that query or for one that has as many variables.
     pub fn of<'a>(
         alloc: Global,
         sound: &'a Sound,
         query: &Query,
         budget: u64,
     ) -> Result<Searching<'a>, NoMemory>
-        requires { (p : Program) × IsAsked sound.now p query.now }
-        ensures stands { IfOk result (λ a. (p : Program) → IsProgram p → IsAsked sound.now p query.now → Stands a (joined p (asked_query query.now)) (start query.now ∷ [])) }
+        requires { (p : Program) × (q : Asked) × IsAsked sound.now p q × (length q.names ≡ length query.now.names) }
+        ensures stands { IfOk result (λ a. (p : Program) (q : Asked) → IsProgram p → IsAsked sound.now p q → length q.names ≡ length query.now.names → Stands a (joined p (asked_query q)) (start q ∷ [])) }
         ensures width { IfOk result (λ a. length a.section.machine.roots ≡ length query.now.names) }
         ensures spent { IfOk result (λ a. a.section.spent ≡ 0) }
         ensures budget { IfOk result (λ a. a.section.budget ≡ budget) }

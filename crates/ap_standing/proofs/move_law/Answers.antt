@@ -1,4 +1,4 @@
-use Rattle.ap_standing.proofs.Machines.{went, failed-inside, made-call, made-last-call, ended, failed-at, came-back}
+use Rattle.ap_standing.proofs.Machines.{went, failed-inside, made-call, made-last-call, ended, jumped, failed-at, came-back}
 use Rattle.ap_standing.proofs.move_law.Goals as goal
 
 pub returns : goal.returns
@@ -8,6 +8,7 @@ returns c = record {
   calls = made-call;
   calls_last = made-last-call;
   ends = ended;
+  jumps = jumped;
   breaks_off = failed-at;
   comes_back = came-back;
 }

@@ -1,26 +1,35 @@
-use Rattle.std.proofs.Common.{◌<◌, arith}
+use Rattle.std.proofs.Common.{List, subst, rules}
+use Rattle.ap_codecheck.specs.declared.walk.Way.{Way}
 use Rattle.ap_codecheck.specs.Held.{shape_of}
-use Rattle.ap_codecheck.proofs.Ways.{place_below, on-falls, on-next, fine-end}
+use Rattle.ap_codecheck.specs.Shape.{entry}
+use Rattle.ap_codecheck.specs.Judged.{FailsFrom}
+use Rattle.ap_codecheck.specs.Known.{IsFollowed}
+use Rattle.ap_codecheck.proofs.Ways.{fails-behind}
+use Rattle.ap_codecheck.proofs.Following.{way_none, checking-first, checking-reached, checking-next, checking-end}
 use Rattle.ap_codecheck.proofs.paths.check_clause.Goals as goal
 
-pub loop-at-smaller : goal.loop-at-smaller
-loop-at-smaller c =
-    let code = c.args.code.now in
-    let place = place_below code c.args.p.now c.loop-at.at _ _ c.loop-at.invariant.behind c.loop-at-test.true c.min-end.ensures c.instructions.ensures in
-    let led = rw c.in-Some.is at c.in_ok-next.ensures.led in
-    let falls : c.loop-at.at < c.in-Some.next = on-falls code c.loop-at.at c.in-Some.next _ (shape_of c.step.new.shape) place.held c.in_ok-next.ensures.kept led in
-    omega (arith, c.loop-at-test.true)
+pub loop-number-init : goal.loop-number-init
+loop-number-init c =
+    checking-first c.args.code.now c.args.p.now c.args.from _ _ _ c.in_ok-begin.ensures.shape c.in_ok-begin.ensures.ways c.in_ok-follow.ensures.followed
 
-pub loop-at-preserved : goal.loop-at-preserved
-loop-at-preserved c =
-    let code = c.args.code.now in
-    let place = place_below code c.args.p.now c.loop-at.at _ _ c.loop-at.invariant.behind c.loop-at-test.true c.min-end.ensures c.instructions.ensures in
-    let led = rw c.in-Some.is at c.in_ok-next.ensures.led in
-    on-next code c.args.p.now c.args.from c.loop-at.at c.in-Some.next _ (shape_of c.step.new.shape) c.loop-at.invariant place c.in_ok-next.ensures.kept led
+pub returns-in_default-clause-ok : goal.returns-in_default-clause-ok
+returns-in_default-clause-ok c =
+    let none = way_none c.loop-number.walk.ways.items c.loop-number.number (shape_of c.stand.new.self.shape) c.in_ok-place.field-0 c.in_default.not-Some c.in_ok-place.ensures.way in
+    checking-end c.args.code.now c.args.p.now c.args.from c.loop-number.walk.ways.items c.loop-number.number c.loop-number.invariant none
 
-pub returns-in-None-clause-ok : goal.returns-in-None-clause-ok
-returns-in-None-clause-ok c =
+pub returns-in_err-follow-2-clause-bad : goal.returns-in_err-follow-2-clause-bad
+returns-in_err-follow-2-clause-bad c =
+    let way = rw c.in-Some.is at c.in_ok-place.ensures.way in
+    let reached = checking-reached c.args.code.now c.args.p.now c.args.from c.loop-number.walk.ways.items c.loop-number.number c.in-Some.place (shape_of c.stand.new.self.shape) c.loop-number.invariant way in
+    let failed : FailsFrom c.args.code.now c.args.p.now c.args.from (entry c.args.p.now.arity) c.in_err-follow-2.field-0.0
+    = fails-behind c.args.code.now c.args.p.now reached.1.0 c.args.from c.in-Some.place (entry c.args.p.now.arity) (shape_of c.stand.new.self.shape) c.in_err-follow-2.field-0.0 reached.1.1 c.in_err-follow-2.ensures.bad in
+    search rules
+
+pub loop-number-preserved : goal.loop-number-preserved
+loop-number-preserved c =
     let code = c.args.code.now in
-    let place = place_below code c.args.p.now c.loop-at.at _ _ c.loop-at.invariant.behind c.loop-at-test.true c.min-end.ensures c.instructions.ensures in
-    let led = rw c.in-None.is at c.in_ok-next.ensures.led in
-    c.loop-at.invariant.rest (fine-end code c.args.p.now c.loop-at.at _ (shape_of c.step.new.shape) place c.in_ok-next.ensures.kept led)
+    let p = c.args.p.now in
+    let way = rw c.in-Some.is at c.in_ok-place.ensures.way in
+    let P : List Way → Type 0 = λ ways. IsFollowed code p c.in-Some.place (shape_of c.stand.new.self.shape) ways c.follow-in-loop-number.new.walk.ways.items in
+    checking-next code p c.args.from c.loop-number.walk.ways.items c.follow-in-loop-number.new.walk.ways.items c.loop-number.number c.in-Some.place (shape_of c.stand.new.self.shape) c.loop-number.invariant way
+    (subst P c.in_ok-place.ensures.same c.in_ok-follow-2.ensures.followed)

@@ -1,8 +1,13 @@
-use Rattle.std.proofs.Common.{Vec, Global, map, refl, subst, rules}
+use Rattle.std.proofs.Common.{◌≡◌, Vec, Global, map, take, refl, sym, subst, rules}
+use Rattle.std.specs.List.{filter}
 use Rattle.ap_instr.specs.declared.instruction.Instr.{Instr}
 use Rattle.ap_codegen.specs.Assembled.{AreCoded}
+use Rattle.ap_codegen.proofs.Heads.{listed_push}
 use Rattle.ap_codegen.proofs.Making.{made_more, laid_is}
 use Rattle.ap_codegen.proofs.programs.add_predicate.Goals as goal
+
+pub returns-clause-listed : goal.returns-clause-listed
+returns-clause-listed c m l h = subst (λ qs. filter (λ q. q.is_listed) qs ≡ take m qs) (sym c.in_ok-push.ensures.items) (listed_push c.args.made.now.predicates.items _ m l h)
 
 pub returns-clause-made : goal.returns-clause-made
 returns-clause-made c p indexed here made =

@@ -4,6 +4,7 @@ use Rattle.ap_instr.specs.Runs.{arguments}
 use Rattle.ap_codegen.specs.declared.steps.Step.TheVariants.{Allocate}
 use Rattle.ap_codegen.specs.Emitted.{steps_of}
 use Rattle.ap_codegen.specs.CodeOf.{IsCodeOf}
+use Rattle.ap_codegen.specs.Sequential.{sequential}
 use Rattle.ap_codegen.specs.Framed.{leaving}
 use Rattle.ap_codegen.specs.Paces.{Paces, inside}
 use Rattle.ap_codegen.proofs.Framing.{framed_code}
@@ -14,13 +15,13 @@ returns-in-Some-clause-code c =
     let own : steps_of c.as_slice-own.result.now ≡ steps_of c.in_ok-steps.steps.items = ap steps_of c.as_slice-own.ensures.value in
     let arity = count_trees (arguments c.args.clause.now.head) in
     let better = rw c.in-Some.is at c.in_ok-better.ensures.code in
-    better c.args.clause.now c.args.clause.now.vars arity (subst (λ is. Paces is (inside c.args.clause.now.vars arity)) (sym own) c.in_ok-steps.ensures.paced)
-    (subst (IsCodeOf c.args.clause.now) (sym own) c.in_ok-steps.ensures.code)
+    better (sequential c.args.clause.now) c.args.clause.now.vars arity (subst (λ is. Paces is (inside c.args.clause.now.vars arity)) (sym own) c.in_ok-steps.ensures.paced)
+    (subst (IsCodeOf (sequential c.args.clause.now)) (sym own) c.in_ok-steps.ensures.code)
 
 pub returns-clause-code : goal.returns-clause-code
 returns-clause-code c =
     let e : steps_of c.in_ok-framed.framed.items ≡ steps_of (Allocate c.vars.result ∷ leaving c.in_ok-steps.steps.items) = ap steps_of c.in_ok-framed.ensures ∙ ap (λ es. steps_of (Allocate c.vars.result ∷ leaving es)) c.as_slice-own.ensures.value in
-    subst (IsCodeOf c.args.clause.now) (sym e) (framed_code c.args.clause.now c.in_ok-steps.steps.items c.vars.result c.in_ok-steps.ensures.code)
+    subst (IsCodeOf (sequential c.args.clause.now)) (sym e) (framed_code (sequential c.args.clause.now) c.in_ok-steps.steps.items c.vars.result c.in_ok-steps.ensures.code)
 
 pub returns-clause-paced : goal.returns-clause-paced
 returns-clause-paced c =

@@ -2,7 +2,7 @@ use Rattle.std.specs.Prelude.{IfSome}
 use Rattle.std.proofs.Common.{◌≡◌, ℕ, ℤ, List, Option, None, ◌∷◌, slice_get, Some, ap, ◌∙◌, subst}
 use Rattle.ap_term.specs.Tree.{Tree, Trees, atom, int}
 use Rattle.ap_cells.specs.declared.cells.Raw.{Raw}
-use Rattle.ap_instr.specs.Step.{Step, with_integer, get_constant, get_structure, step_of}
+use Rattle.ap_instr.specs.Step.{Step, with_integer, get_constant, step_of}
 use Rattle.ap_steps.specs.Moves.{held, Asked}
 use Rattle.ap_steps.proofs.StructureSteps.{another-stuck}
 use Rattle.ap_control.proofs.heads.fails.Goals as goal

@@ -1,6 +1,6 @@
 use Rattle.std.proofs.Common.{ℕ}
+use Rattle.ap_instr.specs.Steps.{steps_from}
 use Rattle.ap_steps.specs.Moves.{held, IsStuck}
-use Rattle.ap_steps.specs.Ways.{steps_from}
 use Rattle.ap_control.proofs.heads.fails_at_once.Given as goal
 
 abbrev pub invariant-loop-place : goal.invariant-loop-place

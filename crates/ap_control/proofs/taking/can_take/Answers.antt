@@ -1,6 +1,6 @@
 use Rattle.std.proofs.Common.{subst}
+use Rattle.ap_instr.specs.Steps.{steps_from}
 use Rattle.ap_steps.specs.Moves.{held}
-use Rattle.ap_steps.specs.Ways.{steps_from}
 use Rattle.ap_steps.proofs.Steps.{Moves-stuck}
 use Rattle.ap_control.specs.Runs.{Ran, RanOrStuck}
 use Rattle.ap_control.proofs.Unifying.{ran-takes}

@@ -1,5 +1,5 @@
+use Rattle.ap_instr.specs.Steps.{steps_from}
 use Rattle.ap_instr.specs.Runs.{IsOpen, AsksOpenly}
-use Rattle.ap_steps.specs.Ways.{steps_from}
 use Rattle.ap_control.specs.Taking.{IsOpenInside}
 use Rattle.ap_control.proofs.taking.is_open.Given as goal
 

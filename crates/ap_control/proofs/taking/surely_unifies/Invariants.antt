@@ -1,6 +1,6 @@
+use Rattle.ap_instr.specs.Steps.{steps_from}
 use Rattle.ap_instr.specs.Runs.{AsksOpenly}
 use Rattle.ap_steps.specs.Moves.{held}
-use Rattle.ap_steps.specs.Ways.{steps_from}
 use Rattle.ap_control.proofs.Unifying.{Walked}
 use Rattle.ap_control.proofs.taking.surely_unifies.Given as goal
 

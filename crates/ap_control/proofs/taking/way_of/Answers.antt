@@ -1,11 +1,12 @@
 use Rattle.std.proofs.Common.{refl, sym, subst, slice_get}
 use Rattle.ap_term.specs.Tree.{atom, none, more}
-use Rattle.ap_instr.specs.Runs.{set, read, set_x, set_y, applied, spread}
+use Rattle.ap_tracked.specs.Marks.{ground_mark, apart_mark, group_mark}
+use Rattle.ap_instr.specs.Runs.{set, read, set_x, set_y, applied, spread, lost}
 use Rattle.ap_control.specs.declared.taking.Way.TheVariants.{On, Structure, Goal}
 use Rattle.ap_control.specs.Taking.{LeadsBy}
 use Rattle.ap_instr.specs.Builtin.{builtin_name, builtin_arity}
 use Rattle.ap_control.proofs.Building.{structure-opens}
-use Rattle.ap_control.proofs.Unifying.{led-by-call, led-by-execute, by-listed}
+use Rattle.ap_control.proofs.Unifying.{led-by-call, led-by-execute, led-by-push, by-listed}
 use Rattle.ap_control.proofs.taking.way_of.Goals as goal
 
 pub returns-in-GetVariable : goal.returns-in-GetVariable
@@ -55,3 +56,29 @@ returns-in-PutStructure c =
     let n = c.in-PutStructure.count in
     let a = c.in-PutStructure.a in
     subst (λ i. LeadsBy c.args.code.now i (Structure n a)) (sym c.in-PutStructure.is) (refl, structure-opens c.in-PutStructure.field-0 n a)
+
+pub returns-in-CheckGround : goal.returns-in-CheckGround
+returns-in-CheckGround c =
+    let v = c.in-CheckGround.field-0 in
+    subst (λ i. LeadsBy c.args.code.now i Goal) (sym c.in-CheckGround.is) (λ is o x y. let r = o.0 x y in (more ground_mark (more (read v x y) r.0), (r.0, refl, r.1)))
+
+pub returns-in-CheckIndep : goal.returns-in-CheckIndep
+returns-in-CheckIndep c =
+    let v = c.in-CheckIndep.field-0 in
+    let w = c.in-CheckIndep.field-1 in
+    subst (λ i. LeadsBy c.args.code.now i Goal) (sym c.in-CheckIndep.is) (λ is o x y. let r = o.0 x y in (more apart_mark (more (read v x y) (more (read w x y) r.0)), (r.0, refl, r.1)))
+
+pub returns-in-AllocParcall : goal.returns-in-AllocParcall
+returns-in-AllocParcall c =
+    subst (λ i. LeadsBy c.args.code.now i Goal) (sym c.in-AllocParcall.is) (λ is o x y. let r = o.0 x y in (more (group_mark c.in-AllocParcall.field-0) r.0, (r.0, refl, r.1)))
+
+pub returns-in-PushGoal : goal.returns-in-PushGoal
+returns-in-PushGoal c =
+    let way = c.way_by_call-in-PushGoal in
+    subst (λ i. LeadsBy c.args.code.now i way.result) (sym c.in-PushGoal.is) (led-by-push c.args.code.now c.in-PushGoal.field-0 c.in-PushGoal.number way.result way.ensures)
+
+pub returns-in-WaitAll : goal.returns-in-WaitAll
+returns-in-WaitAll c = subst (λ i. LeadsBy c.args.code.now i Goal) (sym c.in-WaitAll.is) (λ is o x y. o.0 lost y)
+
+pub returns-in-Jump : goal.returns-in-Jump
+returns-in-Jump c = subst (λ i. LeadsBy c.args.code.now i Goal) (sym c.in-Jump.is) (λ is o x y. o.0 x y)

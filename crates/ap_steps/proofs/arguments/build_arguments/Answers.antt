@@ -3,11 +3,13 @@ use Rattle.std.proofs.lemmas.Bool.{false≢true}
 use Rattle.std.proofs.lemmas.Option.{slice_get_within}
 use Rattle.ap_cells.proofs.Stores.{Keeps-trans}
 use Rattle.ap_instr.specs.Step.{step_of}
+use Rattle.ap_instr.specs.Steps.{steps_from, skipped}
+use Rattle.ap_instr.proofs.Steps.{steps_law, steps-past}
 use Rattle.ap_steps.specs.Moves.{held, HasTargets}
 use Rattle.ap_steps.specs.declared.arguments.Parts.TheVariants.{Fresh, Values}
 use Rattle.ap_steps.specs.Arguments.{BuiltOr, BuiltAll, are_built, StandApart}
-use Rattle.ap_steps.specs.Ways.{is_value, has_value, steps_from}
-use Rattle.ap_steps.proofs.Places.{steps-here, steps-past, targets-here, none-more, none-targets, value-kept, value-among}
+use Rattle.ap_steps.specs.Ways.{is_value, has_value}
+use Rattle.ap_steps.proofs.Places.{steps-next, plain-transfer, targets-here, none-more, none-targets, value-kept, value-among}
 use Rattle.ap_steps.proofs.NewCells.{KeepTrees-trans, StandApart-trans}
 use Rattle.ap_steps.proofs.StructureSteps.{BuiltAll-more, BuiltAll-stuck, BuiltAll-end}
 use Rattle.ap_steps.proofs.arguments.build_arguments.Goals as goal
@@ -29,9 +31,9 @@ returns-in-Stuck-clause-built c =
     let whole : ℕ = length c.args.cells.now.cells + c.args.count in
     let e : slice_get c.args.code.now.instructions (c.args.at + c.loop-i.i) ≡ Some c.in-Some.instr = sym c.in-Some.ensures in
     BuiltAll-stuck whole c.loop-i.i c.args.count c.args.cells.now.cells c.loop-i.cells.cells c.build_argument.new.cells.cells (held c.args.x.now) (held c.args.y.now) (held c.loop-i.x) (held c.loop-i.y) (held c.build_argument.new.x) (held c.build_argument.new.y)
-    (steps_from c.args.code.now c.args.at) (steps_from c.args.code.now (c.args.at + c.loop-i.i + 1)) (step_of c.args.code.now c.in-Some.instr) c.loop-i-test.true
+    (steps_from c.args.code.now c.args.at) (steps_from c.args.code.now (c.args.at + c.loop-i.i + 1 + skipped c.in-Some.instr (c.args.at + c.loop-i.i))) (step_of c.args.code.now c.in-Some.instr) c.loop-i-test.true
     (subst (λ is. BuiltAll c.loop-i.i c.args.cells.now.cells (held c.args.x.now) (held c.args.y.now) (steps_from c.args.code.now c.args.at) c.loop-i.cells.cells (held c.loop-i.x) (held c.loop-i.y) is)
-    (steps-here c.args.code.now (c.args.at + c.loop-i.i) c.in-Some.instr e) v.built)
+    (steps_law c.args.code.now (c.args.at + c.loop-i.i) c.in-Some.instr e) v.built)
     (c.in-Stuck.ensures.built whole (v.holds_x whole c.requires.holds_x) (v.holds_y whole c.requires.holds_y))
 
 pub returns-in-Stuck-clause-holds_x : goal.returns-in-Stuck-clause-holds_x
@@ -67,7 +69,7 @@ loop-i-preserved c =
           subst (λ n. BuiltAll (i + 1) c.args.cells.now.cells (held c.args.x.now) (held c.args.y.now) (steps_from c.args.code.now at) c.build_argument.new.cells.cells (held c.build_argument.new.x) (held c.build_argument.new.y) (steps_from c.args.code.now n)) behind
           (BuiltAll-more i c.args.cells.now.cells c.loop-i.cells.cells c.build_argument.new.cells.cells (held c.args.x.now) (held c.args.y.now) (held c.loop-i.x) (held c.loop-i.y) (held c.build_argument.new.x) (held c.build_argument.new.y)
           (steps_from c.args.code.now at) (steps_from c.args.code.now (at + i + 1)) (step_of c.args.code.now c.in-Some.instr)
-          (subst (λ is. BuiltAll i c.args.cells.now.cells (held c.args.x.now) (held c.args.y.now) (steps_from c.args.code.now at) c.loop-i.cells.cells (held c.loop-i.x) (held c.loop-i.y) is) (steps-here c.args.code.now (at + i) c.in-Some.instr e) v.built)
+          (subst (λ is. BuiltAll i c.args.cells.now.cells (held c.args.x.now) (held c.args.y.now) (steps_from c.args.code.now at) c.loop-i.cells.cells (held c.loop-i.x) (held c.loop-i.y) is) (steps-next c.args.code.now (at + i) c.in-Some.instr e (plain-transfer c.in-Some.instr (c.build_argument.ensures.argument ok))) v.built)
           (subst (BuiltOr whole c.loop-i.cells.cells (held c.loop-i.x) (held c.loop-i.y) (step_of c.args.code.now c.in-Some.instr) c.build_argument.new.cells.cells (held c.build_argument.new.x) (held c.build_argument.new.y)) ok
           (c.build_argument.ensures.built whole (v.holds_x whole c.requires.holds_x) (v.holds_y whole c.requires.holds_y))));
       passed = none-more c.args.code.now.instructions at i c.in-Some.instr v.passed e (c.build_argument.ensures.argument ok);

@@ -3,10 +3,12 @@ use Rattle.std.specs.Prelude.{OnErr}
 use Rattle.std.proofs.lemmas.Option.{slice_get_within}
 use Rattle.ap_cells.proofs.Stores.{Keeps-trans}
 use Rattle.ap_instr.specs.Step.{step_of}
+use Rattle.ap_instr.specs.Steps.{steps_from, skipped}
+use Rattle.ap_instr.proofs.Steps.{steps_law, steps-past}
 use Rattle.ap_steps.specs.Moves.{held, HasTargets}
 use Rattle.ap_steps.specs.Found.{MovesInside, Matched}
-use Rattle.ap_steps.specs.Ways.{has_value, steps_from}
-use Rattle.ap_steps.proofs.Places.{steps-here, steps-past, targets-here, none-more, none-targets, value-among}
+use Rattle.ap_steps.specs.Ways.{has_value}
+use Rattle.ap_steps.proofs.Places.{steps-next, plain-transfer, targets-here, none-more, none-targets, value-among}
 use Rattle.ap_steps.proofs.Finding.{MovesInside-refl, MovesInside-trans, MovesInside-stuck, MovesInside-end}
 use Rattle.ap_steps.proofs.found.match_arguments.Goals as goal
 
@@ -53,13 +55,13 @@ returns-then-not-matched-clause-matched c =
     let m : ℕ = c.args.count - (c.loop-i.i + 1) in
     let e : slice_get c.args.code.now.instructions (c.args.at + c.loop-i.i) ≡ Some c.in-Some.instr = sym c.in-Some.ensures in
     let n : c.args.count ≡ c.loop-i.i + suc m = omega arith in
-    MovesInside-stuck c.args.cells.now.cells c.loop-i.cells.cells (held c.args.x.now) (held c.args.y.now) (held c.loop-i.x) (held c.loop-i.y) (steps_from c.args.code.now c.args.at) (step_of c.args.code.now c.in-Some.instr ∷ steps_from c.args.code.now (c.args.at + c.loop-i.i + 1))
+    MovesInside-stuck c.args.cells.now.cells c.loop-i.cells.cells (held c.args.x.now) (held c.args.y.now) (held c.loop-i.x) (held c.loop-i.y) (steps_from c.args.code.now c.args.at) (step_of c.args.code.now c.in-Some.instr ∷ steps_from c.args.code.now (c.args.at + c.loop-i.i + 1 + skipped c.in-Some.instr (c.args.at + c.loop-i.i)))
     c.args.first c.args.count (c.args.first + c.loop-i.i) (suc m)
     (subst (λ is. MovesInside c.args.cells.now.cells (held c.args.x.now) (held c.args.y.now) (steps_from c.args.code.now c.args.at) c.args.first c.args.count c.loop-i.cells.cells (held c.loop-i.x) (held c.loop-i.y) is (c.args.first + c.loop-i.i) (suc m))
-    (steps-here c.args.code.now (c.args.at + c.loop-i.i) c.in-Some.instr e) (v.matched (suc m) n))
+    (steps_law c.args.code.now (c.args.at + c.loop-i.i) c.in-Some.instr e) (v.matched (suc m) n))
     (subst
     (λ b. Matched c.loop-i.cells.cells (held c.loop-i.x) (held c.loop-i.y) (step_of c.args.code.now c.in-Some.instr) (c.args.first + c.loop-i.i) c.match_argument.new.cells.cells (held c.match_argument.new.x) (held c.match_argument.new.y) b)
-    c.if-not-matched.true c.in_ok-matched-in-Some.ensures.matched m (steps_from c.args.code.now (c.args.at + c.loop-i.i + 1)) (omega arith))
+    c.if-not-matched.true c.in_ok-matched-in-Some.ensures.matched m (steps_from c.args.code.now (c.args.at + c.loop-i.i + 1 + skipped c.in-Some.instr (c.args.at + c.loop-i.i))) (omega arith))
 
 pub returns-in-None-clause-matched : goal.returns-in-None-clause-matched
 returns-in-None-clause-matched c =
@@ -91,7 +93,7 @@ loop-i-preserved c =
           (subst (λ p. MovesInside old (held c.args.x.now) (held c.args.y.now) js first c.args.count new x'' y'' (steps_from c.args.code.now (at + i + 1)) p m) further
           (MovesInside-trans old mid new (held c.args.x.now) (held c.args.y.now) (held c.loop-i.x) (held c.loop-i.y) x'' y'' js (step_of c.args.code.now c.in-Some.instr ∷ steps_from c.args.code.now (at + i + 1)) (steps_from c.args.code.now (at + i + 1))
           first c.args.count (first + i) (suc m) (first + i + 1) m
-          (subst (λ is. MovesInside old (held c.args.x.now) (held c.args.y.now) js first c.args.count mid (held c.loop-i.x) (held c.loop-i.y) is (first + i) (suc m)) (steps-here c.args.code.now (at + i) c.in-Some.instr e) (v.matched (suc m) n))
+          (subst (λ is. MovesInside old (held c.args.x.now) (held c.args.y.now) js first c.args.count mid (held c.loop-i.x) (held c.loop-i.y) is (first + i) (suc m)) (steps-next c.args.code.now (at + i) c.in-Some.instr e (plain-transfer c.in-Some.instr (c.in_ok-matched-in-Some.ensures.argument c.if-not-matched.false))) (v.matched (suc m) n))
           (subst (λ b. Matched mid (held c.loop-i.x) (held c.loop-i.y) (step_of c.args.code.now c.in-Some.instr) (first + i) new x'' y'' b) c.if-not-matched.false c.in_ok-matched-in-Some.ensures.matched m (steps_from c.args.code.now (at + i + 1)) (omega arith))));
       passed = none-more c.args.code.now.instructions at i c.in-Some.instr v.passed e (c.in_ok-matched-in-Some.ensures.argument c.if-not-matched.false);
       inside = let l : at + i < length c.args.code.now.instructions = slice_get_within c.args.code.now.instructions (at + i) c.in-Some.instr e in omega arith;

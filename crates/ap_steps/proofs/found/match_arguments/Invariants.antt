@@ -1,8 +1,9 @@
 use Rattle.std.proofs.Common.{◌≡◌, ℕ, ◌+◌, ◌≤◌, length}
 use Rattle.ap_cells.specs.Store.{Keeps}
+use Rattle.ap_instr.specs.Steps.{steps_from}
 use Rattle.ap_steps.specs.Moves.{held, HoldPlaces}
 use Rattle.ap_steps.specs.Found.{MovesInside}
-use Rattle.ap_steps.specs.Ways.{NoneOfControl, steps_from}
+use Rattle.ap_steps.specs.Ways.{NoneOfControl}
 use Rattle.ap_steps.proofs.found.match_arguments.Given as goal
 
 abbrev pub invariant-loop-i : goal.invariant-loop-i

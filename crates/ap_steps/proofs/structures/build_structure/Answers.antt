@@ -1,7 +1,7 @@
 use Rattle.std.proofs.Common.{◌+◌, ◌≡◌, length, true, refl, arith}
 use Rattle.ap_cells.proofs.Stores.{Keeps-trans}
 use Rattle.ap_steps.specs.Moves.{held, HoldPlaces}
-use Rattle.ap_steps.specs.Ways.{steps_from}
+use Rattle.ap_instr.specs.Steps.{steps_from}
 use Rattle.ap_steps.proofs.RegisterMaps.{but-all, all-but}
 use Rattle.ap_steps.proofs.NewCells.{apart-absent}
 use Rattle.ap_steps.proofs.StructureSteps.{got-stuck}

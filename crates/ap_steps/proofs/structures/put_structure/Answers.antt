@@ -2,7 +2,7 @@ use Rattle.std.proofs.Common.{◌≡◌, ℕ, ◌+◌, true, length, inl, inr, a
 use Rattle.ap_cells.proofs.Stores.{Keeps-trans}
 use Rattle.ap_steps.specs.Moves.{held, HoldPlacesBut}
 use Rattle.ap_steps.specs.Arguments.{BuiltAll, BuiltOrStuck, are_built}
-use Rattle.ap_steps.specs.Ways.{steps_from}
+use Rattle.ap_instr.specs.Steps.{steps_from}
 use Rattle.ap_steps.proofs.RegisterMaps.{but-all, but-set, but-come}
 use Rattle.ap_steps.proofs.StructuresTaken.{put-taken, put-stuck}
 use Rattle.ap_steps.proofs.structures.put_structure.Goals as goal

@@ -1,10 +1,7 @@
 use Rattle.std.proofs.Common.{◌≡◌, ◌+◌, ◌<◌, subst, arith}
-use Rattle.std.specs.Prelude.{IfNone, IfSome}
+use Rattle.std.specs.Prelude.{IfNone}
 use Rattle.std.proofs.Math.Nat.{le-max_right}
-use Rattle.ap_section.specs.declared.advance.Turn.{Turn}
-use Rattle.ap_section.specs.Ends.{Ends}
 use Rattle.ap_section.proofs.Progress.{stopped, Advanced-then, for-after}
-use Rattle.ap_section.proofs.Ending.{ends-later}
 use Rattle.ap_section.proofs.section.Section.advance_by.Goals as goal
 
 pub turns-init : goal.turns-init

@@ -1,7 +1,7 @@
 use Rattle.std.proofs.Common.{List, ◌∷◌, ap, ◌∙◌, subst}
 use Rattle.std.proofs.lemmas.Result.{IfOk-weaker}
 use Rattle.std.specs.Prelude.{IfOk}
-use Rattle.ap_term.specs.Search.{State}
+use Rattle.ap_tracked.specs.Tracked.{Tracked}
 use Rattle.ap_term.specs.Tree.{Trees}
 use Rattle.ap_term.specs.UpToNames.{SameUpToNames}
 use Rattle.ap_cells.specs.Trees.{tree_at, trees}
@@ -30,5 +30,5 @@ pub returns-clause-answered : goal.returns-clause-answered
 returns-clause-answered c =
     let m = c.args.self.now.machine in
     let P : Trees → Type 0 = λ parcel. SameUpToNames parcel (tuple_of m) in
-    let Q : Trees → Type 0 = λ parcel. IsAtAnswer m → (code : Compiled) (s : State) (ss : List State) → Holds code m (s ∷ ss) → SameUpToNames parcel s.tuple in
+    let Q : Trees → Type 0 = λ parcel. IsAtAnswer m → (code : Compiled) (s : Tracked) (ss : List Tracked) → Holds code m (s ∷ ss) → SameUpToNames parcel s.tuple in
     IfOk-weaker _ P Q (λ parcel e at code s ss h. e ∙ (answer-first code m (roots-inside _ c.args.self.now c.self.view_is c.self.invariant.inside) at (s ∷ ss) h).2) (returns-clause-tuple c)

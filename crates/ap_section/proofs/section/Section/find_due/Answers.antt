@@ -5,26 +5,26 @@ use Rattle.ap_section.proofs.Progress.{Stays-refl, Stays-trans, still-for}
 use Rattle.ap_section.proofs.section.Section.find_due.Goals as goal
 
 pub moves-init : goal.moves-init
-moves-init c = record { holds = λ ss h. h; stays = Stays-refl c.args.self.now; live = λ l. l }
+moves-init c = record { holds = λ a ss h. h; stays = Stays-refl c.args.self.now; live = λ l. l }
 
 pub go_on-requires : goal.go_on-requires
 go_on-requires c = still-for c.args.sound.now c.args.self.now c.moves.self c.requires c.moves.invariant.stays c.moves.invariant.live
 
 pub returns-in_err-due-clause-holds : goal.returns-in_err-due-clause-holds
-returns-in_err-due-clause-holds c = λ ss h. c.go_on.ensures.holds ss (c.moves.invariant.holds ss h)
+returns-in_err-due-clause-holds c = λ a ss h. c.go_on.ensures.holds a ss (c.moves.invariant.holds a ss h)
 
 pub returns-in_err-due-clause-stays : goal.returns-in_err-due-clause-stays
 returns-in_err-due-clause-stays c = Stays-trans c.args.self.now c.moves.self c.go_on.new.self c.moves.invariant.stays c.go_on.ensures.stays
 
 pub returns-in-Some-clause-holds : goal.returns-in-Some-clause-holds
-returns-in-Some-clause-holds c = λ ss h. c.go_on.ensures.holds ss (c.moves.invariant.holds ss h)
+returns-in-Some-clause-holds c = λ a ss h. c.go_on.ensures.holds a ss (c.moves.invariant.holds a ss h)
 
 pub returns-in-Some-clause-stays : goal.returns-in-Some-clause-stays
 returns-in-Some-clause-stays c = Stays-trans c.args.self.now c.moves.self c.go_on.new.self c.moves.invariant.stays c.go_on.ensures.stays
 
 pub moves-preserved : goal.moves-preserved
 moves-preserved c = record {
-  holds = λ ss h. c.go_on.ensures.holds ss (c.moves.invariant.holds ss h);
+  holds = λ a ss h. c.go_on.ensures.holds a ss (c.moves.invariant.holds a ss h);
   stays = Stays-trans c.args.self.now c.moves.self c.go_on.new.self c.moves.invariant.stays c.go_on.ensures.stays;
   live = λ l. c.go_on.ensures.live (c.moves.invariant.live l);
 }

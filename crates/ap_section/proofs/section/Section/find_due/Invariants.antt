@@ -1,4 +1,4 @@
-use Rattle.ap_standing.specs.Laws.{KeepsStanding}
+use Rattle.ap_section.specs.Advanced.{GoesOn}
 use Rattle.ap_section.specs.Choices.{Stays}
 use Rattle.ap_section.specs.Live.{KeepsLive}
 use Rattle.ap_section.specs.Lasting.{moves_left}
@@ -9,7 +9,7 @@ decreases-moves l = moves_left l.sound l.self.machine
 
 abbrev pub invariant-moves : goal.invariant-moves
 invariant-moves l = record {
-  holds : KeepsStanding l.sound l.fn.self.machine l.self.machine;
+  holds : GoesOn l.sound l.fn.self.machine l.self.machine;
   stays : Stays l.fn.self l.self;
   live : KeepsLive l.sound l.fn.self.machine l.self.machine;
 }

@@ -1,7 +1,7 @@
 use Rattle.std.proofs.Common.{◌≡◌, ◌≤◌, [], ◌∷◌, length, ap, sym, subst, arith}
 use Rattle.ap_instr.specs.Code.{Compiled}
 use Rattle.ap_steps.specs.Moves.{held, IsStuck}
-use Rattle.ap_steps.specs.Ways.{steps_from}
+use Rattle.ap_instr.specs.Steps.{steps_from}
 use Rattle.ap_standing.specs.Machine.{places_from}
 use Rattle.ap_control.specs.Taking.{CanTake}
 use Rattle.ap_control.proofs.Passed.{passes-shorter}

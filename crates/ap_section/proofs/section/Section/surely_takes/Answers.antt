@@ -1,7 +1,7 @@
 use Rattle.std.proofs.Common.{◌≡◌, ℕ, ◌+◌, List, take, ap, ◌∙◌, subst}
 use Rattle.ap_cells.specs.declared.cells.Raw.{Raw}
 use Rattle.ap_steps.specs.Moves.{held}
-use Rattle.ap_steps.specs.Ways.{steps_from}
+use Rattle.ap_instr.specs.Steps.{steps_from}
 use Rattle.ap_control.specs.Taking.{CanAsk}
 use Rattle.ap_section.specs.View.{Paused}
 use Rattle.ap_section.proofs.section.Section.surely_takes.Goals as goal

@@ -5,7 +5,7 @@ use Rattle.ap_cells.specs.declared.cells.Raw.{Raw}
 use Rattle.ap_control.specs.Taking.{CanAsk, CanTake}
 use Rattle.ap_control.proofs.Marks.{Keeps-trans}
 use Rattle.ap_steps.specs.Moves.{held, IsStuck}
-use Rattle.ap_steps.specs.Ways.{steps_from}
+use Rattle.ap_instr.specs.Steps.{steps_from}
 use Rattle.ap_section.specs.View.{Paused}
 use Rattle.ap_section.specs.Back.{CanGoBack}
 use Rattle.ap_section.proofs.Marked.{Keeps-same}
