@@ -1,10 +1,10 @@
 -- What the instructions of a clause say, before they have numbers of tables.
-use Rattle.std.specs.Prelude.{List, map}
+use Rattle.std.specs.Prelude.{ℕ, List, map}
 use Rattle.ap_term.specs.Tree.{atom, int}
-use Rattle.ap_instr.specs.Step.{Step, get_variable, get_value, get_constant, get_structure, put_variable, put_value, put_constant, put_structure, unify_variable, unify_value, unify_constant, call, execute, builtin, proceed, frame}
+use Rattle.ap_instr.specs.Step.{Step, get_variable, get_value, get_constant, get_structure, put_variable, put_value, put_constant, put_structure, unify_variable, unify_value, unify_constant, call, execute, builtin, proceed, frame, jump, check_ground, check_indep, group, push, wait}
 use Rattle.ap_instr.specs.Builtin.{builtin_name, builtin_arity}
 use Rattle.ap_codegen.specs.declared.steps.Step.{Step as Emitted}
-use Rattle.ap_codegen.specs.declared.steps.Step.TheVariants.{GetVariable, GetValue, GetConstant, GetInteger, GetStructure, PutVariable, PutValue, PutConstant, PutInteger, PutStructure, UnifyVariable, UnifyValue, UnifyConstant, UnifyInteger, Call, Execute, Builtin, Proceed, Allocate, Deallocate}
+use Rattle.ap_codegen.specs.declared.steps.Step.TheVariants.{GetVariable, GetValue, GetConstant, GetInteger, GetStructure, PutVariable, PutValue, PutConstant, PutInteger, PutStructure, UnifyVariable, UnifyValue, UnifyConstant, UnifyInteger, Call, Execute, Builtin, Proceed, Allocate, Deallocate, Jump, CheckGround, CheckIndep, AllocParcall, PushGoal, WaitAll}
 
 abbrev pub step_of : Emitted → Step
 step_of (GetVariable v a) = get_variable v a
@@ -27,6 +27,29 @@ step_of (Builtin b) = builtin (builtin_name b) (builtin_arity b)
 step_of Proceed = proceed
 step_of (Allocate n) = frame
 step_of Deallocate = frame
+step_of (Jump n) = jump
+step_of (CheckGround v n) = check_ground v
+step_of (CheckIndep v w n) = check_indep v w
+step_of (AllocParcall n) = group n
+step_of (PushGoal i p n) = push p n
+step_of WaitAll = wait
 
 abbrev pub steps_of : List Emitted → List Step
 steps_of es = map step_of es
+
+-- how many instructions behind the next one a jump or check passes over
+abbrev pub label_of : Emitted → ℕ
+label_of (Jump n) = n
+label_of (CheckGround v n) = n
+label_of (CheckIndep v w n) = n
+label_of _ = 0
+
+-- a step with how many steps behind the next one it passes over, where it is a jump, or a check that doesn't hold
+abbrev pub Lead : Type 0
+Lead = Step × ℕ
+
+abbrev pub lead_of : Emitted → Lead
+lead_of e = (step_of e, label_of e)
+
+abbrev pub leads_of : List Emitted → List Lead
+leads_of es = map lead_of es

@@ -6,6 +6,8 @@ pub mod Temporary
 pub mod Sequential
 pub mod Heads
 pub mod CodeOf
+pub mod Grouped
+pub mod Said
 pub mod Framed
 pub mod Relocated
 pub mod Paces

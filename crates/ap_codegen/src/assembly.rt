@@ -42,6 +42,7 @@ fn numbered(tables: &mut Tables, step: Step) -> Result<Instr, NoMemory>
         Step::Proceed => Ok(Instr::Proceed),
         Step::Allocate(n) => Ok(Instr::Allocate(n)),
         Step::Deallocate => Ok(Instr::Deallocate),
+        _ => Err(NoMemory),
     }
 }
 

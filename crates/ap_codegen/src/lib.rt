@@ -11,6 +11,7 @@ mod assembly;
 mod bodies;
 mod builtin_goals;
 mod choosing;
+mod groups;
 mod index;
 mod layout;
 mod permanent;

@@ -43,7 +43,7 @@ pub fn count(args: &Args) -> Result<u8, NoMemory>
 }
 
 /// The place of a variable.
-fn home(v: u64) -> Result<Slot, NoMemory>
+pub fn home(v: u64) -> Result<Slot, NoMemory>
     ensures { IfOk result (λ s. s ≡ Y v) }
 {
     if v > 255 {

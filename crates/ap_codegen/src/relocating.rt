@@ -205,8 +205,7 @@ impl Numbers {
             Step::Execute(_, n) => self.all_same(n),
             Step::Builtin(builtin) => self.all_same(arity(builtin)),
             Step::Proceed => true,
-            Step::Allocate(_) => false,
-            Step::Deallocate => false,
+            _ => false,
         }
     }
 
@@ -326,6 +325,12 @@ fn tests_nothing(step: Step) -> bool
         Step::GetStructure(_, _, _) => false,
         Step::Allocate(_) => false,
         Step::Deallocate => false,
+        Step::Jump(_) => false,
+        Step::CheckGround(_, _) => false,
+        Step::CheckIndep(_, _, _) => false,
+        Step::AllocParcall(_) => false,
+        Step::PushGoal(_, _, _) => false,
+        Step::WaitAll => false,
         _ => true,
     }
 }

@@ -6,8 +6,8 @@ ghost use Rattle.ap_codegen.specs.Emitted.{step_of, steps_of};
 use ap_instr::{Builtin, Slot};
 use ap_term::{Atom, NoMemory};
 
-/// An instruction of a clause. `PutVariable` has the clause's variable that it makes, too; a call its predicate's name and
-/// arity.
+/// An instruction of a clause. `PutVariable` has the clause's variable that it makes, too; a call, and a group's goal behind its
+/// number, its predicate's name and arity; a jump or check how many instructions behind the next one it passes over.
 #[derive(Clone, Copy)]
 pub enum Step {
     GetVariable(Slot, u32),
@@ -30,6 +30,12 @@ pub enum Step {
     Proceed,
     Allocate(u8),
     Deallocate,
+    Jump(u32),
+    CheckGround(Slot, u32),
+    CheckIndep(Slot, Slot, u32),
+    AllocParcall(u8),
+    PushGoal(u8, Atom, u8),
+    WaitAll,
 }
 
 /// One more instruction.
