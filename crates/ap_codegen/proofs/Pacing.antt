@@ -12,7 +12,7 @@ use Rattle.ap_instr.specs.Runs.{set, arguments}
 use Rattle.ap_codecheck.specs.Shape.{Shape, write, with_target, passed, behind_argument, after}
 use Rattle.ap_codecheck.specs.Rules.{ArgumentsSet, IsRoomFor}
 use Rattle.ap_codegen.specs.Permanent.{name, is_builtin, see, see_all, inner, place, fill, fills, see_built, see_nested, build, nested, puts, see_puts, goal_code, is_last_call, asking, body_code, see_taken, see_opened, take, takes, get, opens, gets, clause_code}
-use Rattle.ap_codegen.specs.Paces.{IsSlot, Paces, inside}
+use Rattle.ap_codegen.specs.Paces.{IsSlot, PacesTo, Paces, inside}
 use Rattle.ap_codegen.proofs.Registers.{both_true, set_here, set_other}
 use Rattle.ap_codegen.proofs.PermanentReads.{has-push, place_below, place_apart, goal_sees, taken_sees}
 
@@ -167,13 +167,13 @@ written n a seen s y f o = record {
   there = set_here s.x a true;
 }
 
-module _ (n : ℕ) where
+module _ (K : Shape → Type 0) (n : ℕ) where
   fill_paces : (t : Tree) (seen : List ℕ) (m : ℕ) (rest : List Step) (x y : ℕ → Bool) (r : Shape) (g : Option ℕ) (p : ℕ) → 0 < m → numbered n t ≡ true → Sees seen y → IsThere t m x → r.room ≡ Some n → 0 < p
-      → ((z : ℕ → Bool) → Sees (see t seen) z → Paces rest (behind_argument (filling x z r g p))) → Paces (fill t seen m ∷ rest) (filling x y r g p)
+      → ((z : ℕ → Bool) → Sees (see t seen) z → PacesTo K rest (behind_argument (filling x z r g p))) → PacesTo K (fill t seen m ∷ rest) (filling x y r g p)
   fill_paces (var v) seen m rest x y r g p l i o t e q c = go (has seen v) refl c
     where
-      go : (b : Bool) → has seen v ≡ b → ((z : ℕ → Bool) → Sees (if b then seen else seen ++ v ∷ []) z → Paces rest (behind_argument (filling x z r g p)))
-          → Paces ((if b then unify_value (Y v) else unify_variable (Y v)) ∷ rest) (filling x y r g p)
+      go : (b : Bool) → has seen v ≡ b → ((z : ℕ → Bool) → Sees (if b then seen else seen ++ v ∷ []) z → PacesTo K rest (behind_argument (filling x z r g p)))
+          → PacesTo K ((if b then unify_value (Y v) else unify_variable (Y v)) ∷ rest) (filling x y r g p)
       go true k c = (slot_of n v (filling x y r g p) i e, o v k, q, c y o)
       go false k c = (slot_of n v (filling x y r g p) i e, q, c (set y v true) (sees_more seen y v o))
   fill_paces (int z) seen m rest x y r g p l i o t e q c = (q, c y o)
@@ -181,7 +181,7 @@ module _ (n : ℕ) where
   fill_paces (node a us) seen m rest x y r g p l i o t e q c = (l, t, q, c y o)
 
   fills_paces : (t : Tree) (ts : Trees) (seen : List ℕ) (b m : ℕ) (rest : List Step) (x y : ℕ → Bool) (r : Shape) (g : Option ℕ) → 0 < b → 0 < m → numbered_all n (more t ts) ≡ true → Sees seen y → Temps (more t ts) b m x
-      → r.room ≡ Some n → ((z : ℕ → Bool) → Sees (see_all (more t ts) seen) z → Paces rest (filling (with_target g x) z r None 0)) → Paces (fills (more t ts) seen b m ++ rest) (filling x y r g (count_trees (more t ts)))
+      → r.room ≡ Some n → ((z : ℕ → Bool) → Sees (see_all (more t ts) seen) z → PacesTo K rest (filling (with_target g x) z r None 0)) → PacesTo K (fills (more t ts) seen b m ++ rest) (filling x y r g (count_trees (more t ts)))
   fills_paces t none seen b m rest x y r g j l i o s e c =
       let d = both_true (numbered n t) (numbered_all n none) i in
       fill_paces t seen b rest x y r g 1 j d.0 o (first_temp t none b m x s) e (omega arith) c
@@ -189,11 +189,11 @@ module _ (n : ℕ) where
       let d = both_true (numbered n t) (numbered_all n (more u us)) i in
       let p : ℕ = place (inner (more u us)) b m in
       fill_paces t seen p (fills (more u us) (see t seen) b m ++ rest) x y r g (count_trees us + 1 + 1) (place_positive (inner (more u us)) b m j l) d.0 o (first_temp t (more u us) b m x s) e (omega arith) (λ z o1.
-      subst (Paces (fills (more u us) (see t seen) b m ++ rest)) (sym (behind_filling x z r g (count_trees us)))
+      subst (PacesTo K (fills (more u us) (see t seen) b m ++ rest)) (sym (behind_filling x z r g (count_trees us)))
       (fills_paces u us (see t seen) b m rest x z r g j l d.1 o1 (other_temps t (more u us) b m x s) e c))
 
   structure_paces : (f : ℕ) (ts : Trees) (a : ℕ) (seen : List ℕ) (b m : ℕ) (rest : List Step) (s : Shape) → 0 < a → 0 < b → a ≢ b → a < m → numbered_all n ts ≡ true → Sees seen s.y → Temps ts b m s.x → Fine n s
-      → ((z : Shape) → Built n a (see_all ts seen) s z → Paces rest z) → Paces (put_structure f (count_trees ts) a ∷ (fills ts seen b m ++ rest)) s
+      → ((z : Shape) → Built n a (see_all ts seen) s z → PacesTo K rest z) → PacesTo K (put_structure f (count_trees ts) a ∷ (fills ts seen b m ++ rest)) s
   structure_paces f none a seen b m rest s p j d l i o t k c = (
     p,
     k.settled,
@@ -202,7 +202,7 @@ module _ (n : ℕ) where
   structure_paces f (more u us) a seen b m rest s p j d l i o t k c = (
     p,
     k.settled,
-    subst (Paces (fills (more u us) seen b m ++ rest)) (sym (begun s f a (count_trees us)))
+    subst (PacesTo K (fills (more u us) seen b m ++ rest)) (sym (begun s f a (count_trees us)))
         (fills_paces u us seen b m rest (set s.x a false) s.y s (Some a) j (omega arith) i o
         (temps_keep (more u us) b m s.x (set s.x a false) (λ h e. set_other s.x a false (place h b m) (place_apart h a b m d l) ∙ e) t) k.room
         (λ z oz. c (filling (set (set s.x a false) a true) z s None 0) (record {
@@ -215,23 +215,23 @@ module _ (n : ℕ) where
 
   mutual
     build_paces : (t : Tree) (a : ℕ) (seen : List ℕ) (b m : ℕ) (rest : List Step) (s : Shape) → 0 < a → 0 < b → a ≢ b → a < m → b < m → numbered n t ≡ true → Sees seen s.y → Fine n s
-        → ((z : Shape) → Built n a (see_built t seen) s z → Paces rest z) → Paces (build t a seen b m ++ rest) s
+        → ((z : Shape) → Built n a (see_built t seen) s z → PacesTo K rest z) → PacesTo K (build t a seen b m ++ rest) s
     build_paces (var v) a seen b m rest s p j d l k i o f c = go (has seen v) refl c
       where
-        go : (b : Bool) → has seen v ≡ b → ((z : Shape) → Built n a (if b then seen else seen ++ v ∷ []) s z → Paces rest z) → Paces ((if b then put_value (Y v) a ∷ [] else put_variable (Y v) a ∷ []) ++ rest) s
+        go : (b : Bool) → has seen v ≡ b → ((z : Shape) → Built n a (if b then seen else seen ++ v ∷ []) s z → PacesTo K rest z) → PacesTo K ((if b then put_value (Y v) a ∷ [] else put_variable (Y v) a ∷ []) ++ rest) s
         go true e c = (slot_of n v s i f.room, p, o v e, f.settled, c (write (X a) s) (written n a seen s s.y f o))
         go false e c = (slot_of n v s i f.room, p, f.settled, c (write (X a) (write (Y v) s)) (written n a (seen ++ v ∷ []) s (set s.y v true) f (sees_more seen s.y v o)))
     build_paces (int z) a seen b m rest s p j d l k i o f c = (p, f.settled, c (write (X a) s) (written n a seen s s.y f o))
     build_paces (atom q) a seen b m rest s p j d l k i o f c = (p, f.settled, c (write (X a) s) (written n a seen s s.y f o))
     build_paces (node g ts) a seen b m rest s p j d l k i o f c =
         let seen1 : List ℕ = see_nested ts seen in
-        subst (λ q. Paces q s) (sym (append_assoc (nested ts a seen b m) (put_structure g (count_trees ts) a ∷ fills ts seen1 b m) rest))
+        subst (λ q. PacesTo K q s) (sym (append_assoc (nested ts a seen b m) (put_structure g (count_trees ts) a ∷ fills ts seen1 b m) rest))
         (nested_paces ts a seen b m (put_structure g (count_trees ts) a ∷ (fills ts seen1 b m ++ rest)) s p j d l k i o f (λ z fz kz oz tz.
         structure_paces g ts a seen1 b m rest z p j d l i oz tz fz (λ u h.
         c u (record { fine = h.fine; keeps = λ w e. h.keeps w (kz w e); sees = h.sees; there = h.there }))))
 
     nested_paces : (ts : Trees) (a : ℕ) (seen : List ℕ) (b m : ℕ) (rest : List Step) (s : Shape) → 0 < a → 0 < b → a ≢ b → a < m → b < m → numbered_all n ts ≡ true → Sees seen s.y → Fine n s
-        → ((z : Shape) → Fine n z → Grows s.x z.x → Sees (see_nested ts seen) z.y → Temps ts b m z.x → Paces rest z) → Paces (nested ts a seen b m ++ rest) s
+        → ((z : Shape) → Fine n z → Grows s.x z.x → Sees (see_nested ts seen) z.y → Temps ts b m z.x → PacesTo K rest z) → PacesTo K (nested ts a seen b m ++ rest) s
     nested_paces none a seen b m rest s p j d l k i o f c = c s f (λ w e. e) o tt
     nested_paces (more (var v) ts) a seen b m rest s p j d l k i o f c = nested_paces ts a seen b m rest s p j d l k (both_true (in_range n v) (numbered_all n ts) i).1 o f c
     nested_paces (more (int v) ts) a seen b m rest s p j d l k i o f c = nested_paces ts a seen b m rest s p j d l k i o f c
@@ -242,7 +242,7 @@ module _ (n : ℕ) where
         let end : ℕ = m + inner ts in
         let seen1 : List ℕ = see_nested ts seen in
         let part : List Step = build (node g us) q seen1 a end in
-        subst (λ q. Paces q s) (sym (append_assoc (nested ts a seen b m) part rest))
+        subst (λ q. PacesTo K q s) (sym (append_assoc (nested ts a seen b m) part rest))
         (nested_paces ts a seen b m (part ++ rest) s p j d l k e.1 o f (λ z fz kz oz tz.
         build_paces (node g us) q seen1 a end rest z (place_positive (inner ts) b m j (omega arith)) p (place_apart (inner ts) a b m d l) (place_below (inner ts) b m k) (omega arith) e.0 oz fz (λ u h.
         c u h.fine (λ w t. h.keeps w (kz w t)) h.sees (h.there, temps_keep ts b m z.x u.x (λ t. h.keeps (place t b m)) tz))))
@@ -261,37 +261,37 @@ numbered_arguments n (int v) i = refl
 numbered_arguments n (atom v) i = refl
 numbered_arguments n (node a ts) i = i
 
-module _ (n : ℕ) where
+module _ (K : Shape → Type 0) (n : ℕ) where
   puts_paces : (ts : Trees) (a : ℕ) (seen : List ℕ) (m : ℕ) (rest : List Step) (s : Shape) → 0 < a → a + count_trees ts ≤ m → numbered_all n ts ≡ true → Sees seen s.y → Fine n s
-      → ((z : Shape) → Fine n z → Grows s.x z.x → Sees (see_puts ts seen) z.y → ((w : ℕ) → a ≤ w → w < a + count_trees ts → z.x w ≡ true) → Paces rest z) → Paces (puts ts a seen m ++ rest) s
+      → ((z : Shape) → Fine n z → Grows s.x z.x → Sees (see_puts ts seen) z.y → ((w : ℕ) → a ≤ w → w < a + count_trees ts → z.x w ≡ true) → PacesTo K rest z) → PacesTo K (puts ts a seen m ++ rest) s
   puts_paces none a seen m rest s p l i o f c = c s f (λ w e. e) o (λ w j d. absurd (omega arith))
   puts_paces (more t ts) a seen m rest s p l i o f c =
       let b = both_true (numbered n t) (numbered_all n ts) i in
       let seen1 : List ℕ = see_built t seen in
-      subst (λ q. Paces q s) (sym (append_assoc (build t a seen m (m + 1)) (puts ts (a + 1) seen1 m) rest))
-      (build_paces n t a seen m (m + 1) (puts ts (a + 1) seen1 m ++ rest) s p (omega arith) (omega arith) (omega arith) (omega arith) b.0 o f (λ z h.
+      subst (λ q. PacesTo K q s) (sym (append_assoc (build t a seen m (m + 1)) (puts ts (a + 1) seen1 m) rest))
+      (build_paces K n t a seen m (m + 1) (puts ts (a + 1) seen1 m ++ rest) s p (omega arith) (omega arith) (omega arith) (omega arith) b.0 o f (λ z h.
       puts_paces ts (a + 1) seen1 m rest z (omega arith) (omega arith) b.1 h.sees h.fine (λ u fu ku ou au.
       c u fu (λ w e. ku w (h.keeps w e)) ou (λ w j d.
       elim (split a w j) [ inl e ↦ ap u.x e ∙ ku a h.there | inr q ↦ au w q (omega arith) ]))))
 
   goal_paces : (g : Tree) (seen : List ℕ) (rest : List Step) (s : Shape) → numbered n g ≡ true → callable g ≡ true → Fine n s → Sees seen s.y
-      → ((z : Shape) → Fine n z → Sees (add_vars g seen) z.y → ArgumentsSet (count_trees (arguments g)) z → Paces rest z) → Paces (goal_code g seen ++ rest) s
+      → ((z : Shape) → Fine n z → Sees (add_vars g seen) z.y → ArgumentsSet (count_trees (arguments g)) z → PacesTo K rest z) → PacesTo K (goal_code g seen ++ rest) s
   goal_paces g seen rest s i k f o c =
       puts_paces (arguments g) 1 seen (count_trees (arguments g) + 1) rest s (omega arith) (omega arith) (numbered_arguments n g i) o f (λ z fz kz oz az.
       c z fz (λ w q. oz w (goal_sees g seen w k q)) (λ a j d. az a (omega arith) (omega arith)))
 
-  asks_pace : (b : Bool) (p k : ℕ) (rest : List Step) (z : Shape) → ArgumentsSet k z → Fine n z → ((u : Shape) → Fine n u → u.y ≡ z.y → Paces rest u) → Paces ((if b then builtin p k else call p k) ∷ rest) z
+  asks_pace : (b : Bool) (p k : ℕ) (rest : List Step) (z : Shape) → ArgumentsSet k z → Fine n z → ((u : Shape) → Fine n u → u.y ≡ z.y → PacesTo K rest u) → PacesTo K ((if b then builtin p k else call p k) ∷ rest) z
   asks_pace true p k rest z a f c = (a, f.settled, c z f refl)
   asks_pace false p k rest z a f c = (a, ap is_some f.room, f.settled, c (after (Call 0) z) (record { settled = f.settled; room = f.room }) refl)
 
-  body_paces : (gs : Trees) (seen : List ℕ) (s : Shape) → numbered_all n gs ≡ true → all_callable gs ≡ true → Fine n s → Sees seen s.y → Paces (body_code gs seen) s
+  body_paces : (gs : Trees) (seen : List ℕ) (s : Shape) → numbered_all n gs ≡ true → all_callable gs ≡ true → Fine n s → Sees seen s.y → PacesTo K (body_code gs seen) s
   body_paces none seen s i k f o = (f.settled, refl)
   body_paces (more g gs) seen s i k f o =
       let b = both_true (numbered n g) (numbered_all n gs) i in
       let d = both_true (callable g) (all_callable gs) k in go b.0 d.0 (λ z. body_paces gs (add_vars g seen) z b.1 d.1) (is_last_call g gs)
     where
-      go : numbered n g ≡ true → callable g ≡ true → ((z : Shape) → Fine n z → Sees (add_vars g seen) z.y → Paces (body_code gs (add_vars g seen)) z) → (l : Bool)
-          → Paces (if l then goal_code g seen ++ execute (name g) (count_trees (arguments g)) ∷ [] else goal_code g seen ++ (asking g ∷ body_code gs (add_vars g seen))) s
+      go : numbered n g ≡ true → callable g ≡ true → ((z : Shape) → Fine n z → Sees (add_vars g seen) z.y → PacesTo K (body_code gs (add_vars g seen)) z) → (l : Bool)
+          → PacesTo K (if l then goal_code g seen ++ execute (name g) (count_trees (arguments g)) ∷ [] else goal_code g seen ++ (asking g ∷ body_code gs (add_vars g seen))) s
       go d k ih true = goal_paces g seen (execute (name g) (count_trees (arguments g)) ∷ []) s d k f o (λ z fz sz az. (az, fz.settled, refl))
       go d k ih false =
           goal_paces g seen (asking g ∷ body_code gs (add_vars g seen)) s d k f o (λ z fz sz az.
@@ -300,11 +300,11 @@ module _ (n : ℕ) where
   -- ---- heads
 
   take_paces : (t : Tree) (seen : List ℕ) (m : ℕ) (rest : List Step) (x y : ℕ → Bool) (r : Shape) (p : ℕ) → 0 < m → numbered n t ≡ true → Sees seen y → r.room ≡ Some n → 0 < p
-      → ((u z : ℕ → Bool) → Grows x u → Sees (see t seen) z → IsThere t m u → Paces rest (behind_argument (filling u z r None p))) → Paces (take t seen m ∷ rest) (filling x y r None p)
+      → ((u z : ℕ → Bool) → Grows x u → Sees (see t seen) z → IsThere t m u → PacesTo K rest (behind_argument (filling u z r None p))) → PacesTo K (take t seen m ∷ rest) (filling x y r None p)
   take_paces (var v) seen m rest x y r p l i o e q c = go (has seen v) refl c
     where
-      go : (b : Bool) → has seen v ≡ b → ((u z : ℕ → Bool) → Grows x u → Sees (if b then seen else seen ++ v ∷ []) z → Unit {0} → Paces rest (behind_argument (filling u z r None p)))
-          → Paces ((if b then unify_value (Y v) else unify_variable (Y v)) ∷ rest) (filling x y r None p)
+      go : (b : Bool) → has seen v ≡ b → ((u z : ℕ → Bool) → Grows x u → Sees (if b then seen else seen ++ v ∷ []) z → Unit {0} → PacesTo K rest (behind_argument (filling u z r None p)))
+          → PacesTo K ((if b then unify_value (Y v) else unify_variable (Y v)) ∷ rest) (filling x y r None p)
       go true k c = (slot_of n v (filling x y r None p) i e, o v k, q, c x y (λ w h. h) o tt)
       go false k c = (slot_of n v (filling x y r None p) i e, q, c x (set y v true) (λ w h. h) (sees_more seen y v o) tt)
   take_paces (int z) seen m rest x y r p l i o e q c = (q, c x y (λ w h. h) o tt)
@@ -312,7 +312,7 @@ module _ (n : ℕ) where
   take_paces (node a us) seen m rest x y r p l i o e q c = (l, q, c (set x m true) y (λ w h. set_true x m w h) o (set_here x m true))
 
   takes_paces : (ts : Trees) (seen : List ℕ) (m : ℕ) (rest : List Step) (x y : ℕ → Bool) (r : Shape) → 0 < m → numbered_all n ts ≡ true → Sees seen y → r.room ≡ Some n
-      → ((u z : ℕ → Bool) → Grows x u → Sees (see_all ts seen) z → Taken ts m u → Paces rest (filling u z r None 0)) → Paces (takes ts seen m ++ rest) (filling x y r None (count_trees ts))
+      → ((u z : ℕ → Bool) → Grows x u → Sees (see_all ts seen) z → Taken ts m u → PacesTo K rest (filling u z r None 0)) → PacesTo K (takes ts seen m ++ rest) (filling x y r None (count_trees ts))
   takes_paces none seen m rest x y r l i o e c = c x y (λ w h. h) o tt
   takes_paces (more t none) seen m rest x y r l i o e c =
       take_paces t seen (m + 0) rest x y r 1 (omega arith) (both_true (numbered n t) (numbered_all n none) i).0 o e (omega arith) (λ u z g h k. c u z g h (join_taken t none m u k tt))
@@ -320,16 +320,16 @@ module _ (n : ℕ) where
       let b = both_true (numbered n t) (numbered_all n (more d ds)) i in
       let p : ℕ = m + inner (more d ds) in
       take_paces t seen p (takes (more d ds) (see t seen) m ++ rest) x y r (count_trees ds + 1 + 1) (omega arith) b.0 o e (omega arith) (λ u z g1 o1 t1.
-      subst (Paces (takes (more d ds) (see t seen) m ++ rest)) (sym (behind_filling u z r None (count_trees ds)))
+      subst (PacesTo K (takes (more d ds) (see t seen) m ++ rest)) (sym (behind_filling u z r None (count_trees ds)))
       (takes_paces (more d ds) (see t seen) m rest u z r l b.1 o1 e (λ u2 z2 g2 o2 t2.
       c u2 z2 (λ w h. g2 w (g1 w h)) o2 (join_taken t (more d ds) m u2 (there_grows t p u u2 g2 t1) t2))))
 
   mutual
     get_paces : (t : Tree) (a : ℕ) (seen : List ℕ) (m : ℕ) (rest : List Step) (s : Shape) → 0 < a → 0 < m → numbered n t ≡ true → Fine n s → Sees seen s.y → s.x a ≡ true
-        → ((z : Shape) → Made n (see_taken t seen) s z → Paces rest z) → Paces (get t a seen m ++ rest) s
+        → ((z : Shape) → Made n (see_taken t seen) s z → PacesTo K rest z) → PacesTo K (get t a seen m ++ rest) s
     get_paces (var v) a seen m rest s p l i f o h c = go (has seen v) refl c
       where
-        go : (b : Bool) → has seen v ≡ b → ((z : Shape) → Made n (if b then seen else seen ++ v ∷ []) s z → Paces rest z) → Paces ((if b then get_value (Y v) a ∷ [] else get_variable (Y v) a ∷ []) ++ rest) s
+        go : (b : Bool) → has seen v ≡ b → ((z : Shape) → Made n (if b then seen else seen ++ v ∷ []) s z → PacesTo K rest z) → PacesTo K ((if b then get_value (Y v) a ∷ [] else get_variable (Y v) a ∷ []) ++ rest) s
         go true e c = (slot_of n v s i f.room, p, o v e, h, f.settled, c s (record { fine = f; keeps = λ w q. q; sees = o }))
         go false e c = (
           slot_of n v s i f.room,
@@ -345,14 +345,14 @@ module _ (n : ℕ) where
           p,
           h,
           f.settled,
-          subst (λ q. Paces q (filling s.x s.y s None (count_trees ts))) (sym (append_assoc (takes ts seen m) (opens ts seen1 m) rest))
+          subst (λ q. PacesTo K q (filling s.x s.y s None (count_trees ts))) (sym (append_assoc (takes ts seen m) (opens ts seen1 m) rest))
               (takes_paces ts seen m (opens ts seen1 m ++ rest) s.x s.y s l i o f.room (λ u z g1 o1 t1.
               opens_paces ts seen1 m rest (filling u z s None 0) l i o1 (record { settled = refl; room = f.room }) t1 (λ v d.
               c v (record { fine = d.fine; keeps = λ w q. d.keeps w (g1 w q); sees = d.sees })))),
         )
 
     opens_paces : (ts : Trees) (seen : List ℕ) (m : ℕ) (rest : List Step) (s : Shape) → 0 < m → numbered_all n ts ≡ true → Sees seen s.y → Fine n s → Taken ts m s.x
-        → ((z : Shape) → Made n (see_opened ts seen) s z → Paces rest z) → Paces (opens ts seen m ++ rest) s
+        → ((z : Shape) → Made n (see_opened ts seen) s z → PacesTo K rest z) → PacesTo K (opens ts seen m ++ rest) s
     opens_paces none seen m rest s l i o f t c = c s (record { fine = f; keeps = λ w e. e; sees = o })
     opens_paces (more (var v) ts) seen m rest s l i o f t c = opens_paces ts seen m rest s l (both_true (in_range n v) (numbered_all n ts) i).1 o f t c
     opens_paces (more (int v) ts) seen m rest s l i o f t c = opens_paces ts seen m rest s l i o f t c
@@ -362,17 +362,17 @@ module _ (n : ℕ) where
         let p : ℕ = m + inner ts in
         let seen1 : List ℕ = see_taken (node g us) seen in
         let part : List Step = get (node g us) p seen p in
-        subst (λ q. Paces q s) (sym (append_assoc part (opens ts seen1 m) rest))
+        subst (λ q. PacesTo K q s) (sym (append_assoc part (opens ts seen1 m) rest))
         (get_paces (node g us) p seen p (opens ts seen1 m ++ rest) s (omega arith) (omega arith) b.0 f o t.0 (λ z d.
         opens_paces ts seen1 m rest z l b.1 d.sees d.fine (taken_keep ts m s.x z.x d.keeps t.1) (λ v e.
         c v (record { fine = e.fine; keeps = λ w q. e.keeps w (d.keeps w q); sees = e.sees }))))
 
   gets_paces : (ts : Trees) (a : ℕ) (seen : List ℕ) (m : ℕ) (rest : List Step) (s : Shape) → 0 < a → a + count_trees ts ≤ m → numbered_all n ts ≡ true → Fine n s → Sees seen s.y
-      → ((w : ℕ) → a ≤ w → w < m → s.x w ≡ true) → ((z : Shape) → Fine n z → Sees (add_all_vars ts seen) z.y → Paces rest z) → Paces (gets ts a seen m ++ rest) s
+      → ((w : ℕ) → a ≤ w → w < m → s.x w ≡ true) → ((z : Shape) → Fine n z → Sees (add_all_vars ts seen) z.y → PacesTo K rest z) → PacesTo K (gets ts a seen m ++ rest) s
   gets_paces none a seen m rest s p l i f o h c = c s f o
   gets_paces (more t ts) a seen m rest s p l i f o h c =
       let b = both_true (numbered n t) (numbered_all n ts) i in
-      subst (λ q. Paces q s) (sym (append_assoc (get t a seen m) (gets ts (a + 1) (add_vars t seen) m) rest))
+      subst (λ q. PacesTo K q s) (sym (append_assoc (get t a seen m) (gets ts (a + 1) (add_vars t seen) m) rest))
       (get_paces t a seen m (gets ts (a + 1) (add_vars t seen) m ++ rest) s p (omega arith) b.0 f o (h a (omega arith) (omega arith)) (λ z d.
       gets_paces ts (a + 1) (add_vars t seen) m rest z (omega arith) (omega arith) b.1 d.fine (λ w q. d.sees w (taken_sees t seen w q)) (λ w j q. d.keeps w (h w (omega arith) q)) c))
 
@@ -389,5 +389,5 @@ pub clause_paces : (n : ℕ) (head : Tree) (goals : Trees) → numbered n head �
 clause_paces n head goals i j d =
     let k : ℕ = count_trees (arguments head) in
     let seen : List ℕ = add_all_vars (arguments head) [] in
-    gets_paces n (arguments head) 1 [] (k + 1) (body_code goals seen) (inside n k) (omega arith) (omega arith) (numbered_arguments n head i) (record { settled = refl; room = refl }) (λ w o. absurd (false≢true o))
-    (λ w h l. entered w k h l) (λ z f o. body_paces n goals seen z j d f o)
+    gets_paces (λ z. ⊥) n (arguments head) 1 [] (k + 1) (body_code goals seen) (inside n k) (omega arith) (omega arith) (numbered_arguments n head i) (record { settled = refl; room = refl }) (λ w o. absurd (false≢true o))
+    (λ w h l. entered w k h l) (λ z f o. body_paces (λ z. ⊥) n goals seen z j d f o)
