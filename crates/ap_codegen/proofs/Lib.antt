@@ -12,6 +12,7 @@ pub mod Making
 pub mod AskedClause
 pub mod BuiltinGoals
 pub mod Pacing
+pub mod LeadPaces
 pub mod Walking
 pub mod RelocatedReads
 pub mod RelocatedPaces

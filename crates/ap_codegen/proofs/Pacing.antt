@@ -17,16 +17,16 @@ use Rattle.ap_codegen.proofs.Registers.{both_true, set_here, set_other}
 use Rattle.ap_codegen.proofs.PermanentReads.{has-push, place_below, place_apart, goal_sees, taken_sees}
 
 -- outside of structures, in an environment for n variables
-record Fine (n : ℕ) (s : Shape) : Type 0 where
-  settled : s.pending ≡ 0
-  room : s.room ≡ Some n
+pub record Fine (n : ℕ) (s : Shape) : Type 0 where
+  pub settled : s.pending ≡ 0
+  pub room : s.room ≡ Some n
 
 -- what is set stays set
 abbrev Grows : (ℕ → Bool) → (ℕ → Bool) → Type 0
 Grows y z = (w : ℕ) → y w ≡ true → z w ≡ true
 
 -- the variables seen are set
-abbrev Sees : List ℕ → (ℕ → Bool) → Type 0
+abbrev pub Sees : List ℕ → (ℕ → Bool) → Type 0
 Sees seen y = (w : ℕ) → has seen w ≡ true → y w ≡ true
 
 -- the places of arguments that are structures are set
@@ -75,7 +75,7 @@ set_twice x a w b e = go (w == a)
     go true = refl
     go false = e
 
-sees_more : (seen : List ℕ) (y : ℕ → Bool) (v : ℕ) → Sees seen y → Sees (seen ++ v ∷ []) (set y v true)
+pub sees_more : (seen : List ℕ) (y : ℕ → Bool) (v : ℕ) → Sees seen y → Sees (seen ++ v ∷ []) (set y v true)
 sees_more seen y v s w h = elim (has-push seen v w h) [ inl p ↦ set_true y v w (s w p) | inr p ↦ ap (set y v true) (sym p) ∙ set_here y v true ]
 
 not_zero : (c : ℕ) → (c + 1 == 0) ≡ false
@@ -111,7 +111,7 @@ below : (n k : ℕ) → nat_le n k ≡ true → n ≤ k
 below n k e = grind (arith, nat_tests)
 
 -- a permanent variable of the environment
-slot_of : (n v : ℕ) (s : Shape) → in_range n v ≡ true → s.room ≡ Some n → IsSlot (Y v) s
+pub slot_of : (n v : ℕ) (s : Shape) → in_range n v ≡ true → s.room ≡ Some n → IsSlot (Y v) s
 slot_of n v s h r =
     let b = both_true (nat_le 1 v) (nat_le v n) h in
     let l : 1 ≤ v = below 1 v b.0 in
@@ -255,7 +255,7 @@ split zero (suc w) l = inr (omega arith)
 split (suc a) zero l = absurd (omega arith)
 split (suc a) (suc w) l = elim (split a w (omega arith)) [ inl e ↦ inl (ap suc e) | inr k ↦ inr (omega arith) ]
 
-numbered_arguments : (n : ℕ) (g : Tree) → numbered n g ≡ true → numbered_all n (arguments g) ≡ true
+pub numbered_arguments : (n : ℕ) (g : Tree) → numbered n g ≡ true → numbered_all n (arguments g) ≡ true
 numbered_arguments n (var v) i = refl
 numbered_arguments n (int v) i = refl
 numbered_arguments n (atom v) i = refl
@@ -274,13 +274,13 @@ module _ (K : Shape → Type 0) (n : ℕ) where
       c u fu (λ w e. ku w (h.keeps w e)) ou (λ w j d.
       elim (split a w j) [ inl e ↦ ap u.x e ∙ ku a h.there | inr q ↦ au w q (omega arith) ]))))
 
-  goal_paces : (g : Tree) (seen : List ℕ) (rest : List Step) (s : Shape) → numbered n g ≡ true → callable g ≡ true → Fine n s → Sees seen s.y
+  pub goal_paces : (g : Tree) (seen : List ℕ) (rest : List Step) (s : Shape) → numbered n g ≡ true → callable g ≡ true → Fine n s → Sees seen s.y
       → ((z : Shape) → Fine n z → Sees (add_vars g seen) z.y → ArgumentsSet (count_trees (arguments g)) z → PacesTo K rest z) → PacesTo K (goal_code g seen ++ rest) s
   goal_paces g seen rest s i k f o c =
       puts_paces (arguments g) 1 seen (count_trees (arguments g) + 1) rest s (omega arith) (omega arith) (numbered_arguments n g i) o f (λ z fz kz oz az.
       c z fz (λ w q. oz w (goal_sees g seen w k q)) (λ a j d. az a (omega arith) (omega arith)))
 
-  asks_pace : (b : Bool) (p k : ℕ) (rest : List Step) (z : Shape) → ArgumentsSet k z → Fine n z → ((u : Shape) → Fine n u → u.y ≡ z.y → PacesTo K rest u) → PacesTo K ((if b then builtin p k else call p k) ∷ rest) z
+  pub asks_pace : (b : Bool) (p k : ℕ) (rest : List Step) (z : Shape) → ArgumentsSet k z → Fine n z → ((u : Shape) → Fine n u → u.y ≡ z.y → PacesTo K rest u) → PacesTo K ((if b then builtin p k else call p k) ∷ rest) z
   asks_pace true p k rest z a f c = (a, f.settled, c z f refl)
   asks_pace false p k rest z a f c = (a, ap is_some f.room, f.settled, c (after (Call 0) z) (record { settled = f.settled; room = f.room }) refl)
 
@@ -367,7 +367,7 @@ module _ (K : Shape → Type 0) (n : ℕ) where
         opens_paces ts seen1 m rest z l b.1 d.sees d.fine (taken_keep ts m s.x z.x d.keeps t.1) (λ v e.
         c v (record { fine = e.fine; keeps = λ w q. e.keeps w (d.keeps w q); sees = e.sees }))))
 
-  gets_paces : (ts : Trees) (a : ℕ) (seen : List ℕ) (m : ℕ) (rest : List Step) (s : Shape) → 0 < a → a + count_trees ts ≤ m → numbered_all n ts ≡ true → Fine n s → Sees seen s.y
+  pub gets_paces : (ts : Trees) (a : ℕ) (seen : List ℕ) (m : ℕ) (rest : List Step) (s : Shape) → 0 < a → a + count_trees ts ≤ m → numbered_all n ts ≡ true → Fine n s → Sees seen s.y
       → ((w : ℕ) → a ≤ w → w < m → s.x w ≡ true) → ((z : Shape) → Fine n z → Sees (add_all_vars ts seen) z.y → PacesTo K rest z) → PacesTo K (gets ts a seen m ++ rest) s
   gets_paces none a seen m rest s p l i f o h c = c s f o
   gets_paces (more t ts) a seen m rest s p l i f o h c =
@@ -376,7 +376,7 @@ module _ (K : Shape → Type 0) (n : ℕ) where
       (get_paces t a seen m (gets ts (a + 1) (add_vars t seen) m ++ rest) s p (omega arith) b.0 f o (h a (omega arith) (omega arith)) (λ z d.
       gets_paces ts (a + 1) (add_vars t seen) m rest z (omega arith) (omega arith) b.1 d.fine (λ w q. d.sees w (taken_sees t seen w q)) (λ w j q. d.keeps w (h w (omega arith) q)) c))
 
-entered : (w k : ℕ) → 1 ≤ w → w < k + 1 → (nat_le 1 w && nat_le w k) ≡ true
+pub entered : (w k : ℕ) → 1 ≤ w → w < k + 1 → (nat_le 1 w && nat_le w k) ≡ true
 entered w k h l = ap (λ b. b && nat_le w k) one ∙ other
   where
     one : nat_le 1 w ≡ true
