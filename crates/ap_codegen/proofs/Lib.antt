@@ -14,6 +14,8 @@ pub mod BuiltinGoals
 pub mod Pacing
 pub mod LeadPaces
 pub mod Walking
+pub mod LeadRanges
+pub mod LeadWalks
 pub mod RelocatedReads
 pub mod RelocatedPaces
 pub mod RelocatedOpen

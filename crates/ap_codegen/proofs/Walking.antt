@@ -24,151 +24,151 @@ use Rattle.ap_codegen.specs.declared.steps.Step.TheVariants.{Allocate as EnterSt
 use Rattle.ap_codegen.specs.Emitted.{step_of, steps_of}
 use Rattle.ap_codegen.specs.Temporary.{ends}
 use Rattle.ap_codegen.specs.Framed.{leaving}
-use Rattle.ap_codegen.specs.Paces.{IsSlot, Paces, inside, ArePaced}
+use Rattle.ap_codegen.specs.Paces.{IsSlot, PacesTo, Paces, inside, ArePaced}
 use Rattle.ap_codegen.specs.CodeOf.{IsCodeOf}
 use Rattle.ap_codegen.specs.Assembled.{frame_of, IsSaid, IsAlone, AreAlone, AreInstructionsOf}
 use Rattle.ap_codegen.specs.Sequential.{sequential}
 use Rattle.ap_codegen.proofs.Straight.{Straight, no_jumps, straight_sequences, paced_straight}
 
-room_of : (v : Slot) (s : Shape) → IsSlot v s → HasRoom v s
+pub room_of : (v : Slot) (s : Shape) → IsSlot v s → HasRoom v s
 room_of (X n) s i = tt
 room_of (Y n) s i = i.1
 
-from_one : (v : Slot) (s : Shape) → IsSlot v s → IsFromOne v
+pub from_one : (v : Slot) (s : Shape) → IsSlot v s → IsFromOne v
 from_one (X n) s i = i
 from_one (Y n) s i = i.0
 
-turn_none : (s : Shape) → s.pending ≡ 0 → false ≡ nat_lt 0 s.pending
+pub turn_none : (s : Shape) → s.pending ≡ 0 → false ≡ nat_lt 0 s.pending
 turn_none s e = sym (ap (nat_lt 0) e)
 
-turn_some : (s : Shape) → 0 < s.pending → true ≡ nat_lt 0 s.pending
+pub turn_some : (s : Shape) → 0 < s.pending → true ≡ nat_lt 0 s.pending
 turn_some s e = sym (go s.pending e)
   where
     go : (p : ℕ) → 0 < p → nat_lt 0 p ≡ true
     go p l = grind (arith, nat_tests)
 
-push_paces : (o : Option Predicate) (is : List Step) (s : Shape) → Paces (with_predicate o push ∷ is) s → ⊥
-push_paces None is s p = p
-push_paces (Some q) is s p = p
+pub push_paces : (K : Shape → Type 0) (o : Option Predicate) (is : List Step) (s : Shape) → PacesTo K (with_predicate o push ∷ is) s → ⊥
+push_paces K None is s p = p
+push_paces K (Some q) is s p = p
 
 -- an instruction within a clause
-record Inner (code : Compiled) (i : Instr) (is : List Step) (s : Shape) : Type 0 where
-  reads : ReadsSet code i s
-  fits : FitsEnvironment i s
-  turn : IsInTurn i s
-  inner : is_inner i ≡ true
-  next : Paces is (after i s)
+pub record Inner (K : Shape → Type 0) (code : Compiled) (i : Instr) (is : List Step) (s : Shape) : Type 0 where
+  pub reads : ReadsSet code i s
+  pub fits : FitsEnvironment i s
+  pub turn : IsInTurn i s
+  pub inner : is_inner i ≡ true
+  pub next : PacesTo K is (after i s)
 
-inner_walk : (code : Compiled) (i : Instr) (is : List Step) (s : Shape) → ends (said_by code i) ≡ false → Paces (said_by code i ∷ is) s → Inner code i is s
-inner_walk code (GetVariable v a) is s e p = record { reads = p.2; fits = room_of v s p.0; turn = turn_none s p.3; inner = refl; next = p.4 }
-inner_walk code (GetValue v a) is s e p = record { reads = (p.2, p.3); fits = room_of v s p.0; turn = turn_none s p.4; inner = refl; next = p.5 }
-inner_walk code (GetConstant c a) is s e p = record { reads = p.1; fits = tt; turn = turn_none s p.2; inner = refl; next = p.3 }
-inner_walk code (GetInteger j a) is s e p = go (slice_get code.integers j) p
+pub inner_walk : (K : Shape → Type 0) (code : Compiled) (i : Instr) (is : List Step) (s : Shape) → ends (said_by code i) ≡ false → PacesTo K (said_by code i ∷ is) s → Inner K code i is s
+inner_walk K code (GetVariable v a) is s e p = record { reads = p.2; fits = room_of v s p.0; turn = turn_none s p.3; inner = refl; next = p.4 }
+inner_walk K code (GetValue v a) is s e p = record { reads = (p.2, p.3); fits = room_of v s p.0; turn = turn_none s p.4; inner = refl; next = p.5 }
+inner_walk K code (GetConstant c a) is s e p = record { reads = p.1; fits = tt; turn = turn_none s p.2; inner = refl; next = p.3 }
+inner_walk K code (GetInteger j a) is s e p = go (slice_get code.integers j) p
   where
-    go : (o : Option ℤ) → Paces (with_integer o (λ c. get_constant c a) ∷ is) s → Inner code (GetInteger j a) is s
+    go : (o : Option ℤ) → PacesTo K (with_integer o (λ c. get_constant c a) ∷ is) s → Inner K code (GetInteger j a) is s
     go None p = absurd p
     go (Some z) p = record { reads = p.1; fits = tt; turn = turn_none s p.2; inner = refl; next = p.3 }
-inner_walk code (GetStructure f n a) is s e p = record { reads = p.1; fits = tt; turn = turn_none s p.2; inner = refl; next = p.3 }
-inner_walk code (PutVariable v a) is s e p = record { reads = tt; fits = room_of v s p.0; turn = turn_none s p.2; inner = refl; next = p.3 }
-inner_walk code (PutValue v a) is s e p = record { reads = p.2; fits = room_of v s p.0; turn = turn_none s p.3; inner = refl; next = p.4 }
-inner_walk code (PutConstant c a) is s e p = record { reads = tt; fits = tt; turn = turn_none s p.1; inner = refl; next = p.2 }
-inner_walk code (PutInteger j a) is s e p = go (slice_get code.integers j) p
+inner_walk K code (GetStructure f n a) is s e p = record { reads = p.1; fits = tt; turn = turn_none s p.2; inner = refl; next = p.3 }
+inner_walk K code (PutVariable v a) is s e p = record { reads = tt; fits = room_of v s p.0; turn = turn_none s p.2; inner = refl; next = p.3 }
+inner_walk K code (PutValue v a) is s e p = record { reads = p.2; fits = room_of v s p.0; turn = turn_none s p.3; inner = refl; next = p.4 }
+inner_walk K code (PutConstant c a) is s e p = record { reads = tt; fits = tt; turn = turn_none s p.1; inner = refl; next = p.2 }
+inner_walk K code (PutInteger j a) is s e p = go (slice_get code.integers j) p
   where
-    go : (o : Option ℤ) → Paces (with_integer o (λ c. put_constant c a) ∷ is) s → Inner code (PutInteger j a) is s
+    go : (o : Option ℤ) → PacesTo K (with_integer o (λ c. put_constant c a) ∷ is) s → Inner K code (PutInteger j a) is s
     go None p = absurd p
     go (Some z) p = record { reads = tt; fits = tt; turn = turn_none s p.1; inner = refl; next = p.2 }
-inner_walk code (PutStructure f n a) is s e p = record { reads = tt; fits = tt; turn = turn_none s p.1; inner = refl; next = p.2 }
-inner_walk code (UnifyVariable v) is s e p = record { reads = tt; fits = room_of v s p.0; turn = turn_some s p.1; inner = refl; next = p.2 }
-inner_walk code (UnifyValue v) is s e p = record { reads = p.1; fits = room_of v s p.0; turn = turn_some s p.2; inner = refl; next = p.3 }
-inner_walk code (UnifyConstant c) is s e p = record { reads = tt; fits = tt; turn = turn_some s p.0; inner = refl; next = p.1 }
-inner_walk code (UnifyInteger j) is s e p = go (slice_get code.integers j) p
+inner_walk K code (PutStructure f n a) is s e p = record { reads = tt; fits = tt; turn = turn_none s p.1; inner = refl; next = p.2 }
+inner_walk K code (UnifyVariable v) is s e p = record { reads = tt; fits = room_of v s p.0; turn = turn_some s p.1; inner = refl; next = p.2 }
+inner_walk K code (UnifyValue v) is s e p = record { reads = p.1; fits = room_of v s p.0; turn = turn_some s p.2; inner = refl; next = p.3 }
+inner_walk K code (UnifyConstant c) is s e p = record { reads = tt; fits = tt; turn = turn_some s p.0; inner = refl; next = p.1 }
+inner_walk K code (UnifyInteger j) is s e p = go (slice_get code.integers j) p
   where
-    go : (o : Option ℤ) → Paces (with_integer o unify_constant ∷ is) s → Inner code (UnifyInteger j) is s
+    go : (o : Option ℤ) → PacesTo K (with_integer o unify_constant ∷ is) s → Inner K code (UnifyInteger j) is s
     go None p = absurd p
     go (Some z) p = record { reads = tt; fits = tt; turn = turn_some s p.0; inner = refl; next = p.1 }
-inner_walk code (Allocate n) is s e p = absurd p
-inner_walk code Deallocate is s e p = absurd p
-inner_walk code (Call q) is s e p = go (slice_get code.predicates q) refl p
+inner_walk K code (Allocate n) is s e p = absurd p
+inner_walk K code Deallocate is s e p = absurd p
+inner_walk K code (Call q) is s e p = go (slice_get code.predicates q) refl p
   where
-    go : (o : Option Predicate) → slice_get code.predicates q ≡ o → Paces (with_predicate o call ∷ is) s → Inner code (Call q) is s
+    go : (o : Option Predicate) → slice_get code.predicates q ≡ o → PacesTo K (with_predicate o call ∷ is) s → Inner K code (Call q) is s
     go None d p = absurd p
     go (Some r) d p = record { reads = subst (λ o. ArgumentsSet (arity_in o) s) (sym d) p.0; fits = p.1; turn = turn_none s p.2; inner = refl; next = p.3 }
-inner_walk code (Execute q) is s e p = go (slice_get code.predicates q) e p
+inner_walk K code (Execute q) is s e p = go (slice_get code.predicates q) e p
   where
-    go : (o : Option Predicate) → ends (with_predicate o execute) ≡ false → Paces (with_predicate o execute ∷ is) s → Inner code (Execute q) is s
+    go : (o : Option Predicate) → ends (with_predicate o execute) ≡ false → PacesTo K (with_predicate o execute ∷ is) s → Inner K code (Execute q) is s
     go None d p = absurd p
     go (Some r) d p = absurd (false≢true (sym d))
-inner_walk code Proceed is s e p = absurd (false≢true (sym e))
-inner_walk code (Builtin b) is s e p = record { reads = p.0; fits = tt; turn = turn_none s p.1; inner = refl; next = p.2 }
-inner_walk code (Jump l) is s e p = absurd p
-inner_walk code Fail is s e p = absurd p
-inner_walk code (Try l) is s e p = absurd p
-inner_walk code (Retry l) is s e p = absurd p
-inner_walk code (Trust l) is s e p = absurd p
-inner_walk code (CheckGround v l) is s e p = absurd p
-inner_walk code (CheckIndep v w l) is s e p = absurd p
-inner_walk code (AllocParcall n) is s e p = absurd p
-inner_walk code (PushGoal n q) is s e p = absurd (push_paces (slice_get code.predicates q) is s p)
-inner_walk code WaitAll is s e p = absurd p
+inner_walk K code Proceed is s e p = absurd (false≢true (sym e))
+inner_walk K code (Builtin b) is s e p = record { reads = p.0; fits = tt; turn = turn_none s p.1; inner = refl; next = p.2 }
+inner_walk K code (Jump l) is s e p = absurd p
+inner_walk K code Fail is s e p = absurd p
+inner_walk K code (Try l) is s e p = absurd p
+inner_walk K code (Retry l) is s e p = absurd p
+inner_walk K code (Trust l) is s e p = absurd p
+inner_walk K code (CheckGround v l) is s e p = absurd p
+inner_walk K code (CheckIndep v w l) is s e p = absurd p
+inner_walk K code (AllocParcall n) is s e p = absurd p
+inner_walk K code (PushGoal n q) is s e p = absurd (push_paces K (slice_get code.predicates q) is s p)
+inner_walk K code WaitAll is s e p = absurd p
 
 -- an instruction that ends a clause, where the environment was given back
-record Last (code : Compiled) (i : Instr) (is : List Step) (z : Shape) : Type 0 where
-  reads : ReadsSet code i z
-  fits : FitsEnvironment i z
-  turn : IsInTurn i z
-  last : is_inner i ≡ false
-  alone : is ≡ []
+pub record Last (code : Compiled) (i : Instr) (is : List Step) (z : Shape) : Type 0 where
+  pub reads : ReadsSet code i z
+  pub fits : FitsEnvironment i z
+  pub turn : IsInTurn i z
+  pub last : is_inner i ≡ false
+  pub alone : is ≡ []
 
-last_walk : (code : Compiled) (i : Instr) (is : List Step) (s z : Shape) → ends (said_by code i) ≡ true → ((w : ℕ) → s.x w ≡ true → z.x w ≡ true) → z.pending ≡ s.pending → is_some z.room ≡ false → Paces (said_by code i ∷ is) s → Last code i is z
-last_walk code (Execute q) is s z e x n r p = go (slice_get code.predicates q) refl e p
+pub last_walk : (K : Shape → Type 0) (code : Compiled) (i : Instr) (is : List Step) (s z : Shape) → ends (said_by code i) ≡ true → ((w : ℕ) → s.x w ≡ true → z.x w ≡ true) → z.pending ≡ s.pending → is_some z.room ≡ false → PacesTo K (said_by code i ∷ is) s → Last code i is z
+last_walk K code (Execute q) is s z e x n r p = go (slice_get code.predicates q) refl e p
   where
-    go : (o : Option Predicate) → slice_get code.predicates q ≡ o → ends (with_predicate o execute) ≡ true → Paces (with_predicate o execute ∷ is) s → Last code (Execute q) is z
+    go : (o : Option Predicate) → slice_get code.predicates q ≡ o → ends (with_predicate o execute) ≡ true → PacesTo K (with_predicate o execute ∷ is) s → Last code (Execute q) is z
     go None d e p = absurd p
     go (Some c) d e p =
         record { reads = subst (λ o. ArgumentsSet (arity_in o) z) (sym d) (λ a l h. x a (p.0 a l h)); fits = r; turn = turn_none z (n ∙ p.1); last = refl; alone = p.2 }
-last_walk code Proceed is s z e x n r p = record { reads = tt; fits = r; turn = turn_none z (n ∙ p.0); last = refl; alone = p.1 }
-last_walk code (GetInteger j a) is s z e x n r p = go (slice_get code.integers j) e p
+last_walk K code Proceed is s z e x n r p = record { reads = tt; fits = r; turn = turn_none z (n ∙ p.0); last = refl; alone = p.1 }
+last_walk K code (GetInteger j a) is s z e x n r p = go (slice_get code.integers j) e p
   where
-    go : (o : Option ℤ) → ends (with_integer o (λ c. get_constant c a)) ≡ true → Paces (with_integer o (λ c. get_constant c a) ∷ is) s → Last code (GetInteger j a) is z
+    go : (o : Option ℤ) → ends (with_integer o (λ c. get_constant c a)) ≡ true → PacesTo K (with_integer o (λ c. get_constant c a) ∷ is) s → Last code (GetInteger j a) is z
     go None e p = absurd p
     go (Some k) e p = absurd (false≢true e)
-last_walk code (PutInteger j a) is s z e x n r p = go (slice_get code.integers j) e p
+last_walk K code (PutInteger j a) is s z e x n r p = go (slice_get code.integers j) e p
   where
-    go : (o : Option ℤ) → ends (with_integer o (λ c. put_constant c a)) ≡ true → Paces (with_integer o (λ c. put_constant c a) ∷ is) s → Last code (PutInteger j a) is z
+    go : (o : Option ℤ) → ends (with_integer o (λ c. put_constant c a)) ≡ true → PacesTo K (with_integer o (λ c. put_constant c a) ∷ is) s → Last code (PutInteger j a) is z
     go None e p = absurd p
     go (Some k) e p = absurd (false≢true e)
-last_walk code (UnifyInteger j) is s z e x n r p = go (slice_get code.integers j) e p
+last_walk K code (UnifyInteger j) is s z e x n r p = go (slice_get code.integers j) e p
   where
-    go : (o : Option ℤ) → ends (with_integer o unify_constant) ≡ true → Paces (with_integer o unify_constant ∷ is) s → Last code (UnifyInteger j) is z
+    go : (o : Option ℤ) → ends (with_integer o unify_constant) ≡ true → PacesTo K (with_integer o unify_constant ∷ is) s → Last code (UnifyInteger j) is z
     go None e p = absurd p
     go (Some k) e p = absurd (false≢true e)
-last_walk code (PushGoal k q) is s z e x n r p = absurd (push_paces (slice_get code.predicates q) is s p)
-last_walk code (Call q) is s z e x n r p = go (slice_get code.predicates q) e p
+last_walk K code (PushGoal k q) is s z e x n r p = absurd (push_paces K (slice_get code.predicates q) is s p)
+last_walk K code (Call q) is s z e x n r p = go (slice_get code.predicates q) e p
   where
-    go : (o : Option Predicate) → ends (with_predicate o call) ≡ true → Paces (with_predicate o call ∷ is) s → Last code (Call q) is z
+    go : (o : Option Predicate) → ends (with_predicate o call) ≡ true → PacesTo K (with_predicate o call ∷ is) s → Last code (Call q) is z
     go None e p = absurd p
     go (Some k) e p = absurd (false≢true e)
-last_walk code _ is s z e x n r p = absurd (false≢true e)
+last_walk K code _ is s z e x n r p = absurd (false≢true e)
 
 -- ---- an instruction outside of groups goes on behind it alone
 
-record Outside (i : Instr) (at : ℕ) (s : Shape) : Type 0 where
-  group : FitsGroup i s.group
-  on : GoesOn i at
-  alone : elsewhere i ≡ None
+pub record Outside (i : Instr) (at : ℕ) (s : Shape) : Type 0 where
+  pub group : FitsGroup i s.group
+  pub on : GoesOn i at
+  pub alone : elsewhere i ≡ None
 
-outside_walk : (code : Compiled) (i : Instr) (at : ℕ) (is : List Step) (s z : Shape) → z.group ≡ None → Paces (said_by code i ∷ is) s → Outside i at z
-outside_walk code (Jump l) at is s z g p = absurd p
-outside_walk code Fail at is s z g p = absurd p
-outside_walk code (Try l) at is s z g p = absurd p
-outside_walk code (Retry l) at is s z g p = absurd p
-outside_walk code (Trust l) at is s z g p = absurd p
-outside_walk code (CheckGround v l) at is s z g p = absurd p
-outside_walk code (CheckIndep v w l) at is s z g p = absurd p
-outside_walk code (AllocParcall n) at is s z g p = absurd p
-outside_walk code (PushGoal n q) at is s z g p = absurd (push_paces (slice_get code.predicates q) is s p)
-outside_walk code WaitAll at is s z g p = absurd p
-outside_walk code i at is s z g p = record { group = subst (FitsGroup i) (sym g) tt; on = tt; alone = refl }
+pub outside_walk : (K : Shape → Type 0) (code : Compiled) (i : Instr) (at : ℕ) (is : List Step) (s z : Shape) → z.group ≡ None → PacesTo K (said_by code i ∷ is) s → Outside i at z
+outside_walk K code (Jump l) at is s z g p = absurd p
+outside_walk K code Fail at is s z g p = absurd p
+outside_walk K code (Try l) at is s z g p = absurd p
+outside_walk K code (Retry l) at is s z g p = absurd p
+outside_walk K code (Trust l) at is s z g p = absurd p
+outside_walk K code (CheckGround v l) at is s z g p = absurd p
+outside_walk K code (CheckIndep v w l) at is s z g p = absurd p
+outside_walk K code (AllocParcall n) at is s z g p = absurd p
+outside_walk K code (PushGoal n q) at is s z g p = absurd (push_paces K (slice_get code.predicates q) is s p)
+outside_walk K code WaitAll at is s z g p = absurd p
+outside_walk K code i at is s z g p = record { group = subst (FitsGroup i) (sym g) tt; on = tt; alone = refl }
 
 -- ---- no instruction but one of an environment changes whether there is one
 
@@ -176,116 +176,116 @@ passed_room : (b : Bool) (s : Shape) → (passed b s).room ≡ s.room
 passed_room true s = refl
 passed_room false s = refl
 
-same_room : (code : Compiled) (i : Instr) (is : List Step) (s : Shape) → Paces (said_by code i ∷ is) s → (after i s).room ≡ s.room
-same_room code (UnifyVariable v) is s p = passed_room (s.pending == 1) _
-same_room code (UnifyValue v) is s p = passed_room (s.pending == 1) s
-same_room code (UnifyConstant c) is s p = passed_room (s.pending == 1) s
-same_room code (UnifyInteger c) is s p = passed_room (s.pending == 1) s
-same_room code (Allocate n) is s p = absurd p
-same_room code Deallocate is s p = absurd p
-same_room code (PushGoal n q) is s p = absurd (push_paces (slice_get code.predicates q) is s p)
-same_room code _ is s p = refl
+pub same_room : (K : Shape → Type 0) (code : Compiled) (i : Instr) (is : List Step) (s : Shape) → PacesTo K (said_by code i ∷ is) s → (after i s).room ≡ s.room
+same_room K code (UnifyVariable v) is s p = passed_room (s.pending == 1) _
+same_room K code (UnifyValue v) is s p = passed_room (s.pending == 1) s
+same_room K code (UnifyConstant c) is s p = passed_room (s.pending == 1) s
+same_room K code (UnifyInteger c) is s p = passed_room (s.pending == 1) s
+same_room K code (Allocate n) is s p = absurd p
+same_room K code Deallocate is s p = absurd p
+same_room K code (PushGoal n q) is s p = absurd (push_paces K (slice_get code.predicates q) is s p)
+same_room K code _ is s p = refl
 
 passed_group : (b : Bool) (s : Shape) → (passed b s).group ≡ s.group
 passed_group true s = refl
 passed_group false s = refl
 
-same_group : (code : Compiled) (i : Instr) (is : List Step) (s : Shape) → Paces (said_by code i ∷ is) s → (after i s).group ≡ s.group
-same_group code (UnifyVariable v) is s p = passed_group (s.pending == 1) _
-same_group code (UnifyValue v) is s p = passed_group (s.pending == 1) s
-same_group code (UnifyConstant c) is s p = passed_group (s.pending == 1) s
-same_group code (UnifyInteger c) is s p = passed_group (s.pending == 1) s
-same_group code (AllocParcall n) is s p = absurd p
-same_group code (PushGoal n q) is s p = absurd (push_paces (slice_get code.predicates q) is s p)
-same_group code WaitAll is s p = absurd p
-same_group code _ is s p = refl
+pub same_group : (K : Shape → Type 0) (code : Compiled) (i : Instr) (is : List Step) (s : Shape) → PacesTo K (said_by code i ∷ is) s → (after i s).group ≡ s.group
+same_group K code (UnifyVariable v) is s p = passed_group (s.pending == 1) _
+same_group K code (UnifyValue v) is s p = passed_group (s.pending == 1) s
+same_group K code (UnifyConstant c) is s p = passed_group (s.pending == 1) s
+same_group K code (UnifyInteger c) is s p = passed_group (s.pending == 1) s
+same_group K code (AllocParcall n) is s p = absurd p
+same_group K code (PushGoal n q) is s p = absurd (push_paces K (slice_get code.predicates q) is s p)
+same_group K code WaitAll is s p = absurd p
+same_group K code _ is s p = refl
 
 -- ---- an instruction by itself
 
-alone_walk : (code : Compiled) (i : Instr) (is : List Step) (s : Shape) → Paces (said_by code i ∷ is) s → IsAlone code i
-alone_walk code (GetVariable v a) is s p = ((from_one v s p.0, p.1), tt, λ q. tt)
-alone_walk code (GetValue v a) is s p = ((from_one v s p.0, p.1), tt, λ q. tt)
-alone_walk code (GetConstant c a) is s p = (p.0, tt, λ q. tt)
-alone_walk code (GetInteger j a) is s p = go (slice_get code.integers j) refl p
+pub alone_walk : (K : Shape → Type 0) (code : Compiled) (i : Instr) (is : List Step) (s : Shape) → PacesTo K (said_by code i ∷ is) s → IsAlone code i
+alone_walk K code (GetVariable v a) is s p = ((from_one v s p.0, p.1), tt, λ q. tt)
+alone_walk K code (GetValue v a) is s p = ((from_one v s p.0, p.1), tt, λ q. tt)
+alone_walk K code (GetConstant c a) is s p = (p.0, tt, λ q. tt)
+alone_walk K code (GetInteger j a) is s p = go (slice_get code.integers j) refl p
   where
-    go : (o : Option ℤ) → slice_get code.integers j ≡ o → Paces (with_integer o (λ c. get_constant c a) ∷ is) s → IsAlone code (GetInteger j a)
+    go : (o : Option ℤ) → slice_get code.integers j ≡ o → PacesTo K (with_integer o (λ c. get_constant c a) ∷ is) s → IsAlone code (GetInteger j a)
     go None d p = absurd p
     go (Some z) d p = ((slice_get_within code.integers j z d, p.0), tt, λ q. tt)
-alone_walk code (GetStructure f n a) is s p = (p.0, tt, λ q. tt)
-alone_walk code (PutVariable v a) is s p = ((from_one v s p.0, p.1), tt, λ q. tt)
-alone_walk code (PutValue v a) is s p = ((from_one v s p.0, p.1), tt, λ q. tt)
-alone_walk code (PutConstant c a) is s p = (p.0, tt, λ q. tt)
-alone_walk code (PutInteger j a) is s p = go (slice_get code.integers j) refl p
+alone_walk K code (GetStructure f n a) is s p = (p.0, tt, λ q. tt)
+alone_walk K code (PutVariable v a) is s p = ((from_one v s p.0, p.1), tt, λ q. tt)
+alone_walk K code (PutValue v a) is s p = ((from_one v s p.0, p.1), tt, λ q. tt)
+alone_walk K code (PutConstant c a) is s p = (p.0, tt, λ q. tt)
+alone_walk K code (PutInteger j a) is s p = go (slice_get code.integers j) refl p
   where
-    go : (o : Option ℤ) → slice_get code.integers j ≡ o → Paces (with_integer o (λ c. put_constant c a) ∷ is) s → IsAlone code (PutInteger j a)
+    go : (o : Option ℤ) → slice_get code.integers j ≡ o → PacesTo K (with_integer o (λ c. put_constant c a) ∷ is) s → IsAlone code (PutInteger j a)
     go None d p = absurd p
     go (Some z) d p = ((slice_get_within code.integers j z d, p.0), tt, λ q. tt)
-alone_walk code (PutStructure f n a) is s p = (p.0, tt, λ q. tt)
-alone_walk code (UnifyVariable v) is s p = (from_one v s p.0, tt, λ q. tt)
-alone_walk code (UnifyValue v) is s p = (from_one v s p.0, tt, λ q. tt)
-alone_walk code (UnifyConstant c) is s p = (tt, tt, λ q. tt)
-alone_walk code (UnifyInteger j) is s p = go (slice_get code.integers j) refl p
+alone_walk K code (PutStructure f n a) is s p = (p.0, tt, λ q. tt)
+alone_walk K code (UnifyVariable v) is s p = (from_one v s p.0, tt, λ q. tt)
+alone_walk K code (UnifyValue v) is s p = (from_one v s p.0, tt, λ q. tt)
+alone_walk K code (UnifyConstant c) is s p = (tt, tt, λ q. tt)
+alone_walk K code (UnifyInteger j) is s p = go (slice_get code.integers j) refl p
   where
-    go : (o : Option ℤ) → slice_get code.integers j ≡ o → Paces (with_integer o unify_constant ∷ is) s → IsAlone code (UnifyInteger j)
+    go : (o : Option ℤ) → slice_get code.integers j ≡ o → PacesTo K (with_integer o unify_constant ∷ is) s → IsAlone code (UnifyInteger j)
     go None d p = absurd p
     go (Some z) d p = (slice_get_within code.integers j z d, tt, λ q. tt)
-alone_walk code (Allocate n) is s p = absurd p
-alone_walk code Deallocate is s p = absurd p
-alone_walk code (Call k) is s p = go (slice_get code.predicates k) refl p
+alone_walk K code (Allocate n) is s p = absurd p
+alone_walk K code Deallocate is s p = absurd p
+alone_walk K code (Call k) is s p = go (slice_get code.predicates k) refl p
   where
-    go : (o : Option Predicate) → slice_get code.predicates k ≡ o → Paces (with_predicate o call ∷ is) s → IsAlone code (Call k)
+    go : (o : Option Predicate) → slice_get code.predicates k ≡ o → PacesTo K (with_predicate o call ∷ is) s → IsAlone code (Call k)
     go None d p = absurd p
     go (Some r) d p = (tt, slice_get_within code.predicates k r d, λ q. tt)
-alone_walk code (Execute k) is s p = go (slice_get code.predicates k) refl p
+alone_walk K code (Execute k) is s p = go (slice_get code.predicates k) refl p
   where
-    go : (o : Option Predicate) → slice_get code.predicates k ≡ o → Paces (with_predicate o execute ∷ is) s → IsAlone code (Execute k)
+    go : (o : Option Predicate) → slice_get code.predicates k ≡ o → PacesTo K (with_predicate o execute ∷ is) s → IsAlone code (Execute k)
     go None d p = absurd p
     go (Some r) d p = (tt, slice_get_within code.predicates k r d, λ q. tt)
-alone_walk code Proceed is s p = (tt, tt, λ q. tt)
-alone_walk code (Builtin b) is s p = (tt, tt, λ q. tt)
-alone_walk code (Jump l) is s p = absurd p
-alone_walk code Fail is s p = absurd p
-alone_walk code (Try l) is s p = absurd p
-alone_walk code (Retry l) is s p = absurd p
-alone_walk code (Trust l) is s p = absurd p
-alone_walk code (CheckGround v l) is s p = absurd p
-alone_walk code (CheckIndep v w l) is s p = absurd p
-alone_walk code (AllocParcall n) is s p = absurd p
-alone_walk code (PushGoal n q) is s p = absurd (push_paces (slice_get code.predicates q) is s p)
-alone_walk code WaitAll is s p = absurd p
+alone_walk K code Proceed is s p = (tt, tt, λ q. tt)
+alone_walk K code (Builtin b) is s p = (tt, tt, λ q. tt)
+alone_walk K code (Jump l) is s p = absurd p
+alone_walk K code Fail is s p = absurd p
+alone_walk K code (Try l) is s p = absurd p
+alone_walk K code (Retry l) is s p = absurd p
+alone_walk K code (Trust l) is s p = absurd p
+alone_walk K code (CheckGround v l) is s p = absurd p
+alone_walk K code (CheckIndep v w l) is s p = absurd p
+alone_walk K code (AllocParcall n) is s p = absurd p
+alone_walk K code (PushGoal n q) is s p = absurd (push_paces K (slice_get code.predicates q) is s p)
+alone_walk K code WaitAll is s p = absurd p
 
 -- ---- clauses with no environment
 
-empty_said : (code : Compiled) (is : List Instr) → said code is ≡ [] → is ≡ []
+pub empty_said : (code : Compiled) (is : List Instr) → said code is ≡ [] → is ≡ []
 empty_said code [] e = refl
 empty_said code (i ∷ is) e = cc
 
 -- an instruction that keeps the rules, and the walk behind it
-here : (code : Compiled) (i : Instr) (at : ℕ) (is : List Instr) (s : Shape) → ReadsSet code i s → FitsEnvironment i s → IsInTurn i s → Outside i at s → (is_inner i ≡ true → Walks code (at + 1) 0 is (after i s)) → Walks code at 0 (i ∷ is) s
+pub here : (code : Compiled) (i : Instr) (at : ℕ) (is : List Instr) (s : Shape) → ReadsSet code i s → FitsEnvironment i s → IsInTurn i s → Outside i at s → (is_inner i ≡ true → Walks code (at + 1) 0 is (after i s)) → Walks code at 0 (i ∷ is) s
 here code i at is s r f t o w = (record { reads = r; environment = f; turn = t; group = o.group; on = o.on }, w, λ l e. let n : elsewhere i ≡ None = o.alone in cc)
 
 pub plain_walk : (code : Compiled) (at : ℕ) (is later : List Instr) (s : Shape) → s.room ≡ None → s.group ≡ None → Paces (said code is) s → Walks code at 0 (is ++ later) s
 plain_walk code at [] later s r g p = absurd p
 plain_walk code at (i ∷ is) later s r g p =
-    go (ends (said_by code i)) refl (λ q. plain_walk code (at + 1) is later (after i s) (same_room code i (said code is) s p ∙ r) (same_group code i (said code is) s p ∙ g) q)
+    go (ends (said_by code i)) refl (λ q. plain_walk code (at + 1) is later (after i s) (same_room (λ z. ⊥) code i (said code is) s p ∙ r) (same_group (λ z. ⊥) code i (said code is) s p ∙ g) q)
   where
     go : (b : Bool) → ends (said_by code i) ≡ b → (Paces (said code is) (after i s) → Walks code (at + 1) 0 (is ++ later) (after i s)) → Walks code at 0 (i ∷ (is ++ later)) s
     go true e ih =
-        let d = last_walk code i (said code is) s s e (λ w h. h) refl (ap is_some r) p in
-        here code i at (is ++ later) s d.reads d.fits d.turn (outside_walk code i at (said code is) s s g p) (λ h. absurd (false≢true (sym d.last ∙ h)))
+        let d = last_walk (λ z. ⊥) code i (said code is) s s e (λ w h. h) refl (ap is_some r) p in
+        here code i at (is ++ later) s d.reads d.fits d.turn (outside_walk (λ z. ⊥) code i at (said code is) s s g p) (λ h. absurd (false≢true (sym d.last ∙ h)))
     go false e ih =
-        let d = inner_walk code i (said code is) s e p in
-        here code i at (is ++ later) s d.reads d.fits d.turn (outside_walk code i at (said code is) s s g p) (λ h. ih d.next)
+        let d = inner_walk (λ z. ⊥) code i (said code is) s e p in
+        here code i at (is ++ later) s d.reads d.fits d.turn (outside_walk (λ z. ⊥) code i at (said code is) s s g p) (λ h. ih d.next)
 
 pub plain_alone : (code : Compiled) (is : List Instr) (s : Shape) → Paces (said code is) s → AreAlone code is
 plain_alone code [] s p = tt
-plain_alone code (i ∷ is) s p = (alone_walk code i (said code is) s p, go (ends (said_by code i)) refl (λ q. plain_alone code is (after i s) q))
+plain_alone code (i ∷ is) s p = (alone_walk (λ z. ⊥) code i (said code is) s p, go (ends (said_by code i)) refl (λ q. plain_alone code is (after i s) q))
   where
     go : (b : Bool) → ends (said_by code i) ≡ b → (Paces (said code is) (after i s) → AreAlone code is) → AreAlone code is
     go true e ih =
-        let d = last_walk code i (said code is) s (record { x = s.x; y = s.y; room = None; pending = s.pending; target = s.target; group = s.group }) e (λ w h. h) refl refl p in
+        let d = last_walk (λ z. ⊥) code i (said code is) s (record { x = s.x; y = s.y; room = None; pending = s.pending; target = s.target; group = s.group }) e (λ w h. h) refl refl p in
         subst (AreAlone code) (sym (empty_said code is d.alone)) tt
-    go false e ih = ih (inner_walk code i (said code is) s e p).next
+    go false e ih = ih (inner_walk (λ z. ⊥) code i (said code is) s e p).next
 
 -- ---- clauses inside an environment
 
@@ -303,10 +303,10 @@ none_left code (f ∷ fs) is h e = cc
 abbrev pub Goes : Compiled → List Instr → Shape → Type 0
 Goes code is s = ((at : ℕ) (later : List Instr) → Walks code at 0 (is ++ later) s) × AreAlone code is
 
-turn_end : (t : Step) (ts : List Step) (s : Shape) → ends t ≡ true → Paces (t ∷ ts) s → false ≡ nat_lt 0 s.pending
-turn_end (execute q k) ts s e p = turn_none s p.1
-turn_end proceed ts s e p = turn_none s p.0
-turn_end _ ts s e p = absurd (false≢true e)
+pub turn_end : (K : Shape → Type 0) (t : Step) (ts : List Step) (s : Shape) → ends t ≡ true → PacesTo K (t ∷ ts) s → false ≡ nat_lt 0 s.pending
+turn_end K (execute q k) ts s e p = turn_none s p.1
+turn_end K proceed ts s e p = turn_none s p.0
+turn_end K _ ts s e p = absurd (false≢true e)
 
 pub left_walk : (code : Compiled) (n : ℕ) (fs : List Emitted) (is : List Instr) (s : Shape) → AllZip (IsSaid code) (leaving fs) is → s.room ≡ Some n → s.group ≡ None → Paces (steps_of fs) s → Goes code is s
 left_walk code n [] is s h r g p = absurd p
@@ -319,31 +319,31 @@ left_walk code n (f ∷ fs) is s h r g p = go (ends (step_of f)) refl is h (λ j
     go true e (j ∷ i ∷ is) h ih =
         let out : j ≡ Deallocate = leaves j h.0.frame in
         let q : Paces (said_by code i ∷ steps_of fs) s = subst (λ t. Paces (t ∷ steps_of fs) s) (sym h.1.0.says) p in
-        let d = last_walk code i (steps_of fs) s (after Deallocate s) (ap ends h.1.0.says ∙ e) (λ w k. k) refl refl q in
+        let d = last_walk (λ z. ⊥) code i (steps_of fs) s (after Deallocate s) (ap ends h.1.0.says ∙ e) (λ w k. k) refl refl q in
         let none : is ≡ [] = none_left code fs is h.1.1 d.alone in
-        let turn : false ≡ nat_lt 0 s.pending = turn_end (step_of f) (steps_of fs) s e p in
+        let turn : false ≡ nat_lt 0 s.pending = turn_end (λ z. ⊥) (step_of f) (steps_of fs) s e p in
         subst (λ j. Goes code (j ∷ i ∷ is) s) (sym out) (
           λ at later.
               here code Deallocate at (i ∷ (is ++ later)) s tt (ap is_some r) turn (record { group = subst (FitsGroup Deallocate) (sym g) tt; on = tt; alone = refl }) (λ q1.
-              here code i (at + 1) (is ++ later) (after Deallocate s) d.reads d.fits d.turn (outside_walk code i (at + 1) (steps_of fs) s (after Deallocate s) g q) (λ h. absurd (false≢true (sym d.last ∙ h)))),
-          ((tt, tt, λ q. tt), (alone_walk code i (steps_of fs) s q, subst (AreAlone code) (sym none) tt)),
+              here code i (at + 1) (is ++ later) (after Deallocate s) d.reads d.fits d.turn (outside_walk (λ z. ⊥) code i (at + 1) (steps_of fs) s (after Deallocate s) g q) (λ h. absurd (false≢true (sym d.last ∙ h)))),
+          ((tt, tt, λ q. tt), (alone_walk (λ z. ⊥) code i (steps_of fs) s q, subst (AreAlone code) (sym none) tt)),
         )
     go false e [] h ih = absurd h
     go false e (i ∷ is) h ih =
         let q : Paces (said_by code i ∷ steps_of fs) s = subst (λ t. Paces (t ∷ steps_of fs) s) (sym h.0.says) p in
-        let d = inner_walk code i (steps_of fs) s (ap ends h.0.says ∙ e) q in
-        let k = ih is (after i s) h.1 (same_room code i (steps_of fs) s q ∙ r) (same_group code i (steps_of fs) s q ∙ g) d.next in
-        (λ at later. here code i at (is ++ later) s d.reads d.fits d.turn (outside_walk code i at (steps_of fs) s s g q) (λ q1. k.0 (at + 1) later), (alone_walk code i (steps_of fs) s q, k.1))
+        let d = inner_walk (λ z. ⊥) code i (steps_of fs) s (ap ends h.0.says ∙ e) q in
+        let k = ih is (after i s) h.1 (same_room (λ z. ⊥) code i (steps_of fs) s q ∙ r) (same_group (λ z. ⊥) code i (steps_of fs) s q ∙ g) d.next in
+        (λ at later. here code i at (is ++ later) s d.reads d.fits d.turn (outside_walk (λ z. ⊥) code i at (steps_of fs) s s g q) (λ q1. k.0 (at + 1) later), (alone_walk (λ z. ⊥) code i (steps_of fs) s q, k.1))
 
 -- ---- the instructions of a clause
 
-zip_said : (code : Compiled) (es : List Emitted) (is : List Instr) → AllZip (IsSaid code) es is → said code is ≡ steps_of es
+pub zip_said : (code : Compiled) (es : List Emitted) (is : List Instr) → AllZip (IsSaid code) es is → said code is ≡ steps_of es
 zip_said code [] [] h = refl
 zip_said code [] (i ∷ is) h = absurd h
 zip_said code (e ∷ es) [] h = absurd h
 zip_said code (e ∷ es) (i ∷ is) h = ap (λ t. t ∷ said code is) h.0.says ∙ ap (λ ts. step_of e ∷ ts) (zip_said code es is h.1)
 
-goes : (code : Compiled) (arity : ℕ) (es : List Emitted) (is : List Instr) → AllZip (IsSaid code) es is → ArePaced arity es → Goes code is (entry arity)
+pub goes : (code : Compiled) (arity : ℕ) (es : List Emitted) (is : List Instr) → AllZip (IsSaid code) es is → ArePaced arity es → Goes code is (entry arity)
 goes code arity es is h (inl p) =
     let q : Paces (said code is) (entry arity) = subst (λ ts. Paces ts (entry arity)) (sym (zip_said code es is h)) p in
     (λ at later. plain_walk code at is later (entry arity) refl refl q, plain_alone code is (entry arity) q)

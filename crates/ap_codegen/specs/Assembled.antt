@@ -1,5 +1,5 @@
 -- Code as it is put together: what its tables hold so far, and what it says wherever they hold that.
-use Rattle.std.specs.Prelude.{◌≡◌, ℕ, ◌+◌, Bool, false, ◌==◌, if◌then◌else◌, ℤ, List, [], ◌∷◌, ◌++◌, length, drop, slice_get, Option, Some, None}
+use Rattle.std.specs.Prelude.{◌≡◌, ℕ, ◌+◌, ◌<◌, ◌≤◌, Bool, false, ◌==◌, if◌then◌else◌, ℤ, List, [], ◌∷◌, ◌++◌, length, drop, slice_get, Option, Some, None}
 use Rattle.std.specs.List.{AllZip, filter, flat_map}
 use Rattle.ap_term.specs.Tree.{Tree, atom, node, count_trees}
 use Rattle.ap_term.specs.Goals.{Clause, Program}
@@ -12,6 +12,7 @@ use Rattle.ap_instr.specs.Groups.{otherwise, AsksUnmarked}
 use Rattle.ap_instr.specs.Table.{is_key, AreTiled, IsWhole}
 use Rattle.ap_instr.specs.Runs.{arguments}
 use Rattle.ap_codecheck.specs.Shape.{entry}
+use Rattle.ap_codecheck.specs.Paths.{IsPlaceOf}
 use Rattle.ap_codecheck.specs.Walk.{Walks, IsLaid}
 use Rattle.ap_codecheck.specs.Rules.{InRange, GoesInside, CallsKnown, IsSound}
 use Rattle.ap_codegen.specs.declared.steps.Step.{Step as Emitted}
@@ -66,6 +67,14 @@ IsAlone code i = InRange code i × CallsKnown code i × ((p : Predicate) → Goe
 abbrev pub AreAlone : Compiled → List Instr → Type 0
 AreAlone code [] = Unit {0}
 AreAlone code (i ∷ is) = IsAlone code i × AreAlone code is
+
+-- the rules that an instruction keeps by itself, in any predicate that has the places of its clause, from one to before another
+abbrev pub IsAloneIn : Compiled → ℕ → ℕ → Instr → Type 0
+IsAloneIn code low end i = InRange code i × CallsKnown code i × ((p : Predicate) → ((l : ℕ) → low ≤ l → l < end → IsPlaceOf code p l) → GoesInside code p i)
+
+abbrev pub AreAloneIn : Compiled → ℕ → ℕ → List Instr → Type 0
+AreAloneIn code low end [] = Unit {0}
+AreAloneIn code low end (i ∷ is) = IsAloneIn code low end i × AreAloneIn code low end is
 
 -- each check among instructions that stand from a place on leads to its group as a sequence
 abbrev pub AreSequences : Compiled → ℕ → List Instr → Type 0

@@ -3,9 +3,9 @@ use Rattle.std.specs.Prelude.{◌≡◌, ℕ, zero, suc, ◌+◌, ◌<◌, ◌�
 use Rattle.ap_instr.specs.declared.instruction.Slot.{Slot}
 use Rattle.ap_instr.specs.declared.instruction.Slot.TheVariants.{X, Y}
 use Rattle.ap_instr.specs.declared.instruction.Instr.TheVariants.{GetStructure, PutVariable, PutStructure, Call, WaitAll}
-use Rattle.ap_instr.specs.Step.{Step, get_variable, get_value, get_constant, get_structure, put_variable, put_value, put_constant, put_structure, unify_variable, unify_value, unify_constant, call, execute, builtin, proceed, jump, check_ground, check_indep, group, push, wait}
+use Rattle.ap_instr.specs.Step.{Step, get_variable, get_value, get_constant, get_structure, put_variable, put_value, put_constant, put_structure, unify_variable, unify_value, unify_constant, call, execute, builtin, proceed, frame, jump, check_ground, check_indep, group, push, wait, other}
 use Rattle.ap_codecheck.specs.Shape.{Shape, entry, unset, write, with_group, behind_argument, after}
-use Rattle.ap_codecheck.specs.Rules.{IsSet, ArgumentsSet, IsRoomFor}
+use Rattle.ap_codecheck.specs.Rules.{IsNumbered, IsSet, ArgumentsSet, IsRoomFor}
 use Rattle.ap_codegen.specs.declared.steps.Step.{Step as Emitted}
 use Rattle.ap_codegen.specs.declared.steps.Step.TheVariants.{Allocate}
 use Rattle.ap_codegen.specs.Emitted.{steps_of, Lead, leads_of}
@@ -98,8 +98,31 @@ PacesLeads n [] s = ⊥
 PacesLeads (suc n) (l ∷ ls) s = PacesLeads n ls s
 PacesLeads zero (l ∷ ls) s = PacesOn l.0 l.1 (λ n z. PacesLeads n ls z) s
 
+-- operands in range, which a step has wherever it stands
+abbrev pub IsInRange : Step → Type 0
+IsInRange (get_variable v a) = IsNumbered v × (0 < a)
+IsInRange (get_value v a) = IsNumbered v × (0 < a)
+IsInRange (get_constant c a) = 0 < a
+IsInRange (get_structure f n a) = 0 < a
+IsInRange (put_variable v a) = IsNumbered v × (0 < a)
+IsInRange (put_value v a) = IsNumbered v × (0 < a)
+IsInRange (put_constant c a) = 0 < a
+IsInRange (put_structure f n a) = 0 < a
+IsInRange (unify_variable v) = IsNumbered v
+IsInRange (unify_value v) = IsNumbered v
+IsInRange (check_ground v) = IsNumbered v
+IsInRange (check_indep v w) = IsNumbered v × IsNumbered w
+IsInRange (group n) = 0 < n
+IsInRange frame = ⊥
+IsInRange other = ⊥
+IsInRange _ = Unit {0}
+
+abbrev pub AreInRange : List Lead → Type 0
+AreInRange [] = Unit {0}
+AreInRange (l ∷ ls) = IsInRange l.0 × AreInRange ls
+
 -- the steps of a clause with groups, with no environment, and so without groups, or inside one
 abbrev pub ArePacedLeads : ℕ → List Emitted → Type 0
 ArePacedLeads arity es =
     Paces (steps_of es) (entry arity)
-    ⊎ ((vars : ℕ) × (fs : List Emitted) × (es ≡ Allocate vars ∷ leaving fs) × PacesLeads 0 (leads_of fs) (inside vars arity) × IsEnded (leads_of fs) × AreNumbered 0 fs)
+    ⊎ ((vars : ℕ) × (fs : List Emitted) × (es ≡ Allocate vars ∷ leaving fs) × PacesLeads 0 (leads_of fs) (inside vars arity) × IsEnded (leads_of fs) × AreNumbered 0 fs × AreInRange (leads_of fs))
