@@ -22,6 +22,7 @@ use Rattle.ap_codegen.specs.Grouped.{straight, see_check, see_checks, make, make
 use Rattle.ap_codegen.specs.Paces.{IsSlot, PacesTo, inside, StandsIn, IsOpen, IsFull, one_pushed, PacesOn, PacesLeads}
 use Rattle.ap_codegen.proofs.Registers.{both_true}
 use Rattle.ap_codegen.proofs.PermanentReads.{here, grows}
+use Rattle.ap_codegen.proofs.Walking.{passed_group}
 use Rattle.ap_codegen.proofs.Pacing.{Fine, Sees, slot_of, sees_more, numbered_arguments, goal_paces, gets_paces, entered}
 
 -- ---- steps that pass over no others
@@ -39,12 +40,8 @@ stand_append : (g : Option (ℕ × ℕ)) (is js : List Step) → AllStand g is �
 stand_append g [] js h k = k
 stand_append g (i ∷ is) js h k = (h.0, stand_append g is js h.1 k)
 
-passed_group : (b : Bool) (s : Shape) → (passed b s).group ≡ s.group
-passed_group true s = refl
-passed_group false s = refl
-
 -- none of them changes in which group they stand
-paces_on : (i : Step) (is : List Step) (K : Shape → Type 0) (L : ℕ → Shape → Type 0) (s : Shape) → StandsIn i s.group → ((z : Shape) → z.group ≡ s.group → PacesTo K is z → L 0 z) → PacesTo K (i ∷ is) s → PacesOn i 0 L s
+pub paces_on : (i : Step) (is : List Step) (K : Shape → Type 0) (L : ℕ → Shape → Type 0) (s : Shape) → StandsIn i s.group → ((z : Shape) → z.group ≡ s.group → PacesTo K is z → L 0 z) → PacesTo K (i ∷ is) s → PacesOn i 0 L s
 paces_on (get_variable v a) is K L s g f p = (g, (p.0, p.1, p.2, p.3, f (write v s) refl p.4))
 paces_on (get_value v a) is K L s g f p = (g, (p.0, p.1, p.2, p.3, p.4, f s refl p.5))
 paces_on (get_constant c a) is K L s g f p = (g, (p.0, p.1, p.2, f s refl p.3))
@@ -220,14 +217,14 @@ module _ (n : ℕ) where
       let turn : List Step = in_turn gs seen in
       let behind : List Lead = (jump, length turn) ∷ (straight turn ++ ls) in
       subst (λ q. PacesLeads 0 q s) (sym (append_assoc (check_leads (d ∷ ds) (length side)) (straight side ++ ((jump, length turn) ∷ straight turn)) ls
-          ∙ ap (λ q. check_leads (d ∷ ds) (length side) ++ q) (append_assoc (straight side) ((jump, length turn) ∷ straight turn) ls)))
+      ∙ ap (λ q. check_leads (d ∷ ds) (length side) ++ q) (append_assoc (straight side) ((jump, length turn) ∷ straight turn) ls)))
       (checks_led (d ∷ ds) (length side) seen (straight side ++ behind) s e i h f o
-          (side_led gs seen behind s e l j k f o (λ z ez fz oz. (
-            ez,
-            fz.settled,
-            subst (λ m. PacesLeads m (straight turn ++ ls) z) (let a : length turn + 0 ≡ length turn = omega arith in a) (over_straight turn 0 ls z (c z ez fz oz)),
-          )))
-          (over_straight side 1 behind s (turn_led gs seen ls s e j k f o c)))
+      (side_led gs seen behind s e l j k f o (λ z ez fz oz. (
+        ez,
+        fz.settled,
+        subst (λ m. PacesLeads m (straight turn ++ ls) z) (let a : length turn + 0 ≡ length turn = omega arith in a) (over_straight turn 0 ls z (c z ez fz oz)),
+      )))
+      (over_straight side 1 behind s (turn_led gs seen ls s e j k f o c)))
 
   -- ---- variables that a check names
 

@@ -159,8 +159,8 @@ module _ (n : ℕ) where
       let l : 0 < count_trees gs = grind (arith, nat_tests) in
       let seen1 : List ℕ = see_checks cs seen in
       range_append (straight (make_checks cs seen) ++ ways cs gs seen1) (body_leads ps (add_all_vars gs seen1))
-          (range_append (straight (make_checks cs seen)) (ways cs gs seen1) (makes_range cs seen d.0) (ways_range cs gs seen1 d.0 l k.1 k.0))
-          (body_range ps (add_all_vars gs seen1) b.1)
+      (range_append (straight (make_checks cs seen)) (ways cs gs seen1) (makes_range cs seen d.0) (ways_range cs gs seen1 d.0 l k.1 k.0))
+      (body_range ps (add_all_vars gs seen1) b.1)
 
 pub clause_range : (c : Clause) → IsClause c → AreInRange (clause_leads c)
 clause_range c i =
@@ -168,8 +168,8 @@ clause_range c i =
     let n : ℕ = c.vars in
     let head : List Step = gets (arguments c.head) 1 [] (k + 1) in
     range_append (straight head) (body_leads c.body (add_all_vars (arguments c.head) []))
-        (paced_range (λ z. Unit {0}) head (inside n k)
-        (subst (λ q. PacesTo (λ z. Unit {0}) q (inside n k)) (append-nil head)
-        (gets_paces (λ z. Unit {0}) n (arguments c.head) 1 [] (k + 1) [] (inside n k) (omega arith) (omega arith)
-        (numbered_arguments n c.head (both_true (callable c.head) (numbered n c.head) i.head).1) (record { settled = refl; room = refl }) (λ w o. absurd (false≢true o)) (λ w h l. entered w k h l) (λ z f o. tt))))
-        (body_range n c.body (add_all_vars (arguments c.head) []) i.body)
+    (paced_range (λ z. Unit {0}) head (inside n k)
+    (subst (λ q. PacesTo (λ z. Unit {0}) q (inside n k)) (append-nil head)
+    (gets_paces (λ z. Unit {0}) n (arguments c.head) 1 [] (k + 1) [] (inside n k) (omega arith) (omega arith)
+    (numbered_arguments n c.head (both_true (callable c.head) (numbered n c.head) i.head).1) (record { settled = refl; room = refl }) (λ w o. absurd (false≢true o)) (λ w h l. entered w k h l) (λ z f o. tt))))
+    (body_range n c.body (add_all_vars (arguments c.head) []) i.body)

@@ -240,7 +240,7 @@ module _ (code : Compiled) (n : ℕ) (later : List Instr) where
           b m f.0 is s p h.1 f.1 (inr (none m g)) (none_counts f.0 s.group (none m g)) r
       go false t zero (i ∷ is) p h g b = step_walk e es at k i is s t p h.0 h.1 num c r b
 
-said_at : (code : Compiled) (at : ℕ) (es : List Emitted) (is : List Instr) → AreSaidAt code at es is → said code is ≡ steps_of es
+pub said_at : (code : Compiled) (at : ℕ) (es : List Emitted) (is : List Instr) → AreSaidAt code at es is → said code is ≡ steps_of es
 said_at code at [] [] h = refl
 said_at code at [] (i ∷ is) h = absurd h
 said_at code at (e ∷ es) [] h = absurd h

@@ -16,6 +16,7 @@ pub mod LeadPaces
 pub mod Walking
 pub mod LeadRanges
 pub mod LeadWalks
+pub mod LeadAlone
 pub mod RelocatedReads
 pub mod RelocatedPaces
 pub mod RelocatedOpen

@@ -186,7 +186,7 @@ same_room K code Deallocate is s p = absurd p
 same_room K code (PushGoal n q) is s p = absurd (push_paces K (slice_get code.predicates q) is s p)
 same_room K code _ is s p = refl
 
-passed_group : (b : Bool) (s : Shape) → (passed b s).group ≡ s.group
+pub passed_group : (b : Bool) (s : Shape) → (passed b s).group ≡ s.group
 passed_group true s = refl
 passed_group false s = refl
 
