@@ -14,6 +14,7 @@ pub mod BuiltinGoals
 pub mod Pacing
 pub mod LeadPaces
 pub mod Walking
+pub mod Instructions
 pub mod LeadRanges
 pub mod LeadWalks
 pub mod LeadAlone

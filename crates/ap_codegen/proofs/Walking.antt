@@ -4,8 +4,6 @@ use Rattle.std.specs.List.{AllZip, slice_get}
 use Rattle.std.proofs.lemmas.Bool.{false≢true}
 use Rattle.std.proofs.lemmas.Bool.Decides.{nat_tests}
 use Rattle.std.proofs.lemmas.Option.{slice_get_within}
-use Rattle.ap_term.specs.Tree.{count_trees}
-use Rattle.ap_term.specs.Goals.{Clause}
 use Rattle.ap_instr.specs.declared.instruction.Slot.{Slot}
 use Rattle.ap_instr.specs.declared.instruction.Slot.TheVariants.{X, Y}
 use Rattle.ap_instr.specs.declared.instruction.Instr.{Instr}
@@ -13,9 +11,6 @@ use Rattle.ap_instr.specs.declared.instruction.Instr.TheVariants.{GetVariable, G
 use Rattle.ap_instr.specs.declared.compiled.Predicate.{Predicate}
 use Rattle.ap_instr.specs.Code.{Compiled}
 use Rattle.ap_instr.specs.Step.{Step, get_constant, put_constant, unify_constant, call, execute, proceed, push, with_integer, with_predicate, step_of as said_by, steps_of as said}
-use Rattle.ap_instr.specs.Steps.{steps_from}
-use Rattle.ap_instr.specs.Runs.{Reads, AsksOpenly, arguments}
-use Rattle.ap_instr.proofs.Steps.{span_law}
 use Rattle.ap_codecheck.specs.Shape.{Shape, entry, passed, after}
 use Rattle.ap_codecheck.specs.Rules.{ReadsSet, HasRoom, FitsEnvironment, IsInTurn, FitsGroup, GoesOn, arity_in, ArgumentsSet, IsNumbered as IsFromOne}
 use Rattle.ap_codecheck.specs.Walk.{is_inner, elsewhere, Walks}
@@ -25,10 +20,7 @@ use Rattle.ap_codegen.specs.Emitted.{step_of, steps_of}
 use Rattle.ap_codegen.specs.Temporary.{ends}
 use Rattle.ap_codegen.specs.Framed.{leaving}
 use Rattle.ap_codegen.specs.Paces.{IsSlot, PacesTo, Paces, inside, ArePaced}
-use Rattle.ap_codegen.specs.CodeOf.{IsCodeOf}
-use Rattle.ap_codegen.specs.Assembled.{frame_of, IsSaid, IsAlone, AreAlone, AreInstructionsOf}
-use Rattle.ap_codegen.specs.Sequential.{sequential}
-use Rattle.ap_codegen.proofs.Straight.{Straight, no_jumps, straight_sequences, paced_straight}
+use Rattle.ap_codegen.specs.Assembled.{frame_of, IsSaid, IsAlone, AreAlone}
 
 pub room_of : (v : Slot) (s : Shape) → IsSlot v s → HasRoom v s
 room_of (X n) s i = tt
@@ -359,17 +351,3 @@ goes code arity es is h (inr (vars, fs, e, p)) = inside_goes is (subst (λ es. A
     inside_goes (i ∷ is) h =
         let k = left_walk code vars fs is (inside vars arity) h.1 refl refl p in
         subst (λ i. Goes code (i ∷ is) (entry arity)) (sym (enters i h.0.frame)) (λ at later. here code (Allocate vars) at (is ++ later) (entry arity) tt refl refl (record { group = tt; on = tt; alone = refl }) (λ q1. k.0 (at + 1) later), ((tt, tt, λ q. tt), k.1))
-
-pub clause_instructions : (code : Compiled) (c : Clause) (es : List Emitted) (is : List Instr) → AllZip (IsSaid code) es is → IsCodeOf (sequential c) (steps_of es) → ArePaced (count_trees (arguments c.head)) es → AreInstructionsOf code c is
-clause_instructions code c es is h k p = record {
-  reads = λ at later d.
-      let rest : List Step = steps_from code (at + length is) in
-      let f : steps_from code at ≡ steps_of es ++ rest = span_law code at is later d (no_jumps code is straight) ∙ ap (λ ts. ts ++ rest) (zip_said code es is h) in
-      record { reads = subst (λ q. Reads q (sequential c)) (sym f) (k.reads rest); openly = subst AsksOpenly (sym f) (k.openly rest) };
-  sequences = λ at later d. straight_sequences code at is straight;
-  walks = (goes code (count_trees (arguments c.head)) es is h p).0;
-  alone = (goes code (count_trees (arguments c.head)) es is h p).1;
-}
-  where
-    straight : Straight (said code is)
-    straight = subst Straight (sym (zip_said code es is h)) (paced_straight (count_trees (arguments c.head)) es p)

@@ -3,7 +3,7 @@ use Rattle.std.specs.List.{list_all, AllZip}
 use Rattle.ap_codegen.specs.Emitted.{steps_of}
 use Rattle.ap_codegen.specs.CodeOf.{calls_apart}
 use Rattle.ap_codegen.specs.Assembled.{IsSaid}
-use Rattle.ap_codegen.proofs.Walking.{clause_instructions}
+use Rattle.ap_codegen.proofs.Instructions.{clause_instructions}
 use Rattle.ap_codegen.proofs.programs.clause_code.Goals as goal
 
 pub assemble-requires : goal.assemble-requires
