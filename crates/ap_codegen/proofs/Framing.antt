@@ -16,10 +16,10 @@ use Rattle.ap_codegen.specs.Framed.{leaving}
 use Rattle.ap_codegen.proofs.Registers.{both_true}
 
 -- what runs through the one runs through the other
-abbrev Through : List Step → List Step → Type 0
+abbrev pub Through : List Step → List Step → Type 0
 Through is js = (ts : Trees) (x y : ℕ → Tree) (bs : Trees) → Runs is ts x y bs → Runs js ts x y bs
 
-through_step : (i : Step) (is js : List Step) → Through is js → Through (i ∷ is) (i ∷ js)
+pub through_step : (i : Step) (is js : List Step) → Through is js → Through (i ∷ is) (i ∷ js)
 through_step (unify_variable v) is js h (more t ts) x y bs r = h ts _ _ bs r
 through_step (unify_value v) is js h (more t ts) x y bs r = (r.0, h ts x y bs r.1)
 through_step (unify_constant c) is js h (more t ts) x y bs r = (r.0, h ts x y bs r.1)
@@ -49,7 +49,7 @@ through_step other is js h none x y bs r = absurd r
 through_step (i) is js h (more t ts) x y bs r = absurd r
 
 -- nothing ends inside a structure
-ends_outside : (i : Step) (is : List Step) (t : Tree) (ts : Trees) (x y : ℕ → Tree) (bs : Trees) → ends i ≡ true → Runs (i ∷ is) (more t ts) x y bs → ⊥
+pub ends_outside : (i : Step) (is : List Step) (t : Tree) (ts : Trees) (x y : ℕ → Tree) (bs : Trees) → ends i ≡ true → Runs (i ∷ is) (more t ts) x y bs → ⊥
 ends_outside (execute p n) is t ts x y bs e r = r
 ends_outside proceed is t ts x y bs e r = r
 ends_outside _ is t ts x y bs e r = false≢true e
@@ -75,7 +75,7 @@ left_each rest (e ∷ es) ts x y bs r = go (through_step (step_of e) (steps_of e
 open_through : (is js : List Step) → Through is js → IsOpen is → IsOpen js
 open_through is js h o x y = let r = o x y in (r.0, h none x y r.0 r.1)
 
-openly_step : (i : Step) (is js : List Step) → Through is js → (AsksOpenly is → AsksOpenly js) → AsksOpenly (i ∷ is) → AsksOpenly (i ∷ js)
+pub openly_step : (i : Step) (is js : List Step) → Through is js → (AsksOpenly is → AsksOpenly js) → AsksOpenly (i ∷ is) → AsksOpenly (i ∷ js)
 openly_step (call p n) is js h a o = (open_through is js h o.0, a o.1)
 openly_step (builtin p n) is js h a o = (open_through is js h o.0, a o.1)
 openly_step (check_ground v) is js h a o = (open_through is js h o.0, a o.1)

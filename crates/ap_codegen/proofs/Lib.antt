@@ -2,6 +2,9 @@ pub mod Registers
 pub mod PermanentReads
 pub mod Open
 pub mod Framing
+pub mod EndedLeads
+pub mod FramedLeads
+pub mod StraightLeads
 pub mod BodyTurns
 pub mod Straight
 pub mod Heads

@@ -19,7 +19,7 @@ use Rattle.ap_codegen.proofs.Registers.{both_true}
 use Rattle.ap_codegen.proofs.PermanentReads.{body-each}
 
 -- whether a step asks for no goal, and the next one runs
-abbrev is_quiet : Step → Bool
+abbrev pub is_quiet : Step → Bool
 is_quiet (call p n) = false
 is_quiet (execute p n) = false
 is_quiet (builtin p n) = false
@@ -32,13 +32,13 @@ is_quiet (push p n) = false
 is_quiet wait = false
 is_quiet _ = true
 
-abbrev Quiet : List Step → Type 0
+abbrev pub Quiet : List Step → Type 0
 Quiet is = list_all is_quiet is ≡ true
 
-quiet_both : (us bs : List Step) → Quiet us → Quiet bs → Quiet (us ++ bs)
+pub quiet_both : (us bs : List Step) → Quiet us → Quiet bs → Quiet (us ++ bs)
 quiet_both us bs f g = list_all-append is_quiet us bs ∙ ap (λ a. a && list_all is_quiet bs) f ∙ g
 
-quiet_openly : (us is : List Step) → Quiet us → AsksOpenly is → AsksOpenly (us ++ is)
+pub quiet_openly : (us is : List Step) → Quiet us → AsksOpenly is → AsksOpenly (us ++ is)
 quiet_openly [] is q o = o
 quiet_openly (call p n ∷ us) is q o = absurd (false≢true q)
 quiet_openly (execute p n ∷ us) is q o = absurd (false≢true q)
@@ -106,7 +106,7 @@ quiet_puts : (ts : Trees) (a : ℕ) (seen : List ℕ) (m : ℕ) → Quiet (puts 
 quiet_puts none a seen m = refl
 quiet_puts (more t ts) a seen m = quiet_both (build t a seen m (m + 1)) (puts ts (a + 1) (see_built t seen) m) (quiet_build t a seen m (m + 1)) (quiet_puts ts (a + 1) (see_built t seen) m)
 
-quiet_goal : (g : Tree) (seen : List ℕ) → Quiet (goal_code g seen)
+pub quiet_goal : (g : Tree) (seen : List ℕ) → Quiet (goal_code g seen)
 quiet_goal g seen = quiet_puts (arguments g) 1 seen (count_trees (arguments g) + 1)
 
 quiet_takes : (ts : Trees) (seen : List ℕ) (m : ℕ) → Quiet (takes ts seen m)
@@ -141,7 +141,7 @@ mutual
       let seen1 : List ℕ = see_taken (node a us) seen in
       quiet_both (get (node a us) p seen p) (opens ts seen1 m) (quiet_get (node a us) p seen p) (quiet_opens ts seen1 m)
 
-quiet_gets : (ts : Trees) (a : ℕ) (seen : List ℕ) (m : ℕ) → Quiet (gets ts a seen m)
+pub quiet_gets : (ts : Trees) (a : ℕ) (seen : List ℕ) (m : ℕ) → Quiet (gets ts a seen m)
 quiet_gets none a seen m = refl
 quiet_gets (more t ts) a seen m = quiet_both (get t a seen m) (gets ts (a + 1) (add_vars t seen) m) (quiet_get t a seen m) (quiet_gets ts (a + 1) (add_vars t seen) m)
 
