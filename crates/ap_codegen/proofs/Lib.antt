@@ -25,4 +25,5 @@ pub mod RelocatedReads
 pub mod RelocatedPaces
 pub mod RelocatedOpen
 pub mod RelocatedCode
+pub mod RelocatedLeads
 pub mod Turns

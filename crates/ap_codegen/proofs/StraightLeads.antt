@@ -1,23 +1,17 @@
 -- Steps that pass over none are the clause's code with its groups where they are its code without labels.
-use Rattle.std.proofs.Common.{◌≡◌, ℕ, zero, suc, ◌+◌, Bool, true, false, ◌&&◌, List, [], ◌∷◌, ◌++◌, map, Option, refl, ap, sym, ◌∙◌, subst}
+use Rattle.std.proofs.Common.{◌≡◌, true, ◌&&◌, List, [], ◌∷◌, ◌++◌, refl, ap, sym, ◌∙◌, subst}
 use Rattle.std.specs.List.{list_all}
 use Rattle.std.proofs.lemmas.Bool.{false≢true}
 use Rattle.ap_term.specs.Goals.{Clause}
-use Rattle.ap_instr.specs.declared.instruction.Slot.{Slot}
-use Rattle.ap_instr.specs.Step.{Step, get_variable, get_value, get_constant, get_structure, put_variable, put_value, put_constant, put_structure, unify_variable, unify_value, unify_constant, call, execute, builtin, proceed, jump, check_ground, check_indep}
+use Rattle.ap_instr.specs.Step.{Step, jump, check_ground, check_indep}
 use Rattle.ap_instr.specs.Runs.{Reads, AsksOpenly}
-use Rattle.ap_codecheck.specs.Shape.{Shape}
 use Rattle.ap_codegen.specs.declared.steps.Step.{Step as Emitted}
-use Rattle.ap_codegen.specs.declared.steps.Step.TheVariants.{Jump, CheckGround, CheckIndep, AllocParcall, PushGoal}
+use Rattle.ap_codegen.specs.declared.steps.Step.TheVariants.{Jump, CheckGround, CheckIndep}
 use Rattle.ap_codegen.specs.Emitted.{step_of, steps_of, Lead, lead_of, leads_of}
-use Rattle.ap_codegen.specs.Temporary.{ends}
 use Rattle.ap_codegen.specs.CodeOf.{calls_apart, IsCodeOf}
-use Rattle.ap_codegen.specs.Grouped.{passed_over, flow, straight, is_check, AreTurns, IsGroupedCode, IsEnded}
-use Rattle.ap_codegen.specs.Said.{AreNumbered}
-use Rattle.ap_codegen.specs.Paces.{Paces}
-use Rattle.ap_codegen.specs.Relocated.{Change, kept, dropped, olds, Known, is_kept, may_drop, accepts, is_end, passed, all_kept}
+use Rattle.ap_codegen.specs.Grouped.{passed_over, flow, straight, is_check, AreTurns, IsGroupedCode}
 use Rattle.ap_codegen.proofs.Registers.{both_true}
-use Rattle.ap_codegen.proofs.Straight.{is_straight, Straight, paces_straight}
+use Rattle.ap_codegen.proofs.Straight.{is_straight, Straight}
 
 -- ---- what runs
 
@@ -68,7 +62,7 @@ grouped_straight c is k = record {
 
 -- ---- emitted steps that are straight
 
-straight_leads : (es : List Emitted) → Straight (steps_of es) → leads_of es ≡ straight (steps_of es)
+pub straight_leads : (es : List Emitted) → Straight (steps_of es) → leads_of es ≡ straight (steps_of es)
 straight_leads [] s = refl
 straight_leads (e ∷ es) s =
     let b = both_true (is_straight (step_of e)) (list_all is_straight (steps_of es)) s in
