@@ -5,9 +5,10 @@ ghost use Rattle.ap_instr.specs.declared.instruction.Slot.TheVariants.{X};
 ghost use Rattle.ap_instr.specs.Runs.{set};
 ghost use Rattle.ap_term.specs.Goals.{Clause};
 ghost use Rattle.ap_codegen.specs.CodeOf.{IsCodeOf};
-ghost use Rattle.ap_codegen.specs.Emitted.{step_of, steps_of};
-ghost use Rattle.ap_codegen.specs.Paces.{Paces, inside};
-ghost use Rattle.ap_codegen.specs.Relocated.{change_of, changes_of, news, relocated, by, known_by, former, latter, is_same, all_same, is_within, has_room, set_former, set_latter, set_both, behind_call, behind, behind_none, may_drop, is_kept, accepts, passed, is_end, all_kept, asks, tests_nothing, all_open, IsStart, IsBegun, olds, within};
+ghost use Rattle.ap_codegen.specs.Emitted.{step_of, steps_of, leads_of};
+ghost use Rattle.ap_codegen.specs.Grouped.{IsEnded, IsGroupedCode};
+ghost use Rattle.ap_codegen.specs.Paces.{Paces, PacesLeads, inside};
+ghost use Rattle.ap_codegen.specs.Relocated.{change_of, changes_of, step_in, news, relocated, by, known_by, former, latter, is_same, all_same, is_within, has_room, set_former, set_latter, set_both, behind_call, behind, behind_none, may_drop, is_kept, accepts, passed, is_end, all_kept, asks, tests_nothing, all_open, IsStart, IsBegun, olds, within};
 
 use crate::steps::{Step, add};
 use crate::temporary::{arity, ends};
@@ -429,6 +430,8 @@ pub fn tested(
 ) -> Result<Option<Vec<Step>>, NoMemory>
     ensures code { IfOk result (λ r. IfSome r (λ out. (c : Clause) (vars arity : ℕ) → Paces (olds (changes_of changes.now)) (inside vars arity) → IsCodeOf c (olds (changes_of changes.now)) → IsCodeOf c (steps_of out.items))) }
     ensures paced { IfOk result (λ r. IfSome r (λ out. (vars arity : ℕ) → Paces (olds (changes_of changes.now)) (inside vars arity) → Paces (steps_of out.items) (within room arity))) }
+    ensures grouped { IfOk result (λ r. IfSome r (λ out. (c : Clause) (vars arity : ℕ) → IsEnded (leads_of (map step_in changes.now)) → PacesLeads 0 (leads_of (map step_in changes.now)) (inside vars arity) → IsGroupedCode c (leads_of (map step_in changes.now)) → IsGroupedCode c (leads_of out.items))) }
+    ensures led { IfOk result (λ r. IfSome r (λ out. (vars arity : ℕ) → IsEnded (leads_of (map step_in changes.now)) → PacesLeads 0 (leads_of (map step_in changes.now)) (inside vars arity) → Paces (steps_of out.items) (within room arity))) }
 {
     let mut numbers = begin(alloc, count)?;
     if !all_kept(changes, room, &mut numbers)? {
