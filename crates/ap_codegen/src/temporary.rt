@@ -4,12 +4,14 @@ ghost use Rattle.std.specs.Prelude.{◌≡◌, ℕ, [], ◌∷◌, ◌++◌, IfO
 ghost use Rattle.ap_term.specs.Tree.{count_trees};
 ghost use Rattle.ap_instr.specs.Builtin.{builtin_arity};
 ghost use Rattle.ap_instr.specs.Runs.{arguments};
-ghost use Rattle.ap_codegen.specs.Emitted.{step_of, steps_of};
+ghost use Rattle.ap_codegen.specs.Emitted.{step_of, steps_of, leads_of};
 ghost use Rattle.ap_codegen.specs.Temporary.{ends};
 ghost use Rattle.ap_codegen.specs.CodeOf.{IsCodeOf};
 ghost use Rattle.ap_codegen.specs.Sequential.{sequential};
 ghost use Rattle.ap_codegen.specs.Framed.{leaving};
-ghost use Rattle.ap_codegen.specs.Paces.{Paces, ArePaced, inside};
+ghost use Rattle.ap_codegen.specs.Grouped.{IsEnded, IsGroupedCode};
+ghost use Rattle.ap_codegen.specs.Said.{AreNumbered};
+ghost use Rattle.ap_codegen.specs.Paces.{Paces, ArePaced, PacesLeads, ArePacedLeads, inside};
 
 use crate::bodies::permanent_code;
 use crate::choosing::choose;
@@ -113,6 +115,8 @@ fn entered(alloc: Global, steps: Vec<Step>, room: Option<u8>) -> Result<Vec<Step
 fn relocated(alloc: Global, steps: &[Step]) -> Result<Option<Vec<Step>>, NoMemory>
     ensures code { IfOk result (λ r. IfSome r (λ out. (c : Clause) (vars arity : ℕ) → Paces (steps_of steps.now) (inside vars arity) → IsCodeOf c (steps_of steps.now) → IsCodeOf c (steps_of out.items))) }
     ensures paced { IfOk result (λ r. IfSome r (λ out. (vars arity : ℕ) → Paces (steps_of steps.now) (inside vars arity) → ArePaced arity out.items)) }
+    ensures grouped { IfOk result (λ r. IfSome r (λ out. (c : Clause) (vars arity : ℕ) → IsEnded (leads_of steps.now) → PacesLeads 0 (leads_of steps.now) (inside vars arity) → IsGroupedCode c (leads_of steps.now) → IsGroupedCode c (leads_of out.items))) }
+    ensures led { IfOk result (λ r. IfSome r (λ out. (vars arity : ℕ) → IsEnded (leads_of steps.now) → PacesLeads 0 (leads_of steps.now) (inside vars arity) → ArePacedLeads arity out.items)) }
 {
     let chosen = choose(alloc, steps)?;
     let count = greatest_of(steps).min(255) + 1;
@@ -122,16 +126,26 @@ fn relocated(alloc: Global, steps: &[Step]) -> Result<Option<Vec<Step>>, NoMemor
     }
 }
 
+/// The steps with each variable in its place: in better ones, if such are found, or in an environment for so many.
+fn located(alloc: Global, steps: &[Step], vars: u8) -> Result<Vec<Step>, NoMemory>
+    ensures code { IfOk result (λ out. (c : Clause) (arity : ℕ) → Paces (steps_of steps.now) (inside vars arity) → IsCodeOf c (steps_of steps.now) → IsCodeOf c (steps_of out.items)) }
+    ensures paced { IfOk result (λ out. (arity : ℕ) → Paces (steps_of steps.now) (inside vars arity) → ArePaced arity out.items) }
+    ensures grouped { IfOk result (λ out. (c : Clause) (arity : ℕ) → IsEnded (leads_of steps.now) → PacesLeads 0 (leads_of steps.now) (inside vars arity) → IsGroupedCode c (leads_of steps.now) → IsGroupedCode c (leads_of out.items)) }
+    ensures led { IfOk result (λ out. (arity : ℕ) → IsEnded (leads_of steps.now) → PacesLeads 0 (leads_of steps.now) (inside vars arity) → AreNumbered 0 steps.now → ArePacedLeads arity out.items) }
+{
+    if let Some(better) = relocated(alloc, steps)? {
+        return Ok(better);
+    }
+    let framed = framed(alloc, steps, vars)?;
+    Ok(framed)
+}
+
 /// The code of a clause.
 pub fn clause_steps(alloc: Global, clause: &Clause) -> Result<Vec<Step>, NoMemory>
     ensures code { IfOk result (λ code. IsCodeOf (sequential clause.now) (steps_of code.items)) }
     ensures paced { IfOk result (λ code. ArePaced (count_trees (arguments clause.now.head)) code.items) }
 {
     let steps = permanent_code(alloc, clause)?;
-    let own = steps.as_slice();
-    if let Some(better) = relocated(alloc, own)? {
-        return Ok(better);
-    }
-    let framed = framed(alloc, own, clause.vars() as u8)?;
-    Ok(framed)
+    let code = located(alloc, steps.as_slice(), clause.vars() as u8)?;
+    Ok(code)
 }
