@@ -1,6 +1,6 @@
 -- A clause whose steps were tested in other places has no groups: its steps pass over none, and its code with labels is its
 -- code without them.
-use Rattle.std.proofs.Common.{◌≡◌, ℕ, ◌+◌, ◌==◌, Bool, true, false, ◌&&◌, ◌||◌, List, [], ◌∷◌, map, Option, Some, None, MatchOption, inl, inr, refl, ap, sym, ◌∙◌, subst}
+use Rattle.std.proofs.Common.{◌≡◌, ℕ, Bool, true, false, ◌&&◌, ◌||◌, List, [], ◌∷◌, map, Option, Some, None, MatchOption, refl, ap, sym, ◌∙◌, subst}
 use Rattle.std.specs.List.{list_all}
 use Rattle.std.proofs.lemmas.Bool.{false≢true}
 use Rattle.ap_term.specs.Goals.{Clause}
@@ -8,9 +8,9 @@ use Rattle.ap_instr.specs.declared.instruction.Slot.{Slot}
 use Rattle.ap_instr.specs.declared.instruction.Slot.TheVariants.{X}
 use Rattle.ap_instr.specs.declared.instruction.Instr.TheVariants.{GetStructure, PutStructure, PutVariable, Call}
 use Rattle.ap_instr.specs.Step.{Step, get_variable, get_value, get_constant, get_structure, put_variable, put_value, put_constant, put_structure, unify_variable, unify_value, unify_constant, call, execute, builtin, proceed, frame, jump, check_ground, check_indep, group, push, wait, other}
-use Rattle.ap_codecheck.specs.Shape.{Shape, write, passed as over_argument, behind_argument, after}
+use Rattle.ap_codecheck.specs.Shape.{Shape, write, behind_argument, after}
 use Rattle.ap_codegen.specs.declared.steps.Step.{Step as Emitted}
-use Rattle.ap_codegen.specs.declared.steps.Step.TheVariants.{Allocate, AllocParcall, PushGoal}
+use Rattle.ap_codegen.specs.declared.steps.Step.TheVariants.{Allocate}
 use Rattle.ap_codegen.specs.declared.relocating.Change.{Change as Chosen}
 use Rattle.ap_codegen.specs.declared.relocating.Change.TheVariants.{Kept, Dropped}
 use Rattle.ap_codegen.specs.Emitted.{step_of, steps_of, leads_of}
@@ -18,13 +18,12 @@ use Rattle.ap_codegen.specs.Temporary.{ends}
 use Rattle.ap_codegen.specs.CodeOf.{IsCodeOf}
 use Rattle.ap_codegen.specs.Framed.{leaving}
 use Rattle.ap_codegen.specs.Grouped.{straight, IsGroupedCode, IsEnded}
-use Rattle.ap_codegen.specs.Said.{AreNumbered}
-use Rattle.ap_codegen.specs.Paces.{StandsIn, Paces, PacesLeads, ArePacedLeads, inside}
+use Rattle.ap_codegen.specs.Paces.{Paces, PacesLeads, inside}
 use Rattle.ap_codegen.specs.Relocated.{Known, change_of, changes_of, step_in, olds, news, is_kept, may_drop, accepts, is_end, passed, all_kept, all_open, IsBegun, within}
 use Rattle.ap_codegen.proofs.Registers.{both_true}
 use Rattle.ap_codegen.proofs.Straight.{is_straight, Straight}
 use Rattle.ap_codegen.proofs.EndedLeads.{ended_more, ended_some}
-use Rattle.ap_codegen.proofs.FramedLeads.{framed_grouped, left_numbered}
+use Rattle.ap_codegen.proofs.FramedLeads.{framed_grouped}
 use Rattle.ap_codegen.proofs.StraightLeads.{straight_leads, code_grouped, grouped_code}
 use Rattle.ap_codegen.proofs.RelocatedCode.{olds_chosen, tested_code, tested_paces}
 
@@ -55,13 +54,6 @@ plain_straight (i ∷ is) h =
     one (check_ground v) e = absurd (false≢true e)
     one (check_indep v w) e = absurd (false≢true e)
     one _ e = refl
-
--- no goal of a group is pushed
-plain_numbered : (k : ℕ) (es : List Emitted) → ArePlain (steps_of es) → AreNumbered k es
-plain_numbered k [] h = tt
-plain_numbered k (AllocParcall n ∷ es) h = absurd (false≢true h)
-plain_numbered k (PushGoal i p n ∷ es) h = absurd (false≢true h)
-plain_numbered k (e ∷ es) h = plain_numbered k es (both_true (is_plain (step_of e)) (list_all is_plain (steps_of es)) h).1
 
 -- ---- steps that the test accepts
 
@@ -102,33 +94,6 @@ chosen_plain room (c ∷ d ∷ cs) k f h =
     ∙ chosen_plain room (d ∷ cs) (passed k (change_of c)) (ap (λ e. e || more) (sym (not_end c h.0)) ∙ b.1) h.2
 
 -- ---- the rules of code
-
-over_group : (b : Bool) (s : Shape) → (over_argument b s).group ≡ s.group
-over_group true s = refl
-over_group false s = refl
-
--- outside of groups
-stands : (i : Step) (s : Shape) → s.group ≡ None → StandsIn i s.group
-stands i s g = subst (StandsIn i) (sym g) tt
-
-paces_led : (is : List Step) (s : Shape) → s.group ≡ None → Paces is s → PacesLeads 0 (straight is) s
-paces_led [] s g p = absurd p
-paces_led (get_variable v a ∷ is) s g p = (stands (get_variable v a) s g, (p.0, p.1, p.2, p.3, paces_led is (write v s) g p.4))
-paces_led (get_value v a ∷ is) s g p = (stands (get_value v a) s g, (p.0, p.1, p.2, p.3, p.4, paces_led is s g p.5))
-paces_led (get_constant c a ∷ is) s g p = (stands (get_constant c a) s g, (p.0, p.1, p.2, paces_led is s g p.3))
-paces_led (get_structure f n a ∷ is) s g p = (stands (get_structure f n a) s g, (p.0, p.1, p.2, paces_led is (after (GetStructure f n a) s) g p.3))
-paces_led (put_variable v a ∷ is) s g p = (stands (put_variable v a) s g, (p.0, p.1, p.2, paces_led is (after (PutVariable v a) s) g p.3))
-paces_led (put_value v a ∷ is) s g p = (stands (put_value v a) s g, (p.0, p.1, p.2, p.3, paces_led is (write (X a) s) g p.4))
-paces_led (put_constant c a ∷ is) s g p = (stands (put_constant c a) s g, (p.0, p.1, paces_led is (write (X a) s) g p.2))
-paces_led (put_structure f n a ∷ is) s g p = (stands (put_structure f n a) s g, (p.0, p.1, paces_led is (after (PutStructure f n a) s) g p.2))
-paces_led (unify_variable v ∷ is) s g p = (stands (unify_variable v) s g, (p.0, p.1, paces_led is (behind_argument (write v s)) (over_group (s.pending == 1) (write v s) ∙ g) p.2))
-paces_led (unify_value v ∷ is) s g p = (stands (unify_value v) s g, (p.0, p.1, p.2, paces_led is (behind_argument s) (over_group (s.pending == 1) s ∙ g) p.3))
-paces_led (unify_constant c ∷ is) s g p = (stands (unify_constant c) s g, (p.0, paces_led is (behind_argument s) (over_group (s.pending == 1) s ∙ g) p.1))
-paces_led (call q n ∷ is) s g p = (stands (call q n) s g, (p.0, p.1, p.2, paces_led is (after (Call 0) s) g p.3))
-paces_led (builtin q n ∷ is) s g p = (stands (builtin q n) s g, (p.0, p.1, paces_led is s g p.2))
-paces_led (execute q n ∷ is) s g p = (stands (execute q n) s g, (p.0, p.1, refl))
-paces_led (proceed ∷ is) s g p = (stands proceed s g, (p.0, refl))
-paces_led (i ∷ is) s g p = absurd p
 
 -- behind a step that ends nothing stands
 ended_behind : (i : Step) (is : List Step) → ends i ≡ true → IsEnded (straight (i ∷ is)) → is ≡ []
@@ -235,14 +200,3 @@ pub entered_grouped : (room : Option ℕ) (es out : List Emitted) (c : Clause) (
     → IsGroupedCode c (leads_of out)
 entered_grouped None es out c arity e p g = subst (λ out. IsGroupedCode c (leads_of out)) (sym e) g
 entered_grouped (Some vars) es out c arity e p g = subst (λ out. IsGroupedCode c (leads_of out)) (sym e) (framed_grouped c es vars g (paced_ended es (within (Some vars) arity) p))
-
-pub entered_led : (room : Option ℕ) (es out : List Emitted) (arity : ℕ) → MatchOption room (out ≡ es) (λ vars. out ≡ Allocate vars ∷ leaving es) → Paces (steps_of es) (within room arity) → ArePacedLeads arity out
-entered_led None es out arity e p = inl (subst (λ out. Paces (steps_of out) (within None arity)) (sym e) p)
-entered_led (Some vars) es out arity e p =
-    let plain = paces_plain (steps_of es) (within (Some vars) arity) p in
-    inr (vars, es, e, subst (λ ls. PacesLeads 0 ls (inside vars arity)) (sym (leads_plain es plain)) (paces_led (steps_of es) (inside vars arity) refl p), paced_ended es (within (Some vars) arity) p, plain_numbered 0 es plain)
-
--- the goals of groups are numbered
-pub paced_numbered : (arity : ℕ) (es : List Emitted) → ArePacedLeads arity es → AreNumbered 0 es
-paced_numbered arity es (inl p) = plain_numbered 0 es (paces_plain (steps_of es) _ p)
-paced_numbered arity es (inr (vars, fs, e, p, h, n)) = subst (AreNumbered 0) (sym e) (left_numbered 0 fs n)

@@ -1,6 +1,6 @@
 //! The code of a clause, inside of an environment or outside.
 
-ghost use Rattle.std.specs.Prelude.{◌≡◌, ℕ, [], ◌∷◌, ◌++◌, IfOk, IfSome, OnOk, MatchOption};
+ghost use Rattle.std.specs.Prelude.{◌≡◌, ℕ, [], ◌∷◌, ◌++◌, ◌⊎◌, IfOk, IfSome, OnOk, MatchOption};
 ghost use Rattle.ap_term.specs.Tree.{count_trees};
 ghost use Rattle.ap_instr.specs.Builtin.{builtin_arity};
 ghost use Rattle.ap_instr.specs.Runs.{arguments};
@@ -10,8 +10,7 @@ ghost use Rattle.ap_codegen.specs.CodeOf.{IsCodeOf};
 ghost use Rattle.ap_codegen.specs.Sequential.{sequential};
 ghost use Rattle.ap_codegen.specs.Framed.{leaving};
 ghost use Rattle.ap_codegen.specs.Grouped.{IsEnded, IsGroupedCode};
-ghost use Rattle.ap_codegen.specs.Said.{AreNumbered};
-ghost use Rattle.ap_codegen.specs.Paces.{Paces, ArePaced, PacesLeads, ArePacedLeads, inside};
+ghost use Rattle.ap_codegen.specs.Paces.{Paces, ArePaced, PacesLeads, inside};
 
 use crate::bodies::permanent_code;
 use crate::choosing::choose;
@@ -116,7 +115,7 @@ fn relocated(alloc: Global, steps: &[Step]) -> Result<Option<Vec<Step>>, NoMemor
     ensures code { IfOk result (λ r. IfSome r (λ out. (c : Clause) (vars arity : ℕ) → Paces (steps_of steps.now) (inside vars arity) → IsCodeOf c (steps_of steps.now) → IsCodeOf c (steps_of out.items))) }
     ensures paced { IfOk result (λ r. IfSome r (λ out. (vars arity : ℕ) → Paces (steps_of steps.now) (inside vars arity) → ArePaced arity out.items)) }
     ensures grouped { IfOk result (λ r. IfSome r (λ out. (c : Clause) (vars arity : ℕ) → IsEnded (leads_of steps.now) → PacesLeads 0 (leads_of steps.now) (inside vars arity) → IsGroupedCode c (leads_of steps.now) → IsGroupedCode c (leads_of out.items))) }
-    ensures led { IfOk result (λ r. IfSome r (λ out. (vars arity : ℕ) → IsEnded (leads_of steps.now) → PacesLeads 0 (leads_of steps.now) (inside vars arity) → ArePacedLeads arity out.items)) }
+    ensures led { IfOk result (λ r. IfSome r (λ out. (vars arity : ℕ) → IsEnded (leads_of steps.now) → PacesLeads 0 (leads_of steps.now) (inside vars arity) → ArePaced arity out.items)) }
 {
     let chosen = choose(alloc, steps)?;
     let count = greatest_of(steps).min(255) + 1;
@@ -131,7 +130,7 @@ fn located(alloc: Global, steps: &[Step], vars: u8) -> Result<Vec<Step>, NoMemor
     ensures code { IfOk result (λ out. (c : Clause) (arity : ℕ) → Paces (steps_of steps.now) (inside vars arity) → IsCodeOf c (steps_of steps.now) → IsCodeOf c (steps_of out.items)) }
     ensures paced { IfOk result (λ out. (arity : ℕ) → Paces (steps_of steps.now) (inside vars arity) → ArePaced arity out.items) }
     ensures grouped { IfOk result (λ out. (c : Clause) (arity : ℕ) → IsEnded (leads_of steps.now) → PacesLeads 0 (leads_of steps.now) (inside vars arity) → IsGroupedCode c (leads_of steps.now) → IsGroupedCode c (leads_of out.items)) }
-    ensures led { IfOk result (λ out. (arity : ℕ) → IsEnded (leads_of steps.now) → PacesLeads 0 (leads_of steps.now) (inside vars arity) → AreNumbered 0 steps.now → ArePacedLeads arity out.items) }
+    ensures led { IfOk result (λ out. (arity : ℕ) → IsEnded (leads_of steps.now) → PacesLeads 0 (leads_of steps.now) (inside vars arity) → ArePaced arity out.items ⊎ (out.items ≡ Step.Allocate vars ∷ leaving steps.now)) }
 {
     if let Some(better) = relocated(alloc, steps)? {
         return Ok(better);

@@ -1,4 +1,4 @@
-use Rattle.std.proofs.Common.{◌≡◌, ◌∷◌, inr, sym, subst}
+use Rattle.std.proofs.Common.{◌≡◌, ◌∷◌, inl, inr, sym, subst}
 use Rattle.ap_codegen.specs.Emitted.{steps_of, leads_of}
 use Rattle.ap_codegen.specs.CodeOf.{IsCodeOf}
 use Rattle.ap_codegen.specs.Grouped.{IsGroupedCode}
@@ -16,7 +16,7 @@ pub returns-in-Some-clause-grouped : goal.returns-in-Some-clause-grouped
 returns-in-Some-clause-grouped c k arity h p g = let better = rw c.in-Some.is at c.in_ok-better.ensures.grouped in better k c.args.vars arity h p g
 
 pub returns-in-Some-clause-led : goal.returns-in-Some-clause-led
-returns-in-Some-clause-led c arity h p n = let better = rw c.in-Some.is at c.in_ok-better.ensures.led in better c.args.vars arity h p
+returns-in-Some-clause-led c arity h p = let better = rw c.in-Some.is at c.in_ok-better.ensures.led in inl (better c.args.vars arity h p)
 
 pub returns-clause-code : goal.returns-clause-code
 returns-clause-code c k arity p r = subst (λ es. IsCodeOf k (steps_of es)) (sym c.in_ok-framed.ensures) (framed_code k c.args.steps.now c.args.vars r)
@@ -28,4 +28,4 @@ pub returns-clause-grouped : goal.returns-clause-grouped
 returns-clause-grouped c k arity h p g = subst (λ es. IsGroupedCode k (leads_of es)) (sym c.in_ok-framed.ensures) (framed_grouped k c.args.steps.now c.args.vars g h)
 
 pub returns-clause-led : goal.returns-clause-led
-returns-clause-led c arity h p n = inr (c.args.vars, c.args.steps.now, c.in_ok-framed.ensures, p, h, n)
+returns-clause-led c arity h p = inr c.in_ok-framed.ensures

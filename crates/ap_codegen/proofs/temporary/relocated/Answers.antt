@@ -5,7 +5,7 @@ use Rattle.ap_codegen.specs.Grouped.{IsGroupedCode, IsEnded}
 use Rattle.ap_codegen.specs.Paces.{Paces, PacesLeads, inside}
 use Rattle.ap_codegen.specs.Relocated.{olds, changes_of, step_in}
 use Rattle.ap_codegen.proofs.RelocatedCode.{olds_chosen, entered_code, entered_paces}
-use Rattle.ap_codegen.proofs.RelocatedLeads.{entered_grouped, entered_led}
+use Rattle.ap_codegen.proofs.RelocatedLeads.{entered_grouped}
 use Rattle.ap_codegen.proofs.temporary.relocated.Goals as goal
 
 pub returns-clause-code : goal.returns-clause-code
@@ -38,5 +38,5 @@ pub returns-clause-led : goal.returns-clause-led
 returns-clause-led c vars arity h p =
     let own : map step_in c.as_slice.result.now ≡ c.args.steps.now = ap (map step_in) c.as_slice.ensures.value ∙ c.in_ok-chosen.ensures in
     let led = rw c.in-Some.is at c.in_ok-tested.ensures.led in
-    entered_led c.in_ok-chosen.chosen.room c.in-Some.better.items c.in_ok-entered-in-Some.field-0.items arity c.in_ok-entered-in-Some.ensures
+    entered_paces c.in_ok-chosen.chosen.room c.in-Some.better.items c.in_ok-entered-in-Some.field-0.items arity c.in_ok-entered-in-Some.ensures
     (led vars arity (subst (λ es. IsEnded (leads_of es)) (sym own) h) (subst (λ es. PacesLeads 0 (leads_of es) (inside vars arity)) (sym own) p))
