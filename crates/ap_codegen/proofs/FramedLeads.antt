@@ -1,12 +1,12 @@
 -- Steps with their labels inside an environment are still the clause's code with its groups. The environment is given back
 -- before the last step, so that labels which led to it lead there.
-use Rattle.std.proofs.Common.{◌≡◌, ℕ, zero, suc, ◌+◌, ◌<◌, ◌≤◌, Bool, true, false, ◌&&◌, if◌then◌else◌, List, [], ◌∷◌, ◌++◌, length, refl, ap, sym, ◌∙◌, subst, arith}
+use Rattle.std.proofs.Common.{◌≡◌, ℕ, zero, suc, ◌<◌, ◌≤◌, Bool, true, false, ◌&&◌, if◌then◌else◌, List, [], ◌∷◌, ◌++◌, length, refl, ap, sym, ◌∙◌, subst, arith}
 use Rattle.std.specs.List.{list_all}
 use Rattle.std.proofs.lemmas.Bool.{false≢true}
-use Rattle.ap_term.specs.Tree.{Tree, Trees, none, more}
+use Rattle.ap_term.specs.Tree.{none, more}
 use Rattle.ap_term.specs.Goals.{Clause}
 use Rattle.ap_instr.specs.Step.{Step, execute, proceed, frame, jump}
-use Rattle.ap_instr.specs.Runs.{Runs, AsksOpenly}
+use Rattle.ap_instr.specs.Runs.{AsksOpenly}
 use Rattle.ap_codegen.specs.declared.steps.Step.{Step as Emitted}
 use Rattle.ap_codegen.specs.declared.steps.Step.TheVariants.{Allocate, Deallocate, Execute, Proceed, AllocParcall, PushGoal}
 use Rattle.ap_codegen.specs.Emitted.{step_of, Lead, lead_of, leads_of}
@@ -17,7 +17,7 @@ use Rattle.ap_codegen.specs.Grouped.{passed_over, flow, Unmarks, is_check, AreTu
 use Rattle.ap_codegen.specs.Said.{AreNumbered}
 use Rattle.ap_codegen.proofs.Registers.{both_true}
 use Rattle.ap_codegen.proofs.Framing.{Through, through_step, ends_outside, openly_step}
-use Rattle.ap_codegen.proofs.EndedLeads.{ended_more}
+use Rattle.ap_codegen.proofs.EndedLeads.{ended_more, ended_some}
 
 -- what runs through the one runs through the other, both ways
 abbrev AreAlike : List Step → List Step → Type 0
@@ -117,17 +117,13 @@ module _ (rest : List Lead) where
         left_turns (m ∷ ls) h.2 t.1,
       )
 
-ended_length : (ls : List Lead) → IsEnded ls → 0 < length ls
-ended_length [] h = absurd h
-ended_length (l ∷ ls) h = omega arith
-
 framed_leads : (c : Clause) (ls : List Lead) → IsGroupedCode c ls → IsEnded ls → IsGroupedCode c ((frame, 0) ∷ left_leads ls)
 framed_leads c ls k h = record {
   reads = λ rest. record {
-    only = λ x y bs r. (k.reads rest).only x y bs ((left_alike rest ls 0 h (ended_length ls h)).0 none x y bs r);
-    each = λ x y bs a. (left_alike rest ls 0 h (ended_length ls h)).1 none x y bs ((k.reads rest).each x y bs a);
+    only = λ x y bs r. (k.reads rest).only x y bs ((left_alike rest ls 0 h (ended_some ls h)).0 none x y bs r);
+    each = λ x y bs a. (left_alike rest ls 0 h (ended_some ls h)).1 none x y bs ((k.reads rest).each x y bs a);
   };
-  openly = λ rest. left_openly rest ls 0 h (ended_length ls h) (k.openly rest);
+  openly = λ rest. left_openly rest ls 0 h (ended_some ls h) (k.openly rest);
   turns = λ rest. (λ e. absurd (false≢true e), left_turns rest ls h (k.turns rest));
   apart = left_apart ls k.apart;
 }
@@ -156,7 +152,7 @@ left_ended (l ∷ m ∷ ls) h =
 pub framed_ended : (es : List Emitted) (n : ℕ) → IsEnded (leads_of es) → IsEnded (leads_of (Allocate n ∷ leaving es))
 framed_ended es n h =
     let k = left_ended (leads_of es) h in
-    subst (λ ls. IsEnded ((frame, 0) ∷ ls)) (sym (leads_left es)) (ended_more (frame, 0) (left_leads (leads_of es)) refl (ended_length (left_leads (leads_of es)) k) k)
+    subst (λ ls. IsEnded ((frame, 0) ∷ ls)) (sym (leads_left es)) (ended_more (frame, 0) (left_leads (leads_of es)) refl (ended_some (left_leads (leads_of es)) k) k)
 
 -- ---- the numbers of a group's goals
 

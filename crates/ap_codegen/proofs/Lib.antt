@@ -21,6 +21,7 @@ pub mod Instructions
 pub mod LeadRanges
 pub mod LeadWalks
 pub mod LeadAlone
+pub mod LocatedLeads
 pub mod RelocatedReads
 pub mod RelocatedPaces
 pub mod RelocatedOpen

@@ -1,4 +1,4 @@
-use Rattle.std.proofs.Common.{◌≡◌, true, false, map, ap, sym, ◌∙◌, subst}
+use Rattle.std.proofs.Common.{◌≡◌, true, false, ap, sym, ◌∙◌, subst}
 use Rattle.ap_codegen.specs.Emitted.{steps_of}
 use Rattle.ap_codegen.specs.CodeOf.{IsCodeOf}
 use Rattle.ap_codegen.specs.Paces.{Paces}

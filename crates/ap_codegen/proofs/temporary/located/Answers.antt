@@ -1,4 +1,4 @@
-use Rattle.std.proofs.Common.{◌≡◌, ◌∷◌, inl, inr, sym, subst}
+use Rattle.std.proofs.Common.{inl, inr, sym, subst}
 use Rattle.ap_codegen.specs.Emitted.{steps_of, leads_of}
 use Rattle.ap_codegen.specs.CodeOf.{IsCodeOf}
 use Rattle.ap_codegen.specs.Grouped.{IsGroupedCode}
