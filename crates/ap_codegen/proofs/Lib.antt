@@ -28,3 +28,4 @@ pub mod RelocatedOpen
 pub mod RelocatedCode
 pub mod RelocatedLeads
 pub mod Turns
+pub mod GroupReads

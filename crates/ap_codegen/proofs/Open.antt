@@ -151,7 +151,7 @@ quiet_gets (more t ts) a seen m = quiet_both (get t a seen m) (gets ts (a + 1) (
 body_is_open : (gs : Trees) (seen : List ℕ) (rest : List Step) → all_callable gs ≡ true → IsOpen (body_code gs seen ++ rest)
 body_is_open gs seen rest c x y = (instance_all y gs, body-each y gs seen rest x y c (λ w o. refl))
 
-behind : (b : Bool) (p n : ℕ) (is : List Step) → IsOpen is → AsksOpenly is → AsksOpenly ((if b then builtin p n else call p n) ∷ is)
+pub behind : (b : Bool) (p n : ℕ) (is : List Step) → IsOpen is → AsksOpenly is → AsksOpenly ((if b then builtin p n else call p n) ∷ is)
 behind true p n is o a = (o, a)
 behind false p n is o a = (o, a)
 
@@ -182,7 +182,7 @@ not_zero n = go (n + 1 == 0) refl
     go true e = absurd (let k : n + 1 ≡ 0 = (Decides-eqb (n + 1) 0).0 e in omega arith)
     go false e = refl
 
-key_apart : (g : Tree) → callable g ≡ true → is_builtin g ≡ false → is_builtin_key (name g, count_trees (arguments g)) ≡ false
+pub key_apart : (g : Tree) → callable g ≡ true → is_builtin g ≡ false → is_builtin_key (name g, count_trees (arguments g)) ≡ false
 key_apart (var x) c e = absurd (false≢true c)
 key_apart (int z) c e = absurd (false≢true c)
 key_apart (atom a) c e = both ((a == TRUE) || (a == FAIL)) (is_some (relation_named a)) e
@@ -205,7 +205,7 @@ key_apart (node a (more t ts)) c e =
     go false false k q = refl
 
 -- a goal that is called is none that an instruction runs
-last_apart : (g : Tree) (gs : Trees) → callable g ≡ true → is_last_call g gs ≡ true → calls_apart (execute (name g) (count_trees (arguments g))) ≡ true
+pub last_apart : (g : Tree) (gs : Trees) → callable g ≡ true → is_last_call g gs ≡ true → calls_apart (execute (name g) (count_trees (arguments g))) ≡ true
 last_apart g none c e = ap not (key_apart g c (go (is_builtin g) e))
   where
     go : (b : Bool) → not b ≡ true → b ≡ false
@@ -213,7 +213,7 @@ last_apart g none c e = ap not (key_apart g c (go (is_builtin g) e))
     go false d = refl
 last_apart g (more t ts) c e = absurd (false≢true e)
 
-asking_apart : (g : Tree) (b : Bool) → callable g ≡ true → is_builtin g ≡ b → calls_apart (if b then builtin (name g) (count_trees (arguments g)) else call (name g) (count_trees (arguments g))) ≡ true
+pub asking_apart : (g : Tree) (b : Bool) → callable g ≡ true → is_builtin g ≡ b → calls_apart (if b then builtin (name g) (count_trees (arguments g)) else call (name g) (count_trees (arguments g))) ≡ true
 asking_apart g true c e = refl
 asking_apart g false c e = ap not (key_apart g c e)
 

@@ -96,7 +96,7 @@ count-instance f none = refl
 count-instance f (more t ts) = ap (λ n. n + 1) (count-instance f ts)
 
 -- code in two parts
-reassoc : (a b c : List Step) (ts : Trees) (x y : ℕ → Tree) (bs : Trees) → Runs ((a ++ b) ++ c) ts x y bs → Runs (a ++ (b ++ c)) ts x y bs
+pub reassoc : (a b c : List Step) (ts : Trees) (x y : ℕ → Tree) (bs : Trees) → Runs ((a ++ b) ++ c) ts x y bs → Runs (a ++ (b ++ c)) ts x y bs
 reassoc a b c ts x y bs r = subst (λ q. Runs q ts x y bs) (append_assoc a b c) r
 
 reassoc_back : (a b c : List Step) (ts : Trees) (x y : ℕ → Tree) (bs : Trees) → Runs (a ++ (b ++ c)) ts x y bs → Runs ((a ++ b) ++ c) ts x y bs
@@ -104,7 +104,7 @@ reassoc_back a b c ts x y bs r = subst (λ q. Runs q ts x y bs) (sym (append_ass
 
 -- ---- variables that were seen
 
-abbrev AgreeOn : List ℕ → (ℕ → Tree) → (ℕ → Tree) → Type 0
+abbrev pub AgreeOn : List ℕ → (ℕ → Tree) → (ℕ → Tree) → Type 0
 AgreeOn seen y h = (v : ℕ) → has seen v ≡ true → y v ≡ h v
 
 pub has-push : (xs : List ℕ) (v w : ℕ) → has (xs ++ v ∷ []) w ≡ true → (has xs w ≡ true) ⊎ (v ≡ w)
@@ -116,10 +116,10 @@ has-push (x ∷ xs) v w h =
     ]
 
 -- a variable that was not seen may be set
-set_agrees : (seen : List ℕ) (y : ℕ → Tree) (v : ℕ) (t : Tree) → has seen v ≡ false → AgreeOn seen y (set y v t)
+pub set_agrees : (seen : List ℕ) (y : ℕ → Tree) (v : ℕ) (t : Tree) → has seen v ≡ false → AgreeOn seen y (set y v t)
 set_agrees seen y v t e w o = sym (set_but y v w t (λ q. false≢true (sym e ∙ ap (has seen) (sym q) ∙ o)))
 
-push_agrees : (seen : List ℕ) (y h : ℕ → Tree) (v : ℕ) → AgreeOn seen y h → AgreeOn (seen ++ v ∷ []) (set y v (h v)) h
+pub push_agrees : (seen : List ℕ) (y h : ℕ → Tree) (v : ℕ) → AgreeOn seen y h → AgreeOn (seen ++ v ∷ []) (set y v (h v)) h
 push_agrees seen y h v a w o = go (w == v) refl
   where
     go : (b : Bool) → (w == v) ≡ b → (if b then h v else y w) ≡ h w
@@ -133,10 +133,10 @@ pub grows : (t : Tree) (seen : List ℕ) (v : ℕ) → has seen v ≡ true → h
 grows t seen v h = has-add_vars v t seen (or_left (has seen v) (occurs v t) h)
 
 -- maps that agree on what was seen of a tree make the same of it
-seen_same : (t : Tree) (seen : List ℕ) (y h : ℕ → Tree) → AgreeOn (add_vars t seen) y h → instance y t ≡ instance h t
+pub seen_same : (t : Tree) (seen : List ℕ) (y h : ℕ → Tree) → AgreeOn (add_vars t seen) y h → instance y t ≡ instance h t
 seen_same t seen y h a = instance_agree y h t (λ v o. a v (has-add_vars v t seen (or_right (has seen v) (occurs v t) o)))
 
-seen_same_all : (ts : Trees) (seen : List ℕ) (y h : ℕ → Tree) → AgreeOn (add_all_vars ts seen) y h → instance_all y ts ≡ instance_all h ts
+pub seen_same_all : (ts : Trees) (seen : List ℕ) (y h : ℕ → Tree) → AgreeOn (add_all_vars ts seen) y h → instance_all y ts ≡ instance_all h ts
 seen_same_all ts seen y h a = instance_all_agree y h ts (λ v o. a v (has-add_all_vars v ts seen (or_right (has seen v) (occurs_all v ts) o)))
 
 -- ---- what is seen in the order in which terms are built
@@ -470,24 +470,24 @@ goal_of f (atom a) i = refl
 goal_of f (node a none) i = absurd (false≢true i)
 goal_of f (node a (more t ts)) i = refl
 
-goal-only : (g : Tree) (seen : List ℕ) (rest : List Step) (x y : ℕ → Tree) (bs : Trees) → callable g ≡ true → Runs (goal_code g seen ++ rest) none x y bs
+pub goal-only : (g : Tree) (seen : List ℕ) (rest : List Step) (x y : ℕ → Tree) (bs : Trees) → callable g ≡ true → Runs (goal_code g seen ++ rest) none x y bs
     → (x' : ℕ → Tree) × (y' : ℕ → Tree) × AgreeOn seen y y' × (applied (name g) (spread x' 1 (count_trees (arguments g))) ≡ instance y' g) × Runs rest none x' y' bs
 goal-only g seen rest x y bs i r =
     let p = puts-only bs (arguments g) 1 seen (count_trees (arguments g) + 1) rest x y (omega arith) r in
     (p.0, p.1, p.3, ap (applied (name g)) (p.4 p.1 (λ w o. refl)) ∙ goal_of p.1 g i, p.5)
 
-goal-each : (h : ℕ → Tree) (g : Tree) (seen : List ℕ) (rest : List Step) (x y : ℕ → Tree) (bs : Trees) → callable g ≡ true → AgreeOn seen y h
+pub goal-each : (h : ℕ → Tree) (g : Tree) (seen : List ℕ) (rest : List Step) (x y : ℕ → Tree) (bs : Trees) → callable g ≡ true → AgreeOn seen y h
     → ((x' y' : ℕ → Tree) → AgreeOn (add_vars g seen) y' h → applied (name g) (spread x' 1 (count_trees (arguments g))) ≡ instance h g → Runs rest none x' y' bs) → Runs (goal_code g seen ++ rest) none x y bs
 goal-each h g seen rest x y bs i a r =
     puts-each bs h (arguments g) 1 seen (count_trees (arguments g) + 1) rest x y (let l : 1 + count_trees (arguments g) ≤ count_trees (arguments g) + 1 = omega arith in l) a (λ x' y' s e g'.
     r x' y' (λ w o. g' w (goal_sees g seen w i o)) (ap (applied (name g)) e ∙ goal_of h g i))
 
-asks-only : (c : Bool) (p n : ℕ) (rest : List Step) (x y : ℕ → Tree) (bs : Trees) → Runs ((if c then builtin p n else call p n) ∷ rest) none x y bs
+pub asks-only : (c : Bool) (p n : ℕ) (rest : List Step) (x y : ℕ → Tree) (bs : Trees) → Runs ((if c then builtin p n else call p n) ∷ rest) none x y bs
     → (cs : Trees) × (x' : ℕ → Tree) × (bs ≡ more (applied p (spread x 1 n)) cs) × Runs rest none x' y cs
 asks-only true p n rest x y bs r = (r.0, x, r.1, r.2)
 asks-only false p n rest x y bs r = (r.0, lost, r.1, r.2)
 
-asks-each : (c : Bool) (p n : ℕ) (rest : List Step) (x y : ℕ → Tree) (bs cs : Trees) → bs ≡ more (applied p (spread x 1 n)) cs → ((x' : ℕ → Tree) → Runs rest none x' y cs)
+pub asks-each : (c : Bool) (p n : ℕ) (rest : List Step) (x y : ℕ → Tree) (bs cs : Trees) → bs ≡ more (applied p (spread x 1 n)) cs → ((x' : ℕ → Tree) → Runs rest none x' y cs)
     → Runs ((if c then builtin p n else call p n) ∷ rest) none x y bs
 asks-each true p n rest x y bs cs e r = (cs, e, r x)
 asks-each false p n rest x y bs cs e r = (cs, e, r lost)
@@ -669,7 +669,7 @@ module _ (bs : Trees) where
           n.5,
         )
 
-  gets-only : (ts : Trees) (a : ℕ) (seen : List ℕ) (m : ℕ) (rest : List Step) (x y : ℕ → Tree) → a + count_trees ts ≤ m → Runs (gets ts a seen m ++ rest) none x y bs
+  pub gets-only : (ts : Trees) (a : ℕ) (seen : List ℕ) (m : ℕ) (rest : List Step) (x y : ℕ → Tree) → a + count_trees ts ≤ m → Runs (gets ts a seen m ++ rest) none x y bs
       → (x' : ℕ → Tree) × (y' : ℕ → Tree) × Same m x x' × AgreeOn seen y y' × (spread x a (count_trees ts) ≡ instance_all y' ts) × Runs rest none x' y' bs
   gets-only none a seen m rest x y l r = (x, y, λ w i. refl, λ w o. refl, refl, r)
   gets-only (more t ts) a seen m rest x y l r =
@@ -725,7 +725,7 @@ module _ (bs : Trees) where
           opens-each ts seen1 m rest x1 y1 a1 (Taken-same ts m x x1 h (λ w i. s1 w i) t.1) (λ x' y' s a.
           r x' y' (λ w i. s w i ∙ s1 w (omega arith)) a)))
 
-    gets-each : (ts : Trees) (a : ℕ) (seen : List ℕ) (m : ℕ) (rest : List Step) (x y : ℕ → Tree) → a + count_trees ts ≤ m → AgreeOn seen y h → spread x a (count_trees ts) ≡ instance_all h ts
+    pub gets-each : (ts : Trees) (a : ℕ) (seen : List ℕ) (m : ℕ) (rest : List Step) (x y : ℕ → Tree) → a + count_trees ts ≤ m → AgreeOn seen y h → spread x a (count_trees ts) ≡ instance_all h ts
         → ((x' y' : ℕ → Tree) → AgreeOn (add_all_vars ts seen) y' h → Runs rest none x' y' bs) → Runs (gets ts a seen m ++ rest) none x y bs
     gets-each none a seen m rest x y l ag e r = r x y ag
     gets-each (more t ts) a seen m rest x y l ag e r =
