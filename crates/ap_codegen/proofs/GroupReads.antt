@@ -1,6 +1,6 @@
 -- What the pieces of a body's code ask for before what stands behind them: goals, called or pushed, variables that are
 -- made, and the checks and goals of a group.
-use Rattle.std.proofs.Common.{◌≡◌, ℕ, ◌+◌, Bool, true, false, ◌&&◌, if◌then◌else◌, List, [], ◌∷◌, ◌++◌, map, refl, ap, sym, ◌∙◌, subst, append_assoc}
+use Rattle.std.proofs.Common.{◌≡◌, ℕ, Bool, true, false, if◌then◌else◌, List, [], ◌∷◌, ◌++◌, map, refl, ap, sym, ◌∙◌, subst, append_assoc}
 use Rattle.ap_term.specs.declared.clauses.Check.{Check}
 use Rattle.ap_term.specs.declared.clauses.Check.TheVariants.{Ground, Indep}
 use Rattle.ap_term.specs.Tree.{Tree, Trees, var, none, more, count_trees, append_trees}
@@ -9,7 +9,7 @@ use Rattle.ap_term.specs.Substitution.{instance, instance_all}
 use Rattle.ap_term.specs.WellFormed.{callable, all_callable}
 use Rattle.ap_tracked.specs.Marks.{ground_mark, apart_mark, group_mark, check_marks}
 use Rattle.ap_instr.specs.declared.instruction.Slot.TheVariants.{Y}
-use Rattle.ap_instr.specs.Step.{Step, put_variable, execute, builtin, proceed, jump, group, push, wait}
+use Rattle.ap_instr.specs.Step.{Step, put_variable, execute, proceed, jump, group, push, wait}
 use Rattle.ap_instr.specs.Runs.{Runs, IsOpen, AsksOpenly, applied, spread, set, lost, arguments}
 use Rattle.ap_codegen.specs.Permanent.{name, is_builtin, goal_code, asking}
 use Rattle.ap_codegen.specs.Grouped.{see_check, see_checks, make, make_check, make_checks, pushes, side_by_side, in_turn, check_step}

@@ -29,3 +29,5 @@ pub mod RelocatedCode
 pub mod RelocatedLeads
 pub mod Turns
 pub mod GroupReads
+pub mod PartReads
+pub mod PartTurns
