@@ -31,3 +31,4 @@ pub mod Turns
 pub mod GroupReads
 pub mod PartReads
 pub mod PartTurns
+pub mod PartLeads

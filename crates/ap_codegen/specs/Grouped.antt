@@ -1,6 +1,6 @@
 -- The code of clauses with groups, whose steps pass over others: a group's checks, then its goals side by side, and then,
 -- where it has checks, the goals one after another for when one doesn't hold.
-use Rattle.std.specs.Prelude.{◌≡◌, ℕ, zero, suc, ◌+◌, ◌≤◌, Bool, true, false, if◌then◌else◌, List, [], ◌∷◌, ◌++◌, map, length}
+use Rattle.std.specs.Prelude.{◌≡◌, ℕ, zero, suc, ◌+◌, ◌≤◌, Bool, true, false, not, ◌&&◌, ◌==◌, if◌then◌else◌, List, [], ◌∷◌, ◌++◌, map, length}
 use Rattle.std.specs.List.{list_all}
 use Rattle.ap_term.specs.declared.clauses.Check.{Check}
 use Rattle.ap_term.specs.declared.clauses.Check.TheVariants.{Ground, Indep}
@@ -12,7 +12,9 @@ use Rattle.ap_instr.specs.declared.instruction.Slot.TheVariants.{Y}
 use Rattle.ap_instr.specs.Step.{Step, put_variable, execute, proceed, jump, check_ground, check_indep, group, push, wait}
 use Rattle.ap_instr.specs.Runs.{Runs, Reads, AsksOpenly, arguments}
 use Rattle.ap_codegen.specs.CodeOf.{calls_apart}
-use Rattle.ap_codegen.specs.Emitted.{Lead}
+use Rattle.ap_codegen.specs.declared.steps.Step.{Step as Emitted}
+use Rattle.ap_codegen.specs.Emitted.{Lead, leads_of}
+use Rattle.ap_codegen.specs.Said.{AreNumbered}
 use Rattle.ap_codegen.specs.Temporary.{ends}
 use Rattle.ap_codegen.specs.Permanent.{name, is_builtin, goal_code, asking, gets}
 
@@ -128,6 +130,30 @@ body_leads (goal g ∷ ps) seen =
     else straight (goal_code g seen ++ asking g ∷ []) ++ body_leads ps (add_vars g seen)
 body_leads (parallel cs gs ∷ ps) seen = group_leads cs gs seen ++ body_leads ps (add_all_vars gs (see_checks cs seen))
 
+-- a part with others behind it, or that is no call
+abbrev pub part_leads : Part → List ℕ → List Lead
+part_leads (goal g) seen = straight (goal_code g seen ++ asking g ∷ [])
+part_leads (parallel cs gs) seen = group_leads cs gs seen
+
+abbrev pub see_part : Part → List ℕ → List ℕ
+see_part (goal g) seen = add_vars g seen
+see_part (parallel cs gs) seen = add_all_vars gs (see_checks cs seen)
+
+-- whether a part is a call with so many parts behind it, and these are none
+abbrev pub ends_body : Part → ℕ → Bool
+ends_body (goal g) n = (n == 0) && not (is_builtin g)
+ends_body (parallel cs gs) n = false
+
 -- the code of a clause but for its environment
 abbrev pub clause_leads : Clause → List Lead
 clause_leads c = straight (gets (arguments c.head) 1 [] (count_trees (arguments c.head) + 1)) ++ body_leads c.body (add_all_vars (arguments c.head) [])
+
+-- ---- steps that are written
+
+-- behind these steps so many goals of a group were pushed, where so many were before
+abbrev pub Numbers : ℕ → ℕ → List Emitted → Type 0
+Numbers k n es = (rest : List Emitted) → AreNumbered n rest → AreNumbered k (es ++ rest)
+
+-- the steps have these leads, and the goals of their groups are numbered
+abbrev pub IsWritten : List Emitted → List Lead → Type 0
+IsWritten es ls = (leads_of es ≡ ls) × ((k : ℕ) → AreNumbered k es)

@@ -11,9 +11,10 @@ ghost use Rattle.ap_codegen.specs.CodeOf.{IsCodeOf};
 ghost use Rattle.ap_codegen.specs.Sequential.{sequential};
 ghost use Rattle.ap_codegen.specs.Paces.{Paces, inside};
 ghost use Rattle.ap_codegen.specs.Emitted.{steps_of};
-ghost use Rattle.ap_codegen.specs.Permanent.{name, is_builtin, goal_code, asking, body_code, gets};
+ghost use Rattle.ap_codegen.specs.Permanent.{name, is_builtin, goal_code, body_code, gets};
 
 use crate::builtin_goals::builtin_of;
+use crate::groups::ask;
 use crate::permanent::{above, gets, goal};
 use crate::steps::{Step, add};
 use ap_term::{Body, Clause, NoMemory, Part, Term};
@@ -40,18 +41,6 @@ fn goals_of<'a>(alloc: Global, body: &'a Body) -> Result<Vec<&'a Term>, NoMemory
         }
     }
     Ok(goals)
-}
-
-/// A goal with others behind it, or a built-in one.
-fn ask(alloc: Global, code: &mut Vec<Step>, t: &Term, seen: &mut Vec<u64>) -> Result<(), NoMemory>
-    ensures code { OnOk result (steps_of code.new.items ≡ steps_of code.old.items ++ (goal_code (tree_of t.now) seen.old.items ++ asking (tree_of t.now) ∷ [])) }
-    ensures seen { OnOk result (seen.new.items ≡ add_vars (tree_of t.now) seen.old.items) }
-{
-    let (p, n) = goal(alloc, code, t, seen)?;
-    match builtin_of(t) {
-        Some(builtin) => add(code, Step::Builtin(builtin)),
-        None => add(code, Step::Call(p, n)),
-    }
 }
 
 /// The last goal, a call.
