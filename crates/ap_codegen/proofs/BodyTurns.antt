@@ -154,7 +154,7 @@ module _ {R : Type 0} (now : R → Term) where
 
 -- ---- the whole clause
 
-goals_numbered : (n : ℕ) (ps : List Part) → list_all (well_formed_part n) ps ≡ true → numbered_all n (plain_goals ps) ≡ true
+pub goals_numbered : (n : ℕ) (ps : List Part) → list_all (well_formed_part n) ps ≡ true → numbered_all n (plain_goals ps) ≡ true
 goals_numbered n [] h = refl
 goals_numbered n (call t ∷ ps) h =
     let b = both_true (well_formed_part n (call t)) (list_all (well_formed_part n) ps) h in
@@ -175,7 +175,7 @@ goals_numbered n (group cs ts ∷ ps) h =
 
 module _ (c : Clause) (k0 k1 k2 : List Step) (s0 s1 : List ℕ) (goals : Trees) (h : Tree) (d0 : k0 ≡ []) (e0 : s0 ≡ []) (f : h ≡ c.head)
     (d1 : k1 ≡ k0 ++ gets (arguments h) 1 s0 (count_trees (arguments h) + 1)) (e1 : s1 ≡ add_all_vars (arguments h) s0) (g : goals ≡ plain_goals c.body) (d2 : k2 ≡ k1 ++ body_code goals s1) where
-  whole : k2 ≡ clause_code c.head (plain_goals c.body)
+  pub whole : k2 ≡ clause_code c.head (plain_goals c.body)
   whole =
       let z : [] ++ gets (arguments c.head) 1 [] (count_trees (arguments c.head) + 1) ≡ gets (arguments c.head) 1 [] (count_trees (arguments c.head) + 1) = refl in
       cc

@@ -32,3 +32,4 @@ pub mod GroupReads
 pub mod PartReads
 pub mod PartTurns
 pub mod PartLeads
+pub mod WholeLeads

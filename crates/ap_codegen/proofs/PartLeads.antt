@@ -1,5 +1,5 @@
 -- What code that is written piece by piece leads to, and that the goals of its groups are numbered.
-use Rattle.std.proofs.Common.{◌≡◌, ℕ, zero, suc, ◌+◌, ◌==◌, Bool, true, false, ◌&&◌, if◌then◌else◌, List, [], ◌∷◌, ◌++◌, map, length, refl, ap, sym, ◌∙◌, subst, arith, append_assoc}
+use Rattle.std.proofs.Common.{◌≡◌, ℕ, suc, ◌+◌, ◌==◌, Bool, true, false, ◌&&◌, if◌then◌else◌, List, [], ◌∷◌, ◌++◌, length, refl, ap, sym, ◌∙◌, subst, arith, append_assoc}
 use Rattle.std.proofs.lemmas.List.{append-nil}
 use Rattle.std.specs.List.{list_all}
 use Rattle.std.proofs.lemmas.Bool.{false≢true}
@@ -8,7 +8,7 @@ use Rattle.std.proofs.lemmas.List.Folds.{list_all-append}
 use Rattle.ap_term.specs.declared.clauses.Check.{Check}
 use Rattle.ap_term.specs.declared.clauses.Check.TheVariants.{Ground, Indep}
 use Rattle.ap_term.specs.Tree.{Tree, Trees, none, more, count_trees}
-use Rattle.ap_term.specs.Vars.{has, add_vars, add_all_vars}
+use Rattle.ap_term.specs.Vars.{has, add_vars}
 use Rattle.ap_instr.specs.declared.instruction.Slot.TheVariants.{Y}
 use Rattle.ap_instr.specs.Step.{Step, put_variable, call, execute, builtin, proceed, jump, check_ground, check_indep, group, push, wait}
 use Rattle.ap_instr.specs.Runs.{arguments}
@@ -18,7 +18,6 @@ use Rattle.ap_codegen.specs.Emitted.{Lead, step_of, steps_of, lead_of, leads_of}
 use Rattle.ap_codegen.specs.Said.{AreNumbered}
 use Rattle.ap_codegen.specs.Permanent.{name, is_builtin, goal_code, asking}
 use Rattle.ap_codegen.specs.Grouped.{straight, make, make_check, make_checks, see_check, see_checks, pushes, side_by_side, in_turn, check_leads, ways, group_leads, Numbers, IsWritten}
-use Rattle.ap_codegen.proofs.Registers.{both_true}
 use Rattle.ap_codegen.proofs.Open.{Quiet, quiet_goal}
 
 -- whether a step leads to the next one alone and is none of a group's goals

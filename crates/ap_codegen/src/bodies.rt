@@ -1,20 +1,23 @@
 //! The code of a clause whose variables stand in its environment.
 
-ghost use Rattle.std.specs.Prelude.{◌≡◌, ◌+◌, ◌==◌, ◌&&◌, not, [], ◌∷◌, ◌++◌, map, IfOk, OnOk};
+ghost use Rattle.std.specs.Prelude.{◌≡◌, ◌+◌, ◌==◌, ◌&&◌, not, true, false, [], ◌∷◌, ◌++◌, map, IfOk, OnOk, MatchOption};
 ghost use Rattle.ap_term.specs.Tree.{count_trees, append_trees};
 ghost use Rattle.ap_term.specs.TermView.{tree_of, trees_of};
 ghost use Rattle.ap_term.specs.Vars.{add_vars, add_all_vars};
-ghost use Rattle.ap_term.specs.Goals.{plain_goals};
+ghost use Rattle.ap_term.specs.GoalView.{part_of};
+ghost use Rattle.ap_term.specs.Goals.{call, plain_goals};
 ghost use Rattle.ap_instr.specs.Step.{execute};
 ghost use Rattle.ap_instr.specs.Runs.{arguments};
 ghost use Rattle.ap_codegen.specs.CodeOf.{IsCodeOf};
 ghost use Rattle.ap_codegen.specs.Sequential.{sequential};
 ghost use Rattle.ap_codegen.specs.Paces.{Paces, inside};
-ghost use Rattle.ap_codegen.specs.Emitted.{steps_of};
+ghost use Rattle.ap_codegen.specs.Emitted.{steps_of, leads_of};
+ghost use Rattle.ap_codegen.specs.Said.{AreNumbered};
+ghost use Rattle.ap_codegen.specs.Grouped.{IsGroupedCode, IsWritten, part_leads, see_part, ends_body, body_leads, clause_leads};
 ghost use Rattle.ap_codegen.specs.Permanent.{name, is_builtin, goal_code, body_code, gets};
 
 use crate::builtin_goals::builtin_of;
-use crate::groups::ask;
+use crate::groups::{ask, group};
 use crate::permanent::{above, gets, goal};
 use crate::steps::{Step, add};
 use ap_term::{Body, Clause, NoMemory, Part, Term};
@@ -62,6 +65,61 @@ fn is_last_call(t: &Term, left: usize) -> bool
     left == 0 && builtin_of(t).is_none()
 }
 
+/// The call that a body ends in, where a part with so many behind it is one.
+fn last_call(part: &Part, left: usize) -> Option<&Term>
+    ensures { MatchOption result (ends_body (part_of part.now) left ≡ false) (λ t. (ends_body (part_of part.now) left ≡ true) × (part_of part.now ≡ call (tree_of t.now))) }
+{
+    match part {
+        Part::Call(t) => {
+            if is_last_call(t, left) {
+                return Some(t);
+            }
+            None
+        }
+        Part::Group {
+            checks: _,
+            calls: _,
+        } => None,
+    }
+}
+
+/// A part with others behind it, or one that is no call.
+fn part_steps(alloc: Global, part: &Part, seen: &mut Vec<u64>) -> Result<Vec<Step>, NoMemory>
+    ensures written { IfOk result (λ code. IsWritten code.items (part_leads (part_of part.now) seen.old.items)) }
+    ensures seen { IfOk result (λ _. seen.new.items ≡ see_part (part_of part.now) seen.old.items) }
+{
+    match part {
+        Part::Call(t) => {
+            let mut code = Vec::new(alloc);
+            ask(alloc, &mut code, t, seen)?;
+            Ok(code)
+        }
+        Part::Group { checks, calls } => group(alloc, checks.as_slice(), calls, seen),
+    }
+}
+
+/// The parts of a body, one after another.
+fn parts(alloc: Global, body: &Body, seen: &mut Vec<u64>) -> Result<Vec<Step>, NoMemory>
+    ensures { IfOk result (λ code. IsWritten code.items (body_leads body.now seen.old.items)) }
+{
+    let mut code = Vec::new(alloc);
+    let parts = body.as_slice();
+    let mut left = parts.len();
+    for part in parts {
+        left -= 1;
+        if let Some(t) = last_call(part, left) {
+            let mut last = Vec::new(alloc);
+            ask_last(alloc, &mut last, t, seen)?;
+            code.append(&mut last)?;
+            return Ok(code);
+        }
+        let mut more = part_steps(alloc, part, seen)?;
+        code.append(&mut more)?;
+    }
+    code.push(Step::Proceed)?;
+    Ok(code)
+}
+
 /// The goals of a body, one after another.
 fn body(
     alloc: Global,
@@ -99,11 +157,27 @@ fn head(alloc: Global, code: &mut Vec<Step>, t: &Term, seen: &mut Vec<u64>) -> R
 pub fn permanent_code(alloc: Global, clause: &Clause) -> Result<Vec<Step>, NoMemory>
     ensures code { IfOk result (λ code. IsCodeOf (sequential clause.now) (steps_of code.items)) }
     ensures paced { IfOk result (λ code. Paces (steps_of code.items) (inside clause.now.vars (count_trees (arguments clause.now.head)))) }
+    ensures written { IfOk result (λ code. IsWritten code.items (clause_leads (sequential clause.now))) }
+    ensures grouped { IfOk result (λ code. IsGroupedCode (sequential clause.now) (leads_of code.items)) }
 {
     let goals = goals_of(alloc, clause.body())?;
     let mut code = Vec::new(alloc);
     let mut seen = Vec::new(alloc);
     head(alloc, &mut code, clause.head(), &mut seen)?;
     body(alloc, &mut code, goals.as_slice(), &mut seen)?;
+    Ok(code)
+}
+
+/// The code of a clause with its groups, but for its environment.
+pub fn grouped_code(alloc: Global, clause: &Clause) -> Result<Vec<Step>, NoMemory>
+    ensures leads { IfOk result (λ code. leads_of code.items ≡ clause_leads clause.now) }
+    ensures code { IfOk result (λ code. IsGroupedCode clause.now (leads_of code.items)) }
+    ensures numbered { IfOk result (λ code. AreNumbered 0 code.items) }
+{
+    let mut code = Vec::new(alloc);
+    let mut seen = Vec::new(alloc);
+    head(alloc, &mut code, clause.head(), &mut seen)?;
+    let mut rest = parts(alloc, clause.body(), &mut seen)?;
+    code.append(&mut rest)?;
     Ok(code)
 }

@@ -54,11 +54,7 @@ fn make_check(code: &mut Vec<Step>, check: Check, seen: &mut Vec<u64>) -> Result
     }
 }
 
-fn make_checks(
-    alloc: Global,
-    tests: &[Check],
-    seen: &mut Vec<u64>,
-) -> Result<Vec<Step>, NoMemory>
+fn make_checks(alloc: Global, tests: &[Check], seen: &mut Vec<u64>) -> Result<Vec<Step>, NoMemory>
     ensures code { IfOk result (λ code. steps_of code.items ≡ make_checks tests.now seen.old.items) }
     ensures seen { IfOk result (λ _. seen.new.items ≡ see_checks tests.now seen.old.items) }
 {

@@ -1,4 +1,4 @@
-use Rattle.std.proofs.Common.{◌≡◌, ◌++◌, ap, ◌∙◌}
+use Rattle.std.proofs.Common.{◌++◌, ap, ◌∙◌}
 use Rattle.ap_term.specs.Tree.{count_trees}
 use Rattle.ap_term.specs.TermView.{tree_of}
 use Rattle.ap_instr.specs.Step.{push}

@@ -1,0 +1,161 @@
+-- The code of a whole clause leads as the clause's leads say, with its groups or with them one after another.
+use Rattle.std.proofs.Common.{◌≡◌, ℕ, suc, ◌+◌, ◌-◌, ◌<◌, ◌≤◌, ◌==◌, Bool, true, false, ◌&&◌, not, if◌then◌else◌, List, [], ◌∷◌, ◌++◌, map, length, drop, get_or, refl, ap, sym, ◌∙◌, subst, arith, append_assoc}
+use Rattle.std.specs.List.{list_all}
+use Rattle.std.proofs.lemmas.Bool.Decides.{Decides-eqb}
+use Rattle.std.proofs.lemmas.List.{drop_more, drop_all, length-drop}
+use Rattle.ap_term.specs.declared.clauses.Part.{Part as Held}
+use Rattle.ap_term.specs.Tree.{Tree, Trees, none, more, count_trees}
+use Rattle.ap_term.specs.Vars.{add_vars, add_all_vars}
+use Rattle.ap_term.specs.GoalView.{part_of}
+use Rattle.ap_term.specs.Goals.{Part, call as goal, group as parallel, calls, Clause, plain_goals}
+use Rattle.ap_term.specs.WellFormed.{callable, all_callable, numbered, numbered_all, well_formed_part, IsClause}
+use Rattle.ap_instr.specs.Step.{Step, execute, proceed}
+use Rattle.ap_instr.specs.Runs.{arguments}
+use Rattle.ap_codegen.specs.declared.steps.Step.{Step as Emitted}
+use Rattle.ap_codegen.specs.declared.steps.Step.TheVariants.{Proceed}
+use Rattle.ap_codegen.specs.Emitted.{Lead, steps_of, leads_of}
+use Rattle.ap_codegen.specs.Sequential.{sequential}
+use Rattle.ap_codegen.specs.Permanent.{name, is_builtin, goal_code, asking, is_last_call, body_code, gets, clause_code}
+use Rattle.ap_codegen.specs.Grouped.{straight, IsGroupedCode, is_last_part, part_leads, see_part, ends_body, body_leads, clause_leads, IsWritten}
+use Rattle.ap_codegen.proofs.Registers.{both_true}
+use Rattle.ap_codegen.proofs.Open.{quiet_gets}
+use Rattle.ap_codegen.proofs.BodyTurns.{goals_callable, goals_numbered}
+use Rattle.ap_codegen.proofs.PartTurns.{clause_grouped}
+use Rattle.ap_codegen.proofs.PartLeads.{Simple, simple_both, quiet_simple, goal_simple, asked_simple, straight_both, simple_written, both_written}
+
+-- ---- a body's parts in turn
+
+count_parts : (ps : List Held) → length (map part_of ps) ≡ length ps
+count_parts [] = refl
+count_parts (p ∷ ps) = ap suc (count_parts ps)
+
+last_part_is : (g : Tree) (ps : List Part) → is_last_part g ps ≡ ends_body (goal g) (length ps)
+last_part_is g [] = go (is_builtin g)
+  where
+    go : (b : Bool) → (if b then false else true) ≡ not b
+    go true = refl
+    go false = refl
+last_part_is g (p ∷ ps) = go (length (p ∷ ps) == 0) refl
+  where
+    go : (b : Bool) → (length (p ∷ ps) == 0) ≡ b → false ≡ (b && not (is_builtin g))
+    go true d = absurd (let k : length (p ∷ ps) ≡ 0 = (Decides-eqb (length (p ∷ ps)) 0).0 d in omega arith)
+    go false d = refl
+
+-- a part that isn't a last call
+next_part : (p : Part) (ps : List Part) (seen : List ℕ) → ends_body p (length ps) ≡ false → body_leads (p ∷ ps) seen ≡ part_leads p seen ++ body_leads ps (see_part p seen)
+next_part (goal g) ps seen e =
+    ap (λ l. if l then straight (goal_code g seen ++ execute (name g) (count_trees (arguments g)) ∷ []) else straight (goal_code g seen ++ asking g ∷ []) ++ body_leads ps (add_vars g seen)) (last_part_is g ps ∙ e)
+next_part (parallel cs gs) ps seen e = refl
+
+last_part : (g : Tree) (ps : List Part) (seen : List ℕ) → ends_body (goal g) (length ps) ≡ true → body_leads (goal g ∷ ps) seen ≡ straight (goal_code g seen ++ execute (name g) (count_trees (arguments g)) ∷ [])
+last_part g ps seen e =
+    ap (λ l. if l then straight (goal_code g seen ++ execute (name g) (count_trees (arguments g)) ∷ []) else straight (goal_code g seen ++ asking g ∷ []) ++ body_leads ps (add_vars g seen)) (last_part_is g ps ∙ e)
+
+-- a call with others behind it
+pub call_written : (es k0 : List Emitted) (g : Tree) (p : Part) (seen : List ℕ) → p ≡ goal g → k0 ≡ [] → steps_of es ≡ steps_of k0 ++ (goal_code g seen ++ asking g ∷ []) → IsWritten es (part_leads p seen)
+call_written es k0 g p seen e d c =
+    let is : List Step = goal_code g seen ++ asking g ∷ [] in
+    subst (λ p. IsWritten es (part_leads p seen)) (sym e) (simple_written es is (c ∙ ap (λ k. steps_of k ++ is) d) (asked_simple g seen [] refl))
+
+-- what stands behind steps ends them as these leads do
+abbrev pub Awaits : List Emitted → List Lead → List Lead → Type 0
+Awaits es ms ls = (fs : List Emitted) → IsWritten fs ms → IsWritten (es ++ fs) ls
+
+pub parts_turn : (ps : List Held) (i left : ℕ) (p : Held) (es part new : List Emitted) (s0 s1 : List ℕ) (w : List Lead) → i < length ps → p ≡ get_or ps i p → left ≡ length (drop i ps)
+    → ends_body (part_of p) (left - 1) ≡ false → IsWritten part (part_leads (part_of p) s0) → s1 ≡ see_part (part_of p) s0 → new ≡ es ++ part → Awaits es (body_leads (map part_of (drop i ps)) s0) w
+    → (left - 1 ≡ length (drop (i + 1) ps)) × Awaits new (body_leads (map part_of (drop (i + 1) ps)) s1) w
+parts_turn ps i left p es part new s0 s1 w l e n f v s d a =
+    let rest : List Part = map part_of (drop (i + 1) ps) in
+    let m : left - 1 ≡ length (drop (i + 1) ps) = omega (arith, length-drop {A = Held}) in
+    let k : body_leads (map part_of (drop i ps)) s0 ≡ part_leads (part_of p) s0 ++ body_leads rest s1 =
+    ap (λ qs. body_leads (map part_of qs) s0) (drop_more ps i p l ∙ ap (λ q. q ∷ drop (i + 1) ps) (sym e))
+    ∙ next_part (part_of p) rest s0 (ap (ends_body (part_of p)) (count_parts (drop (i + 1) ps) ∙ sym m) ∙ f)
+    ∙ ap (λ s. part_leads (part_of p) s0 ++ body_leads rest s) (sym s) in
+    (m, λ fs u. subst (λ es. IsWritten es w) (sym (ap (λ es. es ++ fs) d ∙ append_assoc es part fs)) (a (part ++ fs) (subst (IsWritten (part ++ fs)) (sym k) (both_written part fs (part_leads (part_of p) s0) (body_leads rest s1) v u))))
+
+pub parts_last : (ps : List Held) (i left : ℕ) (p : Held) (g : Tree) (es k0 last new : List Emitted) (s0 : List ℕ) (w : List Lead) → i < length ps → p ≡ get_or ps i p → left ≡ length (drop i ps)
+    → ends_body (part_of p) (left - 1) ≡ true → part_of p ≡ goal g → k0 ≡ [] → steps_of last ≡ steps_of k0 ++ (goal_code g s0 ++ execute (name g) (count_trees (arguments g)) ∷ []) → new ≡ es ++ last → Awaits es (body_leads (map part_of (drop i ps)) s0) w → IsWritten new w
+parts_last ps i left p g es k0 last new s0 w l e n f q z t d a =
+    let rest : List Part = map part_of (drop (i + 1) ps) in
+    let is : List Step = goal_code g s0 ++ execute (name g) (count_trees (arguments g)) ∷ [] in
+    let m : left - 1 ≡ length (drop (i + 1) ps) = omega (arith, length-drop {A = Held}) in
+    let k : body_leads (map part_of (drop i ps)) s0 ≡ straight is =
+    ap (λ qs. body_leads (map part_of qs) s0) (drop_more ps i p l ∙ ap (λ q. q ∷ drop (i + 1) ps) (sym e))
+    ∙ ap (λ p. body_leads (p ∷ rest) s0) q
+    ∙ last_part g rest s0 (ap (ends_body (goal g)) (count_parts (drop (i + 1) ps) ∙ sym m) ∙ ap (λ p. ends_body p (left - 1)) (sym q) ∙ f) in
+    subst (λ es. IsWritten es w) (sym d) (a last (subst (IsWritten last) (sym k) (simple_written last is (t ∙ ap (λ k. steps_of k ++ is) z) (simple_both (goal_code g s0) (execute (name g) (count_trees (arguments g)) ∷ []) (goal_simple g s0) refl))))
+
+pub parts_proceed : (ps : List Held) (i : ℕ) (es new : List Emitted) (s0 : List ℕ) (w : List Lead) → length ps ≤ i → new ≡ es ++ Proceed ∷ [] → Awaits es (body_leads (map part_of (drop i ps)) s0) w → IsWritten new w
+parts_proceed ps i es new s0 w l d a =
+    let k : body_leads (map part_of (drop i ps)) s0 ≡ straight (proceed ∷ []) = ap (λ qs. body_leads (map part_of qs) s0) (drop_all i ps l) in
+    subst (λ es. IsWritten es w) (sym d) (a (Proceed ∷ []) (subst (IsWritten (Proceed ∷ [])) (sym k) (simple_written (Proceed ∷ []) (proceed ∷ []) refl refl)))
+
+-- ---- goals alone, one after another
+
+plain_leads : (gs : Trees) (seen : List ℕ) → body_leads (calls gs) seen ≡ straight (body_code gs seen)
+plain_leads none seen = refl
+plain_leads (more g gs) seen = ap (λ l. leads_if l) (same gs) ∙ go (plain_leads gs (add_vars g seen)) (is_last_call g gs)
+  where
+    leads_if : Bool → List Lead
+    leads_if l = if l then straight (goal_code g seen ++ execute (name g) (count_trees (arguments g)) ∷ []) else straight (goal_code g seen ++ asking g ∷ []) ++ body_leads (calls gs) (add_vars g seen)
+
+    same : (gs : Trees) → is_last_part g (calls gs) ≡ is_last_call g gs
+    same (more t ts) = refl
+    same none = one (is_builtin g)
+      where
+        one : (b : Bool) → (if b then false else true) ≡ not b
+        one true = refl
+        one false = refl
+
+    go : body_leads (calls gs) (add_vars g seen) ≡ straight (body_code gs (add_vars g seen)) → (l : Bool) → leads_if l ≡ straight (if l then goal_code g seen ++ execute (name g) (count_trees (arguments g)) ∷ [] else goal_code g seen ++ (asking g ∷ body_code gs (add_vars g seen)))
+    go e true = refl
+    go e false =
+        ap (λ ls. straight (goal_code g seen ++ asking g ∷ []) ++ ls) e
+        ∙ sym (straight_both (goal_code g seen ++ asking g ∷ []) (body_code gs (add_vars g seen)))
+        ∙ ap straight (append_assoc (goal_code g seen) (asking g ∷ []) (body_code gs (add_vars g seen)))
+
+body_simple : (gs : Trees) (seen : List ℕ) → Simple (body_code gs seen)
+body_simple none seen = refl
+body_simple (more g gs) seen = go (is_last_call g gs) (body_simple gs (add_vars g seen))
+  where
+    go : (l : Bool) → Simple (body_code gs (add_vars g seen)) → Simple (if l then goal_code g seen ++ execute (name g) (count_trees (arguments g)) ∷ [] else goal_code g seen ++ (asking g ∷ body_code gs (add_vars g seen)))
+    go true s = simple_both (goal_code g seen) (execute (name g) (count_trees (arguments g)) ∷ []) (goal_simple g seen) refl
+    go false s = asked_simple g seen (body_code gs (add_vars g seen)) s
+
+sequential_clause : (c : Clause) → IsClause c → IsClause (sequential c)
+sequential_clause c i = record { few = i.few; head = i.head; body = go (plain_goals c.body) (goals_callable c.vars c.body i.body) (goals_numbered c.vars c.body i.body) }
+  where
+    go : (gs : Trees) → all_callable gs ≡ true → numbered_all c.vars gs ≡ true → list_all (well_formed_part c.vars) (calls gs) ≡ true
+    go none h k = refl
+    go (more g gs) h k =
+        let a = both_true (callable g) (all_callable gs) h in
+        let b = both_true (numbered c.vars g) (numbered_all c.vars gs) k in
+        ap (λ d. (d && numbered c.vars g) && list_all (well_formed_part c.vars) (calls gs)) a.0 ∙ ap (λ d. d && list_all (well_formed_part c.vars) (calls gs)) b.0 ∙ go gs a.1 b.1
+
+pub sequential_written : (c : Clause) (es : List Emitted) → steps_of es ≡ clause_code c.head (plain_goals c.body) → IsWritten es (clause_leads (sequential c))
+sequential_written c es e =
+    let head : List Step = gets (arguments c.head) 1 [] (count_trees (arguments c.head) + 1) in
+    let seen : List ℕ = add_all_vars (arguments c.head) [] in
+    let body : List Step = body_code (plain_goals c.body) seen in
+    subst (IsWritten es) (straight_both head body ∙ ap (λ ls. straight head ++ ls) (sym (plain_leads (plain_goals c.body) seen)))
+    (simple_written es (head ++ body) e (simple_both head body (quiet_simple head (quiet_gets (arguments c.head) 1 [] (count_trees (arguments c.head) + 1))) (body_simple (plain_goals c.body) seen)))
+
+pub written_grouped : (c : Clause) (es : List Emitted) → IsClause c → IsWritten es (clause_leads c) → IsGroupedCode c (leads_of es)
+written_grouped c es i w = subst (IsGroupedCode c) (sym w.0) (clause_grouped c i)
+
+pub sequential_grouped : (c : Clause) (es : List Emitted) → IsClause c → IsWritten es (clause_leads (sequential c)) → IsGroupedCode (sequential c) (leads_of es)
+sequential_grouped c es i w = written_grouped (sequential c) es (sequential_clause c i) w
+
+-- ---- a whole clause with groups
+
+pub whole_written : (c : Clause) (k0 k1 rest new : List Emitted) (s0 s1 : List ℕ) (h : Tree) → k0 ≡ [] → s0 ≡ [] → h ≡ c.head → steps_of k1 ≡ steps_of k0 ++ gets (arguments h) 1 s0 (count_trees (arguments h) + 1)
+    → s1 ≡ add_all_vars (arguments h) s0 → IsWritten rest (body_leads c.body s1) → new ≡ k1 ++ rest → IsWritten new (clause_leads c)
+whole_written c k0 k1 rest new s0 s1 h d0 e0 f d1 e1 w n =
+    let head : List Step = gets (arguments c.head) 1 [] (count_trees (arguments c.head) + 1) in
+    let seen : List ℕ = add_all_vars (arguments c.head) [] in
+    let a : steps_of k1 ≡ head = d1 ∙ ap (λ es. steps_of es ++ gets (arguments h) 1 s0 (count_trees (arguments h) + 1)) d0
+    ∙ ap (λ s. gets (arguments h) 1 s (count_trees (arguments h) + 1)) e0 ∙ ap (λ h. gets (arguments h) 1 [] (count_trees (arguments h) + 1)) f in
+    let b : s1 ≡ seen = e1 ∙ ap (add_all_vars (arguments h)) e0 ∙ ap (λ h. add_all_vars (arguments h) []) f in
+    subst (λ es. IsWritten es (clause_leads c)) (sym n)
+    (both_written k1 rest (straight head) (body_leads c.body seen) (simple_written k1 head a (quiet_simple head (quiet_gets (arguments c.head) 1 [] (count_trees (arguments c.head) + 1))))
+    (subst (λ s. IsWritten rest (body_leads c.body s)) b w))
