@@ -122,7 +122,7 @@ body_simple (more g gs) seen = go (is_last_call g gs) (body_simple gs (add_vars 
     go true s = simple_both (goal_code g seen) (execute (name g) (count_trees (arguments g)) ∷ []) (goal_simple g seen) refl
     go false s = asked_simple g seen (body_code gs (add_vars g seen)) s
 
-sequential_clause : (c : Clause) → IsClause c → IsClause (sequential c)
+pub sequential_clause : (c : Clause) → IsClause c → IsClause (sequential c)
 sequential_clause c i = record { few = i.few; head = i.head; body = go (plain_goals c.body) (goals_callable c.vars c.body i.body) (goals_numbered c.vars c.body i.body) }
   where
     go : (gs : Trees) → all_callable gs ≡ true → numbered_all c.vars gs ≡ true → list_all (well_formed_part c.vars) (calls gs) ≡ true

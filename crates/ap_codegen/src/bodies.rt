@@ -6,10 +6,11 @@ ghost use Rattle.ap_term.specs.TermView.{tree_of, trees_of};
 ghost use Rattle.ap_term.specs.Vars.{add_vars, add_all_vars};
 ghost use Rattle.ap_term.specs.GoalView.{part_of};
 ghost use Rattle.ap_term.specs.Goals.{call, plain_goals};
+ghost use Rattle.ap_term.specs.WellFormed.{IsClause};
 ghost use Rattle.ap_instr.specs.Step.{execute};
 ghost use Rattle.ap_instr.specs.Runs.{arguments};
 ghost use Rattle.ap_codegen.specs.CodeOf.{IsCodeOf};
-ghost use Rattle.ap_codegen.specs.Sequential.{sequential};
+ghost use Rattle.ap_codegen.specs.Sequential.{sequential, read_as};
 ghost use Rattle.ap_codegen.specs.Paces.{Paces, inside};
 ghost use Rattle.ap_codegen.specs.Emitted.{steps_of, leads_of};
 ghost use Rattle.ap_codegen.specs.Said.{AreNumbered};
@@ -17,7 +18,7 @@ ghost use Rattle.ap_codegen.specs.Grouped.{IsGroupedCode, IsWritten, part_leads,
 ghost use Rattle.ap_codegen.specs.Permanent.{name, is_builtin, goal_code, body_code, gets};
 
 use crate::builtin_goals::builtin_of;
-use crate::groups::{ask, group};
+use crate::groups::{Groups, ask, group};
 use crate::permanent::{above, gets, goal};
 use crate::steps::{Step, add};
 use ap_term::{Body, Clause, NoMemory, Part, Term};
@@ -159,6 +160,7 @@ pub fn permanent_code(alloc: Global, clause: &Clause) -> Result<Vec<Step>, NoMem
     ensures paced { IfOk result (λ code. Paces (steps_of code.items) (inside clause.now.vars (count_trees (arguments clause.now.head)))) }
     ensures written { IfOk result (λ code. IsWritten code.items (clause_leads (sequential clause.now))) }
     ensures grouped { IfOk result (λ code. IsGroupedCode (sequential clause.now) (leads_of code.items)) }
+    ensures kept { IfOk result (λ _. IsClause (sequential clause.now)) }
 {
     let goals = goals_of(alloc, clause.body())?;
     let mut code = Vec::new(alloc);
@@ -173,6 +175,7 @@ pub fn grouped_code(alloc: Global, clause: &Clause) -> Result<Vec<Step>, NoMemor
     ensures leads { IfOk result (λ code. leads_of code.items ≡ clause_leads clause.now) }
     ensures code { IfOk result (λ code. IsGroupedCode clause.now (leads_of code.items)) }
     ensures numbered { IfOk result (λ code. AreNumbered 0 code.items) }
+    ensures kept { IfOk result (λ _. IsClause clause.now) }
 {
     let mut code = Vec::new(alloc);
     let mut seen = Vec::new(alloc);
@@ -180,4 +183,17 @@ pub fn grouped_code(alloc: Global, clause: &Clause) -> Result<Vec<Step>, NoMemor
     let mut rest = parts(alloc, clause.body(), &mut seen)?;
     code.append(&mut rest)?;
     Ok(code)
+}
+
+/// The code of a clause but for its environment, with its groups or with its goals one after another.
+pub fn written_code(alloc: Global, clause: &Clause, groups: Groups) -> Result<Vec<Step>, NoMemory>
+    ensures leads { IfOk result (λ code. leads_of code.items ≡ clause_leads (read_as groups clause.now)) }
+    ensures code { IfOk result (λ code. IsGroupedCode (read_as groups clause.now) (leads_of code.items)) }
+    ensures numbered { IfOk result (λ code. AreNumbered 0 code.items) }
+    ensures kept { IfOk result (λ _. IsClause (read_as groups clause.now)) }
+{
+    match groups {
+        Groups::SideBySide => grouped_code(alloc, clause),
+        Groups::InTurn => permanent_code(alloc, clause),
+    }
 }

@@ -18,3 +18,6 @@ returns-clause-code c = written_grouped c.args.clause.now c.append.new.self.item
 
 pub returns-clause-numbered : goal.returns-clause-numbered
 returns-clause-numbered c = (written c).1 0
+
+pub returns-clause-kept : goal.returns-clause-kept
+returns-clause-kept c = c.body.ensures.kept
