@@ -7,13 +7,14 @@ ghost use Rattle.ap_instr.specs.Runs.{arguments};
 ghost use Rattle.ap_codegen.specs.Emitted.{step_of, steps_of, leads_of};
 ghost use Rattle.ap_codegen.specs.Temporary.{ends};
 ghost use Rattle.ap_codegen.specs.CodeOf.{IsCodeOf};
-ghost use Rattle.ap_codegen.specs.Sequential.{sequential};
+ghost use Rattle.ap_codegen.specs.Sequential.{sequential, read_as};
 ghost use Rattle.ap_codegen.specs.Framed.{leaving};
 ghost use Rattle.ap_codegen.specs.Grouped.{IsEnded, IsGroupedCode};
-ghost use Rattle.ap_codegen.specs.Paces.{Paces, ArePaced, PacesLeads, inside};
+ghost use Rattle.ap_codegen.specs.Paces.{Paces, ArePaced, PacesLeads, ArePacedLeads, inside};
 
-use crate::bodies::permanent_code;
+use crate::bodies::{permanent_code, written_code};
 use crate::choosing::choose;
+use crate::groups::Groups;
 use crate::relocating::tested;
 use crate::steps::Step;
 use ap_instr::{Builtin, Slot};
@@ -145,6 +146,16 @@ pub fn clause_steps(alloc: Global, clause: &Clause) -> Result<Vec<Step>, NoMemor
     ensures paced { IfOk result (λ code. ArePaced (count_trees (arguments clause.now.head)) code.items) }
 {
     let steps = permanent_code(alloc, clause)?;
+    let code = located(alloc, steps.as_slice(), clause.vars() as u8)?;
+    Ok(code)
+}
+
+/// The code of a clause, with its groups or with its goals one after another.
+pub fn written_steps(alloc: Global, clause: &Clause, groups: Groups) -> Result<Vec<Step>, NoMemory>
+    ensures code { IfOk result (λ code. IsGroupedCode (read_as groups clause.now) (leads_of code.items)) }
+    ensures paced { IfOk result (λ code. ArePacedLeads (count_trees (arguments (read_as groups clause.now).head)) code.items) }
+{
+    let steps = written_code(alloc, clause, groups)?;
     let code = located(alloc, steps.as_slice(), clause.vars() as u8)?;
     Ok(code)
 }
