@@ -1,5 +1,5 @@
 -- The steps of a clause, with numbers of tables, are its instructions.
-use Rattle.std.proofs.Common.{◌≡◌, ℕ, ◌+◌, List, ◌++◌, ap, sym, ◌∙◌, subst, length}
+use Rattle.std.proofs.Common.{◌≡◌, ◌+◌, List, ◌++◌, ap, sym, ◌∙◌, subst, length}
 use Rattle.std.specs.List.{AllZip}
 use Rattle.ap_term.specs.Tree.{count_trees}
 use Rattle.ap_term.specs.Goals.{Clause}

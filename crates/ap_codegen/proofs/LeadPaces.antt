@@ -1,5 +1,5 @@
 -- The code of a clause with groups keeps the rules of code on both ways of each check.
-use Rattle.std.proofs.Common.{◌≡◌, ℕ, zero, suc, ◌+◌, ◌<◌, ◌≤◌, nat_le, Bool, true, false, ◌&&◌, ◌==◌, if◌then◌else◌, is_some, List, [], ◌∷◌, ◌++◌, length, inl, inr, Option, Some, None, refl, ap, sym, ◌∙◌, subst, arith, append_assoc, append-nil}
+use Rattle.std.proofs.Common.{◌≡◌, ℕ, suc, ◌+◌, ◌<◌, ◌≤◌, nat_le, Bool, true, false, ◌&&◌, ◌==◌, if◌then◌else◌, is_some, List, [], ◌∷◌, ◌++◌, length, Option, Some, None, refl, ap, sym, ◌∙◌, subst, arith, append_assoc, append-nil}
 use Rattle.std.specs.List.{list_all}
 use Rattle.std.proofs.lemmas.Bool.{false≢true}
 use Rattle.std.proofs.lemmas.Bool.Decides.{nat_tests}
@@ -9,17 +9,16 @@ use Rattle.ap_term.specs.Tree.{Tree, Trees, var, int, atom, node, none, more, co
 use Rattle.ap_term.specs.Vars.{has, add_vars, add_all_vars}
 use Rattle.ap_term.specs.Goals.{Part, call as goal, group as parallel, Clause}
 use Rattle.ap_term.specs.WellFormed.{in_range, numbered, numbered_all, callable, all_callable, numbered_check, well_formed_part, IsClause}
-use Rattle.ap_instr.specs.declared.instruction.Slot.{Slot}
 use Rattle.ap_instr.specs.declared.instruction.Slot.TheVariants.{X, Y}
 use Rattle.ap_instr.specs.declared.instruction.Instr.TheVariants.{GetStructure, PutStructure, PutVariable, Call, WaitAll}
-use Rattle.ap_instr.specs.Step.{Step, get_variable, get_value, get_constant, get_structure, put_variable, put_value, put_constant, put_structure, unify_variable, unify_value, unify_constant, call, execute, builtin, proceed, jump, check_ground, check_indep, group, push, wait}
-use Rattle.ap_instr.specs.Runs.{set, arguments}
-use Rattle.ap_codecheck.specs.Shape.{Shape, write, passed, behind_argument, with_group, after}
+use Rattle.ap_instr.specs.Step.{Step, get_variable, get_value, get_constant, get_structure, put_variable, put_value, put_constant, put_structure, unify_variable, unify_value, unify_constant, call, execute, builtin, proceed, jump, push, wait}
+use Rattle.ap_instr.specs.Runs.{arguments}
+use Rattle.ap_codecheck.specs.Shape.{Shape, write, behind_argument, with_group, after}
 use Rattle.ap_codecheck.specs.Rules.{ArgumentsSet}
 use Rattle.ap_codegen.specs.Emitted.{Lead}
 use Rattle.ap_codegen.specs.Permanent.{name, is_builtin, place, inner, see, fill, fills, see_built, see_nested, build, nested, puts as put_all, goal_code, asking, gets}
 use Rattle.ap_codegen.specs.Grouped.{straight, see_check, see_checks, make, make_check, make_checks, pushes, side_by_side, in_turn, check_step, check_leads, ways, group_leads, is_last_part, body_leads, clause_leads}
-use Rattle.ap_codegen.specs.Paces.{IsSlot, PacesTo, inside, StandsIn, IsOpen, IsFull, one_pushed, PacesOn, PacesLeads}
+use Rattle.ap_codegen.specs.Paces.{PacesTo, inside, StandsIn, IsOpen, IsFull, one_pushed, PacesOn, PacesLeads}
 use Rattle.ap_codegen.proofs.Registers.{both_true}
 use Rattle.ap_codegen.proofs.PermanentReads.{here, grows}
 use Rattle.ap_codegen.proofs.Walking.{passed_group}

@@ -1,5 +1,5 @@
 -- The operands of a clause's code with groups are in range, also of steps that no path comes to.
-use Rattle.std.proofs.Common.{◌≡◌, ℕ, ◌+◌, ◌<◌, nat_le, Bool, true, false, ◌&&◌, if◌then◌else◌, List, [], ◌∷◌, ◌++◌, length, ◌⊎◌, inl, inr, Some, None, refl, ap, sym, ◌∙◌, subst, arith, append-nil}
+use Rattle.std.proofs.Common.{◌≡◌, ℕ, ◌+◌, ◌<◌, nat_le, Bool, true, false, ◌&&◌, if◌then◌else◌, List, [], ◌∷◌, ◌++◌, length, ◌⊎◌, inl, inr, Some, None, refl, ap, sym, subst, arith, append-nil}
 use Rattle.std.specs.List.{list_all}
 use Rattle.std.proofs.lemmas.Bool.{false≢true}
 use Rattle.std.proofs.lemmas.Bool.Decides.{nat_tests}
@@ -14,14 +14,13 @@ use Rattle.ap_instr.specs.declared.instruction.Instr.TheVariants.{GetStructure, 
 use Rattle.ap_instr.specs.Step.{Step, get_variable, get_value, get_constant, get_structure, put_variable, put_value, put_constant, put_structure, unify_variable, unify_value, unify_constant, call, execute, builtin, proceed}
 use Rattle.ap_instr.specs.Runs.{arguments}
 use Rattle.ap_codecheck.specs.Shape.{Shape, unset, write, behind_argument, after}
-use Rattle.ap_codecheck.specs.Rules.{IsNumbered}
 use Rattle.ap_codegen.specs.Emitted.{Lead}
 use Rattle.ap_codegen.specs.Temporary.{ends}
 use Rattle.ap_codegen.specs.Permanent.{name, is_builtin, goal_code, asking, gets}
-use Rattle.ap_codegen.specs.Grouped.{straight, see_check, see_checks, make, make_check, make_checks, pushes, side_by_side, in_turn, check_step, check_leads, ways, is_last_part, body_leads, clause_leads}
+use Rattle.ap_codegen.specs.Grouped.{straight, see_check, see_checks, make, make_check, make_checks, pushes, side_by_side, in_turn, check_leads, ways, is_last_part, body_leads, clause_leads}
 use Rattle.ap_codegen.specs.Paces.{PacesTo, inside, IsInRange, AreInRange}
 use Rattle.ap_codegen.proofs.Registers.{both_true}
-use Rattle.ap_codegen.proofs.Pacing.{Fine, Sees, slot_of, numbered_arguments, goal_paces, gets_paces, entered}
+use Rattle.ap_codegen.proofs.Pacing.{slot_of, numbered_arguments, goal_paces, gets_paces, entered}
 use Rattle.ap_codegen.proofs.Walking.{from_one}
 
 -- ---- steps that keep the rules of code

@@ -1,12 +1,12 @@
 -- The instructions of a clause with groups keep the rules of code, wherever it stands.
-use Rattle.std.proofs.Common.{◌≡◌, ℕ, zero, suc, ◌+◌, ◌-◌, ◌<◌, ◌≤◌, nat_lt, Bool, true, false, if◌then◌else◌, is_some, ℤ, List, [], ◌∷◌, ◌++◌, length, ◌⊎◌, inl, inr, Option, Some, None, refl, ap, sym, ◌∙◌, subst, arith}
+use Rattle.std.proofs.Common.{◌≡◌, ℕ, zero, suc, ◌+◌, ◌-◌, nat_lt, Bool, true, false, if◌then◌else◌, is_some, ℤ, List, [], ◌∷◌, ◌++◌, ◌⊎◌, inl, inr, Option, Some, None, refl, ap, sym, ◌∙◌, subst, arith}
 use Rattle.std.specs.List.{slice_get}
 use Rattle.std.proofs.lemmas.Bool.{false≢true}
 use Rattle.ap_instr.specs.declared.instruction.Instr.{Instr}
 use Rattle.ap_instr.specs.declared.instruction.Instr.TheVariants.{GetInteger, PutVariable, PutValue, PutConstant, PutInteger, PutStructure, UnifyVariable, UnifyValue, UnifyConstant, UnifyInteger, Allocate, Deallocate, Call, Execute, Jump, CheckGround, CheckIndep, AllocParcall, PushGoal, WaitAll}
 use Rattle.ap_instr.specs.declared.compiled.Predicate.{Predicate}
 use Rattle.ap_instr.specs.Code.{Compiled}
-use Rattle.ap_instr.specs.Step.{Step, get_constant, put_constant, unify_constant, call, execute, push, with_integer, with_predicate, step_of as said_by, steps_of as said}
+use Rattle.ap_instr.specs.Step.{Step, get_constant, call, execute, push, with_integer, with_predicate, step_of as said_by, steps_of as said}
 use Rattle.ap_codecheck.specs.Shape.{Shape, entry, pushed, with_group, after}
 use Rattle.ap_codecheck.specs.Rules.{FitsGroup, arity_in, arity_of, ArgumentsSet}
 use Rattle.ap_codecheck.specs.Walk.{Walks}
@@ -16,7 +16,7 @@ use Rattle.ap_codegen.specs.Emitted.{step_of, steps_of, Lead, lead_of, leads_of}
 use Rattle.ap_codegen.specs.Temporary.{ends}
 use Rattle.ap_codegen.specs.Framed.{leaving}
 use Rattle.ap_codegen.specs.Grouped.{IsEnded}
-use Rattle.ap_codegen.specs.Said.{special_of, special_in, IsSaidAt, AreSaidAt, AreNumbered}
+use Rattle.ap_codegen.specs.Said.{special_of, IsSaidAt, AreSaidAt, AreNumbered}
 use Rattle.ap_codegen.specs.Paces.{PacesTo, Paces, inside, puts, StandsIn, IsOpen, IsFull, one_pushed, PacesLeads, ArePacedLeads}
 use Rattle.ap_codegen.proofs.Walking.{room_of, turn_none, push_paces, inner_walk, last_walk, outside_walk, same_room, same_group, here, plain_walk, turn_end}
 
