@@ -1,5 +1,5 @@
 -- What the instructions of a clause with groups keep by themselves: operands in range, and labels inside the clause.
-use Rattle.std.proofs.Common.{◌≡◌, ℕ, ◌+◌, ◌<◌, ◌≤◌, Bool, true, false, if◌then◌else◌, ℤ, List, [], ◌∷◌, length, ◌⊎◌, inl, inr, Option, Some, None, refl, ap, sym, ◌∙◌, subst, arith}
+use Rattle.std.proofs.Common.{◌≡◌, ℕ, ◌+◌, ◌<◌, ◌≤◌, Bool, true, false, if◌then◌else◌, ℤ, List, [], ◌∷◌, length, inl, inr, Option, Some, None, refl, ap, sym, ◌∙◌, subst, arith}
 use Rattle.std.specs.List.{slice_get}
 use Rattle.std.proofs.lemmas.Bool.{false≢true}
 use Rattle.std.proofs.lemmas.Option.{slice_get_within}
@@ -218,9 +218,3 @@ straight_paced arity es (inl p) = inl p
 straight_paced arity es (inr (vars, fs, e, p)) =
     let d = paced_ended fs (inside vars arity) p in
     inr (vars, fs, e, paced_led fs (inside vars arity) refl p, d.0, d.1, d.2)
-
--- a clause's steps in their places
-pub located_paced : (c : Clause) (es out : List Emitted) → IsClause c → leads_of es ≡ clause_leads c → IsEnded (leads_of es) → AreNumbered 0 es
-    → ArePaced (count_trees (arguments c.head)) out ⊎ (out ≡ EnterStep c.vars ∷ leaving es) → ArePacedLeads (count_trees (arguments c.head)) out
-located_paced c es out i e d num (inl p) = straight_paced (count_trees (arguments c.head)) out p
-located_paced c es out i e d num (inr o) = subst (ArePacedLeads (count_trees (arguments c.head))) (sym o) (framed_paced c es i e d num)

@@ -3,6 +3,7 @@ use Rattle.std.proofs.Common.{◌≡◌, ℕ, suc, ◌+◌, ◌<◌, ◌≤◌, 
 use Rattle.std.specs.List.{list_all}
 use Rattle.std.proofs.lemmas.Bool.{false≢true}
 use Rattle.std.proofs.lemmas.Bool.Decides.{nat_tests}
+use Rattle.std.proofs.lemmas.List.{map-append}
 use Rattle.ap_term.specs.declared.clauses.Check.{Check}
 use Rattle.ap_term.specs.declared.clauses.Check.TheVariants.{Ground, Indep}
 use Rattle.ap_term.specs.Tree.{Tree, Trees, var, int, atom, node, none, more, count_trees}
@@ -64,8 +65,9 @@ straight_led (i ∷ is) ls s g e a p =
     paces_on i is (λ z. z.group ≡ g → PacesLeads 0 ls z) (λ n z. PacesLeads n (straight is ++ ls) z) s (subst (StandsIn i) (sym e) a.0) (λ z d q. straight_led is ls z g (d ∙ e) a.1 q) p
 
 straight_append : (is js : List Step) (ls : List Lead) → straight (is ++ js) ++ ls ≡ straight is ++ (straight js ++ ls)
-straight_append [] js ls = refl
-straight_append (i ∷ is) js ls = ap (λ ls. (i, 0) ∷ ls) (straight_append is js ls)
+straight_append is js ls =
+    let f : Step → Lead = λ i. (i, 0) in
+    ap (λ q. q ++ ls) (map-append f is js) ∙ append_assoc (straight is) (straight js) ls
 
 -- ---- steps that are passed over
 

@@ -1,8 +1,9 @@
 -- The operands of a clause's code with groups are in range, also of steps that no path comes to.
-use Rattle.std.proofs.Common.{◌≡◌, ℕ, ◌+◌, ◌<◌, nat_le, Bool, true, false, ◌&&◌, if◌then◌else◌, List, [], ◌∷◌, ◌++◌, length, ◌⊎◌, inl, inr, Some, None, refl, ap, sym, subst, arith, append-nil}
+use Rattle.std.proofs.Common.{◌≡◌, ℕ, ◌+◌, ◌<◌, nat_le, Bool, true, false, ◌&&◌, if◌then◌else◌, List, [], ◌∷◌, ◌++◌, length, ◌⊎◌, inl, inr, Some, None, refl, sym, subst, arith, append-nil}
 use Rattle.std.specs.List.{list_all}
 use Rattle.std.proofs.lemmas.Bool.{false≢true}
 use Rattle.std.proofs.lemmas.Bool.Decides.{nat_tests}
+use Rattle.std.proofs.lemmas.List.{map-append}
 use Rattle.ap_term.specs.declared.clauses.Check.{Check}
 use Rattle.ap_term.specs.declared.clauses.Check.TheVariants.{Ground, Indep}
 use Rattle.ap_term.specs.Tree.{Tree, Trees, var, none, more, count_trees}
@@ -52,12 +53,8 @@ range_append : (ls ms : List Lead) → AreInRange ls → AreInRange ms → AreIn
 range_append [] ms h k = k
 range_append (l ∷ ls) ms h k = (h.0, range_append ls ms h.1 k)
 
-straight_append : (is js : List Step) → straight (is ++ js) ≡ straight is ++ straight js
-straight_append [] js = refl
-straight_append (i ∷ is) js = ap (λ ls. (i, 0) ∷ ls) (straight_append is js)
-
 joined : (is js : List Step) → AreInRange (straight is) → AreInRange (straight js) → AreInRange (straight (is ++ js))
-joined is js h k = subst AreInRange (sym (straight_append is js)) (range_append (straight is) (straight js) h k)
+joined is js h k = let f : Step → Lead = λ i. (i, 0) in subst AreInRange (sym (map-append f is js)) (range_append (straight is) (straight js) h k)
 
 paced_range : (K : Shape → Type 0) (is : List Step) (s : Shape) → PacesTo K is s → AreInRange (straight is)
 paced_range K [] s p = tt
