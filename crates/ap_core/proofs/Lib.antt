@@ -21,3 +21,4 @@ pub mod SlotEvents
 pub mod ForkConditions
 pub mod Rows
 pub mod Throwing
+pub mod Passes

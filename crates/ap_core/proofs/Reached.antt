@@ -30,7 +30,7 @@ use Rattle.ap_core.specs.Tasks.{Answer, Task, task, Alternatives, exhausted, alt
 use Rattle.ap_core.specs.Conditions.{is_exhausted, spent_by}
 use Rattle.ap_core.specs.Relation.{Rules, only_if, mapped, plain_answer, own, answer, has_spent, met, in_task, Core, with_root, with_status, emitting, at_root, along, while_going, after}
 use Rattle.ap_core.specs.Erased.{erased, erased_alternatives, erased_slots}
-use Rattle.ap_core.specs.Heeding.{Heeds}
+use Rattle.ap_core.specs.Heeding.{Heeds, Tells}
 use Rattle.ap_core.specs.Own.{HasOwnAnswers, HaveOwnAnswers, HasOwnAnswersIn, SlotsHaveOwn}
 use Rattle.ap_core.specs.Reached as reached
 use Rattle.ap_core.specs.Reached.{beginning, Happening, after_all, ReachedLaw, IsEmitted}
@@ -38,6 +38,7 @@ use Rattle.ap_core.proofs.Options.{Some-only_if, Some-if, Some-mapped, Star, her
 use Rattle.ap_core.proofs.Fine.{IsGiven, Fine, FineHeldTask}
 use Rattle.ap_core.proofs.Erasing.{FineFirst-FineBehind, IsExhausted-erased}
 use Rattle.ap_core.proofs.OwnEvents.{Made, Made-own, next_of-forked}
+use Rattle.ap_core.proofs.Heeded.{heeds}
 use Rattle.ap_core.proofs.Inside.{Answers, Answers-answer, IsSpent-has_spent, IsRaised-met, Fine-held, Made-in_task}
 
 -- how the root stands to its budget
@@ -246,8 +247,55 @@ reached_by_events p good heeds q below full rest events c h =
       HasOwnAnswers-task (plain_ways p.program) c.root (node 0 q.tuple) 0 (tasks p good heeds q below full rest i.runs),
     )
 
-pub emitted_by_events : (c : Core) → IsEmitted c.emitted c
-emitted_by_events c p program asked good question same heeds rest events h =
+-- ---- events keep the rules
+
+rules-mapped : {A : Type 0} (f : A → Core) (o : Option A) (p : Rules) (d : Core) → ((x : A) → (f x).rules ≡ p) → mapped f o ≡ Some d → d.rules ≡ p
+rules-mapped f o p d same h = let x = Some-mapped f o d h in ap (λ c. c.rules) (sym x.1.1) ∙ same x.0
+
+rules-only_if : (b : Bool) (c d : Core) → only_if b c ≡ Some d → d.rules ≡ c.rules
+rules-only_if b c d h = ap (λ x. x.rules) (sym (Some-only_if b c d h).1)
+
+rules-at_root : (k : Kind) (c d : Core) → at_root k c ≡ Some d → d.rules ≡ c.rules
+rules-at_root kinds.Infer c d h = rules-mapped (with_root c) (own c.rules kinds.Infer c.root) c.rules d (λ x. refl) h
+rules-at_root kinds.Fork c d h = rules-mapped (with_root c) (own c.rules kinds.Fork c.root) c.rules d (λ x. refl) h
+rules-at_root kinds.Start c d h = absurd (cc)
+rules-at_root kinds.Answer c d h = rules-mapped (emitting c) (answer c.root) c.rules d (λ x. refl) h
+rules-at_root kinds.Fail c d h = rules-only_if (is_exhausted c.root) c d h
+rules-at_root kinds.Spend c d h = rules-only_if (has_spent c.rules.loud c.root) (with_status c NoBudget) d h
+rules-at_root kinds.Stop c d h = absurd (cc)
+rules-at_root kinds.Stopped c d h = absurd (cc)
+rules-at_root kinds.Join c d h = rules-mapped (with_root c) (own c.rules kinds.Join c.root) c.rules d (λ x. refl) h
+rules-at_root kinds.Break c d h = rules-mapped (with_root c) (own c.rules kinds.Break c.root) c.rules d (λ x. refl) h
+rules-at_root kinds.Redo c d h = rules-mapped (with_root c) (own c.rules kinds.Redo c.root) c.rules d (λ x. refl) h
+rules-at_root kinds.Restart c d h = rules-mapped (with_root c) (own c.rules kinds.Restart c.root) c.rules d (λ x. refl) h
+rules-at_root kinds.Raise c d h = rules-mapped (λ e. with_status c (HasRaised e)) (met c.rules.loud c.root) c.rules d (λ x. refl) h
+rules-at_root kinds.Drain c d h = rules-mapped (with_root c) (own c.rules kinds.Drain c.root) c.rules d (λ x. refl) h
+rules-at_root kinds.Forget c d h = absurd (cc)
+rules-at_root kinds.Replay c d h = rules-mapped (with_root c) (own c.rules kinds.Replay c.root) c.rules d (λ x. refl) h
+
+rules-after : (k : Kind) (path : List ℕ) (c d : Core) → after k path c ≡ Some d → d.rules ≡ c.rules
+rules-after k path c d h = go c.status h
+  where
+    walk : (path : List ℕ) → along k path c ≡ Some d → d.rules ≡ c.rules
+    walk [] e = rules-at_root k c d e
+    walk (j ∷ path) e = rules-mapped (with_root c) (in_task c.rules k j path c.root) c.rules d (λ x. refl) e
+
+    go : (b : Status) → while_going b (along k path c) ≡ Some d → d.rules ≡ c.rules
+    go GoingOn e = walk path e
+    go NoBudget e = absurd (cc)
+    go (HasRaised f) e = absurd (cc)
+
+rules-after_all : (events : List Happening) (c d : Core) → after_all events c ≡ Some d → d.rules ≡ c.rules
+rules-after_all [] c d h = let e : c ≡ d = cc in ap (λ x. x.rules) (sym e)
+rules-after_all (e ∷ events) c d h = go (after e.0 e.1 c) refl h (λ x k. rules-after_all events x d k)
+  where
+    go : (o : Option Core) → after e.0 e.1 c ≡ o → reached.and_then o (after_all events) ≡ Some d → ((x : Core) → after_all events x ≡ Some d → d.rules ≡ x.rules) → d.rules ≡ c.rules
+    go None k h rec = absurd (cc)
+    go (Some x) k h rec = rec x h ∙ rules-after e.0 e.1 c x k
+
+pub emitted_by_events : (c : Core) → Tells c.rules.loud c.rules.program → IsEmitted c.emitted c
+emitted_by_events c tells p program asked good question same rest events h =
     let d = query asked question in
     let ok : IsProgram p.program = subst IsProgram (sym same) (d.2 program good) in
-    (reached_by_events p ok heeds (start asked) d.0 d.1 rest events c h).0
+    let told : Tells p.loud p.program = subst (λ r. Tells r.loud r.program) (rules-after_all events (beginning p (start asked) rest) c h) tells in
+    (reached_by_events p ok (heeds p.program ok p.loud told) (start asked) d.0 d.1 rest events c h).0

@@ -15,5 +15,9 @@ Heeds loud p = (g : Tree) → loud g ≡ false → (b : ℕ) → IsHarmless (pla
 abbrev pub Tells : (Tree → Bool) → Program → Type 0
 Tells loud p = ((g : Tree) → callable g ≡ false → loud g ≡ true) × ((g : Tree) → IsLoud p g → loud g ≡ true)
 
+-- it tells just these
+abbrev pub TellsJust : (Tree → Bool) → Program → Type 0
+TellsJust loud p = Tells loud p × ((g : Tree) → callable g ≡ true → loud g ≡ true → IsLoud p g)
+
 abbrev pub HeedLaw : Type 0
 HeedLaw = (p : Program) → IsProgram p → (loud : Tree → Bool) → Tells loud p → Heeds loud p

@@ -5,6 +5,7 @@ pub mod Relation
 pub mod Erased
 pub mod Heeding
 pub mod Telling
+pub mod Passes
 pub mod Own
 pub mod Lifting
 pub mod Reached

@@ -22,6 +22,5 @@ mod tasks;
 pub use conditions::Verdict;
 pub use events::{Event, Kind, Path, StepErr};
 pub use laws::{fork_law, heed_law, lift_law, reached_law, rows_law};
-pub use loud::{Loud, Predicate, Rules};
 pub use machine::Core;
 pub use tasks::{Alternative, Answer, Busy, Idle, Progress, Round, Slot, Status, Task};

@@ -4,7 +4,7 @@ ghost use Rattle.std.specs.Prelude.{◌≡◌, Some, IfOk, MatchResult};
 ghost use Rattle.ap_term.specs.Goals.{joined};
 ghost use Rattle.ap_term.specs.Search.{start};
 ghost use Rattle.ap_core.specs.CoreView.{core_of};
-ghost use Rattle.ap_core.specs.Telling.{told};
+ghost use Rattle.ap_core.specs.Heeding.{TellsJust};
 ghost use Rattle.ap_core.specs.declared.events.Kind.TheVariants.{Answer, Raise};
 ghost use Rattle.ap_core.specs.Tasks.{task, alternative, state, exhausted};
 ghost use Rattle.ap_core.specs.TaskView.{task_view};
@@ -47,18 +47,15 @@ fn root_of(alloc: Global, query: &Query, rest: u64) -> Result<Task, NoMemory>
 }
 
 impl Core {
-    /// The core before any event, with a budget of so many calls and what tells which goals may meet a fault.
-    pub fn new(
-        alloc: Global,
-        program: Program,
-        query: Query,
-        loud: Loud,
-        rest: u64,
-    ) -> Result<Core, NoMemory>
-        ensures { IfOk result (λ c. core_of c ≡ beginning (record { program = joined program query; loud = told loud }) (start query) rest) }
+    /// The core before any event, with a budget of so many calls. Which goals may meet a fault it tells from the program.
+    pub fn new(alloc: Global, program: Program, query: Query, rest: u64) -> Result<Core, NoMemory>
+        ensures begins { IfOk result (λ c. core_of c ≡ beginning (core_of c).rules (start query) rest) }
+        ensures program { IfOk result (λ c. (core_of c).rules.program ≡ joined program query) }
+        ensures loud { IfOk result (λ c. TellsJust (core_of c).rules.loud (joined program query)) }
     {
         let root = root_of(alloc, &query, rest)?;
         let all = join(alloc, &program, &query)?;
+        let loud = Loud::of(alloc, &all)?;
         Ok(Core {
             alloc,
             rules: Rules { program: all, loud },
@@ -102,7 +99,8 @@ impl Core {
     fn raise(&mut self) -> Result<(), StepErr>
         ensures { MatchResult result (λ _. at_root Raise (core_of self.old) ≡ Some (core_of self.new)) (λ e. IsRefusal e (at_root Raise (core_of self.old)) (core_of self.old) (core_of self.new)) }
     {
-        match met(&self.rules.loud, &self.root) {
+        let rules = &self.rules;
+        match met(&rules.loud, &self.root) {
             Some(fault) => {
                 self.status = Status::HasRaised(fault);
                 Ok(())
@@ -115,11 +113,12 @@ impl Core {
     fn at_root(&mut self, kind: Kind) -> Result<(), StepErr>
         ensures { MatchResult result (λ _. at_root kind (core_of self.old) ≡ Some (core_of self.new)) (λ e. IsRefusal e (at_root kind (core_of self.old)) (core_of self.old) (core_of self.new)) }
     {
+        let rules = &self.rules;
         match kind {
             Kind::Answer => self.answer(),
             Kind::Raise => self.raise(),
             Kind::Fail if is_exhausted(&self.root) => Ok(()),
-            Kind::Spend if has_spent(&self.rules.loud, &self.root) => {
+            Kind::Spend if has_spent(&rules.loud, &self.root) => {
                 self.status = Status::NoBudget;
                 Ok(())
             }
@@ -130,7 +129,7 @@ impl Core {
             | Kind::Drain
             | Kind::Redo
             | Kind::Restart
-            | Kind::Replay => own(self.alloc, &self.rules, kind, &mut self.root),
+            | Kind::Replay => own(self.alloc, rules, kind, &mut self.root),
             _ => Err(StepErr::Illegal),
         }
     }

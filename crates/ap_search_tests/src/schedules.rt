@@ -6,7 +6,7 @@ use Kind::{
     Answer, Break, Drain, Fail as Fails, Forget, Fork, Infer, Join, Raise, Redo, Replay, Restart,
     Spend, Start, Stop, Stopped,
 };
-use ap_core::{Core, Event, Kind, Loud, Path, StepErr};
+use ap_core::{Core, Event, Kind, Path, StepErr};
 use ap_term::{Args, Term};
 use std::alloc::Global;
 use std::test::Fail;
@@ -28,14 +28,18 @@ const THREE: Problem = (
     "?- s(X,Y,Z).",
 );
 
+/// Its left goal calls arithmetic, by a predicate whose clause stands last.
+const LOUD_BY_NONE: Problem = (
+    "q(X,Y) :- a(X) & b(Y). a(1). a(X) :- c(X). c(X) :- X is 1 + 1.",
+    "?- q(X,Y).",
+);
+
 /// A core before any event.
 fn core_of(alloc: Global, problem: Problem, budget: u64) -> Result<Core, Fail> {
     let mut atoms = new_atoms(alloc)?;
     let program = program_of(alloc, problem.0, &mut atoms)?;
     let query = query_of(alloc, problem.1, &program, &mut atoms)?;
-    // no goal of these programs is arithmetic
-    let loud = Loud::from_vec(Vec::new(alloc));
-    Ok(Core::new(alloc, program, query, loud, budget)?)
+    Ok(Core::new(alloc, program, query, budget)?)
 }
 
 // The functions that a schedule calls say nothing of the core, so that their callers' proofs are short.
@@ -138,6 +142,37 @@ fn are_rounds(alloc: Global) -> Result<bool, Fail> {
 #[test]
 fn two_goals_answer_and_are_redone(rt: HostRuntime) -> Result<(), Fail> {
     assert!(rt; are_rounds(rt.alloc())?);
+    Ok(())
+}
+
+/// The failed goal doesn't end its frame while the left one may still meet a fault.
+const DRAINED: [(Kind, &[usize], bool); 16] = [
+    (Infer, &[], true),
+    (Fork, &[], true),
+    (Start, &[1], true),
+    (Start, &[2], true),
+    (Infer, &[2], true),
+    (Fails, &[2], true),
+    (Infer, &[1], true),
+    (Answer, &[1], true),
+    (Break, &[], false),
+    (Drain, &[], true),
+    (Infer, &[1], true),
+    (Infer, &[1], true),
+    (Answer, &[1], true),
+    (Fails, &[1], true),
+    (Break, &[], true),
+    (Fails, &[], true),
+];
+
+fn is_drained(alloc: Global) -> Result<bool, Fail> {
+    let mut core = core_of(alloc, LOUD_BY_NONE, 100)?;
+    Ok(are_as_told(alloc, &mut core, &DRAINED)? && has_emitted(&core, 0, &[]))
+}
+
+#[test]
+fn a_goal_that_calls_arithmetic_is_drained(rt: HostRuntime) -> Result<(), Fail> {
+    assert!(rt; is_drained(rt.alloc())?);
     Ok(())
 }
 
