@@ -36,7 +36,7 @@ zip-append R (_ ∷ _) us [] vs h k = absurd h
 
 -- ---- what is shown
 
-no-goals : (gs : List Goal) → map untracked_goal gs ≡ [] → gs ≡ []
+pub no-goals : (gs : List Goal) → map untracked_goal gs ≡ [] → gs ≡ []
 no-goals [] h = refl
 no-goals (g ∷ gs) h = absurd (cc)
 

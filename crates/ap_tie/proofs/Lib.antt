@@ -2,3 +2,4 @@ pub mod Calls
 pub mod Groups
 pub mod Slotted
 pub mod Answered
+pub mod Settled

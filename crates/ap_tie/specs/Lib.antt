@@ -6,3 +6,4 @@ pub mod Forked
 pub mod Tied
 pub mod Slots
 pub mod Answered
+pub mod Settled

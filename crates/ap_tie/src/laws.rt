@@ -2,6 +2,7 @@
 
 ghost use Rattle.ap_tie.specs.Answered.{AlikeLaw, AnswerSlotLaw};
 ghost use Rattle.ap_tie.specs.Laws.{ForkLaw, InferLaw};
+ghost use Rattle.ap_tie.specs.Settled.{BreakLaw, JoinLaw};
 ghost use Rattle.ap_tie.specs.Slots.{SlotLaw};
 
 /// Turns of the model are as many calls of the core.
@@ -27,4 +28,14 @@ pub fn answer_slot_law()
 /// The slots of a section stand as the core's, so verdicts on them are the core's.
 pub fn alike_law()
     ensures { AlikeLaw }
+{}
+
+/// Puts the joined state before its frame: the section then stands for what a join of the core leaves.
+pub fn join_law()
+    ensures { JoinLaw }
+{}
+
+/// Drops a frame whose round has failed, or closes it: the section then stands for what a break of the core leaves.
+pub fn break_law()
+    ensures { BreakLaw }
 {}
