@@ -115,7 +115,7 @@ from-one (Some n) k j h = omega (arith, some-same h)
 from-one None true j h = omega (arith, some-same h)
 from-one None false j h = absurd (none-some h)
 
-redo-from-one : {S T : Type 0} (xs : List (Slot S T)) (j : ℕ) → next_redo xs ≡ Some j → 0 < j
+pub redo-from-one : {S T : Type 0} (xs : List (Slot S T)) (j : ℕ) → next_redo xs ≡ Some j → 0 < j
 redo-from-one [] j e = absurd (none-some e)
 redo-from-one (x ∷ xs) j e = from-one (next_redo xs) (has_more x) j e
 

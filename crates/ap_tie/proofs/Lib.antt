@@ -3,3 +3,4 @@ pub mod Groups
 pub mod Slotted
 pub mod Answered
 pub mod Settled
+pub mod Redone

@@ -112,13 +112,15 @@ answers code p q b (more g gs) no_slot v h a = absurd h
 answers code p q b (more g gs) (slot x nothing w) v h a = absurd a
 answers code p q b (more g gs) (slot x (held n) w) v (k, y, u, (loud, stands, (is_at, (m, e, t, z, c, source, comes, is_of, is))), rest, whole) a =
     let s = answer_at code p b g n z t e source comes in
-    let r = answers code p q b gs w u rest a in
-    (s.0 ∷ r.0, record {
-      each = (s.1.is_answer, r.1.each);
-      are_held = (s.1.at, r.1.are_held);
-      put = λ i. ap (λ l. with_answers l b i) whole ∙ first is i ∙ r.1.put (graft_state b i (plain_answer e)) ∙ ap (λ l. graft_states b (graft_state b i l) (map (λ u. plain_of (untracked u)) r.0)) s.1.plain;
-      all = ap all_answered whole ∙ more_answered is ∙ r.1.all;
-    })
+    let r = answers code p q b gs w u rest a in (
+      s.0 ∷ r.0,
+      record {
+        each = (s.1.is_answer, r.1.each);
+        are_held = (s.1.at, r.1.are_held);
+        put = λ i. ap (λ l. with_answers l b i) whole ∙ first is i ∙ r.1.put (graft_state b i (plain_answer e)) ∙ ap (λ l. graft_states b (graft_state b i l) (map (λ u. plain_of (untracked u)) r.0)) s.1.plain;
+        all = ap all_answered whole ∙ more_answered is ∙ r.1.all;
+      },
+    )
   where
     first : (y ≡ core.held m e t c) ⊎ (y ≡ again m e t c) → (i : State) → with_answers (core.slot g k y u) b i ≡ with_answers u b (graft_state b i (plain_answer e))
     first (inl h) i = ap (λ l. with_answers (core.slot g k l u) b i) h
@@ -178,17 +180,20 @@ join code p o m c b f q rd w qs st t u good below all closed stores (ss, xs, l, 
         let j = joining p.program o s i.checks i.goals i.own i.now i.behind a.0 good below kept i.first i.apart a.1.each in
         let state_same : with_answers v s.next (untracked s) ≡ untracked (tracked_grafts s.next s a.0) = a.1.put (untracked s) ∙ j.1 in
         let answered : list_all has_answer (rows w) ≡ true = sym (answered-alike p.loud q (rows w) v (alike code p q s.next (instance_all i.own i.goals) w v slots)) ∙ a.1.all in
-        let stored = subst (StoresBehind (rows w)) whole stores in
-        (tracked_grafts s.next s a.0, record { forked = s; is_forked = i; answers = a.0; held = a.1.are_held; each = a.1.each; same = refl }, λ n d same_roots h counts. (
-          tracked_grafts s.next s a.0 ∷ [],
-          state (with_answers v s.next (untracked s)) ∷ [],
-          alternative (frame (untracked s) core_round.Closed v) behind,
-          h,
-          ((tracked_grafts s.next s a.0, j.0, state_same, inl refl), tt),
-          subst (λ roots. HoldsStack code p o roots (b - d) (parcall f q Closed w qs st) (alternative (frame (untracked s) core_round.Closed v) behind)) (sym same_roots)
-          (s, i, v, sv, ys, k, kept, tt, (λ n g. (all_taken has_answer (n - 1) (rows w) answered, stored n g)), slots, points, shows, rest_left code p o m.roots r (b - d) st k closed older, refl),
-          with_counts d b (r - e.0) (c + e.0) u _ counts e.1,
-        ))
+        let stored = subst (StoresBehind (rows w)) whole stores in (
+          tracked_grafts s.next s a.0,
+          record { forked = s; is_forked = i; answers = a.0; held = a.1.are_held; each = a.1.each; same = refl },
+          λ n d same_roots h counts. (
+            tracked_grafts s.next s a.0 ∷ [],
+            state (with_answers v s.next (untracked s)) ∷ [],
+            alternative (frame (untracked s) core_round.Closed v) behind,
+            h,
+            ((tracked_grafts s.next s a.0, j.0, state_same, inl refl), tt),
+            subst (λ roots. HoldsStack code p o roots (b - d) (parcall f q Closed w qs st) (alternative (frame (untracked s) core_round.Closed v) behind)) (sym same_roots)
+                (s, i, v, sv, ys, k, kept, tt, (λ n g. (all_taken has_answer (n - 1) (rows w) answered, stored n g)), slots, points, shows, rest_left code p o m.roots r (b - d) st k closed older, refl),
+            with_counts d b (r - e.0) (c + e.0) u _ counts e.1,
+          ),
+        )
 
     go : (ss : List Tracked) (xs : List Alternative) → AllZip (Shows p.program o) ss xs → t ≡ task r c (before xs l) → (j : Tracked) × IsJoined code p.program m.roots f w j × ((n : Machine) (d : ℕ) → n.roots ≡ m.roots → Holds code n (j ∷ []) → HasCounts d b u → HoldsTask code p o (section n d b (parcall f q Closed w qs st)) u)
     go [] [] h is = main is
@@ -276,8 +281,7 @@ goes : (code : Compiled) (p : Rules) (o : Tracked) (m n : Machine) (c b d : ℕ)
     → HasFailed m.roots qs n → HasCounts d b u → HoldsTask code p o (section n d b st) u
 goes code p o m n c b d f q rd w qs st t u closed h event e n_failed counts =
     let g = find_broken code p o m c b f q rd w qs st t u h event in
-    let k = subst (λ x. Leaves x (untracked g.forked) g.slots (before g.shown g.older) u) e g.left in
-    (
+    let k = subst (λ x. Leaves x (untracked g.forked) g.slots (before g.shown g.older) u) e g.left in (
       g.states,
       g.shown,
       g.older,
@@ -293,15 +297,14 @@ closes : (code : Compiled) (p : Rules) (o : Tracked) (m n : Machine) (c b d : �
 closes code p o m n c b d f q rd w qs st t u closed shut h event e n_failed counts =
     let g = find_broken code p o m c b f q rd w qs st t u h event in
     let k = subst (λ x. Leaves x (untracked g.forked) g.slots (before g.shown g.older) u) e g.left in
-    let l : Alternatives = alternative (frame (untracked g.forked) core_round.Closed g.slots) (before g.shown g.older) in
-    (
+    let l : Alternatives = alternative (frame (untracked g.forked) core_round.Closed g.slots) (before g.shown g.older) in (
       [],
       [],
       l,
       nothing_due code m.roots [] n [] n_failed refl,
       tt,
       subst (λ roots. HoldsStack code p o roots (b - d) (parcall f q Closed w qs st) l) (sym n_failed.roots_stay)
-      (g.forked, g.is_forked, g.slots, g.states, g.shown, g.older, g.kept, tt, g.may_shut shut, g.hold, g.points, g.shows, rest_left code p o m.roots g.rest (b - d) st g.older closed g.stack, refl),
+          (g.forked, g.is_forked, g.slots, g.states, g.shown, g.older, g.kept, tt, g.may_shut shut, g.hold, g.points, g.shows, rest_left code p o m.roots g.rest (b - d) st g.older closed g.stack, refl),
       with_counts d b k.0 k.1 u l counts k.2,
     )
 

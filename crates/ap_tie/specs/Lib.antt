@@ -7,3 +7,4 @@ pub mod Tied
 pub mod Slots
 pub mod Answered
 pub mod Settled
+pub mod Redone

@@ -2,6 +2,7 @@
 
 ghost use Rattle.ap_tie.specs.Answered.{AlikeLaw, AnswerSlotLaw};
 ghost use Rattle.ap_tie.specs.Laws.{ForkLaw, InferLaw};
+ghost use Rattle.ap_tie.specs.Redone.{RedoLaw};
 ghost use Rattle.ap_tie.specs.Settled.{BreakLaw, JoinLaw};
 ghost use Rattle.ap_tie.specs.Slots.{SlotLaw};
 
@@ -38,4 +39,9 @@ pub fn join_law()
 /// Drops a frame whose round has failed, or closes it: the section then stands for what a break of the core leaves.
 pub fn break_law()
     ensures { BreakLaw }
+{}
+
+/// Runs a slot of a closed frame on: the section then stands for what a redo of the core leaves.
+pub fn redo_law()
+    ensures { RedoLaw }
 {}

@@ -8,4 +8,6 @@
 
 mod laws;
 
-pub use laws::{alike_law, answer_slot_law, break_law, fork_law, infer_law, join_law, slot_law};
+pub use laws::{
+    alike_law, answer_slot_law, break_law, fork_law, infer_law, join_law, redo_law, slot_law,
+};
