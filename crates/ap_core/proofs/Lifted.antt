@@ -35,7 +35,7 @@ at-own p kinds.Forget r b g o x z y h = absurd (nothing h)
 at-own p kinds.Replay r b g o x z y h = refl
 
 -- with a task in it
-abbrev filled : Progress → Task → Progress
+abbrev pub filled : Progress → Task → Progress
 filled (idle i) u = idle i
 filled (stored m) u = stored m
 filled (busy x t) u = busy x u
@@ -48,11 +48,11 @@ running-if : (b : Bool) (t z : Task) → (if b then Some t else None) ≡ Some z
 running-if true t z h = (refl, cc)
 running-if false t z h = absurd (nothing h)
 
-chosen : {A : Type 0} (b : Bool) (o : Option A) → b ≡ true → (if b then o else None) ≡ o
+pub chosen : {A : Type 0} (b : Bool) (o : Option A) → b ≡ true → (if b then o else None) ≡ o
 chosen true o h = refl
 chosen false o h = absurd (cc)
 
-in_filled : (p : Rules) (k : Kind) (path : List ℕ) (r b : ℕ) (g : Tree) (o : Bool) (x : Progress) (z y : Task) → running_of x ≡ Some z → at_end p k path z ≡ Some y
+pub in_filled : (p : Rules) (k : Kind) (path : List ℕ) (r b : ℕ) (g : Tree) (o : Bool) (x : Progress) (z y : Task) → running_of x ≡ Some z → at_end p k path z ≡ Some y
     → (in_slot p k path r b g o x ≡ Some (o, filled x y)) × (running_of (filled x y) ≡ Some y)
 in_filled p k path r b g o (idle i) z y h e = absurd (nothing h)
 in_filled p k path r b g o (stored m) z y h e = absurd (nothing h)

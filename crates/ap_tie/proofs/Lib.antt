@@ -4,3 +4,4 @@ pub mod Slotted
 pub mod Answered
 pub mod Settled
 pub mod Redone
+pub mod Open

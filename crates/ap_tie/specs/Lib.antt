@@ -8,3 +8,4 @@ pub mod Slots
 pub mod Answered
 pub mod Settled
 pub mod Redone
+pub mod Open

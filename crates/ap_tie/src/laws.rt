@@ -2,6 +2,7 @@
 
 ghost use Rattle.ap_tie.specs.Answered.{AlikeLaw, AnswerSlotLaw};
 ghost use Rattle.ap_tie.specs.Laws.{ForkLaw, InferLaw};
+ghost use Rattle.ap_tie.specs.Open.{LiftLaw, OpenLaw};
 ghost use Rattle.ap_tie.specs.Redone.{RedoLaw};
 ghost use Rattle.ap_tie.specs.Settled.{BreakLaw, JoinLaw};
 ghost use Rattle.ap_tie.specs.Slots.{SlotLaw};
@@ -44,4 +45,14 @@ pub fn break_law()
 /// Runs a slot of a closed frame on: the section then stands for what a redo of the core leaves.
 pub fn redo_law()
     ensures { RedoLaw }
+{}
+
+/// Makes an event of a slot's task one of the section's task: the section stands for what it leaves as before.
+pub fn lift_law()
+    ensures { LiftLaw }
+{}
+
+/// Makes an event of the innermost of open sections one of the outermost one's task, at the path through the slots that run.
+pub fn open_law()
+    ensures { OpenLaw }
 {}

@@ -9,5 +9,6 @@
 mod laws;
 
 pub use laws::{
-    alike_law, answer_slot_law, break_law, fork_law, infer_law, join_law, redo_law, slot_law,
+    alike_law, answer_slot_law, break_law, fork_law, infer_law, join_law, lift_law, open_law,
+    redo_law, slot_law,
 };
