@@ -5,3 +5,4 @@ pub mod Answered
 pub mod Settled
 pub mod Redone
 pub mod Open
+pub mod Judged

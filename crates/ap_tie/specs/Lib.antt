@@ -8,4 +8,5 @@ pub mod Slots
 pub mod Answered
 pub mod Settled
 pub mod Redone
+pub mod Judged
 pub mod Open

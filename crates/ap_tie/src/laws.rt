@@ -1,6 +1,7 @@
 //! Laws, each as the contract of a function that does nothing.
 
 ghost use Rattle.ap_tie.specs.Answered.{AlikeLaw, AnswerSlotLaw};
+ghost use Rattle.ap_tie.specs.Judged.{VerdictLaw};
 ghost use Rattle.ap_tie.specs.Laws.{ForkLaw, InferLaw};
 ghost use Rattle.ap_tie.specs.Open.{LiftLaw, OpenLaw};
 ghost use Rattle.ap_tie.specs.Redone.{RedoLaw};
@@ -55,4 +56,9 @@ pub fn lift_law()
 /// Makes an event of the innermost of open sections one of the outermost one's task, at the path through the slots that run.
 pub fn open_law()
     ensures { OpenLaw }
+{}
+
+/// Judges the frame that comes first by its slots: what the verdict says is an event of the core, at that cost.
+pub fn verdict_law()
+    ensures { VerdictLaw }
 {}
