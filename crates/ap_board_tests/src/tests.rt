@@ -7,7 +7,7 @@ use crate::player::{Game, Player};
 use crate::rows::{Move, ROWS, Row, Seat};
 use crate::sitting::{four, three};
 use ap_board::Ticket;
-use ap_goalstack::open;
+use ap_goalstack::{Unruled, open};
 use crossbeam_utils::atomic::AtomicCell;
 use std::alloc::{AllocError, Global};
 use std::sync::Wait;
@@ -191,7 +191,7 @@ fn each_of_a_million_parcels_comes_out_once(rt: HostRuntime) -> Result<(), Fail>
 
 #[test]
 fn the_owner_pops_the_newest_and_thieves_steal_the_oldest(rt: HostRuntime) -> Result<(), Fail> {
-    let (mut stack, mut thieves) = open(rt.alloc(), 4, 1)?;
+    let (mut stack, mut thieves) = open::<Unruled>(rt.alloc(), 4, 1)?;
     let Some(mut thief) = thieves.pop() else {
         panic!(rt; "no thief")
     };

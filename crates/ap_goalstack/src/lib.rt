@@ -4,7 +4,7 @@
 //! first out for the owner, oldest first for thieves, and no call waits.
 //!
 //! Stands on `crossbeam_deque` and, for its tickets, on `ap_board`. The one contract used above: what comes out of a stack was
-//! pushed by its owner.
+//! pushed by its owner, and where nothing comes out, what its caller keeps of it was true of an empty stack.
 #![tactic(auto)]
 
 mod ends;
@@ -13,5 +13,6 @@ mod stack;
 mod view;
 
 pub use ends::{GoalStack, Thief};
+pub use rule::{Rule, Unruled};
 pub use stack::open;
 pub use view::Hand;

@@ -4,4 +4,4 @@ use Rattle.ap_goalstack.specs.Hands.{stack_hand}
 use Rattle.ap_goalstack.proofs.stack.open.Given as goal
 
 abbrev pub invariant-loop : goal.invariant-loop
-invariant-loop l = (stack_hand l.stack ≡ hand true [] []) × (l.stack.capacity ≡ l.capacity) × (vec_len l.others ≡ l.counter)
+invariant-loop g l = (stack_hand l.stack ≡ hand true [] []) × (l.stack.capacity ≡ l.capacity) × (vec_len l.others ≡ l.counter)
