@@ -1,0 +1,4 @@
+pub mod Rows
+pub mod Holding
+pub mod Looking
+pub mod Keeping
