@@ -5,6 +5,7 @@
 #![tactic(auto)]
 
 mod crowd;
+mod lone;
 mod parcel;
 mod player;
 #[cfg(test)]
@@ -15,6 +16,7 @@ mod spot;
 mod tests;
 
 pub use crowd::{PADS, PLAYERS, SHARE, work};
+pub use lone::{Lone, pushed_then_popped};
 pub use parcel::{Outcome, Parcel};
 pub use player::{Game, Player, Refused};
 pub use sitting::{four, three};
