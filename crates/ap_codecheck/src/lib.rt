@@ -1,7 +1,7 @@
 //! Floor: code. Whether code is sound, so that the machine runs it without a test of its own.
 //!
-//! Stands on `ap_instr`. The one contract used above: code that is `Sound` keeps each rule of `specs/Rules` at each place,
-//! on every path to it; `laws` says what a machine has of that.
+//! Stands on `ap_index` and `ap_needs`. The one contract used above: code that is `Sound` keeps each rule of `specs/Rules` at each
+//! place, on every path to it; `laws` says what a machine has of that. It holds its index and what its runs need.
 #![tactic(auto)]
 
 pub mod laws;

@@ -2,6 +2,7 @@
 
 ghost use Rattle.std.specs.Prelude.{◌≡◌, ℕ, ◌<◌, Some, IsSome, IfOk, OnOk, IfErr, IfSome, length, slice_get};
 ghost use Rattle.ap_index.specs.Index.{IsRowOf, IsRestOf, IsLinkOf};
+ghost use Rattle.ap_needs.specs.Needs.{IsRoomOf, AreWidthsOf};
 ghost use Rattle.ap_codecheck.specs.Rules.{IsSound};
 ghost use Rattle.ap_codecheck.specs.Judged.{KeepsAll, KeepsAllAt, BreaksIn, Breaks};
 
@@ -11,26 +12,30 @@ use crate::rule::{CodeErr, Rule};
 use crate::walk::Walk;
 use ap_index::{Index, Link, Row, index_of};
 use ap_instr::{Code, Predicate};
+use ap_needs::{Room, Widths, widths_of};
 use std::alloc::Global;
 use std::marker::Model;
 
-/// Code that keeps every rule at every place, with an index of it.
+/// Code that keeps every rule at every place, with an index of it and what its runs need.
 #[derive(Drop)]
 pub struct Sound {
     code: Code,
     index: Index,
+    room: Room,
+    widths: Widths,
 }
 
 impl Model for Sound {
     ghost use Rattle.ap_instr.specs.Code.{Compiled};
     ghost use Rattle.ap_codecheck.specs.Rules.{IsSound};
     ghost use Rattle.ap_index.specs.Index.{IsIndexOf};
+    ghost use Rattle.ap_needs.specs.Needs.{IsRoomOf, AreWidthsOf};
 
     ghost Value = { Compiled };
 
     ghost view = { λ a. a.code };
 
-    ghost invariant = { λ a. IsSound a.code × IsIndexOf a.code a.index };
+    ghost invariant = { λ a. IsSound a.code × IsIndexOf a.code a.index × IsRoomOf a.code a.room × AreWidthsOf a.code a.widths };
 }
 
 fn check_query(code: &Code) -> Result<(), CodeErr>
@@ -85,7 +90,14 @@ pub fn check(alloc: Global, code: Code) -> Result<Sound, CodeErr>
     check_query(&code)?;
     check_predicates(alloc, &code)?;
     let index = index_of(alloc, &code)?;
-    Ok(Sound { code, index })
+    let room = Room::of(alloc, &code)?;
+    let widths = widths_of(&code);
+    Ok(Sound {
+        code,
+        index,
+        room,
+        widths,
+    })
 }
 
 impl Sound {
@@ -119,6 +131,22 @@ impl Sound {
         ensures { IfSome result (λ link. IsLinkOf self.now from link) }
     {
         self.index.link(from)
+    }
+
+    /// What runs of the code need of a store.
+    #[inline]
+    pub fn room(&self) -> &Room
+        ensures { IsRoomOf self.now result.now }
+    {
+        &self.room
+    }
+
+    /// How many registers the code writes, with those of arguments.
+    #[inline]
+    pub fn widths(&self) -> Widths
+        ensures { AreWidthsOf self.now result }
+    {
+        self.widths
     }
 
     /// The number of the query's predicate.
