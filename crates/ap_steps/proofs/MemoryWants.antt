@@ -2,8 +2,10 @@
 use Rattle.std.proofs.Common.{◌≡◌, ℕ, zero, suc, ◌+◌, Bool, true, false, ◌||◌, if◌then◌else◌, List, drop, slice_get, Some, refl, ap, ◌∙◌, arith}
 use Rattle.ap_instr.specs.declared.instruction.Instr.{Instr}
 use Rattle.ap_instr.specs.declared.instruction.Instr.TheVariants.{GetValue, GetStructure}
-use Rattle.ap_steps.specs.Ways.{is_transfer, wants_memory, wants, NoneOfControl}
-use Rattle.ap_steps.proofs.Places.{drop-here, plain-transfer}
+use Rattle.ap_needs.specs.Needs.{is_transfer, wants_memory, wants}
+use Rattle.ap_steps.specs.Ways.{NoneOfControl}
+use Rattle.ap_needs.proofs.Places.{drop-here}
+use Rattle.ap_steps.proofs.Places.{plain-transfer}
 
 wants-here : (is : List Instr) (at : ℕ) (i : Instr) → slice_get is at ≡ Some i → is_transfer i ≡ false → wants (drop at is) ≡ wants_memory i (drop (at + 1) is) || wants (drop (at + 1) is)
 wants-here is at i e goes_on = ap wants (drop-here is at i e) ∙ ap (λ b. if b then false else wants_memory i (drop (at + 1) is) || wants (drop (at + 1) is)) goes_on

@@ -1,5 +1,5 @@
 -- The instructions from a place of code on.
-use Rattle.std.proofs.Common.{◌≡◌, ℕ, zero, suc, ◌+◌, ◌-◌, ◌<◌, ◌≤◌, true, false, if◌then◌else◌, List, [], ◌∷◌, length, take, drop, min, get_or, slice_get, Some, refl, ap, ◌∙◌, subst, arith}
+use Rattle.std.proofs.Common.{◌≡◌, ℕ, zero, suc, ◌+◌, ◌-◌, ◌<◌, ◌≤◌, true, false, if◌then◌else◌, List, ◌∷◌, length, take, drop, min, get_or, slice_get, Some, refl, ap, ◌∙◌, subst, arith}
 use Rattle.std.proofs.Math.Nat.{le-min}
 use Rattle.std.proofs.lemmas.List.{get_or-drop, get_or-take, length-drop, length-take}
 use Rattle.std.proofs.lemmas.List.Folds.{list_any_kept, list_any_at}
@@ -11,13 +11,9 @@ use Rattle.ap_instr.specs.Code.{Compiled}
 use Rattle.ap_instr.specs.Step.{step_of}
 use Rattle.ap_instr.specs.Steps.{steps_from, skipped}
 use Rattle.ap_instr.proofs.Steps.{steps_law}
-use Rattle.ap_steps.specs.Moves.{HasTargets}
-use Rattle.ap_steps.specs.Ways.{is_control, is_transfer, is_value, has_value, cells_of, room, NoneOfControl, AllHaveTargets}
-
-pub drop-here : (is : List Instr) (at : ℕ) (i : Instr) → slice_get is at ≡ Some i → drop at is ≡ i ∷ drop (at + 1) is
-drop-here [] at i e = cc
-drop-here (j ∷ js) zero i e = let q : j ≡ i = cc in ap (λ v. v ∷ js) q
-drop-here (j ∷ js) (suc n) i e = drop-here js n i e ∙ ap (λ m. i ∷ drop m (j ∷ js)) (let q : suc (n + 1) ≡ suc n + 1 = omega arith in q)
+use Rattle.ap_needs.specs.Needs.{is_control, is_transfer, is_value, has_value, cells_of, room, HasTargets, AllHaveTargets}
+use Rattle.ap_needs.proofs.Places.{drop-here}
+use Rattle.ap_steps.specs.Ways.{NoneOfControl}
 
 -- an instruction that leads to the next one
 pub steps-next : (code : Compiled) (at : ℕ) (i : Instr) → slice_get code.instructions at ≡ Some i → is_transfer i ≡ false → steps_from code at ≡ step_of code i ∷ steps_from code (at + 1)

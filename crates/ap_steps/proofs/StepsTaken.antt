@@ -9,10 +9,11 @@ use Rattle.ap_instr.specs.Step.{Step, get_variable, put_variable, put_value, put
 use Rattle.ap_instr.specs.Steps.{steps_from}
 use Rattle.ap_cells.specs.Store.{Store}
 use Rattle.ap_instr.specs.Runs.{set, read, set_x, set_y}
+use Rattle.ap_needs.specs.Needs.{is_transfer, cells_of}
 use Rattle.ap_match.specs.Fits.{Fits, cell_tree, Becomes}
 use Rattle.ap_steps.specs.Moves.{held, HoldPlaces, Moves, Taken}
 use Rattle.ap_steps.specs.declared.run.Outcome.TheVariants.{On}
-use Rattle.ap_steps.specs.Ways.{is_transfer, cells_of, came_to, NoneOfControl, StepTaken, CameTo}
+use Rattle.ap_steps.specs.Ways.{came_to, NoneOfControl, StepTaken, CameTo}
 use Rattle.ap_steps.proofs.RegisterMaps.{funext}
 use Rattle.ap_steps.proofs.Steps.{variable-taken, put_value-taken, put_constant-taken, put_variable-taken}
 

@@ -4,10 +4,6 @@ use Rattle.ap_term.specs.Tree.{Tree, Trees, int, atom, none}
 use Rattle.ap_cells.specs.declared.cells.Raw.{Raw}
 use Rattle.ap_cells.specs.declared.cells.Cell.{Cell}
 use Rattle.ap_cells.specs.declared.cells.Cell.TheVariants.{Int, Atom}
-use Rattle.ap_instr.specs.declared.instruction.Slot.{Slot}
-use Rattle.ap_instr.specs.declared.instruction.Slot.TheVariants.{X, Y}
-use Rattle.ap_instr.specs.declared.instruction.Instr.{Instr}
-use Rattle.ap_instr.specs.declared.instruction.Instr.TheVariants.{GetVariable, PutVariable, PutValue, PutConstant, PutInteger, PutStructure, UnifyVariable}
 use Rattle.ap_instr.specs.Step.{Step}
 use Rattle.ap_instr.specs.Runs.{Runs}
 use Rattle.ap_match.specs.Fits.{Fits, Agree}
@@ -19,11 +15,6 @@ held xs n = slice_index xs n
 -- registers hold places
 abbrev pub HoldPlaces : ℕ → List ℕ → Type 0
 HoldPlaces n xs = (w : ℕ) → held xs w < n
-
--- a register among so many X and Y registers
-abbrev pub HasRegister : Slot → ℕ → ℕ → Type 0
-HasRegister (X n) xs ys = n < xs
-HasRegister (Y n) xs ys = n < ys
 
 -- under a map that fits the cells the steps ask for these goals
 abbrev pub Asked : List Raw → (ℕ → ℕ) → (ℕ → ℕ) → List Step → (ℕ → Tree) → Trees → Type 0
@@ -49,17 +40,6 @@ abbrev pub constant_of : Cell → Tree
 constant_of (Int z) = int z
 constant_of (Atom a) = atom a
 constant_of _ = atom 0
-
--- the registers that an instruction writes are among so many X and Y registers
-abbrev pub HasTargets : Instr → ℕ → ℕ → Type 0
-HasTargets (GetVariable v a) xs ys = HasRegister v xs ys
-HasTargets (PutVariable v a) xs ys = HasRegister v xs ys × (a < xs)
-HasTargets (PutValue v a) xs ys = a < xs
-HasTargets (PutConstant c a) xs ys = a < xs
-HasTargets (PutInteger i a) xs ys = a < xs
-HasTargets (PutStructure f n a) xs ys = a < xs
-HasTargets (UnifyVariable v) xs ys = HasRegister v xs ys
-HasTargets _ xs ys = Unit {0}
 
 -- registers hold places, or a place that is to come
 abbrev pub HoldPlacesBut : ℕ → ℕ → List ℕ → Type 0

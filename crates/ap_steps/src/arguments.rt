@@ -8,10 +8,11 @@ ghost use Rattle.ap_cells.specs.Store.{Keeps};
 ghost use Rattle.ap_cells.specs.Trees.{Within, tree_at, trees};
 ghost use Rattle.ap_instr.specs.Step.{unify_variable, unify_value, unify_constant, with_integer, step_of};
 ghost use Rattle.ap_instr.specs.Runs.{read};
+ghost use Rattle.ap_needs.specs.Needs.{HasRegister, HasTargets, is_control, is_value, has_value, AllHaveTargets};
 ghost use Rattle.ap_match.specs.Fits.{cell_tree};
-ghost use Rattle.ap_steps.specs.Moves.{held, HasRegister, HasTargets, HoldPlacesBut, constant_of};
+ghost use Rattle.ap_steps.specs.Moves.{held, HoldPlacesBut, constant_of};
 ghost use Rattle.ap_steps.specs.Arguments.{Built, BuiltOr, BuiltOrStuck, are_built, KeepTrees, StandApart};
-ghost use Rattle.ap_steps.specs.Ways.{is_control, is_value, has_value, NoneOfControl, AllHaveTargets};
+ghost use Rattle.ap_steps.specs.Ways.{NoneOfControl};
 
 use crate::registers::{read, write};
 use crate::tables::{instruction_at, integer_at};

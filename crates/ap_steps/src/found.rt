@@ -4,9 +4,10 @@ ghost use Rattle.std.specs.Prelude.{◌≡◌, ℕ, ◌+◌, ◌<◌, ◌≤◌,
 ghost use Rattle.ap_term.specs.Tree.{Tree, atom, int};
 ghost use Rattle.ap_cells.specs.Store.{Keeps};
 ghost use Rattle.ap_instr.specs.Step.{unify_variable, unify_value, unify_constant, with_integer, step_of};
-ghost use Rattle.ap_steps.specs.Moves.{held, HoldPlaces, HasRegister, HasTargets};
+ghost use Rattle.ap_needs.specs.Needs.{HasRegister, HasTargets, is_control, is_value, has_value, AllHaveTargets};
+ghost use Rattle.ap_steps.specs.Moves.{held, HoldPlaces};
 ghost use Rattle.ap_steps.specs.Found.{Matched, MatchedAll};
-ghost use Rattle.ap_steps.specs.Ways.{is_control, is_value, has_value, NoneOfControl, AllHaveTargets};
+ghost use Rattle.ap_steps.specs.Ways.{NoneOfControl};
 
 use crate::registers::{read, write};
 use crate::tables::{instruction_at, integer_at};

@@ -8,7 +8,8 @@ ghost use Rattle.ap_cells.specs.Store.{Keeps};
 ghost use Rattle.ap_cells.specs.Trees.{Within};
 ghost use Rattle.ap_match.specs.Fits.{cell_tree};
 ghost use Rattle.ap_instr.specs.Step.{get_variable, get_value, get_constant, put_variable, put_value, put_constant};
-ghost use Rattle.ap_steps.specs.Moves.{held, HoldPlaces, HasRegister, Taken, constant_of};
+ghost use Rattle.ap_needs.specs.Needs.{HasRegister};
+ghost use Rattle.ap_steps.specs.Moves.{held, HoldPlaces, Taken, constant_of};
 
 use crate::registers::{argument, place_in, put, read, register, write};
 use ap_cells::{Cell, Cells};

@@ -2,7 +2,8 @@
 
 ghost use Rattle.std.specs.Prelude.{◌≡◌, ℕ, ◌<◌, length};
 ghost use Rattle.ap_instr.specs.Runs.{read, set, set_x, set_y};
-ghost use Rattle.ap_steps.specs.Moves.{held, HoldPlaces, HasRegister};
+ghost use Rattle.ap_needs.specs.Needs.{HasRegister};
+ghost use Rattle.ap_steps.specs.Moves.{held, HoldPlaces};
 
 use ap_instr::Slot;
 

@@ -3,8 +3,9 @@
 ghost use Rattle.std.specs.Prelude.{◌≡◌, ℕ, ◌+◌, ◌<◌, ◌≤◌, List, length, drop, slice_get, false, true, IfOk, OnErr};
 ghost use Rattle.ap_cells.specs.Store.{Keeps};
 ghost use Rattle.ap_instr.specs.Step.{get_constant, put_constant, with_integer};
-ghost use Rattle.ap_steps.specs.Moves.{held, HoldPlaces, HasTargets, Taken};
-ghost use Rattle.ap_steps.specs.Ways.{is_transfer, cells_of, came_to, wants_memory, AllHaveTargets, CameTo};
+ghost use Rattle.ap_needs.specs.Needs.{HasTargets, is_transfer, cells_of, wants_memory, AllHaveTargets};
+ghost use Rattle.ap_steps.specs.Moves.{held, HoldPlaces, Taken};
+ghost use Rattle.ap_steps.specs.Ways.{came_to, CameTo};
 
 use crate::instructions::{
     get_constant, get_integer, get_value, get_variable, put_constant, put_integer, put_value,

@@ -5,8 +5,9 @@ ghost use Rattle.ap_term.specs.Tree.{var};
 ghost use Rattle.ap_cells.specs.Store.{Keeps};
 ghost use Rattle.ap_cells.specs.Trees.{tree_at, trees};
 ghost use Rattle.ap_instr.specs.Step.{get_structure, put_structure};
+ghost use Rattle.ap_needs.specs.Needs.{has_value, AllHaveTargets};
 ghost use Rattle.ap_steps.specs.Moves.{held, HoldPlaces};
-ghost use Rattle.ap_steps.specs.Ways.{has_value, NoneOfControl, AllHaveTargets, StepTaken};
+ghost use Rattle.ap_steps.specs.Ways.{NoneOfControl, StepTaken};
 
 use crate::arguments::{Parts, build_arguments};
 use crate::found::match_arguments;

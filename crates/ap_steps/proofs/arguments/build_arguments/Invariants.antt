@@ -1,9 +1,10 @@
 use Rattle.std.proofs.Common.{◌≡◌, ℕ, ◌+◌, ◌≤◌, true, false, length}
 use Rattle.ap_cells.specs.Store.{Keeps}
 use Rattle.ap_instr.specs.Steps.{steps_from}
+use Rattle.ap_needs.specs.Needs.{has_value}
 use Rattle.ap_steps.specs.Moves.{held, HoldPlacesBut}
 use Rattle.ap_steps.specs.Arguments.{BuiltAll, KeepTrees, StandApart}
-use Rattle.ap_steps.specs.Ways.{has_value, NoneOfControl}
+use Rattle.ap_steps.specs.Ways.{NoneOfControl}
 use Rattle.ap_steps.proofs.arguments.build_arguments.Given as goal
 
 abbrev pub invariant-loop-i : goal.invariant-loop-i
