@@ -1,6 +1,5 @@
 pub mod Choices
 pub mod Openness
-pub mod Targets
 pub mod Marks
 pub mod Compared
 pub mod Ran

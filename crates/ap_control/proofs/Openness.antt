@@ -7,7 +7,8 @@ use Rattle.ap_instr.specs.Code.{Compiled}
 use Rattle.ap_instr.specs.Step.{Step, get_constant, put_constant, unify_constant, with_integer, step_of}
 use Rattle.ap_instr.specs.Steps.{steps_from}
 use Rattle.ap_instr.specs.Runs.{AsksOpenly}
-use Rattle.ap_steps.specs.Ways.{is_transfer, NoneOfControl}
+use Rattle.ap_needs.specs.Needs.{is_transfer}
+use Rattle.ap_steps.specs.Ways.{NoneOfControl}
 use Rattle.ap_steps.proofs.Places.{steps-next, plain-transfer}
 
 passed : (code : Compiled) (i : Instr) (is : List Step) → is_transfer i ≡ false → AsksOpenly (step_of code i ∷ is) → AsksOpenly is

@@ -7,8 +7,9 @@ use Rattle.ap_instr.specs.declared.instruction.Instr.{Instr}
 use Rattle.ap_instr.specs.Code.{Compiled}
 use Rattle.ap_instr.specs.Step.{step_of}
 use Rattle.ap_instr.specs.Steps.{steps_from}
+use Rattle.ap_needs.specs.Needs.{cells_of, room, wants, is_transfer}
 use Rattle.ap_steps.specs.Moves.{held, HoldPlaces, Moves, IsStuck}
-use Rattle.ap_steps.specs.Ways.{cells_of, room, wants, is_transfer, NoneOfControl, Passed}
+use Rattle.ap_steps.specs.Ways.{NoneOfControl, Passed}
 use Rattle.ap_steps.proofs.Steps.{Moves-refl, Moves-trans, Moves-stuck}
 use Rattle.ap_steps.proofs.MemoryWants.{wants-on, wants-past}
 use Rattle.ap_steps.proofs.Places.{steps-next, room-here, none-room}

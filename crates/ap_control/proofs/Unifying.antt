@@ -15,10 +15,10 @@ use Rattle.ap_instr.specs.Step.{Step, get_variable, get_constant, get_structure,
 use Rattle.ap_instr.specs.Steps.{steps_from, skipped}
 use Rattle.ap_instr.proofs.Steps.{steps_law}
 use Rattle.ap_instr.specs.Runs.{Runs, set, set_x, set_y, applied, spread, lost, IsOpen, AsksOpenly}
+use Rattle.ap_needs.specs.Needs.{is_transfer}
 use Rattle.ap_match.specs.Fits.{Fits}
 use Rattle.ap_match.proofs.Maps.{fits-own}
 use Rattle.ap_steps.specs.Moves.{held, IsStuck}
-use Rattle.ap_steps.specs.Ways.{is_transfer}
 use Rattle.ap_control.specs.Runs.{Ran, IsTransferAt}
 use Rattle.ap_control.specs.declared.taking.Want.{Want}
 use Rattle.ap_control.specs.declared.taking.Want.TheVariants.{Nothing, Binding, Arguments, More}

@@ -5,8 +5,8 @@ use Rattle.ap_cells.specs.declared.cells.Raw.{Raw}
 use Rattle.ap_instr.specs.Code.{Compiled}
 use Rattle.ap_instr.specs.Steps.{steps_from}
 use Rattle.ap_instr.specs.Runs.{AsksOpenly}
+use Rattle.ap_needs.specs.Needs.{is_transfer}
 use Rattle.ap_steps.specs.Moves.{held, HoldPlaces, Moves, IsStuck}
-use Rattle.ap_steps.specs.Ways.{is_transfer}
 
 pub record Ran (code : Compiled) (at : ℕ) (cs : List Raw) (x y : List ℕ) (to : ℕ) (ds : List Raw) (x' y' : List ℕ) : Type 0 where
   pub moves : Moves cs (held x) (held y) (steps_from code at) ds (held x') (held y') (steps_from code to)

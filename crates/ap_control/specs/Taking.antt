@@ -10,9 +10,9 @@ use Rattle.ap_instr.specs.Code.{Compiled}
 use Rattle.ap_instr.specs.Step.{Step, other, step_of}
 use Rattle.ap_instr.specs.Steps.{steps_from}
 use Rattle.ap_instr.specs.Runs.{Runs, set, IsOpen, AsksOpenly}
+use Rattle.ap_needs.specs.Needs.{is_transfer}
 use Rattle.ap_match.specs.Fits.{Fits}
 use Rattle.ap_steps.specs.Moves.{Asked}
-use Rattle.ap_steps.specs.Ways.{is_transfer}
 use Rattle.ap_control.specs.declared.taking.Want.{Want}
 use Rattle.ap_control.specs.declared.taking.Want.TheVariants.{Nothing, Binding, Arguments, More}
 use Rattle.ap_control.specs.declared.taking.Way.{Way}

@@ -1,6 +1,5 @@
 //! Floor: engine. What a machine's control needs of code: the clauses of a predicate one after another, and which of them unify with a call,
-//! runs of instructions up to one that leads elsewhere, how many registers are written, the built-in goals on two places, and the checks
-//! of groups.
+//! runs of instructions up to one that leads elsewhere, the built-in goals on two places, and the checks of groups.
 //!
 //! Stands on `ap_steps` and `ap_standing`. What is used above: `run_to_transfer`, behind which the code asks for the same goals,
 //! `can_take`, which is so just where a clause's head unifies with the call, and `solve`, by which cells become what a built-in
@@ -13,7 +12,6 @@ mod heads;
 mod relations;
 mod runs;
 mod taking;
-mod widths;
 
 pub use alternatives::{Alternative, first, following, instruction_at};
 pub use checks::{are_apart, is_ground};
@@ -21,7 +19,6 @@ pub use heads::{fails_at_once, first_possible, pass_over};
 pub use relations::solve;
 pub use runs::{run_to_transfer, used};
 pub use taking::{can_take, surely_unifies};
-pub use widths::{Widths, widths_of};
 
 #[cfg(test)]
 mod tests;

@@ -3,7 +3,7 @@
 ghost use Rattle.std.specs.Prelude.{◌≡◌, ℕ, ◌+◌, ◌<◌, ◌≤◌, length, drop, take, slice_get, None, Some, true, false, IfOk, IfSome, OnErr};
 ghost use Rattle.ap_cells.specs.Store.{Keeps};
 ghost use Rattle.ap_steps.specs.Moves.{held, HoldPlaces};
-ghost use Rattle.ap_steps.specs.Ways.{AllHaveTargets, room, wants};
+ghost use Rattle.ap_needs.specs.Needs.{AllHaveTargets, room, wants};
 ghost use Rattle.ap_control.specs.Runs.{RanOrStuck, IsTransferAt};
 
 use crate::alternatives::instruction_at;

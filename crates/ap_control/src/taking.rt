@@ -7,8 +7,8 @@ ghost use Rattle.ap_cells.specs.Store.{Keeps};
 ghost use Rattle.ap_instr.specs.Step.{Step, step_of};
 ghost use Rattle.ap_instr.specs.Steps.{steps_from};
 ghost use Rattle.ap_instr.specs.Runs.{set_x, IsOpen, AsksOpenly};
+ghost use Rattle.ap_needs.specs.Needs.{is_transfer, AllHaveTargets, room};
 ghost use Rattle.ap_steps.specs.Moves.{held, HoldPlaces, IsStuck};
-ghost use Rattle.ap_steps.specs.Ways.{is_transfer, AllHaveTargets, room};
 ghost use Rattle.ap_control.specs.Runs.{IsTransferAt};
 ghost use Rattle.ap_control.specs.Taking.{CanAsk, HasWanted, HasStructure, PassesWanted, IsWayByCall, IsApart, IsOpenInside, LeadsBy};
 

@@ -4,12 +4,11 @@ ghost use Rattle.ap_steps.specs.Moves.{held};
 
 use crate::runs::run_to_transfer;
 use crate::taking::surely_unifies;
-use crate::widths::widths_of;
 use ap_cells::{Cell, Cells, Top};
 use ap_instr::{Builtin, Code, Instr, Slot};
 use ap_match::push_new;
+use ap_needs::{Room, widths_of};
 use ap_steps::registers::argument;
-use ap_steps::room::most_room;
 use ap_term::{Atom, fixed};
 use ap_unify::Work;
 use std::alloc::Global;
@@ -54,7 +53,8 @@ fn run(
 ) -> Result<Option<(usize, u32)>, Fail>
     requires place { place < length cells.old.cells }
 {
-    cells.reserve(most_room(code)?)?;
+    let room = Room::of(alloc, code)?;
+    cells.reserve(room.cells)?;
     let widths = widths_of(code);
     let mut x = registers(alloc, widths.x, place)?;
     let mut y = registers(alloc, widths.y, place)?;

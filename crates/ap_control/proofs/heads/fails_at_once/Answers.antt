@@ -7,8 +7,8 @@ use Rattle.ap_instr.specs.Code.{Compiled}
 use Rattle.ap_instr.specs.Step.{Step, get_constant, with_integer, step_of}
 use Rattle.ap_instr.specs.Steps.{steps_from, skipped}
 use Rattle.ap_instr.proofs.Steps.{steps_law}
+use Rattle.ap_needs.specs.Needs.{is_transfer}
 use Rattle.ap_steps.specs.Moves.{held, Asked, IsStuck}
-use Rattle.ap_steps.specs.Ways.{is_transfer}
 use Rattle.ap_steps.proofs.Places.{steps-next}
 use Rattle.ap_control.specs.Heads.{only_asks}
 use Rattle.ap_control.proofs.heads.fails_at_once.Goals as goal

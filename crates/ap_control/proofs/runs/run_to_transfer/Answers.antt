@@ -1,8 +1,9 @@
 use Rattle.std.proofs.Common.{rules, ◌≡◌, ◌+◌, true, [], length, drop, slice_get, Some, sym, ap, ◌∙◌, subst, arith}
 use Rattle.ap_instr.specs.Steps.{steps_from}
 use Rattle.ap_instr.proofs.Steps.{steps-past}
-use Rattle.ap_steps.specs.Moves.{held, HasTargets, Moves}
-use Rattle.ap_steps.specs.Ways.{wants, CameTo, Passed}
+use Rattle.ap_needs.specs.Needs.{HasTargets, wants}
+use Rattle.ap_steps.specs.Moves.{held, Moves}
+use Rattle.ap_steps.specs.Ways.{CameTo, Passed}
 use Rattle.ap_steps.proofs.Places.{targets-here, room-here}
 use Rattle.ap_steps.proofs.MemoryWants.{wants-now}
 use Rattle.ap_steps.proofs.Steps.{Moves-stuck}

@@ -1,6 +1,6 @@
 use Rattle.std.proofs.Common.{◌≡◌, ◌≤◌, ◌-◌, true, length, drop}
 use Rattle.ap_cells.specs.Store.{Keeps}
-use Rattle.ap_steps.specs.Ways.{room, wants}
+use Rattle.ap_needs.specs.Needs.{room, wants}
 use Rattle.ap_control.specs.Runs.{Ran}
 use Rattle.ap_control.proofs.runs.run_to_transfer.Given as goal
 

@@ -3,7 +3,7 @@ use Rattle.ap_instr.specs.Step.{step_of}
 use Rattle.ap_instr.specs.Steps.{steps_from, skipped}
 use Rattle.ap_instr.proofs.Steps.{steps_law}
 use Rattle.ap_instr.specs.Runs.{IsOpen, AsksOpenly}
-use Rattle.ap_steps.specs.Ways.{is_transfer}
+use Rattle.ap_needs.specs.Needs.{is_transfer}
 use Rattle.ap_steps.proofs.Places.{steps-next}
 use Rattle.ap_control.specs.declared.taking.Way.TheVariants.{On, Structure}
 use Rattle.ap_control.specs.Taking.{IsOpenInside, LeadsBy}

@@ -1,8 +1,8 @@
 use Rattle.std.proofs.Common.{◌≡◌, ◌+◌, ◌-◌, ◌∷◌, false, Some, slice_get, ap, sym, ◌∙◌, subst, arith}
 use Rattle.ap_instr.specs.Step.{Step, step_of, get_variable, unify_variable}
 use Rattle.ap_instr.specs.Steps.{steps_from}
+use Rattle.ap_needs.specs.Needs.{is_transfer}
 use Rattle.ap_steps.specs.Moves.{held}
-use Rattle.ap_steps.specs.Ways.{is_transfer}
 use Rattle.ap_steps.proofs.Places.{steps-next}
 use Rattle.ap_control.specs.declared.taking.Want.TheVariants.{More}
 use Rattle.ap_control.specs.Taking.{PassesWanted}
