@@ -5,7 +5,7 @@ use Rattle.std.specs.List.{AllByRecursion}
 use Rattle.ap_instr.specs.Code.{Compiled}
 use Rattle.ap_steps.specs.Moves.{held, IsStuck}
 use Rattle.ap_instr.specs.Steps.{steps_from}
-use Rattle.ap_steps.specs.Ways.{AllHaveTargets, IsRoomFor}
+use Rattle.ap_needs.specs.Needs.{AllHaveTargets}
 use Rattle.ap_standing.specs.Machine.{Point, Machine}
 use Rattle.ap_standing.specs.Holds.{HoldsRest}
 use Rattle.ap_standing.proofs.Calls.{skipped}
@@ -15,10 +15,10 @@ use Rattle.ap_section.specs.View.{Paused, IsFor}
 use Rattle.ap_section.specs.Choices.{Stays, AtNewest, Returned, LeavesOut}
 
 pub Stays-trans : (s t u : Paused) → Stays s t → Stays t u → Stays s u
-Stays-trans s t u h k = record { x = k.x ∙ h.x; y = k.y ∙ h.y; roots = k.roots ∙ h.roots; spent = k.spent ∙ h.spent; budget = k.budget ∙ h.budget; room = k.room ∙ h.room }
+Stays-trans s t u h k = record { x = k.x ∙ h.x; y = k.y ∙ h.y; roots = k.roots ∙ h.roots; spent = k.spent ∙ h.spent; budget = k.budget ∙ h.budget }
 
 pub Stays-refl : (s : Paused) → Stays s s
-Stays-refl s = record { x = refl; y = refl; roots = refl; spent = refl; budget = refl; room = refl }
+Stays-refl s = record { x = refl; y = refl; roots = refl; spent = refl; budget = refl }
 
 pub Returned-trans : (s t u : Paused) → Returned s t → Returned t u → Returned s u
 Returned-trans s t u h k = record { stays = Stays-trans s t u h.stays k.stays; points = k.points ∙ h.points; now = k.now ∙ h.now; at = k.at }
@@ -27,7 +27,6 @@ pub IsFor-stays : (code : Compiled) (s t : Paused) → Stays s t → AreLive cod
 IsFor-stays code s t h live f = record {
   targets = λ at. subst (λ n. AllHaveTargets (drop at code.instructions) n (length t.machine.y)) (sym h.x) (subst (λ n. AllHaveTargets (drop at code.instructions) (length s.machine.x) n) (sym h.y) (f.targets at));
   arities = λ n q e. let l : q.arity < length s.machine.x = f.arities n q e in let k = h.x in omega arith;
-  room = subst (IsRoomFor code) (sym h.room) f.room;
   live = live;
 }
 

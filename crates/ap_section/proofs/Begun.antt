@@ -13,7 +13,6 @@ use Rattle.ap_cells.specs.Trees.{trees, span}
 use Rattle.ap_instr.specs.declared.compiled.Predicate.{Predicate}
 use Rattle.ap_instr.specs.Code.{Compiled}
 use Rattle.ap_environments.specs.Kept.{Kept}
-use Rattle.ap_steps.specs.declared.room.Room.{Room}
 use Rattle.ap_steps.specs.Moves.{held, HoldPlaces}
 use Rattle.ap_standing.specs.Machine.{Now, calling, inside}
 use Rattle.ap_standing.specs.Holds.{Holds}
@@ -82,9 +81,9 @@ module _ (code : Compiled) (v : Store) (k : Kept) (x y roots : List ℕ) (next :
       stands (inside a.3) (tracked_start u ∷ []) (step.asks a)
       (holds-question code v.cells t.base t.first t.count ts x y roots t.within t.tuple t.args t.len t.each t.width a.3 u (question-reads code p u is number e) same is.is_query)
 
-  pub started : (rest : ℕ) (room : Room) → IsFor code (record { machine = machine_of v k x y roots next; spent = 0; budget = rest; room = room })
-      → Started code ts number rest (record { machine = machine_of v k x y roots next; spent = 0; budget = rest; room = room })
-  started rest room for = record {
+  pub started : (rest : ℕ) → IsFor code (record { machine = machine_of v k x y roots next; spent = 0; budget = rest })
+      → Started code ts number rest (record { machine = machine_of v k x y roots next; spent = 0; budget = rest })
+  started rest for = record {
     is_for = for;
     spent = refl;
     budget = refl;

@@ -247,7 +247,7 @@ module _ (code : Compiled) (s t u n r : Paused) (q : Point) (qs : List Point) (i
   pub retried-stays : Stays s r
   retried-stays =
       subst (Stays s) (sym is-whole)
-      (record { x = back.stays.x; y = back.stays.y; roots = back.stays.roots; spent = back.stays.spent; budget = back.stays.budget; room = back.stays.room })
+      (record { x = back.stays.x; y = back.stays.y; roots = back.stays.roots; spent = back.stays.spent; budget = back.stays.budget })
 
   -- the choice points behind the newest one are live, and that is if another clause of it is left
   pub retried-live : IfSome found (λ a. UnifiesAtNewest code t.machine a.place) → KeepsLive code s.machine r.machine

@@ -5,7 +5,7 @@ use Rattle.ap_term.specs.WellFormed.{IsProgram}
 use Rattle.ap_tracked.specs.Tracked.{Tracked, children}
 use Rattle.ap_instr.specs.Code.{Compiled}
 use Rattle.ap_instr.specs.StandsFor.{StandsFor}
-use Rattle.ap_steps.specs.Ways.{AllHaveTargets, IsRoomFor}
+use Rattle.ap_needs.specs.Needs.{AllHaveTargets}
 use Rattle.ap_standing.specs.Holds.{Turned}
 use Rattle.ap_standing.specs.Laws.{IsTurn}
 use Rattle.ap_section.specs.Live.{AreLive, KeepsLive}
@@ -14,26 +14,25 @@ use Rattle.ap_section.specs.Choices.{Stays}
 use Rattle.ap_section.specs.Advanced.{CallsApart, GoesOn, Advanced}
 
 pub Stays-refl : (s : Paused) → Stays s s
-Stays-refl s = record { x = refl; y = refl; roots = refl; spent = refl; budget = refl; room = refl }
+Stays-refl s = record { x = refl; y = refl; roots = refl; spent = refl; budget = refl }
 
 pub Stays-trans : (s t u : Paused) → Stays s t → Stays t u → Stays s u
-Stays-trans s t u h k = record { x = k.x ∙ h.x; y = k.y ∙ h.y; roots = k.roots ∙ h.roots; spent = k.spent ∙ h.spent; budget = k.budget ∙ h.budget; room = k.room ∙ h.room }
+Stays-trans s t u h k = record { x = k.x ∙ h.x; y = k.y ∙ h.y; roots = k.roots ∙ h.roots; spent = k.spent ∙ h.spent; budget = k.budget ∙ h.budget }
 
--- as many registers, and as much room
-pub as-wide : (code : Compiled) (old new : Paused) → IsFor code old → length new.machine.x ≡ length old.machine.x → length new.machine.y ≡ length old.machine.y → new.room ≡ old.room → AreLive code new.machine → IsFor code new
-as-wide code old new f ex ey er live = record {
+-- as many registers
+pub as-wide : (code : Compiled) (old new : Paused) → IsFor code old → length new.machine.x ≡ length old.machine.x → length new.machine.y ≡ length old.machine.y → AreLive code new.machine → IsFor code new
+as-wide code old new f ex ey live = record {
   targets = λ at. subst (λ n. AllHaveTargets (drop at code.instructions) n (length new.machine.y)) (sym ex) (subst (λ n. AllHaveTargets (drop at code.instructions) (length old.machine.x) n) (sym ey) (f.targets at));
   arities = λ n q e. subst (λ m. q.arity < m) (sym ex) (f.arities n q e);
-  room = subst (IsRoomFor code) (sym er) f.room;
   live = live;
 }
 
 pub still-for : (code : Compiled) (s t : Paused) → IsFor code s → Stays s t → KeepsLive code s.machine t.machine → IsFor code t
-still-for code s t f h live = as-wide code s t f h.x h.y h.room (live f.live)
+still-for code s t f h live = as-wide code s t f h.x h.y (live f.live)
 
--- a section that differs in what registers and room are not, by what it is equal to
-pub for-same : (code : Compiled) (s t u : Paused) → s ≡ u → length t.machine.x ≡ length s.machine.x → length t.machine.y ≡ length s.machine.y → t.room ≡ s.room → KeepsLive code s.machine t.machine → IsFor code u → IsFor code t
-for-same code s t u e ex ey er live f = let g : IsFor code s = subst (IsFor code) (sym e) f in as-wide code s t g ex ey er (live g.live)
+-- a section that differs in what registers are not, by what it is equal to
+pub for-same : (code : Compiled) (s t u : Paused) → s ≡ u → length t.machine.x ≡ length s.machine.x → length t.machine.y ≡ length s.machine.y → KeepsLive code s.machine t.machine → IsFor code u → IsFor code t
+for-same code s t u e ex ey live f = let g : IsFor code s = subst (IsFor code) (sym e) f in as-wide code s t g ex ey (live g.live)
 
 -- ---- turns
 
@@ -54,7 +53,6 @@ Advanced-then code r s t h k = record {
   roots = k.roots ∙ h.roots;
   x = k.x ∙ h.x;
   y = k.y ∙ h.y;
-  room = k.room ∙ h.room;
   live = λ l. k.live (h.live l);
 }
   where
@@ -74,7 +72,6 @@ settled code s t keeps h live = record {
   roots = h.roots;
   x = h.x;
   y = h.y;
-  room = h.room;
   live = live;
 }
 
@@ -89,7 +86,6 @@ counted code s t turn h live = record {
   roots = h.roots;
   x = h.x;
   y = h.y;
-  room = h.room;
   live = live;
 }
   where
@@ -105,4 +101,4 @@ pub unchanged : (code : Compiled) (s t : Paused) → t ≡ s → Advanced code s
 unchanged code s t e = subst (Advanced code s) (sym e) (stopped code s)
 
 pub for-after : (code : Compiled) (s t : Paused) → IsFor code s → Advanced code s t → IsFor code t
-for-after code s t f h = as-wide code s t f h.x h.y h.room (h.live f.live)
+for-after code s t f h = as-wide code s t f h.x h.y (h.live f.live)

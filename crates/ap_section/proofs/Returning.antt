@@ -2,7 +2,6 @@
 use Rattle.std.proofs.Common.{◌≡◌, ℕ, List, ◌∷◌, length, map, ap, sym, ◌∙◌, subst}
 use Rattle.ap_cells.specs.Store.{Store, IsMark, Keeps}
 use Rattle.ap_environments.specs.Kept.{Moment, Kept}
-use Rattle.ap_steps.specs.declared.room.Room.{Room}
 use Rattle.ap_standing.specs.Machine.{Point}
 use Rattle.ap_section.specs.declared.section.Now.{Now as Kind}
 use Rattle.ap_section.specs.View.{Paused, point_of, machine_of}
@@ -13,8 +12,8 @@ use Rattle.ap_section.proofs.Kept.{AreMoments-now, HasBottom-keeps}
 use Rattle.ap_section.proofs.Sanity.{some-moment, can-go-back, points-same, Sane-back, points-stay}
 
 -- from v by way of w, which keeps the marks of v, to u
-module _ (v w u : Store) (k l : Kept) (x y x' y' roots : List ℕ) (next : Kind) (spent budget : ℕ) (room : Room) (s : Paused)
-    (view : record { machine = machine_of v k x y roots next; spent = spent; budget = budget; room = room } ≡ s) (sane : Sane v k x y roots)
+module _ (v w u : Store) (k l : Kept) (x y x' y' roots : List ℕ) (next : Kind) (spent budget : ℕ) (s : Paused)
+    (view : record { machine = machine_of v k x y roots next; spent = spent; budget = budget } ≡ s) (sane : Sane v k x y roots)
     (some : (q : Point) × (qs : List Point) × (s.machine.points ≡ q ∷ qs)) where
   pub can-return : CanGoBack v k.moments (length x)
   can-return = can-go-back v (length x) (length y) roots (length v.cells) (length v.trail) k.moments sane.moments (some.0, some.1, ap (λ (t : Paused). t.machine.points) view ∙ some.2)
@@ -40,7 +39,7 @@ module _ (v w u : Store) (k l : Kept) (x y x' y' roots : List ℕ) (next : Kind)
     mark : IsMark v.cells v.trail m.0.choice.cells m.0.choice.trail
     mark = (subst (AreMoments v (length x) (length y) roots (length v.cells) (length v.trail)) m.2 sane.moments).2.mark
 
-    pub returned : Returned s (record { machine = machine_of u l x' y' roots next; spent = spent; budget = budget; room = room })
+    pub returned : Returned s (record { machine = machine_of u l x' y' roots next; spent = spent; budget = budget })
     returned = record {
       stays = record {
         x = ex ∙ ap (λ (t : Paused). length t.machine.x) view;
@@ -48,7 +47,6 @@ module _ (v w u : Store) (k l : Kept) (x y x' y' roots : List ℕ) (next : Kind)
         roots = ap (λ (t : Paused). t.machine.roots) view;
         spent = ap (λ (t : Paused). t.spent) view;
         budget = ap (λ (t : Paused). t.budget) view;
-        room = ap (λ (t : Paused). t.room) view;
       };
       points = same-points ∙ ap (λ (t : Paused). t.machine.points) view;
       now = ap (λ (t : Paused). t.machine.now) view;
@@ -66,7 +64,7 @@ module _ (v w u : Store) (k l : Kept) (x y x' y' roots : List ℕ) (next : Kind)
     pub Sane-written : (x'' y'' : List ℕ) → x'' ≡ x' → y'' ≡ y' → Sane u l x'' y'' roots
     Sane-written x'' y'' fx fy = subst (λ xs. Sane u l xs y'' roots) (sym fx) (subst (λ ys. Sane u l x' ys roots) (sym fy) Sane-returned)
 
-    pub returned-written : (x'' y'' : List ℕ) → x'' ≡ x' → y'' ≡ y' → Returned s (record { machine = machine_of u l x'' y'' roots next; spent = spent; budget = budget; room = room })
+    pub returned-written : (x'' y'' : List ℕ) → x'' ≡ x' → y'' ≡ y' → Returned s (record { machine = machine_of u l x'' y'' roots next; spent = spent; budget = budget })
     returned-written x'' y'' fx fy =
-        subst (λ xs. Returned s (record { machine = machine_of u l xs y'' roots next; spent = spent; budget = budget; room = room })) (sym fx)
-        (subst (λ ys. Returned s (record { machine = machine_of u l x' ys roots next; spent = spent; budget = budget; room = room })) (sym fy) returned)
+        subst (λ xs. Returned s (record { machine = machine_of u l xs y'' roots next; spent = spent; budget = budget })) (sym fx)
+        (subst (λ ys. Returned s (record { machine = machine_of u l x' ys roots next; spent = spent; budget = budget })) (sym fy) returned)

@@ -6,7 +6,6 @@ use Rattle.ap_cells.specs.Store.{Store, undone, IsMark, IsTrail, Keeps}
 use Rattle.ap_environments.specs.Kept.{Moment, Kept}
 use Rattle.ap_environments.specs.declared.environments.Choice.{Choice}
 use Rattle.ap_control.proofs.Marks.{mark-whole}
-use Rattle.ap_steps.specs.declared.room.Room.{Room}
 use Rattle.ap_steps.specs.Moves.{held, HoldPlaces}
 use Rattle.ap_steps.specs.Standing.{Return}
 use Rattle.ap_standing.specs.Machine.{Point, AreWithin}
@@ -177,34 +176,34 @@ module _ (v : Store) (k l : Kept) (x y roots : List ℕ) (m : Moment) (ms : List
 
 -- ---- as the section's callers see it
 
-module _ (v : Store) (k l : Kept) (x y roots : List ℕ) (next : Kind) (spent budget : ℕ) (room : Room) (s : Paused)
-    (view : record { machine = machine_of v k x y roots next; spent = spent; budget = budget; room = room } ≡ s) where
+module _ (v : Store) (k l : Kept) (x y roots : List ℕ) (next : Kind) (spent budget : ℕ) (s : Paused)
+    (view : record { machine = machine_of v k x y roots next; spent = spent; budget = budget } ≡ s) where
   abbrev seen : List Point → List Return → Paused → Paused
   seen ps ws t = record t { machine = record t.machine { points = ps; returns = ws } }
 
   pub points-forgotten : ((m : Moment) (ms : List Moment) → k.moments ≡ m ∷ ms → l ≡ record k { moments = ms }) → (q : Point) (qs : List Point) → s.machine.points ≡ q ∷ qs
-      → ◌≡◌ {A = Paused} (record { machine = machine_of v l x y roots next; spent = spent; budget = budget; room = room }) (record s { machine = record s.machine { points = qs } })
+      → ◌≡◌ {A = Paused} (record { machine = machine_of v l x y roots next; spent = spent; budget = budget }) (record s { machine = record s.machine { points = qs } })
   points-forgotten f q qs e =
       let ep : map (point_of v) k.moments ≡ q ∷ qs = ap (λ (t : Paused). t.machine.points) view ∙ e in
       let m = some-moment v k.moments (q, qs, ep) in
       let d : point_of v m.0 ∷ map (point_of v) m.1 ≡ q ∷ qs = ap (map (point_of v)) (sym m.2) ∙ ep in
       let er : map (point_of v) m.1 ≡ qs = cc in
-      ap (λ j. record { machine = machine_of v j x y roots next; spent = spent; budget = budget; room = room }) (f m.0 m.1 m.2)
-      ∙ ap (λ ps. record { machine = record { cells = v.cells; x = x; y = y; returns = k.returns; roots = roots; points = ps; now = now_of next }; spent = spent; budget = budget; room = room }) er
+      ap (λ j. record { machine = machine_of v j x y roots next; spent = spent; budget = budget }) (f m.0 m.1 m.2)
+      ∙ ap (λ ps. record { machine = record { cells = v.cells; x = x; y = y; returns = k.returns; roots = roots; points = ps; now = now_of next }; spent = spent; budget = budget }) er
       ∙ ap (λ (t : Paused). record t { machine = record t.machine { points = qs } }) view
 
   pub points-renamed : (place : ℕ) (behind : Option ℕ)
       → ((m : Moment) (ms : List Moment) → k.moments ≡ m ∷ ms → l ≡ record k { moments = record { choice = record m.choice { place = place; behind = behind }; returns = m.returns; arguments = m.arguments } ∷ ms })
       → (q : Point) (qs : List Point) → s.machine.points ≡ q ∷ qs
-      → ◌≡◌ {A = Paused} (record { machine = machine_of v l x y roots next; spent = spent; budget = budget; room = room }) (record s { machine = record s.machine { points = record q { place = place; behind = behind } ∷ qs } })
+      → ◌≡◌ {A = Paused} (record { machine = machine_of v l x y roots next; spent = spent; budget = budget }) (record s { machine = record s.machine { points = record q { place = place; behind = behind } ∷ qs } })
   points-renamed place behind f q qs e =
       let ep : map (point_of v) k.moments ≡ q ∷ qs = ap (λ (t : Paused). t.machine.points) view ∙ e in
       let m = some-moment v k.moments (q, qs, ep) in
       let d : point_of v m.0 ∷ map (point_of v) m.1 ≡ q ∷ qs = ap (map (point_of v)) (sym m.2) ∙ ep in
       let eh : point_of v m.0 ≡ q = cc in
       let er : map (point_of v) m.1 ≡ qs = cc in
-      ap (λ j. record { machine = machine_of v j x y roots next; spent = spent; budget = budget; room = room }) (f m.0 m.1 m.2)
-      ∙ ap₂ (λ (u : Point) ps. record { machine = record { cells = v.cells; x = x; y = y; returns = k.returns; roots = roots; points = record u { place = place; behind = behind } ∷ ps; now = now_of next }; spent = spent; budget = budget; room = room }) eh er
+      ap (λ j. record { machine = machine_of v j x y roots next; spent = spent; budget = budget }) (f m.0 m.1 m.2)
+      ∙ ap₂ (λ (u : Point) ps. record { machine = record { cells = v.cells; x = x; y = y; returns = k.returns; roots = roots; points = record u { place = place; behind = behind } ∷ ps; now = now_of next }; spent = spent; budget = budget }) eh er
       ∙ ap (λ (t : Paused). record t { machine = record t.machine { points = record q { place = place; behind = behind } ∷ qs } }) view
 
   pub newest-of : (o : Option Choice) → IfSome o (λ choice. (m : Moment) × (ms : List Moment) × (k.moments ≡ m ∷ ms) × (m.choice ≡ choice))

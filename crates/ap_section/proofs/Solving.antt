@@ -11,7 +11,6 @@ use Rattle.ap_instr.specs.declared.builtins.Builtin.{Builtin}
 use Rattle.ap_instr.specs.declared.builtins.Builtin.TheVariants.{True, Fail, Relation}
 use Rattle.ap_instr.specs.declared.instruction.Instr.TheVariants.{Builtin as builtin_instr}
 use Rattle.ap_instr.specs.Code.{Compiled}
-use Rattle.ap_steps.specs.declared.room.Room.{Room}
 use Rattle.ap_steps.specs.Moves.{held, HoldPlaces}
 use Rattle.ap_steps.specs.Standing.{Return}
 use Rattle.ap_standing.specs.Machine.{Point, Now, inside, Machine, AreWithin}
@@ -51,11 +50,11 @@ pub kept-on-err : {T E : Type 0} (r : Result T E) (P : Type 0) → P → OnErr r
 kept-on-err (Ok v) P h = tt
 kept-on-err (Err e) P h = h
 
-module _ (v w : Store) (k : Kept) (x y roots : List ℕ) (next : Kind) (spent budget : ℕ) (room : Room) (s : Paused)
-    (view : record { machine = machine_of v k x y roots next; spent = spent; budget = budget; room = room } ≡ s) (sane : Sane v k x y roots) (keeps : Keeps v w) where
-  pub view-kept : w.cells ≡ v.cells → ◌≡◌ {A = Paused} (record { machine = machine_of w k x y roots next; spent = spent; budget = budget; room = room }) s
+module _ (v w : Store) (k : Kept) (x y roots : List ℕ) (next : Kind) (spent budget : ℕ) (s : Paused)
+    (view : record { machine = machine_of v k x y roots next; spent = spent; budget = budget } ≡ s) (sane : Sane v k x y roots) (keeps : Keeps v w) where
+  pub view-kept : w.cells ≡ v.cells → ◌≡◌ {A = Paused} (record { machine = machine_of w k x y roots next; spent = spent; budget = budget }) s
   view-kept e =
-      ap₂ (λ cs ps. record { machine = record { cells = cs; x = x; y = y; returns = k.returns; roots = roots; points = ps; now = now_of next }; spent = spent; budget = budget; room = room })
+      ap₂ (λ cs ps. record { machine = record { cells = cs; x = x; y = y; returns = k.returns; roots = roots; points = ps; now = now_of next }; spent = spent; budget = budget })
       e (points-same v w k x y roots keeps sane)
       ∙ view
 

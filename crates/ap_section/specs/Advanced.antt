@@ -29,5 +29,4 @@ pub record Advanced (code : Compiled) (old new : Paused) : Type 0 where
   pub roots : new.machine.roots ≡ old.machine.roots
   pub x : length new.machine.x ≡ length old.machine.x
   pub y : length new.machine.y ≡ length old.machine.y
-  pub room : new.room ≡ old.room
   pub live : KeepsLive code old.machine new.machine

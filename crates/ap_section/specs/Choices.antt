@@ -15,7 +15,6 @@ pub record Stays (s t : Paused) : Type 0 where
   pub roots : t.machine.roots ≡ s.machine.roots
   pub spent : t.spent ≡ s.spent
   pub budget : t.budget ≡ s.budget
-  pub room : t.room ≡ s.room
 
 -- the machine is where its newest choice point was made
 pub record AtNewest (m : Machine) : Type 0 where

@@ -3,20 +3,18 @@ use Rattle.std.specs.Prelude.{◌≡◌, ℕ, ◌<◌, List, map, length, drop, 
 use Rattle.ap_cells.specs.Store.{Store, undone}
 use Rattle.ap_instr.specs.declared.compiled.Predicate.{Predicate}
 use Rattle.ap_instr.specs.Code.{Compiled}
+use Rattle.ap_needs.specs.Needs.{AllHaveTargets}
 use Rattle.ap_environments.specs.Kept.{Moment, Kept}
-use Rattle.ap_steps.specs.declared.room.Room.{Room}
-use Rattle.ap_steps.specs.Ways.{AllHaveTargets, IsRoomFor}
 use Rattle.ap_standing.specs.Machine.{Point, Now, calling, inside, returning, failed, Machine}
 use Rattle.ap_section.specs.Live.{AreLive}
 use Rattle.ap_section.specs.declared.section.Now.{Now as Kind}
 use Rattle.ap_section.specs.declared.section.Now.TheVariants.{Calling, Inside, Returning, Failed}
 
--- the machine, the calls that were made and those that may be made, and what runs of the code need
+-- the machine, the calls that were made and those that may be made
 pub record Paused : Type 0 where
   pub machine : Machine
   pub spent : ℕ
   pub budget : ℕ
-  pub room : Room
 
 abbrev pub now_of : Kind → Now
 now_of (Calling number) = calling number
@@ -44,5 +42,4 @@ machine_of v k x y roots now =
 pub record IsFor (code : Compiled) (s : Paused) : Type 0 where
   pub targets : (at : ℕ) → AllHaveTargets (drop at code.instructions) (length s.machine.x) (length s.machine.y)
   pub arities : (n : ℕ) (q : Predicate) → slice_get code.predicates n ≡ Some q → q.arity < length s.machine.x
-  pub room : IsRoomFor code s.room
   pub live : AreLive code s.machine

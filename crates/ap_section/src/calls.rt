@@ -9,7 +9,7 @@ ghost use Rattle.ap_environments.specs.Kept.{Moment};
 ghost use Rattle.ap_cells.specs.Store.{Store, Keeps};
 ghost use Rattle.ap_steps.specs.Moves.{held, HoldPlaces, IsStuck};
 ghost use Rattle.ap_instr.specs.Steps.{steps_from};
-ghost use Rattle.ap_steps.specs.Ways.{AllHaveTargets, room};
+ghost use Rattle.ap_needs.specs.Needs.{AllHaveTargets, room, IsRoomOf};
 ghost use Rattle.ap_standing.specs.Machine.{Point, calling, inside, failed, places_from};
 ghost use Rattle.ap_standing.specs.Laws.{IsTurn, KeepsStanding};
 ghost use Rattle.ap_control.specs.Heads.{PassesOver};
@@ -26,6 +26,7 @@ use ap_codecheck::Sound;
 use ap_control::{Alternative, can_take, first_possible, following, pass_over, surely_unifies};
 use ap_environments::{Choice, Environments};
 use ap_instr::{Code, Predicate};
+use ap_needs::Room;
 use ap_term::NoMemory;
 use ap_unify::Work;
 
@@ -183,8 +184,9 @@ impl Section {
 
     /// Whether the clause at a place can be taken at the newest choice point, where the section stands. A head that surely
     /// unifies with the call isn't run for that.
-    fn try_clause(&mut self, code: &Code, place: u32) -> Result<bool, NoMemory>
+    fn try_clause(&mut self, code: &Code, room: &Room, place: u32) -> Result<bool, NoMemory>
         requires is_for { IsFor code.now self.old }
+        requires room { IsRoomOf code.now room.now }
         requires at { AtNewest self.old.machine }
         ensures taken { IfOk result (λ b. b ≡ true → CanTake code.now self.old.machine.cells (held self.old.machine.x) place) }
         ensures stuck { IfOk result (λ b. b ≡ false → IsStuck self.old.machine.cells (held self.old.machine.x) (held self.old.machine.y) (steps_from code.now place)) }
@@ -193,7 +195,7 @@ impl Section {
         if surely_unifies(&self.cells, &self.x, code, place as usize) {
             return Ok(true);
         }
-        self.cells.reserve(self.room.cells)?;
+        self.cells.reserve(room.cells)?;
         run_and_go_back(
             &mut self.cells,
             &mut self.environments,
@@ -220,7 +222,7 @@ impl Section {
         let code = sound.code();
         let mut rest = self.choice_from(sound, behind);
         while let Some(found) = following(code, rest) {
-            if self.try_clause(code, found.place)? {
+            if self.try_clause(code, sound.room(), found.place)? {
                 return Ok(Some(found));
             }
             rest = self.choice_from(sound, found.behind);

@@ -5,8 +5,8 @@ ghost use Rattle.ap_tracked.specs.Tracked.{Tracked};
 ghost use Rattle.ap_cells.specs.Store.{Keeps};
 ghost use Rattle.ap_instr.specs.declared.compiled.Predicate.{Predicate};
 ghost use Rattle.ap_instr.specs.Code.{Compiled};
+ghost use Rattle.ap_needs.specs.Needs.{AllHaveTargets, room, wants, IsRoomOf};
 ghost use Rattle.ap_steps.specs.Moves.{held, HoldPlaces};
-ghost use Rattle.ap_steps.specs.Ways.{AllHaveTargets, room, wants};
 ghost use Rattle.ap_control.specs.Runs.{RanOrStuck, IsTransferAt};
 ghost use Rattle.ap_standing.specs.Machine.{inside, returning, failed};
 ghost use Rattle.ap_standing.specs.Holds.{Holds};
@@ -22,6 +22,7 @@ use crate::section::{Now, Section};
 use ap_cells::Cells;
 use ap_control::{instruction_at, run_to_transfer, used};
 use ap_instr::{Code, Instr};
+use ap_needs::Room;
 use ap_term::NoMemory;
 use ap_unify::Work;
 
@@ -103,17 +104,23 @@ fn run_or_undo(
 impl Section {
     /// Control is at a place in a clause, and goes on to the next instruction of control, unless what stands between can't be
     /// taken. Without memory nothing changes.
-    pub(crate) fn run(&mut self, code: &Code, at: usize) -> Result<Option<usize>, NoMemory>
+    pub(crate) fn run(
+        &mut self,
+        code: &Code,
+        room: &Room,
+        at: usize,
+    ) -> Result<Option<usize>, NoMemory>
         requires here { self.old.machine.now ≡ inside at }
         requires is_for { IsFor code.now self.old }
+        requires room { IsRoomOf code.now room.now }
         ensures holds { KeepsStanding code.now self.old.machine self.new.machine }
         ensures stays { Stays self.old self.new }
         ensures rest { IfOk result (λ found. SameRest self.old.machine self.new.machine) }
         ensures at { IfOk result (λ found. MatchOption found (self.new.machine.now ≡ failed) (λ to. (self.new.machine.now ≡ inside to) × IsTransferAt code.now to)) }
         ensures kept { OnErr result (self.new ≡ self.old) }
     {
-        self.cells.reserve(self.room.cells)?;
-        let may_want = self.room.may_want(at);
+        self.cells.reserve(room.cells)?;
+        let may_want = room.may_want(at);
         save(may_want, &mut self.before_x, &self.x)?;
         save(may_want, &mut self.before_y, &self.y)?;
         match run_or_undo(

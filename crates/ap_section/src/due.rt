@@ -1,6 +1,7 @@
 //! Moves that are no calls, up to what is due.
 
 ghost use Rattle.std.specs.Prelude.{◌≡◌, ◌≤◌, ◌<◌, Some, None, true, false, IfOk, IfSome, IfNone};
+ghost use Rattle.ap_needs.specs.Needs.{IsRoomOf};
 ghost use Rattle.ap_standing.specs.Machine.{calling, inside};
 ghost use Rattle.ap_standing.specs.Laws.{KeepsStanding};
 ghost use Rattle.ap_section.specs.View.{IsFor};
@@ -14,6 +15,7 @@ use crate::control::is_known;
 use crate::section::{Now, Section};
 use ap_codecheck::Sound;
 use ap_instr::{Builtin, Code};
+use ap_needs::Room;
 use ap_term::NoMemory;
 
 /// What is due.
@@ -47,16 +49,17 @@ impl Section {
     }
 
     /// Control is at a place in a clause, and goes on to an instruction of control.
-    fn go_inside(&mut self, code: &Code, at: usize) -> Result<Option<Due>, NoMemory>
+    fn go_inside(&mut self, code: &Code, room: &Room, at: usize) -> Result<Option<Due>, NoMemory>
         requires here { self.old.machine.now ≡ inside at }
         requires is_for { IsFor code.now self.old }
+        requires room { IsRoomOf code.now room.now }
         ensures holds { GoesOn code.now self.old.machine self.new.machine }
         ensures stays { Stays self.old self.new }
         ensures fewer { IfOk result (λ found. IfNone found (moves_left code.now self.new.machine < moves_left code.now self.old.machine)) }
         ensures due { IfOk result (λ found. IfSome found (λ due. IsDue code.now self.new.machine due)) }
         ensures points { self.new.machine.points ≡ self.old.machine.points }
     {
-        match self.run(code, at)? {
+        match self.run(code, room, at)? {
             Some(to) => self.transfer(code, to),
             None => Ok(None),
         }
@@ -74,7 +77,7 @@ impl Section {
         let code = sound.code();
         match self.now() {
             Now::Calling(number) => Ok(self.at_call(code, number)),
-            Now::Inside(at) => self.go_inside(code, at),
+            Now::Inside(at) => self.go_inside(code, sound.room(), at),
             Now::Returning => {
                 if self.come_back() {
                     return Ok(None);

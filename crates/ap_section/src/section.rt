@@ -16,7 +16,6 @@ use ap_cells::{CellMark, Cells};
 use ap_checks::Comparison;
 use ap_copy::{Packing, Parcelled, copy_out};
 use ap_environments::Environments;
-use ap_steps::room::Room;
 use ap_term::NoMemory;
 use ap_unify::Work;
 use std::alloc::Global;
@@ -35,8 +34,8 @@ pub enum Now {
     Failed,
 }
 
-/// A search that is paused: cells, returns, choice points and registers. `room`, and how many registers there are, are those
-/// of the code that it was started with.
+/// A search that is paused: cells, returns, choice points and registers, of which there are as many as the code that it was
+/// started with says.
 #[derive(Drop)]
 pub struct Section {
     pub(crate) cells: Cells,
@@ -48,7 +47,6 @@ pub struct Section {
     pub(crate) next: Now,
     pub(crate) spent: u64,
     pub(crate) budget: u64,
-    pub(crate) room: Room,
     pub(crate) before_x: Vec<u32>,
     pub(crate) before_y: Vec<u32>,
     pub(crate) work: Work,
@@ -63,7 +61,7 @@ impl Model for Section {
 
     ghost Value = { Paused };
 
-    ghost view = { λ a. record { machine = machine_of a.cells a.environments a.x.items a.y.items a.roots.items a.next; spent = a.spent; budget = a.budget; room = a.room } };
+    ghost view = { λ a. record { machine = machine_of a.cells a.environments a.x.items a.y.items a.roots.items a.next; spent = a.spent; budget = a.budget } };
 
     ghost invariant = { λ a. Sane a.cells a.environments a.x.items a.y.items a.roots.items };
 }

@@ -14,11 +14,10 @@ use ap_arith::Pending;
 use ap_cells::{Cell, Cells};
 use ap_checks::Comparison;
 use ap_codecheck::Sound;
-use ap_control::{first, following, widths_of};
+use ap_control::{first, following};
 use ap_copy::{Parcelled, Roots, copy_in};
 use ap_environments::Environments;
 use ap_instr::Code;
-use ap_steps::room::Room;
 use ap_term::{Atom, NoMemory};
 use ap_unify::Work;
 use std::alloc::Global;
@@ -109,14 +108,13 @@ impl Section {
         ensures { IfOk result (λ section. Started sound.now tuple.now predicate rest section) }
     {
         let code = sound.code();
-        let widths = widths_of(code);
+        let widths = sound.widths();
         let mut cells = with_bottom(alloc)?;
         let copied = copy_in(&mut cells, tuple)?;
         let _few = cells.len();
         let x = arguments(alloc, widths.x, copied)?;
         let y = registers(alloc, widths.y)?;
         let roots = places(alloc, copied)?;
-        let room = Room::of(alloc, code)?;
         let section = Section {
             cells,
             environments: Environments::new(alloc),
@@ -126,7 +124,6 @@ impl Section {
             next: first_step(code, predicate),
             spent: 0,
             budget: rest,
-            room,
             before_x: Vec::new(alloc),
             before_y: Vec::new(alloc),
             work: Work::new(alloc),

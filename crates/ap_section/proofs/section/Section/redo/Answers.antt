@@ -10,9 +10,9 @@ use Rattle.ap_section.proofs.section.Section.redo.Goals as goal
 pub returns-clause-is_for : goal.returns-clause-is_for
 returns-clause-is_for c = λ code h.
     let i = c.self.inside in
-    let s : Paused = record { machine = machine_of i.cells i.environments i.x.items i.y.items i.roots.items i.next; spent = i.spent; budget = i.budget; room = i.room } in
+    let s : Paused = record { machine = machine_of i.cells i.environments i.x.items i.y.items i.roots.items i.next; spent = i.spent; budget = i.budget } in
     let t : Paused = record s { machine = record s.machine { now = failed } } in
-    for-same code s t c.args.self.now c.self.view_is refl refl refl (live-failed code s.machine t.machine refl refl) h
+    for-same code s t c.args.self.now c.self.view_is refl refl (live-failed code s.machine t.machine refl refl) h
 
 pub returns-clause-left : goal.returns-clause-left
 returns-clause-left c = λ at code s ss h.

@@ -1,6 +1,5 @@
 use Rattle.std.proofs.Common.{◌≡◌, ℕ, true, List, ◌++◌, length, take, drop, Some, None, arith, refl, ap, sym, ◌∙◌, subst}
 use Rattle.ap_cells.specs.Store.{Keeps}
-use Rattle.ap_steps.specs.Ways.{IsRoomFor}
 use Rattle.ap_standing.specs.Machine.{inside}
 use Rattle.ap_standing.specs.Holds.{Holds}
 use Rattle.ap_control.specs.Runs.{RanOrStuck}
@@ -89,7 +88,7 @@ invariant_of-self-in-Err c =
     let keeps : Keeps a.cells w = Keeps-trans a.cells c.reserve.new.self w (same-store a.cells c.reserve.new.self c.reserve.ensures.cells c.reserve.ensures.trail) c.run_or_undo.ensures.keeps in
     let e = ap length c.reserve.ensures.cells in
     let l = c.run_or_undo.ensures.longer in
-    let said : c.may_want-may_want.result ≡ true = c.may_want-may_want.ensures c.args.code.now (subst (IsRoomFor c.args.code.now) (sym (ap (λ s. s.room) c.self.view_is)) c.requires.is_for.room) ∙ c.in-Err.ensures.wants in
+    let said : c.may_want-may_want.result ≡ true = c.may_want-may_want.ensures c.args.code.now c.requires.room ∙ c.in-Err.ensures.wants in
     let ex : c.copy_from_slice.new.self.items ≡ a.x.items = c.copy_from_slice.ensures.items ∙ c.deref-in-Err.ensures.value ∙ c.in_ok-save.ensures said ∙ c.deref.ensures.value in
     let ey : c.copy_from_slice-in-Err.new.self.items ≡ a.y.items = c.copy_from_slice-in-Err.ensures.items ∙ c.deref-in-Err-2.ensures.value ∙ c.in_ok-save-2.ensures said ∙ c.deref-2.ensures.value in
     sane-kept a.cells w a.environments a.x.items a.y.items c.copy_from_slice.new.self.items c.copy_from_slice-in-Err.new.self.items a.roots.items c.self.invariant keeps (omega (arith, e, l)) ex ey
@@ -99,10 +98,10 @@ returns-in-Err-clause-kept c =
     let a = c.self.inside in
     let w = c.run_or_undo.new.cells in
     let keeps : Keeps a.cells w = Keeps-trans a.cells c.reserve.new.self w (same-store a.cells c.reserve.new.self c.reserve.ensures.cells c.reserve.ensures.trail) c.run_or_undo.ensures.keeps in
-    let said : c.may_want-may_want.result ≡ true = c.may_want-may_want.ensures c.args.code.now (subst (IsRoomFor c.args.code.now) (sym (ap (λ s. s.room) c.self.view_is)) c.requires.is_for.room) ∙ c.in-Err.ensures.wants in
+    let said : c.may_want-may_want.result ≡ true = c.may_want-may_want.ensures c.args.code.now c.requires.room ∙ c.in-Err.ensures.wants in
     let ex : c.copy_from_slice.new.self.items ≡ a.x.items = c.copy_from_slice.ensures.items ∙ c.deref-in-Err.ensures.value ∙ c.in_ok-save.ensures said ∙ c.deref.ensures.value in
     let ey : c.copy_from_slice-in-Err.new.self.items ≡ a.y.items = c.copy_from_slice-in-Err.ensures.items ∙ c.deref-in-Err-2.ensures.value ∙ c.in_ok-save-2.ensures said ∙ c.deref-2.ensures.value in
-    ap (λ m. record { machine = m; spent = a.spent; budget = a.budget; room = a.room })
+    ap (λ m. record { machine = m; spent = a.spent; budget = a.budget })
     (machine-same a.cells w a.environments a.x.items a.y.items c.copy_from_slice.new.self.items c.copy_from_slice-in-Err.new.self.items a.roots.items a.next c.self.invariant keeps (c.in-Err.ensures.err ∙ c.reserve.ensures.cells) ex ey)
     ∙ c.self.view_is
 
@@ -111,7 +110,7 @@ returns-in-Err-clause-holds c = λ ss h.
     let a = c.self.inside in
     let w = c.run_or_undo.new.cells in
     let keeps : Keeps a.cells w = Keeps-trans a.cells c.reserve.new.self w (same-store a.cells c.reserve.new.self c.reserve.ensures.cells c.reserve.ensures.trail) c.run_or_undo.ensures.keeps in
-    let said : c.may_want-may_want.result ≡ true = c.may_want-may_want.ensures c.args.code.now (subst (IsRoomFor c.args.code.now) (sym (ap (λ s. s.room) c.self.view_is)) c.requires.is_for.room) ∙ c.in-Err.ensures.wants in
+    let said : c.may_want-may_want.result ≡ true = c.may_want-may_want.ensures c.args.code.now c.requires.room ∙ c.in-Err.ensures.wants in
     let ex : c.copy_from_slice.new.self.items ≡ a.x.items = c.copy_from_slice.ensures.items ∙ c.deref-in-Err.ensures.value ∙ c.in_ok-save.ensures said ∙ c.deref.ensures.value in
     let ey : c.copy_from_slice-in-Err.new.self.items ≡ a.y.items = c.copy_from_slice-in-Err.ensures.items ∙ c.deref-in-Err-2.ensures.value ∙ c.in_ok-save-2.ensures said ∙ c.deref-2.ensures.value in
     subst (λ q. Holds c.args.code.now q ss)

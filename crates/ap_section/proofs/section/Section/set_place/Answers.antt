@@ -12,4 +12,4 @@ invariant_of-self c =
 pub returns : goal.returns
 returns c = λ q qs e.
     let i = c.self.inside in
-    points-renamed i.cells i.environments c.set_place.new.self i.x.items i.y.items i.roots.items i.next i.spent i.budget i.room c.args.self.now c.self.view_is c.args.place c.args.behind c.set_place.ensures.newest q qs e
+    points-renamed i.cells i.environments c.set_place.new.self i.x.items i.y.items i.roots.items i.next i.spent i.budget c.args.self.now c.self.view_is c.args.place c.args.behind c.set_place.ensures.newest q qs e

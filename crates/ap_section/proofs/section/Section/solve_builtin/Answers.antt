@@ -12,7 +12,7 @@ pub returns-in_err-holds-clause-kept : goal.returns-in_err-holds-clause-kept
 returns-in_err-holds-clause-kept c =
     let i = c.self.inside in
     kept-on-err c.from_residual.result _
-    (view-kept i.cells c.solve_goal.new.cells i.environments i.x.items i.y.items i.roots.items i.next i.spent i.budget i.room c.args.self.now c.self.view_is c.self.invariant c.solve_goal.ensures.keeps c.in_err-holds.ensures.undone)
+    (view-kept i.cells c.solve_goal.new.cells i.environments i.x.items i.y.items i.roots.items i.next i.spent i.budget c.args.self.now c.self.view_is c.self.invariant c.solve_goal.ensures.keeps c.in_err-holds.ensures.undone)
 
 pub invariant_of-self-2 : goal.invariant_of-self-2
 invariant_of-self-2 c =
@@ -21,7 +21,7 @@ invariant_of-self-2 c =
 pub returns-clause-turn : goal.returns-clause-turn
 returns-clause-turn c =
     let i = c.self.inside in
-    turn-of-goal i.cells c.solve_goal.new.cells i.environments i.x.items i.y.items i.roots.items i.next i.spent i.budget i.room c.args.self.now c.self.view_is c.self.invariant c.solve_goal.ensures.keeps
+    turn-of-goal i.cells c.solve_goal.new.cells i.environments i.x.items i.y.items i.roots.items i.next i.spent i.budget c.args.self.now c.self.view_is c.self.invariant c.solve_goal.ensures.keeps
     c.args.code.now c.args.at c.requires.here c.args.builtin c.requires.stands c.deref.result.now c.deref.ensures.value c.in_ok-holds.holds c.in_ok-holds.ensures.solved
     c.after_goal-self-inside.result (c.after_goal-self-inside.ensures c.args.at c.behind-to.ensures)
 

@@ -26,7 +26,7 @@ run_and_go_back-requires-clause-back c =
     let a = c.requires.at in
     let keeps : Keeps i.cells c.reserve.new.self = Keeps-same i.cells c.reserve.new.self c.reserve.ensures.cells c.reserve.ensures.trail in
     let b : CanGoBack i.cells i.environments.moments (length i.x.items) =
-    can-return i.cells i.cells i.cells i.environments i.environments i.x.items i.y.items i.x.items i.y.items i.roots.items i.next i.spent i.budget i.room c.args.self.now c.self.view_is c.self.invariant (a.point, a.others, a.points)
+    can-return i.cells i.cells i.cells i.environments i.environments i.x.items i.y.items i.x.items i.y.items i.roots.items i.next i.spent i.budget c.args.self.now c.self.view_is c.self.invariant (a.point, a.others, a.points)
     in
     subst (λ (xs : List ℕ). CanGoBack c.reserve.new.self i.environments.moments (length xs)) (sym c.deref_mut.ensures.value)
     (b.0, b.1, b.2, keeps.stays b.0.choice.cells b.0.choice.trail b.3, b.4)
@@ -36,7 +36,7 @@ invariant_of-self-2 c =
     let i = c.self.inside in
     let a = c.requires.at in
     let b = c.run_and_go_back in
-    Sane-written i.cells b.ensures.back.0 b.new.cells i.environments b.new.environments i.x.items i.y.items b.new.x b.new.y i.roots.items i.next i.spent i.budget i.room c.args.self.now c.self.view_is c.self.invariant (a.point, a.others, a.points)
+    Sane-written i.cells b.ensures.back.0 b.new.cells i.environments b.new.environments i.x.items i.y.items b.new.x b.new.y i.roots.items i.next i.spent i.budget c.args.self.now c.self.view_is c.self.invariant (a.point, a.others, a.points)
     (Keeps-trans i.cells c.reserve.new.self b.ensures.back.0 (Keeps-same i.cells c.reserve.new.self c.reserve.ensures.cells c.reserve.ensures.trail) b.ensures.back.1) b.ensures.back.2
     (b.ensures.x_len ∙ ap length c.deref_mut.ensures.value) (b.ensures.y_len ∙ ap length c.deref_mut-2.ensures.value)
     _ _ (written i.x.len b.new.x i.x.items (b.ensures.x_len ∙ c.deref_mut.ensures.len)) (written i.y.len b.new.y i.y.items (b.ensures.y_len ∙ c.deref_mut-2.ensures.len))
@@ -57,7 +57,7 @@ returns-clause-back c =
     let i = c.self.inside in
     let a = c.requires.at in
     let b = c.run_and_go_back in
-    returned-written i.cells b.ensures.back.0 b.new.cells i.environments b.new.environments i.x.items i.y.items b.new.x b.new.y i.roots.items i.next i.spent i.budget i.room c.args.self.now c.self.view_is c.self.invariant (a.point, a.others, a.points)
+    returned-written i.cells b.ensures.back.0 b.new.cells i.environments b.new.environments i.x.items i.y.items b.new.x b.new.y i.roots.items i.next i.spent i.budget c.args.self.now c.self.view_is c.self.invariant (a.point, a.others, a.points)
     (Keeps-trans i.cells c.reserve.new.self b.ensures.back.0 (Keeps-same i.cells c.reserve.new.self c.reserve.ensures.cells c.reserve.ensures.trail) b.ensures.back.1) b.ensures.back.2
     (b.ensures.x_len ∙ ap length c.deref_mut.ensures.value) (b.ensures.y_len ∙ ap length c.deref_mut-2.ensures.value)
     _ _ (written i.x.len b.new.x i.x.items (b.ensures.x_len ∙ c.deref_mut.ensures.len)) (written i.y.len b.new.y i.y.items (b.ensures.y_len ∙ c.deref_mut-2.ensures.len))
