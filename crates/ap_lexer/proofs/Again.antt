@@ -4,7 +4,7 @@ use Rattle.std.specs.Prelude.{slice_index, nat_le, nat_lt, All}
 use Rattle.std.specs.List.{prefix_len}
 use Rattle.std.specs.Char.{is_ascii_digit, is_ascii_lowercase, is_ascii_uppercase}
 use Rattle.std.specs.Str.Lossy.{utf8_valid_len}
-use Rattle.std.proofs.lemmas.Bool.{cond-true, cond-false, le-leb, lt-ltb, agree_below, agree_below_at, false≢true}
+use Rattle.std.proofs.lemmas.Bool.{cond-true, cond-false, le-leb, lt-ltb, agree_below, agree_below_at, and_left}
 use Rattle.std.proofs.lemmas.List.Elements.{All-head, All-tail}
 use Rattle.ap_lexer.specs.declared.bytes.Class.TheVariants as class
 use Rattle.ap_lexer.specs.declared.kind.TokenKind.{TokenKind}
@@ -13,6 +13,7 @@ use Rattle.ap_lexer.specs.declared.kind.LexemeKind.TheVariants as kind
 use Rattle.ap_lexer.specs.Lexeme.{Text, is_layout, is_symbol, is_in, past, ends, number, symbols, quoted, plain, lexeme}
 use Rattle.ap_lexer.specs.Row.{IsRun, IsQuoted, IsSolo, IsToken}
 use Rattle.ap_lexer.proofs.Rows.{quoted_closing}
+use Rattle.ap_lexer.proofs.Spelling.{off}
 
 -- a run that is as long as it can be has one length
 run_len : (p : ℕ → Bool) (text : Text) (n : ℕ) → IsRun p text n → prefix_len p text ≡ n
@@ -30,19 +31,12 @@ run_len p (b ∷ text) (suc n) r =
 run_end : (p : ℕ → Bool) (text : Text) (n : ℕ) → 0 < n → IsRun p (drop 1 text) (n - 1) → 1 + prefix_len p (drop 1 text) ≡ n
 run_end p text n h r = omega (arith, h, run_len p (drop 1 text) (n - 1) r)
 
-other : (s t : Bool) → (s && t) ≡ false → s ≡ true → t ≡ false
-other true t e on = e
-other false t e on = absurd (false≢true on)
-
 -- no byte passes both tests
 apart : (f g : ℕ → Bool) (b : ℕ) → agree_below (λ x. f x && g x) (λ _. false) 256 ≡ true → b < 256 → f b ≡ true → g b ≡ false
-apart f g b table byte e = other (f b) (g b) (agree_below_at (λ x. f x && g x) (λ _. false) 256 b table byte) e
+apart f g b table byte e = off (f b) (g b) (agree_below_at (λ x. f x && g x) (λ _. false) 256 b table byte) e
 
 abbrev is_variable : ℕ → Bool
 is_variable b = is_ascii_uppercase b || b == 95
-
-no_and : (s t : Bool) → s ≡ false → (s && t) ≡ false
-no_and s t e = ap (λ x. x && t) e
 
 to_plain : (text : Text) → (slice_index text 0 == 37) ≡ false → (slice_index text 0 == 47 && slice_index text 1 == 42) ≡ false → (slice_index text 0 == 39) ≡ false → lexeme text ≡ plain text
 unfolding lexeme
@@ -51,7 +45,7 @@ to_plain text e f g = cond-false (slice_index text 0 == 37) _ _ e ∙ cond-false
 name_again : (text : Text) (n : ℕ) → slice_index text 0 < 256 → 0 < n → IsToken token.Name text n → lexeme text ≡ (kind.Token token.Name, n)
 name_again text n byte some row =
     let b = slice_index text 0 in
-    to_plain text (apart is_ascii_lowercase (λ x. x == 37) b refl byte row.0) (no_and (b == 47) (slice_index text 1 == 42) (apart is_ascii_lowercase (λ x. x == 47) b refl byte row.0)) (apart is_ascii_lowercase (λ x. x == 39) b refl byte row.0)
+    to_plain text (apart is_ascii_lowercase (λ x. x == 37) b refl byte row.0) (and_left (b == 47) (slice_index text 1 == 42) (apart is_ascii_lowercase (λ x. x == 47) b refl byte row.0)) (apart is_ascii_lowercase (λ x. x == 39) b refl byte row.0)
     ∙ cond-false (is_layout b) _ _ (apart is_ascii_lowercase is_layout b refl byte row.0)
     ∙ cond-true (is_ascii_lowercase b) _ _ row.0
     ∙ ap (λ k. (kind.Token token.Name, k)) (run_end (is_in class.Word) text n some row.1)
@@ -59,7 +53,7 @@ name_again text n byte some row =
 variable_again : (text : Text) (n : ℕ) → slice_index text 0 < 256 → 0 < n → IsToken token.Variable text n → lexeme text ≡ (kind.Token token.Variable, n)
 variable_again text n byte some row =
     let b = slice_index text 0 in
-    to_plain text (apart is_variable (λ x. x == 37) b refl byte row.0) (no_and (b == 47) (slice_index text 1 == 42) (apart is_variable (λ x. x == 47) b refl byte row.0)) (apart is_variable (λ x. x == 39) b refl byte row.0)
+    to_plain text (apart is_variable (λ x. x == 37) b refl byte row.0) (and_left (b == 47) (slice_index text 1 == 42) (apart is_variable (λ x. x == 47) b refl byte row.0)) (apart is_variable (λ x. x == 39) b refl byte row.0)
     ∙ cond-false (is_layout b) _ _ (apart is_variable is_layout b refl byte row.0)
     ∙ cond-false (is_ascii_lowercase b) _ _ (apart is_variable is_ascii_lowercase b refl byte row.0)
     ∙ cond-true (is_variable b) _ _ row.0
@@ -69,7 +63,7 @@ integer_again : (text : Text) (n : ℕ) → slice_index text 0 < 256 → 0 < n �
 integer_again text n byte some row =
     let b = slice_index text 0 in
     let len = run_end is_ascii_digit text n some row.1 in
-    to_plain text (apart is_ascii_digit (λ x. x == 37) b refl byte row.0) (no_and (b == 47) (slice_index text 1 == 42) (apart is_ascii_digit (λ x. x == 47) b refl byte row.0)) (apart is_ascii_digit (λ x. x == 39) b refl byte row.0)
+    to_plain text (apart is_ascii_digit (λ x. x == 37) b refl byte row.0) (and_left (b == 47) (slice_index text 1 == 42) (apart is_ascii_digit (λ x. x == 47) b refl byte row.0)) (apart is_ascii_digit (λ x. x == 39) b refl byte row.0)
     ∙ cond-false (is_layout b) _ _ (apart is_ascii_digit is_layout b refl byte row.0)
     ∙ cond-false (is_ascii_lowercase b) _ _ (apart is_ascii_digit is_ascii_lowercase b refl byte row.0)
     ∙ cond-false (is_variable b) _ _ (apart is_ascii_digit is_variable b refl byte row.0)
@@ -100,7 +94,7 @@ unfolding lexeme
 quoted_again text n q =
     let b = slice_index text 0 in
     let is : b ≡ 39 = ap (λ t. slice_index t 0) q.spelled in
-    cond-false (b == 37) _ _ (ap (λ x. x == 37) is) ∙ cond-false (b == 47 && slice_index text 1 == 42) _ _ (no_and (b == 47) (slice_index text 1 == 42) (ap (λ x. x == 47) is)) ∙ cond-true (b == 39) _ _ (ap (λ x. x == 39) is)
+    cond-false (b == 37) _ _ (ap (λ x. x == 37) is) ∙ cond-false (b == 47 && slice_index text 1 == 42) _ _ (and_left (b == 47) (slice_index text 1 == 42) (ap (λ x. x == 47) is)) ∙ cond-true (b == 39) _ _ (ap (λ x. x == 39) is)
     ∙ ap (quoted text) (quoted_closing text n q)
     ∙ cond-true (nat_le n (utf8_valid_len text)) _ _ (le-leb n (utf8_valid_len text) q.characters)
 

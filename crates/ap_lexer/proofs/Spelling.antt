@@ -2,7 +2,7 @@
 use Rattle.std.proofs.Common.{◌≡◌, ℕ, ◌+◌, ◌==◌, ◌&&◌, ◌||◌, Bool, true, false, cond, List, [], ◌∷◌, ◌++◌, length, Option, Some, None, refl, sym, ap, ◌∙◌, arith}
 use Rattle.std.specs.Prelude.{flat_map}
 use Rattle.std.specs.List.{AllByRecursion}
-use Rattle.std.proofs.lemmas.Bool.{eqb-true, and_parts, or_parts, or_right, false≢true}
+use Rattle.std.proofs.lemmas.Bool.{eqb-true, and_parts, or_parts, or_from, or_right, false≢true}
 use Rattle.std.proofs.lemmas.Option.{none-some, same_Some}
 use Rattle.ap_lexer.specs.declared.ahead.Quote.{Quote}
 use Rattle.ap_lexer.specs.declared.ahead.Quote.TheVariants as quote
@@ -78,13 +78,7 @@ plain_step : (at b end : ℕ) (text : Text) (t1 t2 t3 : Bool) (x y z : Option �
 plain_step at b end text true t2 t3 x y z e1 e2 e3 p q r is = after_quote at b end text (eqb-true b 39 e1) (p is)
 plain_step at b end text false true t3 x y z e1 e2 e3 p q r is = after_escape at b end text (eqb-true b 92 e2) (q is)
 plain_step at b end text false false true x y z e1 e2 e3 p q r is = absurd (none-some end is)
-plain_step at b end text false false false x y z e1 e2 e3 p q r is = one_more at b end text (neither3 (b == 39) (b == 92) (b == 10) e1 e2 e3) (r is)
-  where
-    neither3 : (s t u : Bool) → s ≡ false → t ≡ false → u ≡ false → (s || t || u) ≡ false
-    neither3 false false false e f g = refl
-    neither3 true t u e f g = absurd (false≢true (sym e))
-    neither3 false true u e f g = absurd (false≢true (sym f))
-    neither3 false false true e f g = absurd (false≢true (sym g))
+plain_step at b end text false false false x y z e1 e2 e3 p q r is = one_more at b end text (or_from (b == 39 || b == 92) (b == 10) (or_from (b == 39) (b == 92) e1 e2) e3) (r is)
 
 quote_step : (at b end : ℕ) (text : Text) (t : Bool) (x : Option ℕ) → (b == 39) ≡ t → (x ≡ Some end → Body (at + 1) text end) → cond t x (Some at) ≡ Some end → AtQuote at (b ∷ text) end
 quote_step at b end text true x e p is = doubled text (ap (λ c. c ∷ text) (eqb-true b 39 e)) (p is)
@@ -135,7 +129,7 @@ clear : (t u v : Bool) → (t ≡ true → u ≡ false) → v ≡ false → ((t 
 clear true u v p e = ap (λ x. x || v) (p refl) ∙ e
 clear false u v p e = e
 
-off : (s t : Bool) → (s && t) ≡ false → s ≡ true → t ≡ false
+pub off : (s t : Bool) → (s && t) ≡ false → s ≡ true → t ≡ false
 off true t e on = e
 off false t e on = absurd (false≢true on)
 

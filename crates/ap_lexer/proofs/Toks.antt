@@ -4,7 +4,7 @@ use Rattle.std.proofs.lemmas.List.{drop-drop, append-nil}
 use Rattle.std.proofs.lemmas.Bool.{lt-ltb, le-ltb}
 use Rattle.ap_lexer.specs.Lexeme.{Text, Lexeme, lexeme, lexemes}
 use Rattle.ap_lexer.specs.Token.{Placed, token_of, tokens_from}
-use Rattle.ap_lexer.proofs.Lexemes.{lexemes-cons, lexemes-nil}
+use Rattle.ap_lexer.proofs.Lexemes.{lexemes-cons}
 
 pub turned : (text : Text) (at to : ℕ) (out new all : List Placed) (x : Lexeme) → at < length text → at < to → 0 < x.1 → x ≡ lexeme (drop at text) → new ≡ out ++ token_of x.0 text at x.1 → out ++ tokens_from text at to (lexemes (drop at text)) ≡ all → new ++ tokens_from text (at + x.1) to (lexemes (drop (at + x.1) text)) ≡ all
 turned text at to out new all x h inside k is e before =
@@ -22,6 +22,3 @@ past_end text at to (x ∷ xs) h = ap (λ b. cond b (token_of x.0 text at x.1 ++
 
 pub ended_past : (text : Text) (at to : ℕ) (out all : List Placed) → to ≤ at → out ++ tokens_from text at to (lexemes (drop at text)) ≡ all → out ≡ all
 ended_past text at to out all h before = sym (append-nil out) ∙ sym (ap (λ l. out ++ l) (past_end text at to (lexemes (drop at text)) h)) ∙ before
-
-pub ended_empty : (text : Text) (at to : ℕ) (out all : List Placed) → drop at text ≡ [] → out ++ tokens_from text at to (lexemes (drop at text)) ≡ all → out ≡ all
-ended_empty text at to out all h before = sym (append-nil out) ∙ sym (ap (λ l. out ++ l) (ap (λ l. tokens_from text at to (lexemes l)) h ∙ ap (tokens_from text at to) lexemes-nil)) ∙ before
