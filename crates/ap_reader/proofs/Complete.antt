@@ -2,6 +2,7 @@
 use Rattle.std.proofs.Common.{◌≡◌, ℕ, ◌^◌, ◌<◌, ◌≤◌, List, [], ◌∷◌, ◌++◌, false, cond, leb, ◌&&◌, Some, refl, sym, ap, ◌∙◌, append_assoc, codes, arith}
 use Rattle.std.proofs.lemmas.List.{append-nil}
 use Rattle.std.proofs.lemmas.Bool.{le-leb, lt-leb, lt-ltb}
+use Rattle.std.proofs.lemmas.Option.{same_Some}
 use Rattle.ap_reader.specs.declared.word.Word.{Word}
 use Rattle.ap_reader.specs.declared.word.Word.TheVariants as w
 use Rattle.ap_reader.specs.Grammar.{Tree, Single, Positive, Negative, Prefix, Infix, Group, Compound, Empty, Listed, Tailed, Items, Begin, Then, infix_rank, prefix_rank, spelled, each, priority, IsTerm, AreItems, IsWhole}
@@ -154,8 +155,5 @@ pub complete : (t : Tree) → IsWhole t → parsed (spelled t) ≡ Some t
 complete t ok =
     ap (λ x. ended (over (Wants []) x)) (sym (append-nil (spelled t))) ∙ ap ended (walk t [] [] ok.1 ok.0) ∙ ap whole (unwound 1200 t [] ok.1 ok.0 ∙ reduced-none 1200 t)
 
-Some-inj : {a b : Tree} → Some a ≡ Some b → a ≡ b
-Some-inj e = cc
-
 pub one : (a b : Tree) → IsWhole a → IsWhole b → spelled a ≡ spelled b → a ≡ b
-one a b ok_a ok_b e = Some-inj (sym (complete a ok_a) ∙ ap parsed e ∙ complete b ok_b)
+one a b ok_a ok_b e = same_Some a b (sym (complete a ok_a) ∙ ap parsed e ∙ complete b ok_b)

@@ -1,5 +1,6 @@
 -- What reading says of the tokens before the end token.
 use Rattle.std.proofs.Common.{◌≡◌, ◌≤◌, List, [], Result, Ok, Err, map, sym, ◌∙◌, subst, ap, inl, inr, refl}
+use Rattle.std.proofs.lemmas.List.{same_from_push}
 use Rattle.ap_lexer.specs.Lexeme.{Text}
 use Rattle.ap_lexer.specs.Token.{Placed}
 use Rattle.ap_reader.specs.declared.written.WrittenTerm.{WrittenTerm}
@@ -13,11 +14,10 @@ use Rattle.ap_reader.specs.Step.{postfix}
 use Rattle.ap_reader.specs.Word.{words}
 use Rattle.ap_reader.specs.Written.{leaves, leaf_of, variables}
 use Rattle.ap_reader.specs.Reading.{first_line, EndsAs, Spells, term_of, Parsed, BuiltAs, ReadAs}
-use Rattle.ap_reader.proofs.Stack.{last_same}
 use Rattle.ap_reader.proofs.Complete.{one}
 
 one_front : (ts a b : List Placed) → EndsAs ts a → EndsAs ts b → a ≡ b
-one_front ts a b h k = (last_same a b h.0 k.0 (sym h.2 ∙ k.2)).0
+one_front ts a b h k = (same_from_push a b h.0 k.0 (sym h.2 ∙ k.2)).0
 
 -- what was parsed and then built is what is read
 pub read_built : (ts : List Placed) (old new : List Text) (w : WrittenTerm) (r : Result ReadTerm ReadErr) → Parsed ts (Ok w) → ((t : Tree) → w.steps.items ≡ postfix t → BuiltAs (map leaf_of w.leaves.items) t w.line w.names.items old new r) → ReadAs ts old new r

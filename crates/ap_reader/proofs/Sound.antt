@@ -1,7 +1,8 @@
 -- What the machine finds is a term, and is spelled by the words that it went over.
 use Rattle.std.proofs.Common.{◌≡◌, ℕ, ◌^◌, ◌<◌, ◌≤◌, List, [], ◌∷◌, ◌++◌, Bool, true, false, cond, leb, ltb, ◌&&◌, Some, refl, sym, ap, subst, ◌∙◌, append_assoc, codes, arith}
 use Rattle.std.proofs.lemmas.List.{append-nil}
-use Rattle.std.proofs.lemmas.Bool.{leb-true, ltb-true, and_parts}
+use Rattle.std.proofs.lemmas.Bool.{leb-true, ltb-true, and_parts, cond_both}
+use Rattle.std.proofs.lemmas.Option.{same_Some}
 use Rattle.ap_reader.specs.declared.word.Word.{Word}
 use Rattle.ap_reader.specs.declared.word.Word.TheVariants as w
 use Rattle.ap_reader.specs.Grammar.{Tree, Single, Positive, Negative, Prefix, Infix, Begin, Then, infix_rank, prefix_rank, spelled, each, priority, IsTerm, AreItems, IsWhole}
@@ -37,19 +38,15 @@ Keeps m words (Called at i s) = AreOpen s × (before s ++ w.Functor at i ∷ [] 
 Keeps m words (Has t s) = AreOpen s × IsTerm t × (priority t ≤ m) × (priority t ≤ room s) × (before s ++ spelled t ≡ words)
 Keeps m words Stuck = Unit {0}
 
-on_cond : (P : State → Type 0) (b : Bool) (x y : State) → (b ≡ true → P x) → (b ≡ false → P y) → P (cond b x y)
-on_cond P true x y f g = f refl
-on_cond P false x y f g = g refl
-
 pub kept_reduced : (m : ℕ) (words : List Word) (t : Tree) (s : List Frame) → Keeps m words (Has t s) → Keeps m words (reduced m t s)
 unfolding reduced
 kept_reduced m words t [] k = k
 kept_reduced m words t (AfterPrefix o ∷ s) k =
-    on_cond (Keeps m words) (leb (prefix_rank o) m) (reduced m (Prefix o t) s) (Has t (AfterPrefix o ∷ s))
+    cond_both (leb (prefix_rank o) m) (reduced m (Prefix o t) s) (Has t (AfterPrefix o ∷ s)) (Keeps m words)
     (λ e. kept_reduced m words (Prefix o t) s (k.0.2, (k.0.0, k.3, k.1), leb-true (prefix_rank o) m e, k.0.1, sym (append_assoc (before s) (o ∷ []) (spelled t)) ∙ k.4))
     (λ e. k)
 kept_reduced m words t (AfterInfix l o ∷ s) k =
-    on_cond (Keeps m words) (leb (infix_rank o) m) (reduced m (Infix l o t) s) (Has t (AfterInfix l o ∷ s))
+    cond_both (leb (infix_rank o) m) (reduced m (Infix l o t) s) (Has t (AfterInfix l o ∷ s)) (Keeps m words)
     (λ e.
     let law : (before s ++ (spelled l ++ o ∷ [])) ++ spelled t ≡ before s ++ (spelled l ++ o ∷ spelled t) = simp append_assoc in
     kept_reduced m words (Infix l o t) s (k.0.4, (k.0.0, k.0.1, k.3, k.0.2, k.1), leb-true (infix_rank o) m e, k.0.3, sym law ∙ k.4))
@@ -65,7 +62,7 @@ raised m n words t s h k =
 
 kept_prefixed : (words : List Word) (o : Word) (s : List Frame) → Keeps 0 words (Wants s) → Keeps 0 (words ++ o ∷ []) (prefixed o s)
 kept_prefixed words o s k =
-    on_cond (Keeps 0 (words ++ o ∷ [])) (ltb 0 (prefix_rank o) && leb (prefix_rank o) (room s)) (Wants (AfterPrefix o ∷ s)) Stuck
+    cond_both (ltb 0 (prefix_rank o) && leb (prefix_rank o) (room s)) (Wants (AfterPrefix o ∷ s)) Stuck (Keeps 0 (words ++ o ∷ []))
     (λ e.
     let tests = and_parts (ltb 0 (prefix_rank o)) (leb (prefix_rank o) (room s)) e in
     ((ltb-true 0 (prefix_rank o) tests.0, leb-true (prefix_rank o) (room s) tests.1, k.0), ap (λ x. x ++ o ∷ []) k.1))
@@ -73,7 +70,7 @@ kept_prefixed words o s k =
 
 kept_shifted : (words : List Word) (o : Word) (x : State) → Keeps (left_max (infix_rank o)) words x → Keeps 0 (words ++ o ∷ []) (shifted o x)
 kept_shifted words o (Has t s) k =
-    on_cond (Keeps 0 (words ++ o ∷ [])) (ltb 0 (infix_rank o) && leb (infix_rank o) (room s)) (Wants (AfterInfix t o ∷ s)) Stuck
+    cond_both (ltb 0 (infix_rank o) && leb (infix_rank o) (room s)) (Wants (AfterInfix t o ∷ s)) Stuck (Keeps 0 (words ++ o ∷ []))
     (λ e.
     let tests = and_parts (ltb 0 (infix_rank o)) (leb (infix_rank o) (room s)) e in
     ((ltb-true 0 (infix_rank o) tests.0, k.2, k.1, leb-true (infix_rank o) (room s) tests.1, k.0), sym (append_assoc (before s) (spelled t) (o ∷ [])) ∙ ap (λ x. x ++ o ∷ []) k.4))
@@ -139,7 +136,7 @@ kept_single words t s ok low k =
 kept_want : (words : List Word) (s : List Frame) (word : Word) → Keeps 0 words (Wants s) → Keeps 0 (words ++ word ∷ []) (on_want s word)
 kept_want words s (w.Operand at) k = kept_single words (Single at) s tt (omega arith) k
 kept_want words s (w.Number n) k =
-    on_cond (Keeps 0 (words ++ w.Number n ∷ [])) (ltb n (2 ^ 63)) (Has (Positive n) s) Stuck (λ e. kept_single words (Positive n) s (ltb-true n (2 ^ 63) e) (omega arith) k) (λ e. tt)
+    cond_both (ltb n (2 ^ 63)) (Has (Positive n) s) Stuck (Keeps 0 (words ++ w.Number n ∷ [])) (λ e. kept_single words (Positive n) s (ltb-true n (2 ^ 63) e) (omega arith) k) (λ e. tt)
 kept_want words s (w.Sign at i) k = (k.0, ap (λ x. x ++ w.Sign at i ∷ []) k.1)
 kept_want words s (w.Operator at i p) k = kept_prefixed words (w.Operator at i p) s k
 kept_want words s (w.Functor at i) k = (k.0, ap (λ x. x ++ w.Functor at i ∷ []) k.1)
@@ -163,7 +160,7 @@ kept_want words (InTail items t ∷ s) w.CloseList k = tt
 kept_sign : (sign i : ℕ) (words : List Word) (s : List Frame) (word : Word) → Keeps 0 words (Signed sign i s) → Keeps 0 (words ++ word ∷ []) (on_sign sign i s word)
 kept_sign sign i words s (w.Number n) k =
     let e = sym (append_assoc (before s) (w.Sign sign i ∷ []) (w.Number n ∷ [])) ∙ ap (λ x. x ++ w.Number n ∷ []) k.1 in
-    on_cond (Keeps 0 (words ++ w.Number n ∷ [])) (leb n (2 ^ 63)) (Has (Negative sign i n) s) Stuck (λ small. (k.0, leb-true n (2 ^ 63) small, omega arith, omega arith, e)) (λ large. tt)
+    cond_both (leb n (2 ^ 63)) (Has (Negative sign i n) s) Stuck (Keeps 0 (words ++ w.Number n ∷ [])) (λ small. (k.0, leb-true n (2 ^ 63) small, omega arith, omega arith, e)) (λ large. tt)
 kept_sign sign i words s _ k = tt
 
 kept_call : (at i : ℕ) (words : List Word) (s : List Frame) (word : Word) → Keeps 0 words (Called at i s) → Keeps 0 (words ++ word ∷ []) (on_call at i s word)
@@ -196,11 +193,8 @@ kept_over done x [] k = subst (λ l. Keeps 0 l x) (sym (append-nil done)) k
 kept_over done x (word ∷ words) k =
     subst (λ l. Keeps 0 l (over (next x word) words)) (append_assoc done (word ∷ []) words) (kept_over (done ++ word ∷ []) (next x word) words (kept_next done x word k))
 
-Some-inj : {a b : Tree} → Some a ≡ Some b → a ≡ b
-Some-inj e = cc
-
 found : (words : List Word) (x : State) (t : Tree) → Keeps 1200 words x → whole x ≡ Some t → IsWhole t × (spelled t ≡ words)
-found words (Has u []) t k e = subst (λ x. IsWhole x × (spelled x ≡ words)) (Some-inj e) ((k.2, k.1), k.4)
+found words (Has u []) t k e = subst (λ x. IsWhole x × (spelled x ≡ words)) (same_Some u t e) ((k.2, k.1), k.4)
 found words (Has u (f ∷ s)) t k e = absurd (cc)
 found words (Wants s) t k e = absurd (cc)
 found words (Signed sign i s) t k e = absurd (cc)

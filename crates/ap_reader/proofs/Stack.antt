@@ -1,7 +1,9 @@
 -- What the code's stack says of the frames that it stands for.
 use Rattle.std.proofs.Common.{◌≡◌, ℕ, List, [], ◌∷◌, ◌++◌, Bool, true, false, cond, leb, Some, None, Ok, refl, sym, ap, subst, ◌∙◌, append_assoc}
-use Rattle.std.proofs.lemmas.List.{append-nil}
+use Rattle.std.proofs.lemmas.List.{append-nil, same_from_push}
+pub use Rattle.std.proofs.lemmas.List.{same_from_push as last_same}
 use Rattle.std.proofs.lemmas.Bool.{leb-true}
+use Rattle.std.proofs.lemmas.Option.{cond_some}
 use Rattle.ap_reader.specs.declared.pass.Step.{Step}
 use Rattle.ap_reader.specs.declared.pass.Step.TheVariants as p
 use Rattle.ap_reader.specs.declared.pass.Open.{Open}
@@ -11,25 +13,9 @@ use Rattle.ap_reader.specs.Machine.{Named, Bracket, Frame, AfterPrefix, AfterInf
 use Rattle.ap_reader.specs.Step.{place, postfix, open_of, opens, steps, Holds, Shows, due, Takes}
 use Rattle.ap_reader.proofs.Complete.{reduced-prefix, reduced-infix}
 
-pub last_same : {A : Type 0} (xs ys : List A) (x y : A) → xs ++ x ∷ [] ≡ ys ++ y ∷ [] → (xs ≡ ys) × (x ≡ y)
-last_same [] [] x y e = (refl, cc)
-last_same [] (b ∷ []) x y e = absurd (cc)
-last_same [] (b ∷ c ∷ ys) x y e = absurd (cc)
-last_same (a ∷ []) [] x y e = absurd (cc)
-last_same (a ∷ b ∷ xs) [] x y e = absurd (cc)
-last_same (a ∷ xs) (b ∷ ys) x y e =
-    let rest : xs ++ x ∷ [] ≡ ys ++ y ∷ [] = cc in
-    let same = last_same xs ys x y rest in
-    let first : a ≡ b = cc in
-    (cc, same.1)
-
 pub nothing_last : {A : Type 0} (xs : List A) (x : A) → [] ≡ xs ++ x ∷ [] → ⊥
 nothing_last [] x e = cc
 nothing_last (a ∷ xs) x e = cc
-
-some_when : {A : Type 0} (b : Bool) (x y : A) → cond b (Some x) None ≡ Some y → (b ≡ true) × (x ≡ y)
-some_when true x y e = (refl, cc)
-some_when false x y e = absurd (cc)
 
 none_when : {A : Type 0} (b : Bool) (x : A) → cond b (Some x) None ≡ None → b ≡ false
 none_when true x e = absurd (cc)
@@ -41,11 +27,11 @@ Reduced m t s stack out = (t' : Tree) × (s' : List Frame) × Holds t' s' stack 
 -- the operator that is open last takes its operand
 took_frame : (m : ℕ) (t : Tree) (f : Frame) (r : List Frame) (stack : List Open) (out out' : List Step) (step : Step) → out ≡ steps (f ∷ r) ++ postfix t → stack ≡ opens r → due m (open_of f) ≡ Some step → out' ≡ out ++ step ∷ [] → Reduced m t (f ∷ r) stack out'
 took_frame m t (AfterPrefix word) r stack out out' step h k d e =
-    let which = some_when (leb (prefix_rank word) m) (p.Prefix (place word)) step d in
+    let which = cond_some (leb (prefix_rank word) m) (p.Prefix (place word)) step d in
     let law : ((steps r ++ []) ++ postfix t) ++ p.Prefix (place word) ∷ [] ≡ steps r ++ (postfix t ++ p.Prefix (place word) ∷ []) = simp (append_assoc, append-nil) in
     (Prefix word t, r, record { stack_is = k; out_is = e ∙ ap (λ x. out ++ x ∷ []) (sym which.1) ∙ ap (λ x. x ++ p.Prefix (place word) ∷ []) h ∙ law }, reduced-prefix m word t r (leb-true (prefix_rank word) m which.0))
 took_frame m t (AfterInfix l word) r stack out out' step h k d e =
-    let which = some_when (leb (infix_rank word) m) (p.Infix (place word)) step d in
+    let which = cond_some (leb (infix_rank word) m) (p.Infix (place word)) step d in
     let law : ((steps r ++ postfix l) ++ postfix t) ++ p.Infix (place word) ∷ [] ≡ steps r ++ (postfix l ++ (postfix t ++ p.Infix (place word) ∷ [])) = simp append_assoc in
     (Infix l word t, r, record { stack_is = k; out_is = e ∙ ap (λ x. out ++ x ∷ []) (sym which.1) ∙ ap (λ x. x ++ p.Infix (place word) ∷ []) h ∙ law }, reduced-infix m l word t r (leb-true (infix_rank word) m which.0))
 took_frame m t InGroup r stack out out' step h k d e = absurd (cc)
@@ -57,7 +43,7 @@ took_frame m t (InTail items u) r stack out out' step h k d e = absurd (cc)
 pub took : (m : ℕ) (t : Tree) (s : List Frame) (stack stack' : List Open) (out out' : List Step) (top : Open) (step : Step) → Holds t s stack out → stack ≡ stack' ++ top ∷ [] → due m top ≡ Some step → out' ≡ out ++ step ∷ [] → Reduced m t s stack' out'
 took m t [] stack stack' out out' top step h k d e = absurd (nothing_last stack' top (sym h.stack_is ∙ k))
 took m t (f ∷ r) stack stack' out out' top step h k d e =
-    let same = last_same (opens r) stack' (open_of f) top (sym h.stack_is ∙ k) in
+    let same = same_from_push (opens r) stack' (open_of f) top (sym h.stack_is ∙ k) in
     took_frame m t f r stack' out out' step h.out_is (sym same.0) (ap (due m) same.1 ∙ d) e
 
 -- where no operator takes its operand, the term stands as it is

@@ -4,26 +4,24 @@ use Rattle.std.specs.Prelude.{bytes_eq}
 use Rattle.std.proofs.lemmas.List.{append-nil}
 use Rattle.std.proofs.lemmas.Bool.{or_parts}
 use Rattle.std.proofs.lemmas.Slice.Eq.{bytes_eq-Decides}
+use Rattle.std.proofs.lemmas.Option.{same_Some}
 use Rattle.ap_lexer.specs.Lexeme.{Text}
 use Rattle.ap_term.specs.AtomTable.{is_held, insert_name, insert_names, IsWithoutRepeats, IsAtomTable}
 use Rattle.ap_term.specs.declared.names.InternErr.{InternErr}
 use Rattle.ap_term.specs.declared.names.InternErr.TheVariants as err
 use Rattle.ap_reader.specs.Build.{place_of, Extends, FaultAt}
 
-Some-inj : {a b : Text} → Some a ≡ Some b → a ≡ b
-Some-inj e = cc
-
 some_held : (names : List Text) (a : ℕ) (q name : Text) → slice_get names a ≡ Some name → is_held names q ≡ false → bytes_eq q name ≡ false
 some_held [] a q name e h = absurd (cc)
 some_held (x ∷ xs) zero q name e h =
-    let same : x ≡ name = Some-inj e in
+    let same : x ≡ name = same_Some x name e in
     subst (λ n. bytes_eq q n ≡ false) same (or_parts (bytes_eq q x) (is_held xs q) h).0
 some_held (x ∷ xs) (suc a) q name e h = some_held xs a q name e (or_parts (bytes_eq q x) (is_held xs q) h).1
 
 -- a name's place in a table without repeats, also when the table goes on
 place-prefix : (names more : List Text) (a : ℕ) (name : Text) → IsWithoutRepeats names → slice_get names a ≡ Some name → a ≡ place_of (names ++ more) name
 place-prefix [] more a name h e = absurd (cc)
-place-prefix (x ∷ xs) more zero name h e = sym (ap (λ b. cond b 0 (place_of (xs ++ more) name + 1)) ((bytes_eq-Decides x name).1 (Some-inj e)))
+place-prefix (x ∷ xs) more zero name h e = sym (ap (λ b. cond b 0 (place_of (xs ++ more) name + 1)) ((bytes_eq-Decides x name).1 (same_Some x name e)))
 place-prefix (x ∷ xs) more (suc a) name h e =
     let next = place-prefix xs more a name h.1 e in
     let one : suc a ≡ place_of (xs ++ more) name + 1 = omega arith in
