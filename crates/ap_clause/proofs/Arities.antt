@@ -1,13 +1,10 @@
 -- Terms of other numbers of arguments than a definition singles out.
 use Rattle.std.proofs.Common.{◌≡◌, ℕ, ◌≤◌, false, List, [], ◌∷◌, length, get_or, refl, ap, ap₂, sym, arith}
 use Rattle.ap_term.specs.declared.terms.Term.{Term}
-use Rattle.ap_term.specs.Tree.{Trees, none, more, node}
+use Rattle.ap_term.specs.Tree.{none, more, node}
 use Rattle.ap_term.specs.TermView.{tree_of, trees_of}
-use Rattle.ap_lifting.specs.Body.{goal}
-use Rattle.std.specs.Prelude.{None}
-use Rattle.std.proofs.lemmas.Bool.{false≢true}
 use Rattle.ap_clause.specs.Arity.{is_one, is_pair}
-use Rattle.ap_clause.specs.Clause.{conditions_in, body_in, clause_halves, query_halves, question}
+use Rattle.ap_clause.specs.Clause.{conditions_in}
 
 pub conditions_in-many : (f : ℕ) (ts : List Term) → 3 ≤ length ts → conditions_in (node f (trees_of ts)) ≡ []
 conditions_in-many f [] h = refl
@@ -38,20 +35,3 @@ trees_of-two (x ∷ (y ∷ [])) t u h e k = ap₂ (λ v w. more (tree_of v) (mor
 trees_of-two (x ∷ (y ∷ (z ∷ ts))) t u h e k = absurd (omega arith)
 
 pub ruleset arities = (one_other, pair_other, trees_of-one, trees_of-two)
-
-pub body_in-other : (f : ℕ) (ts : Trees) → is_pair ts ≡ false → body_in (node f ts) ≡ goal (node f ts)
-body_in-other f none h = refl
-body_in-other f (more t none) h = refl
-body_in-other f (more t (more u none)) h = absurd (false≢true (sym h))
-body_in-other f (more t (more u (more v ts))) h = refl
-
-pub clause_halves-other : (f : ℕ) (ts : Trees) → is_pair ts ≡ false → clause_halves (node f ts) ≡ (node f ts, None)
-clause_halves-other f none h = refl
-clause_halves-other f (more t none) h = refl
-clause_halves-other f (more t (more u none)) h = absurd (false≢true (sym h))
-clause_halves-other f (more t (more u (more v ts))) h = refl
-
-pub query_halves-other : (f : ℕ) (ts : Trees) → is_one ts ≡ false → query_halves (node f ts) ≡ question (node f ts)
-query_halves-other f none h = refl
-query_halves-other f (more t none) h = absurd (false≢true (sym h))
-query_halves-other f (more t (more u ts)) h = refl

@@ -2,10 +2,10 @@
 use Rattle.std.proofs.Common.{◌≡◌, ℕ, ◌+◌, ◌<◌, Bool, true, false, ◌&&◌, cond, List, [], ◌∷◌, ◌++◌, length, drop, Option, Some, None, slice_get, refl, sym, ap, ◌∙◌, arith, add-one}
 use Rattle.std.specs.Prelude.{bytes_eq, codes, nat_le, ◌==◌, not}
 use Rattle.std.specs.List.{list_all}
-use Rattle.std.proofs.lemmas.Bool.{false≢true}
-use Rattle.std.proofs.lemmas.Bool.Decides.{nat_tests}
+use Rattle.std.proofs.lemmas.Bool.{false≢true, and_parts, and_from, eqb-true, eq-eqb, le-leb}
 use Rattle.std.proofs.lemmas.List.{take-append-drop}
 use Rattle.std.proofs.lemmas.Slice.Eq.{bytes_eq-Decides}
+use Rattle.std.proofs.lemmas.Option.{same_Some}
 use Rattle.ap_lexer.specs.Lexeme.{Text}
 use Rattle.ap_term.specs.declared.fixed.TheConstants.{NECK, QUERY, COMMA, SEMICOLON, PARALLEL, CONDITION, COUNT}
 use Rattle.ap_term.specs.AtomTable.{fixed_names, IsAtomTable}
@@ -28,13 +28,9 @@ use Rattle.ap_clause.specs.Outside.{outside_head, outside_body, or_else, first_o
 use Rattle.ap_clause.specs.Limit.{is_narrow, are_narrow}
 use Rattle.ap_clause.specs.Reads.{fits}
 use Rattle.ap_clause.specs.Verdict.{CanBeRule}
-use Rattle.ap_clause.proofs.Proper.{IsProper, both_true, variable_in_range, numbered-proper}
+use Rattle.ap_clause.proofs.Proper.{IsProper, variable_in_range, numbered-proper}
 
 -- ---- tests
-
-pub both : (a b : Bool) → (a && b) ≡ true → (a ≡ true) × (b ≡ true)
-both true b h = (refl, h)
-both false b h = absurd (false≢true h)
 
 same_test : (b c : Bool) → (b ≡ true → c ≡ true) → (c ≡ true → b ≡ true) → b ≡ c
 same_test true c f g = sym (f refl)
@@ -42,9 +38,6 @@ same_test false true f g = g refl
 same_test false false f g = refl
 
 -- ---- names of a table
-
-Some-inj : {a b : Text} → Some a ≡ Some b → a ≡ b
-Some-inj e = cc
 
 pub fixed_at : (ns : List Text) (k : ℕ) (name : Text) → IsAtomTable ns → ((others : List Text) → slice_get (fixed_names ++ others) k ≡ Some name) → slice_get ns k ≡ Some name
 fixed_at ns k name h e = ap (λ l. slice_get l k) (sym (take-append-drop COUNT ns) ∙ ap (λ l. l ++ drop COUNT ns) h.fixed) ∙ e (drop COUNT ns)
@@ -57,23 +50,17 @@ place_found (x ∷ xs) f h = of (bytes_eq x f) refl (place_found xs f) h
     of true e g k = ap Some ((bytes_eq-Decides x f).0 e)
     of false e g k = ap (slice_get (x ∷ xs)) (add-one (place_of xs f)) ∙ g (omega arith)
 
-eq_test : (n k : ℕ) → n ≡ k → (n == k) ≡ true
-eq_test n k e = grind (arith, nat_tests)
-
-test_eq : (n k : ℕ) → (n == k) ≡ true → n ≡ k
-test_eq n k e = grind (arith, nat_tests)
-
 -- a name is a fixed one just where its place is that one's
 name-is : (ns : List Text) (f name : Text) (k : ℕ) → IsAtomTable ns → k < COUNT → slice_get ns k ≡ Some name → bytes_eq f name ≡ (place_of ns f == k)
 name-is ns f name k h below at = same_test (bytes_eq f name) (place_of ns f == k) there back
   where
     there : bytes_eq f name ≡ true → (place_of ns f == k) ≡ true
-    there e = eq_test (place_of ns f) k (ap (place_of ns) ((bytes_eq-Decides f name).0 e) ∙ sym (placed ns k name h at []))
+    there e = eq-eqb (place_of ns f) k (ap (place_of ns) ((bytes_eq-Decides f name).0 e) ∙ sym (placed ns k name h at []))
 
     back : (place_of ns f == k) ≡ true → bytes_eq f name ≡ true
     back e =
-        let same = test_eq (place_of ns f) k e in
-        (bytes_eq-Decides f name).1 (Some-inj (sym (place_found ns f (omega (arith, same, below, table-long ns h))) ∙ ap (slice_get ns) same ∙ at))
+        let same = eqb-true (place_of ns f) k e in
+        (bytes_eq-Decides f name).1 (same_Some f name (sym (place_found ns f (omega (arith, same, below, table-long ns h))) ∙ ap (slice_get ns) same ∙ at))
 
 pub connective-is : (ns : List Text) (f : Text) → IsAtomTable ns → connective f ≡ connective_at (place_of ns f)
 connective-is ns f h =
@@ -96,17 +83,14 @@ query-is ns f h = name-is ns f (codes "?-") QUERY h (omega arith) (fixed_at ns Q
 -- ---- a compound can be called
 
 few_test : (m : ℕ) → nat_le (m + 1) 255 ≡ true → (nat_le 1 (m + 1) && nat_le (m + 1) 255) ≡ true
-few_test m h = both_true (nat_le 1 (m + 1)) (nat_le (m + 1) 255) (one m) h
-  where
-    one : (m : ℕ) → nat_le 1 (m + 1) ≡ true
-    one m = grind (arith, nat_tests)
+few_test m h = and_from (nat_le 1 (m + 1)) (nat_le (m + 1) 255) (le-leb 1 (m + 1) (omega arith)) h
 
 module _ (ns : List Text) (table : IsAtomTable ns) (n : ℕ) where
   node_formed : (f : Text) (x : Written) (xs : Writtens) → IsProper n (Node f (Cons x xs)) → is_narrow (term_in ns (Node f (Cons x xs))) ≡ true → (callable (term_in ns (Node f (Cons x xs))) && numbered n (term_in ns (Node f (Cons x xs)))) ≡ true
   node_formed f x xs h narrow =
       let m = count_trees (terms_in ns xs) in
-      both_true (nat_le 1 (m + 1) && nat_le (m + 1) 255) (numbered n (term_in ns x) && numbered_all n (terms_in ns xs))
-      (few_test m (both (nat_le (m + 1) 255) (is_narrow (term_in ns x) && are_narrow (terms_in ns xs)) narrow).0)
+      and_from (nat_le 1 (m + 1) && nat_le (m + 1) 255) (numbered n (term_in ns x) && numbered_all n (terms_in ns xs))
+      (few_test m (and_parts (nat_le (m + 1) 255) (is_narrow (term_in ns x) && are_narrow (terms_in ns xs)) narrow).0)
       (numbered-proper ns n (Node f (Cons x xs)) h)
 
   head_formed : (x : Written) → IsProper n x → is_head x ≡ true → is_narrow (term_in ns x) ≡ true → (callable (term_in ns x) && numbered n (term_in ns x)) ≡ true
@@ -129,8 +113,8 @@ module _ (ns : List Text) (table : IsAtomTable ns) (n : ℕ) where
   all_append : (cs ds : List Condition) → list_all (numbered_condition n) cs ≡ true → list_all (numbered_condition n) ds ≡ true → list_all (numbered_condition n) (cs ++ ds) ≡ true
   all_append [] ds h k = k
   all_append (c ∷ cs) ds h k =
-      let first = both (numbered_condition n c) (list_all (numbered_condition n) cs) h in
-      both_true (numbered_condition n c) (list_all (numbered_condition n) (cs ++ ds)) first.0 (all_append cs ds first.1 k)
+      let first = and_parts (numbered_condition n c) (list_all (numbered_condition n) cs) h in
+      and_from (numbered_condition n c) (list_all (numbered_condition n) (cs ++ ds)) first.0 (all_append cs ds first.1 k)
 
   -- the connective of a name that is no comma asks for a pair
   asks_pair : (b c d conj pair : Bool) → are_both_checks (cond b Or (cond c Par (cond d If Other))) conj pair ≡ pair
@@ -148,23 +132,20 @@ module _ (ns : List Text) (table : IsAtomTable ns) (n : ℕ) where
       of true h = f h
       of false h = g (sym (asks_pair (a == SEMICOLON) (a == PARALLEL) (a == CONDITION) conj pair) ∙ h)
 
-  and_nil : (b : Bool) → b ≡ true → (b && true) ≡ true
-  and_nil b h = both_true b true h refl
-
   checks_formed : (x : Written) → IsProper n x → are_checks x ≡ true → list_all (numbered_condition n) (conditions_in (term_in ns x)) ≡ true
   checks_formed (Variable k) h e = absurd (false≢true e)
   checks_formed (Integer z) h e = absurd (false≢true e)
   checks_formed (Atom f) h e = absurd (false≢true e)
   checks_formed (Node f Nil) h e = absurd h
-  checks_formed (Node f (Cons a Nil)) h e = and_nil (in_range n (variable_in (term_in ns a))) (variable_formed a h.0 (both (bytes_eq f (codes "ground")) (is_variable a) e).1)
+  checks_formed (Node f (Cons a Nil)) h e = and_from (in_range n (variable_in (term_in ns a))) true (variable_formed a h.0 (and_parts (bytes_eq f (codes "ground")) (is_variable a) e).1) refl
   checks_formed (Node f (Cons a (Cons b Nil))) h e =
       pair_formed (place_of ns f) (are_checks a && are_checks b) (bytes_eq f (codes "indep") && (is_variable a && is_variable b)) _ _
       (sym (ap (λ c. are_both_checks c (are_checks a && are_checks b) (bytes_eq f (codes "indep") && (is_variable a && is_variable b))) (connective-is ns f table)) ∙ e)
-      (λ k. let parts = both (are_checks a) (are_checks b) k in all_append (conditions_in (term_in ns a)) (conditions_in (term_in ns b)) (checks_formed a h.0 parts.0) (checks_formed b h.1.0 parts.1))
+      (λ k. let parts = and_parts (are_checks a) (are_checks b) k in all_append (conditions_in (term_in ns a)) (conditions_in (term_in ns b)) (checks_formed a h.0 parts.0) (checks_formed b h.1.0 parts.1))
       (λ k.
-      let parts = both (is_variable a) (is_variable b) (both (bytes_eq f (codes "indep")) (is_variable a && is_variable b) k).1 in
-      and_nil (in_range n (variable_in (term_in ns a)) && in_range n (variable_in (term_in ns b)))
-      (both_true (in_range n (variable_in (term_in ns a))) (in_range n (variable_in (term_in ns b))) (variable_formed a h.0 parts.0) (variable_formed b h.1.0 parts.1)))
+      let parts = and_parts (is_variable a) (is_variable b) (and_parts (bytes_eq f (codes "indep")) (is_variable a && is_variable b) k).1 in
+      and_from (in_range n (variable_in (term_in ns a)) && in_range n (variable_in (term_in ns b))) true
+      (and_from (in_range n (variable_in (term_in ns a))) (in_range n (variable_in (term_in ns b))) (variable_formed a h.0 parts.0) (variable_formed b h.1.0 parts.1)) refl)
   checks_formed (Node f (Cons a (Cons b (Cons c xs)))) h e = absurd (false≢true e)
   checks_formed (Paren x) h e = checks_formed x h e
 
@@ -189,20 +170,20 @@ module _ (ns : List Text) (table : IsAtomTable ns) (n : ℕ) where
       → (ba ≡ true → outside_body x ≡ None → well_formed n x ≡ true) → (bb ≡ true → outside_body y ≡ None → well_formed n y ≡ true)
       → (ca ≡ true → list_all (numbered_condition n) cs ≡ true) → (callable t && numbered n t) ≡ true → well_formed n (joined_by c t cs x y) ≡ true
   joined_formed And t cs x y ba bb ia ib ca e out f g k goal =
-      let parts = both ba bb e in
+      let parts = and_parts ba bb e in
       let outs = or_none (outside_body x) (outside_body y) out in
-      both_true (well_formed n x) (well_formed n y) (f parts.0 outs.0) (g parts.1 outs.1)
+      and_from (well_formed n x) (well_formed n y) (f parts.0 outs.0) (g parts.1 outs.1)
   joined_formed Or t cs x y ba bb ia ib ca e out f g k goal =
-      let parts = both ba bb e in
+      let parts = and_parts ba bb e in
       let outs = or_none (outside_body x) (outside_body y) out in
-      both_true (well_formed n x) (well_formed n y) (f parts.0 outs.0) (g parts.1 outs.1)
+      and_from (well_formed n x) (well_formed n y) (f parts.0 outs.0) (g parts.1 outs.1)
   joined_formed Par t cs x y ba bb ia ib ca e out f g k goal =
-      let sides = both (not ia && ba) (not ib && bb) e in
+      let sides = and_parts (not ia && ba) (not ib && bb) e in
       let outs = or_none (outside_body x) (outside_body y) out in
-      both_true (well_formed n x) (well_formed n y) (f (both (not ia) ba sides.0).1 outs.0) (g (both (not ib) bb sides.1).1 outs.1)
+      and_from (well_formed n x) (well_formed n y) (f (and_parts (not ia) ba sides.0).1 outs.0) (g (and_parts (not ib) bb sides.1).1 outs.1)
   joined_formed If t cs x y ba bb ia ib ca e out f g k goal =
-      let parts = both ca bb e in
-      both_true (list_all (numbered_condition n) cs) (well_formed n y) (k parts.0) (g parts.1 out)
+      let parts = and_parts ca bb e in
+      and_from (list_all (numbered_condition n) cs) (well_formed n y) (k parts.0) (g parts.1 out)
   joined_formed Other t cs x y ba bb ia ib ca e out f g k goal = goal
 
   body_formed : (x : Written) → IsProper n x → is_body x ≡ true → is_narrow (term_in ns x) ≡ true → outside_body (body_in (term_in ns x)) ≡ None → well_formed n (body_in (term_in ns x)) ≡ true
@@ -215,11 +196,11 @@ module _ (ns : List Text) (table : IsAtomTable ns) (n : ℕ) where
   body_formed (Node f Nil) h e narrow out = absurd h
   body_formed (Node f (Cons a Nil)) h e narrow out = node_formed f a Nil h narrow
   body_formed (Node f (Cons a (Cons b Nil))) h e narrow out =
-      let inner = (both (is_narrow (term_in ns a)) (is_narrow (term_in ns b) && true) (both (nat_le (count_trees (more (term_in ns a) (more (term_in ns b) none))) 255) (is_narrow (term_in ns a) && (is_narrow (term_in ns b) && true)) narrow).1) in
+      let inner = (and_parts (is_narrow (term_in ns a)) (is_narrow (term_in ns b) && true) (and_parts (nat_le (count_trees (more (term_in ns a) (more (term_in ns b) none))) 255) (is_narrow (term_in ns a) && (is_narrow (term_in ns b) && true)) narrow).1) in
       joined_formed (connective_at (place_of ns f)) (term_in ns (Node f (Cons a (Cons b Nil)))) (conditions_in (term_in ns a)) (body_in (term_in ns a)) (body_in (term_in ns b))
       (is_body a) (is_body b) (is_conditional a) (is_conditional b) (is_condition a)
       (sym (ap (λ c. is_body_named c (is_body a && is_body b) ((not (is_conditional a) && is_body a) && (not (is_conditional b) && is_body b)) (is_condition a && is_body b)) (connective-is ns f table)) ∙ e)
-      out (λ k. body_formed a h.0 k inner.0) (λ k. body_formed b h.1.0 k (both (is_narrow (term_in ns b)) true inner.1).0)
+      out (λ k. body_formed a h.0 k inner.0) (λ k. body_formed b h.1.0 k (and_parts (is_narrow (term_in ns b)) true inner.1).0)
       (condition_formed a h.0) (node_formed f a (Cons b Nil) h narrow)
   body_formed (Node f (Cons a (Cons b (Cons c xs)))) h e narrow out = node_formed f a (Cons b (Cons c xs)) h narrow
   body_formed (Paren x) h e narrow out = body_formed x h e narrow out
@@ -234,7 +215,7 @@ module _ (ns : List Text) (table : IsAtomTable ns) (n : ℕ) where
       → first_outside source.Program (cond b (term_in ns x, Some (body_in (term_in ns y))) (whole, None)) ≡ None
       → AreFormed (cond b (term_in ns x, Some (body_in (term_in ns y))) (whole, None))
   neck_formed true test whole f x y h k e fit nx ny goal out =
-      let parts = both (is_head x) (is_body y) fit in
+      let parts = and_parts (is_head x) (is_body y) fit in
       let outs = or_none (outside_head (term_in ns x)) (outside_body (body_in (term_in ns y))) out in
       (head_formed x h parts.0 nx, body_formed y k parts.1 ny outs.1)
   neck_formed false test whole f x y h k e fit nx ny goal out = (goal, refl)
@@ -246,11 +227,11 @@ module _ (ns : List Text) (table : IsAtomTable ns) (n : ℕ) where
   clause_formed (Node f Nil) h e narrow out = absurd h
   clause_formed (Node f (Cons a Nil)) h e narrow out = (node_formed f a Nil h narrow, refl)
   clause_formed (Node f (Cons a (Cons b Nil))) h e narrow out =
-      let inner = (both (is_narrow (term_in ns a)) (is_narrow (term_in ns b) && true) (both (nat_le (count_trees (more (term_in ns a) (more (term_in ns b) none))) 255) (is_narrow (term_in ns a) && (is_narrow (term_in ns b) && true)) narrow).1) in
+      let inner = (and_parts (is_narrow (term_in ns a)) (is_narrow (term_in ns b) && true) (and_parts (nat_le (count_trees (more (term_in ns a) (more (term_in ns b) none))) 255) (is_narrow (term_in ns a) && (is_narrow (term_in ns b) && true)) narrow).1) in
       let whole = term_in ns (Node f (Cons a (Cons b Nil))) in
       neck_formed (place_of ns f == NECK) (is_head_named (connective f)) whole f a b h.0 h.1.0 (neck-is ns f table)
       (sym (ap (λ b'. cond b' (is_head a && is_body b) (is_head_named (connective f))) (neck-is ns f table)) ∙ e)
-      inner.0 (both (is_narrow (term_in ns b)) true inner.1).0 (node_formed f a (Cons b Nil) h narrow) out
+      inner.0 (and_parts (is_narrow (term_in ns b)) true inner.1).0 (node_formed f a (Cons b Nil) h narrow) out
   clause_formed (Node f (Cons a (Cons b (Cons c xs)))) h e narrow out = (node_formed f a (Cons b (Cons c xs)) h narrow, refl)
   clause_formed (Paren x) h e narrow out = clause_formed x h e narrow out
 
@@ -261,7 +242,7 @@ module _ (ns : List Text) (table : IsAtomTable ns) (n : ℕ) where
       → first_outside source.Query (cond b (atom QUERY, Some (body_in (term_in ns x))) (atom QUERY, Some (body_in (term_in ns (Node f (Cons x Nil)))))) ≡ None
       → AreFormed (cond b (atom QUERY, Some (body_in (term_in ns x))) (atom QUERY, Some (body_in (term_in ns (Node f (Cons x Nil))))))
   asked_formed true f x h e narrow out =
-      question_formed x h.0 e (both (is_narrow (term_in ns x)) true (both (nat_le (count_trees (more (term_in ns x) none)) 255) (is_narrow (term_in ns x) && true) narrow).1).0 out
+      question_formed x h.0 e (and_parts (is_narrow (term_in ns x)) true (and_parts (nat_le (count_trees (more (term_in ns x) none)) 255) (is_narrow (term_in ns x) && true) narrow).1).0 out
   asked_formed false f x h e narrow out = question_formed (Node f (Cons x Nil)) h refl narrow out
 
   pub query_formed : (x : Written) → IsProper n x → is_query x ≡ true → is_narrow (term_in ns x) ≡ true → first_outside source.Query (query_halves (term_in ns x)) ≡ None → AreFormed (query_halves (term_in ns x))

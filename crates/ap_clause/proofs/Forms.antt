@@ -1,5 +1,5 @@
 -- The form of lists and of leaves.
-use Rattle.std.proofs.Common.{◌≡◌, List, [], ◌∷◌, ◌++◌, refl}
+use Rattle.std.proofs.Common.{◌≡◌, List, [], ◌∷◌, refl}
 use Rattle.ap_reader.specs.Written.{Written, Node, Cons, Nil, cell}
 use Rattle.ap_reader.specs.Evaluated.{Gathered, with_rest, cells}
 use Rattle.ap_lexer.specs.Lexeme.{Text}
@@ -9,10 +9,6 @@ use Rattle.ap_clause.specs.declared.form.Shape.TheVariants as shape
 pub form-cells : (ys : List Written) (x u : Written) → form_of (cells ys (cell x u)) ≡ plain
 form-cells [] x u = refl
 form-cells (y ∷ ys) x u = refl
-
-pub shape-push : (ys : List Written) (y x : Written) → shape_of (Gathered ((y ∷ ys) ++ x ∷ [])) ≡ shape.Items
-shape-push [] y x = refl
-shape-push (z ∷ ys) y x = refl
 
 pub form-many : (f : Text) (y z : Written) (ys : List Written) (x : Written) → form_of (Node f (with_rest (y ∷ z ∷ ys) (Cons x Nil))) ≡ plain
 form-many f y z [] x = refl

@@ -3,6 +3,7 @@ use Rattle.std.proofs.Common.{◌≡◌, ℕ, ◌+◌, ◌-◌, ◌^◌, ◌<◌
 use Rattle.std.specs.Prelude.{nat_lt, not}
 use Rattle.ap_term.specs.Tree.{Tree}
 use Rattle.std.proofs.lemmas.Bool.Decides.{nat_tests}
+use Rattle.std.proofs.lemmas.Bool.{ltb-false, le-ltb}
 use Rattle.ap_lifting.specs.Rule.{Rule}
 use Rattle.ap_lifting.specs.declared.sizes.Sizes.{Sizes}
 use Rattle.ap_lifting.specs.Sizes.{held, AreSizesOf, count_goals, largest_group, most_goals, largest_group_in}
@@ -29,11 +30,8 @@ over_none true w rest h = absurd (clash h)
 over_none false w rest h = (refl, h)
 
 within : (m n h : ℕ) → h ≡ held n → nat_lt m h ≡ false → m < 2 ^ 64 - 1 → h ≡ n
-within m n h e k l = of (below m h k)
+within m n h e k l = of (ltb-false m h k)
   where
-    below : (m h : ℕ) → nat_lt m h ≡ false → h ≤ m
-    below m h k = grind (arith, nat_tests)
-
     of : h ≤ m → h ≡ n
     of q = omega arith
 
@@ -54,14 +52,11 @@ lifted_same source r before s sum h k =
     let x = outcome r in
     sizes_same s.goals s.group sum (max (count_goals x.parts) (most_goals x.clauses)) (max (largest_group x.parts) (largest_group_in x.clauses)) (clauses_after source r before) h.goals h.group k
 
-few_variables : (n : ℕ) → n ≤ MAX_VARIABLES → nat_lt MAX_VARIABLES n ≡ false
-few_variables n h = grind (arith, nat_tests)
-
 -- what is found of the sizes of a clause that has few variables and arguments is the first limit that it passes
 pub limited_passed : (source : Source) (t : Tree) (r : Rule) (before : ℕ) (s : Sizes) (own sum : ℕ) (found : Option What) → r.vars ≤ MAX_VARIABLES → is_narrow t ≡ true → AreSizesOf 0 (outcome r) s
     → own ≡ held (own_clauses source + s.clauses) → sum ≡ held (before + own) → found ≡ passed_sizes s.goals s.group sum → passed source t r before ≡ found
 limited_passed source t r before s own sum found few narrow h e f g =
-    ap (λ b. over b what.Variables (over (not (is_narrow t)) what.Arity (passed_lifted source r before))) (few_variables r.vars few)
+    ap (λ b. over b what.Variables (over (not (is_narrow t)) what.Arity (passed_lifted source r before))) (le-ltb MAX_VARIABLES r.vars few)
     ∙ ap (λ b. over (not b) what.Arity (passed_lifted source r before)) narrow
     ∙ sym (lifted_same source r before s sum h (sum_held source r before s own sum h e f)) ∙ sym g
 

@@ -10,7 +10,6 @@ use Rattle.ap_reader.specs.declared.written.TheConstants.{MAX_OPEN}
 use Rattle.ap_reader.specs.Bracket.{most_open}
 use Rattle.ap_reader.specs.Word.{words}
 use Rattle.ap_reader.specs.Reading.{first_line, EndsAs}
-use Rattle.ap_reader.proofs.Stack.{last_same}
 use Rattle.ap_reader.proofs.Complete.{one}
 use Rattle.ap_lifting.specs.Rule.{Rule}
 use Rattle.ap_lifting.specs.Lifted.{lifted_program}
@@ -19,10 +18,11 @@ use Rattle.ap_clause.specs.declared.source.Source.{Source}
 use Rattle.ap_clause.specs.declared.source.Source.TheVariants as source
 use Rattle.ap_clause.specs.Fresh.{IsNext, AreNext, lift_name, with_lifted, names_by}
 use Rattle.ap_clause.specs.Reads.{Position, Taken, Verdict, Refused, Took, Sentence, IsSentence, judged, JudgesOpen, JudgesBy, Judges, Outcome, Stopped, Whole, Goes, Reads, start, beside, lifted_query, AcceptsProgram, RefusesProgram, AcceptsQuery, RefusesQuery}
-use Rattle.std.proofs.lemmas.Bool.{false≢true}
+use Rattle.std.proofs.lemmas.Bool.{both_ways}
+use Rattle.std.proofs.lemmas.List.{same_from_push}
 
 front_one : (ts a b : List Placed) → EndsAs ts a → EndsAs ts b → a ≡ b
-front_one ts a b h k = (last_same a b h.0 k.0 (sym h.2 ∙ k.2)).0
+front_one ts a b h k = (same_from_push a b h.0 k.0 (sym h.2 ∙ k.2)).0
 
 sentence_one : (ts : List Placed) (a b : Option Sentence) → IsSentence ts a → IsSentence ts b → a ≡ b
 sentence_one ts None None x y = refl
@@ -57,11 +57,8 @@ reads_one text (piece ∷ ps) p rules a b x y =
 
 -- the least new number is one
 next_one : (table : List Text) (from j k : ℕ) → IsNext table from j → IsNext table from k → j ≡ k
-next_one table from j k x y = same (λ h. clash (y.least j x.from_there h) x.new) (λ h. clash (x.least k y.from_there h) y.new)
+next_one table from j k x y = same (λ h. both_ways _ x.new (y.least j x.from_there h)) (λ h. both_ways _ y.new (x.least k y.from_there h))
   where
-    clash : {b : Bool} → b ≡ true → b ≡ false → ⊥
-    clash h q = absurd (false≢true (sym q ∙ h))
-
     same : (j < k → ⊥) → (k < j → ⊥) → j ≡ k
     same f g = omega (arith, f, g)
 

@@ -1,7 +1,8 @@
 -- Terms whose variables are numbered up to some number, and each of whose compounds has an argument.
-use Rattle.std.proofs.Common.{◌≡◌, ℕ, zero, suc, ◌+◌, ◌≤◌, ◌<◌, Bool, true, false, ◌&&◌, cond, List, [], ◌∷◌, length, Option, Some, None, slice_get, refl, ap, ◌∙◌, arith, length-append}
+use Rattle.std.proofs.Common.{◌≡◌, ℕ, zero, suc, ◌+◌, ◌≤◌, ◌<◌, Bool, true, false, cond, List, [], ◌∷◌, length, Option, Some, None, slice_get, refl, arith, length-append}
 use Rattle.std.specs.Prelude.{bytes_eq, codes}
 use Rattle.std.proofs.lemmas.Bool.Decides.{nat_tests}
+use Rattle.std.proofs.lemmas.Bool.{and_from}
 use Rattle.ap_lexer.specs.declared.kind.TokenKind.{TokenKind}
 use Rattle.ap_lexer.specs.declared.kind.TokenKind.TheVariants as token
 use Rattle.ap_lexer.specs.Lexeme.{Text}
@@ -115,9 +116,6 @@ spelled_proper front t = tree_proper (length (variables [] front)) (leaves [] fr
 
 -- ---- numbers
 
-pub both_true : (a b : Bool) → a ≡ true → b ≡ true → (a && b) ≡ true
-both_true a b h k = ap (λ c. c && b) h ∙ k
-
 in_range-true : (n k : ℕ) → 1 ≤ k → k ≤ n → in_range n k ≡ true
 in_range-true n k h j = grind (arith, nat_tests)
 
@@ -130,9 +128,9 @@ mutual
   numbered-proper ns n (Integer z) h = refl
   numbered-proper ns n (Atom f) h = refl
   numbered-proper ns n (Node f Nil) h = refl
-  numbered-proper ns n (Node f (Cons x xs)) h = both_true (numbered n (term_in ns x)) (numbered_all n (terms_in ns xs)) (numbered-proper ns n x h.0) (numbered_all-proper ns n xs h.1)
+  numbered-proper ns n (Node f (Cons x xs)) h = and_from (numbered n (term_in ns x)) (numbered_all n (terms_in ns xs)) (numbered-proper ns n x h.0) (numbered_all-proper ns n xs h.1)
   numbered-proper ns n (Paren x) h = numbered-proper ns n x h
 
   pub numbered_all-proper : (ns : List Text) (n : ℕ) (xs : Writtens) → AreProper n xs → numbered_all n (terms_in ns xs) ≡ true
   numbered_all-proper ns n Nil h = refl
-  numbered_all-proper ns n (Cons x xs) h = both_true (numbered n (term_in ns x)) (numbered_all n (terms_in ns xs)) (numbered-proper ns n x h.0) (numbered_all-proper ns n xs h.1)
+  numbered_all-proper ns n (Cons x xs) h = and_from (numbered n (term_in ns x)) (numbered_all n (terms_in ns xs)) (numbered-proper ns n x h.0) (numbered_all-proper ns n xs h.1)

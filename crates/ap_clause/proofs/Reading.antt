@@ -1,10 +1,8 @@
 -- Pieces, one after another.
 use Rattle.std.proofs.Common.{◌≡◌, ℕ, ◌+◌, ◌≤◌, ◌<◌, List, [], ◌∷◌, ◌++◌, drop, length, get_or, refl, sym, ap, subst, ◌∙◌, inl, inr, arith, add-one}
 use Rattle.std.specs.Prelude.{◌⊎◌}
-use Rattle.std.specs.List.{Contains}
 use Rattle.std.proofs.Math.ListN.{drop_of_length-le}
 use Rattle.std.proofs.Math.Seq.{drop-cons}
-use Rattle.std.proofs.lemmas.List.Elements.{Contains-get_or}
 use Rattle.ap_lexer.specs.Lexeme.{Text}
 use Rattle.ap_lexer.specs.declared.cut.Piece.{Piece}
 use Rattle.ap_lexer.specs.Piece.{pieces}
@@ -41,9 +39,6 @@ at_piece ps i d h = drop-cons ps i d h ∙ ap (λ k. get_or ps i d ∷ drop k ps
 
 pub ended : (text : Text) (ps : List Piece) (i : ℕ) (p : Position) (rs : List Rule) → length ps ≤ i → Reads text (drop i ps) p rs (Whole rs p)
 ended text ps i p rs h = subst (λ qs. Reads text qs p rs (Whole rs p)) (sym (drop_of_length-le ps h)) refl
-
-pub is_piece : (ps all : List Piece) (i : ℕ) (d : Piece) → ps ≡ all → i < length ps → Contains all (get_or ps i d)
-is_piece ps all i d e h = subst (λ qs. Contains qs (get_or ps i d)) e (Contains-get_or ps i d h)
 
 pub from_pieces : (text : Text) (ps : List Piece) (table : List Text) (rs : List Rule) (p : Position) → ps ≡ pieces text → Reads text ps (start table) [] (Whole rs p) → Reads text (pieces text) (start table) [] (Whole rs p)
 from_pieces text ps table rs p e h = subst (λ qs. Reads text qs (start table) [] (Whole rs p)) e h

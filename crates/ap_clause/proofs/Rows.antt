@@ -1,5 +1,5 @@
 -- Small examples of the definitions, computed.
-use Rattle.std.proofs.Common.{◌≡◌, true, false, Some, None, refl}
+use Rattle.std.proofs.Common.{◌≡◌, true, false, Some, refl}
 use Rattle.std.specs.Prelude.{codes}
 use Rattle.ap_term.specs.declared.fixed.TheConstants.{NECK, COMMA, CALL, CUT}
 use Rattle.ap_term.specs.Tree.{var, atom, node, none, more}

@@ -2,11 +2,11 @@
 use Rattle.std.proofs.Common.{◌≡◌, ℕ, zero, suc, ◌+◌, ◌-◌, ◌*◌, ◌^◌, ◌≤◌, ◌<◌, Bool, true, false, ◌||◌, cond, List, [], ◌∷◌, ◌++◌, length, Option, Some, None, refl, sym, ap, subst, ◌∙◌, inl, inr, arith, length-append}
 use Rattle.std.specs.Prelude.{nat_lt, ◌⊎◌, bytes_eq, codes}
 use Rattle.std.specs.Str.{IsUtf8, is_utf8}
-use Rattle.std.proofs.lemmas.Bool.{false≢true}
-use Rattle.std.proofs.lemmas.Bool.Decides.{nat_tests}
+use Rattle.std.proofs.lemmas.Bool.{false≢true, ltb-true, ltb-false}
 use Rattle.std.proofs.lemmas.Fmt.{decimal_injective}
 use Rattle.std.proofs.lemmas.Slice.Eq.{bytes_eq-Decides}
 use Rattle.std.proofs.lemmas.Str.{is_utf8-from_IsUtf8, IsUtf8-from_is_utf8}
+use Rattle.std.proofs.lemmas.List.{same_from_push}
 use Rattle.ap_lexer.specs.declared.kind.TokenKind.{TokenKind}
 use Rattle.ap_lexer.specs.declared.kind.TokenKind.TheVariants as token
 use Rattle.ap_lexer.specs.Lexeme.{Text}
@@ -22,7 +22,6 @@ use Rattle.ap_reader.specs.Machine.{parsed}
 use Rattle.ap_reader.specs.Word.{words}
 use Rattle.ap_reader.specs.Written.{IsTextBy, AreText}
 use Rattle.ap_reader.specs.Reading.{first_line, EndsAs}
-use Rattle.ap_reader.proofs.Stack.{last_same}
 use Rattle.ap_reader.proofs.Complete.{complete}
 use Rattle.ap_reader.proofs.Sound.{sound}
 use Rattle.ap_lifting.specs.Rule.{Rule}
@@ -55,7 +54,7 @@ front_or_none ts = of (last_or_none ts)
   where
     by : (front : List Placed) (last : Placed) → ts ≡ front ++ last ∷ [] → ((last.kind ≡ token.End) ⊎ (last.kind ≡ token.End → ⊥)) → ((front : List Placed) × EndsAs ts front) ⊎ ((front : List Placed) → EndsAs ts front → ⊥)
     by front last e (inl k) = inl (front, (last, k, e))
-    by front last e (inr n) = inr (λ f h. n (ap (λ t. t.kind) (last_same front f last h.0 (sym e ∙ h.2)).1 ∙ h.1))
+    by front last e (inr n) = inr (λ f h. n (ap (λ t. t.kind) (same_from_push front f last h.0 (sym e ∙ h.2)).1 ∙ h.1))
 
     of : ((ts ≡ []) ⊎ ((front : List Placed) × ((last : Placed) × (ts ≡ front ++ last ∷ [])))) → ((front : List Placed) × EndsAs ts front) ⊎ ((front : List Placed) → EndsAs ts front → ⊥)
     of (inl e) = inr (λ f h. no_end f h.0 ts e h.2)
@@ -104,7 +103,7 @@ sentence_some : (ts : List Placed) → (s : Option Sentence) × IsSentence ts s
 sentence_some ts = of (front_or_none ts)
   where
     same_front : (f g : List Placed) → EndsAs ts f → EndsAs ts g → f ≡ g
-    same_front f g h k = (last_same f g h.0 k.0 (sym h.2 ∙ k.2)).0
+    same_front f g h k = (same_from_push f g h.0 k.0 (sym h.2 ∙ k.2)).0
 
     by : (f : List Placed) → EndsAs ts f → (AreText f ⊎ (AreText f → ⊥)) → (((t : Tree) × IsTreeOf f t) ⊎ ((t : Tree) → IsTreeOf f t → ⊥)) → (s : Option Sentence) × IsSentence ts s
     by f e (inl text) (inl h) = (Some (record { front = f; tree = h.0 }), record { ends = e; text = text; rules = h.1.0; spelling = h.1.1 })
@@ -228,14 +227,8 @@ next_some (suc d) table from k e h = of (is_held table (lift_name from)) refl (n
     at i q p = subst (λ n. is_held table (lift_name n) ≡ true) p q
 
     least : (j : ℕ) → is_held table (lift_name from) ≡ true → IsNext table (from + 1) j → (i : ℕ) → from ≤ i → i < j → (b : Bool) → nat_lt from i ≡ b → is_held table (lift_name i) ≡ true
-    least j q r i lo hi true t = r.least i (above from i t) hi
-      where
-        above : (m n : ℕ) → nat_lt m n ≡ true → m + 1 ≤ n
-        above m n s = grind (arith, nat_tests)
-    least j q r i lo hi false t = at i q (equal from i lo t)
-      where
-        equal : (m n : ℕ) → m ≤ n → nat_lt m n ≡ false → m ≡ n
-        equal m n l s = grind (arith, nat_tests)
+    least j q r i lo hi true t = r.least i (omega (arith, ltb-true from i t)) hi
+    least j q r i lo hi false t = at i q (omega (arith, lo, ltb-false from i t))
 
     of : (b : Bool) → is_held table (lift_name from) ≡ b → ((j : ℕ) × IsNext table (from + 1) j × (j ≤ k)) → (j : ℕ) × IsNext table from j × (j ≤ k)
     of false q rest = (from, record { from_there = omega arith; new = q; least = λ i lo hi. absurd (omega arith) }, omega arith)

@@ -1,7 +1,7 @@
 -- What is known of a clause that was taken.
-use Rattle.std.proofs.Common.{◌≡◌, ℕ, ◌+◌, ◌≤◌, Bool, true, false, cond, List, length, Option, Some, None, refl, sym, subst, ◌∙◌, arith}
+use Rattle.std.proofs.Common.{◌≡◌, ℕ, ◌+◌, ◌≤◌, Bool, true, false, cond, List, length, Option, Some, None, refl, sym, subst, ◌∙◌}
 use Rattle.std.specs.Prelude.{nat_lt, not, ◌==◌}
-use Rattle.std.proofs.lemmas.Bool.Decides.{nat_tests}
+use Rattle.std.proofs.lemmas.Bool.{ltb-false}
 use Rattle.ap_lexer.specs.Lexeme.{Text}
 use Rattle.ap_lexer.specs.declared.cut.Piece.{Piece}
 use Rattle.ap_lexer.specs.Token.{Placed, tokens}
@@ -45,9 +45,6 @@ took_past (Some a) line v t h = absurd (clash _ h)
 took : {a b : Taken} → Took a ≡ Took b → a ≡ b
 took e = cc
 
-fits_in : (n : ℕ) → nat_lt capacity n ≡ false → n ≤ capacity
-fits_in n h = grind (arith, nat_tests)
-
 -- the head is that of the term, the names are those of the variables, and the table has room for the lifted predicates
 pub record IsTaken (source : Source) (t : Taken) : Type 0 where
   pub term : Tree
@@ -65,7 +62,7 @@ sentence_taken source p line (Some s) t h =
     let deep = took_if (nat_lt MAX_DEPTH (depth (term_of s.front s.tree))) _ _ t form.1 in
     let names = took_if _ _ _ t deep.1 in
     let whole = took (took_past _ line _ t (took_outside _ line _ t names.1)) in
-    subst (IsTaken source) whole (record { term = term_in (table_after p s) (term_of s.front s.tree); head = refl; named = refl; room = fits_in _ names.0 })
+    subst (IsTaken source) whole (record { term = term_in (table_after p s) (term_of s.front s.tree); head = refl; named = refl; room = ltb-false capacity _ names.0 })
 
 open_taken : (full : Bool) (source : Source) (p : Position) (ts : List Placed) (t : Taken) → JudgesOpen full source p ts (Took t) → IsTaken source t
 open_taken true source p ts t h = absurd (clash _ h)

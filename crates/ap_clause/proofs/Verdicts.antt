@@ -1,7 +1,7 @@
 -- Verdicts on what the tokens of a piece spell.
-use Rattle.std.proofs.Common.{◌≡◌, ℕ, ◌+◌, ◌≤◌, ◌<◌, Bool, true, false, List, [], map, length, Some, None, Result, Ok, Err, sym, ap, subst, ◌∙◌, inl, inr, arith}
+use Rattle.std.proofs.Common.{◌≡◌, ℕ, ◌+◌, ◌≤◌, ◌<◌, Bool, true, List, [], map, length, Some, None, Result, Ok, Err, sym, ap, subst, ◌∙◌, inl, inr, arith}
 use Rattle.std.specs.Prelude.{nat_lt, not}
-use Rattle.std.proofs.lemmas.Bool.Decides.{nat_tests}
+use Rattle.std.proofs.lemmas.Bool.{lt-ltb, le-ltb}
 use Rattle.ap_lexer.specs.Lexeme.{Text}
 use Rattle.ap_lexer.specs.declared.cut.Piece.{Piece}
 use Rattle.ap_lexer.specs.Token.{Placed, tokens}
@@ -10,7 +10,6 @@ use Rattle.ap_term.specs.Tree as term
 use Rattle.ap_term.specs.TermView.{tree_of}
 use Rattle.ap_reader.specs.declared.written.WrittenTerm.{WrittenTerm}
 use Rattle.ap_reader.specs.declared.written.ReadTerm.{ReadTerm}
-use Rattle.ap_reader.specs.declared.error.ReadErr.TheVariants as err
 use Rattle.ap_reader.specs.declared.written.TheConstants.{MAX_OPEN}
 use Rattle.ap_reader.specs.declared.depth.TheConstants.{MAX_DEPTH}
 use Rattle.ap_reader.specs.Bracket.{most_open}
@@ -41,14 +40,8 @@ gives J K table (Ok r) f h = f _ h
 gives J K table (Err e) f (inl h) = inl h
 gives J K table (Err e) f (inr h) = inr (f _ h)
 
-is_below : (m n : ℕ) → m < n → nat_lt m n ≡ true
-is_below m n h = grind (arith, nat_tests)
-
-is_not_below : (m n : ℕ) → n ≤ m → nat_lt m n ≡ false
-is_not_below m n h = grind (arith, nat_tests)
-
 more_below : (m n k : ℕ) → m < n → nat_lt m (n + k) ≡ true
-more_below m n k h = is_below m (n + k) (omega arith)
+more_below m n k h = lt-ltb m (n + k) (omega arith)
 
 module _ (source : Source) (before : Counts) (old : List Text) (front : List Placed) (t : Tree) (line : ℕ) where
   abbrev x : Written
@@ -66,17 +59,14 @@ module _ (source : Source) (before : Counts) (old : List Text) (front : List Pla
   abbrev by_depth : Verdict
   by_depth = refused_if (nat_lt MAX_DEPTH (depth x)) (refusal.TooDeep line) by_term
 
-  pub not_fitting : fits source x ≡ false → Refused (refusal.NotAClause line) ≡ judged_sentence source (position old before) line s
-  not_fitting e = sym (ap (λ b. refused_if (not b) (refusal.NotAClause line) by_depth) e)
-
   fitting : fits source x ≡ true → by_depth ≡ judged_sentence source (position old before) line s
   fitting e = sym (ap (λ b. refused_if (not b) (refusal.NotAClause line) by_depth) e)
 
   pub too_deep : fits source x ≡ true → MAX_DEPTH < depth x → Refused (refusal.TooDeep line) ≡ judged_sentence source (position old before) line s
-  too_deep e h = sym (ap (λ b. refused_if b (refusal.TooDeep line) by_term) (is_below MAX_DEPTH (depth x) h)) ∙ fitting e
+  too_deep e h = sym (ap (λ b. refused_if b (refusal.TooDeep line) by_term) (lt-ltb MAX_DEPTH (depth x) h)) ∙ fitting e
 
   pub on_term : fits source x ≡ true → depth x ≤ MAX_DEPTH → by_term ≡ judged_sentence source (position old before) line s
-  on_term e h = sym (ap (λ b. refused_if b (refusal.TooDeep line) by_term) (is_not_below MAX_DEPTH (depth x) h)) ∙ fitting e
+  on_term e h = sym (ap (λ b. refused_if b (refusal.TooDeep line) by_term) (le-ltb MAX_DEPTH (depth x) h)) ∙ fitting e
 
   pub too_many : fits source x ≡ true → depth x ≤ MAX_DEPTH → capacity < length table → Refused (refusal.TooManyAtoms line) ≡ judged_sentence source (position old before) line s
   too_many e h k =
@@ -93,27 +83,6 @@ module _ (source : Source) (before : Counts) (old new : List Text) (front : List
   pub fits_is : (f : Form) (b : Bool) → ((u : Tree) → w.steps.items ≡ postfix u → f ≡ form_of (meaning ls u)) → ((y : Written) → f ≡ form_of y → b ≡ fits source y) → fits source (term_of front t) ≡ b
   fits_is f b form same = sym (same (term_of front t) (form t stands.steps ∙ ap (λ xs. form_of (meaning xs t)) stands.leaves_are))
 
-  pub refused_form : (b : Bool) → fits source (term_of front t) ≡ b → b ≡ false → Refused (refusal.NotAClause w.line) ≡ judged_sentence source (position old before) w.line (record { front = front; tree = t })
-  refused_form b e h = not_fitting source before old front t w.line (e ∙ h)
-
-  pub refused_depth : (line : ℕ) → fits source (term_of front t) ≡ true → BuiltAs ls t w.line w.names.items old new (Err (err.TooDeep line)) → Refused (refusal.TooDeep line) ≡ judged_sentence source (position old before) w.line (record { front = front; tree = t })
-  refused_depth line e b =
-      ap (λ l. Refused (refusal.TooDeep l)) b.1 ∙ too_deep source before old front t w.line e (subst (λ xs. MAX_DEPTH < depth (meaning xs t)) stands.leaves_are b.0)
-
-  pub refused_names : (line : ℕ) → fits source (term_of front t) ≡ true → BuiltAs ls t w.line w.names.items old new (Err (err.TooManyAtoms line)) → Refused (refusal.TooManyAtoms line) ≡ judged_sentence source (position old before) w.line (record { front = front; tree = t })
-  refused_names line e b =
-      ap (λ l. Refused (refusal.TooManyAtoms l)) b.2
-      ∙ too_many source before old front t w.line e (subst (λ xs. depth (meaning xs t) ≤ MAX_DEPTH) stands.leaves_are b.0) (subst (λ xs. capacity < length (insert_names old (names xs (postfix t)))) stands.leaves_are b.1)
-
-  -- what was built is the term in the table after its names
-  pub built_term : (r : ReadTerm) → fits source (term_of front t) ≡ true → BuiltAs ls t w.line w.names.items old new (Ok r) → judged_term source before new r.names.items w.line (tree_of r.term) ≡ judged_sentence source (position old before) w.line (record { front = front; tree = t })
-  built_term r e b =
-      let there = subst (λ xs. BuiltAs xs t w.line w.names.items old new (Ok r)) stands.leaves_are b in
-      ap (λ u. judged_term source before new r.names.items w.line u) there.3
-      ∙ ap (λ vs. judged_term source before new vs w.line (term_in new (term_of front t))) (there.4 ∙ stands.variables_are)
-      ∙ ap (λ ns. judged_term source before ns (variables [] front) w.line (term_in ns (term_of front t))) there.1
-      ∙ on_term source before old front t w.line e there.0
-
   pub built_rule : (r : ReadTerm) → IsAtomTable new → fits source (term_of front t) ≡ true → BuiltAs ls t w.line w.names.items old new (Ok r) → CanBeRule source (tree_of r.term) (length r.names.items) w.line
   built_rule r table e b =
       let there = subst (λ xs. BuiltAs xs t w.line w.names.items old new (Ok r)) stands.leaves_are b in
@@ -126,7 +95,7 @@ module _ (source : Source) (before : Counts) (old new : List Text) (front : List
 pub judges_open : (source : Source) (p : Position) (ts front : List Placed) (t : Tree) (line : ℕ) → most_open 0 ts ≤ MAX_OPEN → line ≡ first_line ts → Spells ts front t → (v : Verdict) → v ≡ judged_sentence source p line (record { front = front; tree = t }) → JudgesOpen (nat_lt MAX_OPEN (most_open 0 ts)) source p ts v
 judges_open source p ts front t line few first spells v e =
     let s : Sentence = record { front = front; tree = t } in
-    subst (λ b. JudgesOpen b source p ts v) (sym (is_not_below MAX_OPEN (most_open 0 ts) few)) (Some s, spells, e ∙ ap (λ l. judged_sentence source p l s) first)
+    subst (λ b. JudgesOpen b source p ts v) (sym (le-ltb MAX_OPEN (most_open 0 ts) few)) (Some s, spells, e ∙ ap (λ l. judged_sentence source p l s) first)
 
 pub judges_piece : (source : Source) (text : Text) (p : Position) (piece : Piece) (ts : List Placed) (v : Verdict) → piece.bad ≡ None → ts ≡ tokens text piece → JudgesOpen (nat_lt MAX_OPEN (most_open 0 ts)) source p ts v → Judges source text p piece v
 judges_piece source text p piece ts v bad e h = subst (λ b. JudgesBy b source p (tokens text piece) v) (sym bad) (subst (λ us. JudgesOpen (nat_lt MAX_OPEN (most_open 0 us)) source p us v) e h)

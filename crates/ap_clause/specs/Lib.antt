@@ -4,6 +4,7 @@ pub mod Arity
 pub mod Clause
 pub mod Outside
 pub mod Limit
+pub mod Numbers
 pub mod Fresh
 pub mod FreshCode
 pub mod Reads

@@ -1,4 +1,4 @@
-//! Each text has exactly one result.
+//! Laws of the limits and of texts.
 
 ghost use Rattle.std.specs.Prelude.{List};
 ghost use Rattle.ap_lexer.specs.Lexeme.{Text};
@@ -6,6 +6,12 @@ ghost use Rattle.ap_lexer.specs.declared.cut.Piece.{Piece};
 ghost use Rattle.ap_term.specs.AtomTable.{IsAtomTable};
 ghost use Rattle.ap_term.specs.Goals.{Program};
 ghost use Rattle.ap_clause.specs.Law.{HasOneProgram, HasOneQuery};
+ghost use Rattle.ap_clause.specs.Numbers.{LimitsLaw};
+
+/// The limits of a clause, of its goals and of a program are those that are written out.
+pub fn limits_law()
+    ensures { LimitsLaw }
+{}
 
 /// A text is one program, or it is refused for one reason.
 pub fn one_program()

@@ -4,6 +4,7 @@
 // What it stands on: ap_lexer and ap_reader for terms, ap_lifting for bodies, ap_term for the table of atoms.
 // The contract that is used above it: the answer is that which specs/Reads.antt relates to the text, a program or the
 // first refusal with its line and reason; each text has exactly one (`one_program`, `one_query`).
+// The limits are those that specs/Numbers.antt writes out (`limits_law`).
 #![tactic(auto)]
 
 mod clause;
@@ -18,7 +19,7 @@ mod refusal;
 mod source;
 mod take;
 
-pub use law::{one_program, one_query};
+pub use law::{limits_law, one_program, one_query};
 pub use limit::{MAX_ARITY, MAX_CLAUSES, MAX_GOALS, MAX_GROUP, MAX_VARIABLES};
 pub use read::{program, query};
 pub use refusal::{Refusal, What};
