@@ -4,9 +4,11 @@ use Rattle.std.specs.Prelude.{slice_index, nat_lt, All}
 use Rattle.std.specs.Char.{is_ascii_digit, is_ascii_lowercase, is_ascii_uppercase}
 use Rattle.std.specs.List.{list_all, prefix_len, AllByRecursion}
 use Rattle.std.specs.Str.{IsUtf8, IsAscii, IsCharBoundary}
-use Rattle.std.proofs.lemmas.Bool.{false≢true}
+use Rattle.std.proofs.lemmas.Bool.{false≢true, and_parts, not-true}
 use Rattle.std.proofs.lemmas.Bool.Decides.{nat_tests}
 use Rattle.std.proofs.lemmas.Str.{IsUtf8-append, IsUtf8-take, IsUtf8-drop, IsUtf8-from_ascii, IsCharBoundary-after_ascii}
+use Rattle.std.proofs.Math.Bool.{and-false}
+use Rattle.std.proofs.lemmas.List.{take_at, get_or_at}
 use Rattle.ap_lexer.specs.declared.kind.TokenKind.TheVariants as token
 use Rattle.ap_lexer.specs.declared.kind.LexemeKind.TheVariants as kind
 use Rattle.ap_lexer.specs.Lexeme.{is_layout, is_symbol, is_word, ends, number, integer, symbols, lexeme}
@@ -15,18 +17,6 @@ use Rattle.ap_lexer.proofs.Again.{again}
 use Rattle.ap_lexer.proofs.Valid.{valid_least}
 use Rattle.ap_writer.specs.Quoted.{is_name, is_symbols, begins_comment, escaped}
 
-both : (a b : Bool) → (a && b) ≡ true → (a ≡ true) × (b ≡ true)
-both true b h = (refl, h)
-both false b h = absurd (false≢true h)
-
-not_true : (a : Bool) → not a ≡ true → a ≡ false
-not_true true h = absurd (false≢true h)
-not_true false h = refl
-
-and_false : (a : Bool) → (a && false) ≡ false
-and_false true = refl
-and_false false = refl
-
 -- the first byte, if there is one, doesn't pass
 abbrev pub stops : (ℕ → Bool) → List ℕ → Bool
 stops p [] = true
@@ -34,12 +24,12 @@ stops p (b ∷ bs) = not (p b)
 
 stopped : (p : ℕ → Bool) (rest : List ℕ) → stops p rest ≡ true → prefix_len p rest ≡ 0
 stopped p [] h = refl
-stopped p (b ∷ rest) h = ap (λ c. cond c (1 + prefix_len p rest) 0) (not_true (p b) h)
+stopped p (b ∷ rest) h = ap (λ c. cond c (1 + prefix_len p rest) 0) (not-true (p b) h)
 
 run : (p : ℕ → Bool) (bs rest : List ℕ) → list_all p bs ≡ true → stops p rest ≡ true → prefix_len p (bs ++ rest) ≡ length bs
 run p [] rest h k = stopped p rest k
 run p (b ∷ bs) rest h k =
-    let two = both (p b) (list_all p bs) h in
+    let two = and_parts (p b) (list_all p bs) h in
     let inner = run p bs rest two.1 k in
     let more : 1 + prefix_len p (bs ++ rest) ≡ suc (length bs) = omega arith in
     ap (λ c. cond c (1 + prefix_len p (bs ++ rest)) 0) two.0 ∙ more
@@ -53,7 +43,7 @@ pub word_again : (name rest : List ℕ) → is_name name ≡ true → stops is_w
 unfolding lexeme
 word_again [] rest h k = absurd (false≢true h)
 word_again (b ∷ bs) rest h k =
-    let two = both (is_ascii_lowercase b) (list_all is_word bs) h in
+    let two = and_parts (is_ascii_lowercase b) (list_all is_word bs) h in
     let l = lower b two.0 in
     let long : 1 + prefix_len is_word (bs ++ rest) ≡ suc (length bs) = omega (arith, run is_word bs rest two.1 k) in
     rw (l.0, l.1, l.2, l.3, two.0) (ap (λ n. (kind.Token token.Name, n)) long)
@@ -84,7 +74,7 @@ integer_at d ds rest h small k =
 pub integer_again : (d : ℕ) (ds rest : List ℕ) → list_all is_ascii_digit (d ∷ ds) ≡ true → number (d ∷ ds) ≤ 2 ^ 63 → stops is_ascii_digit rest ≡ true → lexeme (d ∷ (ds ++ rest)) ≡ (kind.Token token.Integer, suc (length ds))
 unfolding lexeme
 integer_again d ds rest h small k =
-    let two = both (is_ascii_digit d) (list_all is_ascii_digit ds) h in
+    let two = and_parts (is_ascii_digit d) (list_all is_ascii_digit ds) h in
     let l = digit d two.0 in
     rw (l.0, l.1, l.2, l.3, l.4, l.5, two.0) (integer_at d ds rest two.1 small k)
 
@@ -97,8 +87,8 @@ no_star : (c : ℕ) → not (is_symbol c) ≡ true → (c == 42) ≡ false
 no_star c h = grind (arith, nat_tests)
 
 opens_no_comment : (b : ℕ) (bs rest : List ℕ) → begins_comment (b ∷ bs) ≡ false → stops is_symbol rest ≡ true → (b == 47 && slice_index (b ∷ (bs ++ rest)) 1 == 42) ≡ false
-opens_no_comment b [] [] h k = and_false (b == 47)
-opens_no_comment b [] (c ∷ rest) h k = ap (λ x. b == 47 && x) (no_star c k) ∙ and_false (b == 47)
+opens_no_comment b [] [] h k = and-false (b == 47)
+opens_no_comment b [] (c ∷ rest) h k = ap (λ x. b == 47 && x) (no_star c k) ∙ and-false (b == 47)
 opens_no_comment b (c ∷ bs) rest h k = h
 
 not_one : (n m : ℕ) → n ≡ suc (suc m) → (n == 1) ≡ false
@@ -116,7 +106,7 @@ symbols_at b [] rest h e k =
     let end = 1 + prefix_len is_symbol rest in
     let long : end ≡ 1 = omega (arith, stopped is_symbol rest k) in
     let stop = ends (b ∷ rest) 1 || slice_index (b ∷ rest) 1 == 37 in
-    let test = ap (λ x. (end == 1 && x) && stop) (not_dot b h) ∙ ap (λ x. x && stop) (and_false (end == 1)) in
+    let test = ap (λ x. (end == 1 && x) && stop) (not_dot b h) ∙ ap (λ x. x && stop) (and-false (end == 1)) in
     ap (λ c. cond c (kind.Token token.End, 1) (kind.Token token.Symbol, end)) test ∙ ap (λ n. (kind.Token token.Symbol, n)) long
 symbols_at b (c ∷ bs) rest h e k =
     let end = 1 + prefix_len is_symbol (c ∷ (bs ++ rest)) in
@@ -129,11 +119,11 @@ pub symbols_again : (name rest : List ℕ) → is_symbols name ≡ true → stop
 unfolding lexeme
 symbols_again [] rest h k = absurd (false≢true h)
 symbols_again (b ∷ bs) rest h k =
-    let outer = both (list_all is_symbol (b ∷ bs) && not (bytes_eq (b ∷ bs) (codes "."))) (not (begins_comment (b ∷ bs))) h in
-    let inner = both (list_all is_symbol (b ∷ bs)) (not (bytes_eq (b ∷ bs) (codes "."))) outer.0 in
-    let two = both (is_symbol b) (list_all is_symbol bs) inner.0 in
+    let outer = and_parts (list_all is_symbol (b ∷ bs) && not (bytes_eq (b ∷ bs) (codes "."))) (not (begins_comment (b ∷ bs))) h in
+    let inner = and_parts (list_all is_symbol (b ∷ bs)) (not (bytes_eq (b ∷ bs) (codes "."))) outer.0 in
+    let two = and_parts (is_symbol b) (list_all is_symbol bs) inner.0 in
     let l = symbol b two.0 in
-    let start = opens_no_comment b bs rest (not_true (begins_comment (b ∷ bs)) outer.1) k in
+    let start = opens_no_comment b bs rest (not-true (begins_comment (b ∷ bs)) outer.1) k in
     rw (l.0, start, l.1, l.2, l.3, l.4, l.5, two.0) (symbols_at b bs rest inner.1 two.1 k)
 
 -- ---- names between quotes
@@ -174,7 +164,7 @@ items-are (b ∷ bs) = (item-is b, items-are bs)
 
 closes : (rest : List ℕ) → stops (λ b. b == 39) rest ≡ true → begins 39 rest ≡ false
 closes [] h = refl
-closes (b ∷ rest) h = not_true (b == 39) h
+closes (b ∷ rest) h = not-true (b == 39) h
 
 -- the bytes between quotes are characters where those of the name are
 
@@ -203,30 +193,18 @@ escaped_ascii b h = go (b == 39) (b == 92) (b == 10) (b == 9)
     go false false false true = IsUtf8-append (92 ∷ []) (116 ∷ []) (one_ascii 92 (omega arith)) (one_ascii 116 (omega arith))
     go false false false false = one_ascii b h
 
-take-front : (xs ys : List ℕ) → take (length xs) (xs ++ ys) ≡ xs
-take-front [] ys = refl
-take-front (x ∷ xs) ys = ap (λ l. x ∷ l) (take-front xs ys)
-
-drop-front : (xs ys : List ℕ) → drop (length xs) (xs ++ ys) ≡ ys
-drop-front [] ys = refl
-drop-front (x ∷ xs) ys = drop-front xs ys
-
 drop-one_more : (xs ys : List ℕ) (b : ℕ) → drop (length xs + 1) (xs ++ b ∷ ys) ≡ ys
 drop-one_more [] ys b = refl
 drop-one_more (x ∷ xs) ys b = let e : length (x ∷ xs) + 1 ≡ suc (length xs + 1) = omega arith in rw e (drop-one_more xs ys b)
-
-at-front : (xs ys : List ℕ) (b : ℕ) → get_or (xs ++ b ∷ ys) (length xs) 0 ≡ b
-at-front [] ys b = refl
-at-front (x ∷ xs) ys b = at-front xs ys b
 
 -- before and behind an ASCII byte
 split_at_ascii : (xs ys : List ℕ) (b : ℕ) → b < 128 → IsUtf8 (xs ++ b ∷ ys) → IsUtf8 xs × IsUtf8 ys
 split_at_ascii xs ys b h u =
     let all = xs ++ b ∷ ys in
     let within : length xs < length all = omega (arith, length-append xs (b ∷ ys)) in
-    let low : get_or all (length xs) 0 < 128 = subst (λ c. c < 128) (sym (at-front xs ys b)) h in
+    let low : get_or all (length xs) 0 < 128 = subst (λ c. c < 128) (sym (get_or_at xs b ys 0 (length xs) refl)) h in
     let here : IsCharBoundary all (length xs) = (omega arith, λ inside lead. absurd (omega (arith, low, lead))) in (
-      subst IsUtf8 (take-front xs (b ∷ ys)) (IsUtf8-take all (length xs) u here),
+      subst IsUtf8 (take_at xs (b ∷ ys) (length xs) refl) (IsUtf8-take all (length xs) u here),
       subst IsUtf8 (drop-one_more xs ys b) (IsUtf8-drop all (length xs + 1) u (IsCharBoundary-after_ascii all (length xs) u within low)),
     )
 
@@ -261,5 +239,5 @@ quoted_again name rest u k bytes =
       spelled = ap (λ l. 39 ∷ l) (append_assoc (flat_map escaped name) (39 ∷ []) rest ∙ ap (λ l. l ++ 39 ∷ rest) (sym (items-text name)));
       closes = closes rest k;
       len = omega (arith, length-append (flat_map escaped name) (39 ∷ []), ap length (items-text name));
-      characters = valid_least (whole ++ rest) (length whole) (omega (arith, length-append whole rest)) (subst IsUtf8 (sym (take-front whole rest)) (quoted_utf8 name u));
+      characters = valid_least (whole ++ rest) (length whole) (omega (arith, length-append whole rest)) (subst IsUtf8 (sym (take_at whole rest (length whole) refl)) (quoted_utf8 name u));
     })

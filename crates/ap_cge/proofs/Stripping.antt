@@ -1,8 +1,9 @@
 -- A clause without its groups is a clause.
-use Rattle.std.proofs.Common.{◌≡◌, ℕ, zero, suc, ◌≤◌, take, length, arith, ◌&&◌, nat_le, Bool, true, false, List, [], ◌∷◌, map, refl, ap, sym, ◌∙◌}
+use Rattle.std.proofs.Common.{◌≡◌, ℕ, ◌≤◌, take, length, ◌&&◌, nat_le, true, List, [], ◌∷◌, map, refl, ap, sym, ◌∙◌}
 use Rattle.std.specs.List.{list_all, flat_map}
-use Rattle.std.proofs.lemmas.Bool.{false≢true}
+use Rattle.std.proofs.lemmas.Bool.{and_parts, and_from}
 use Rattle.std.proofs.lemmas.List.Folds.{list_all-append, flat_map-map}
+use Rattle.std.proofs.lemmas.List.{take_all}
 use Rattle.ap_term.specs.declared.terms.Term.{Term}
 use Rattle.ap_term.specs.declared.clauses.Part as code
 use Rattle.ap_term.specs.GoalView.{part_of}
@@ -16,44 +17,30 @@ pub calls-map : (ts : List Term) → calls (trees_of ts) ≡ map (λ t. call (tr
 calls-map [] = refl
 calls-map (t ∷ ts) = ap (λ ps. call (tree_of t) ∷ ps) (calls-map ts)
 
-both : (a b : Bool) → (a && b) ≡ true → (a ≡ true) × (b ≡ true)
-both true b h = (refl, h)
-both false b h = absurd (false≢true h)
-
-together : (a b : Bool) → a ≡ true → b ≡ true → (a && b) ≡ true
-together true b h k = k
-together false b h k = h
-
 calls-formed : (n : ℕ) (ts : Trees) → all_callable ts ≡ true → numbered_all n ts ≡ true → list_all (well_formed_part n) (calls ts) ≡ true
 calls-formed n none h k = refl
 calls-formed n (more t ts) h k =
-    let a = both (callable t) (all_callable ts) h in
-    let b = both (numbered n t) (numbered_all n ts) k in
-    together (callable t && numbered n t) (list_all (well_formed_part n) (calls ts)) (together (callable t) (numbered n t) a.0 b.0) (calls-formed n ts a.1 b.1)
+    let a = and_parts (callable t) (all_callable ts) h in
+    let b = and_parts (numbered n t) (numbered_all n ts) k in
+    and_from (callable t && numbered n t) (list_all (well_formed_part n) (calls ts)) (and_from (callable t) (numbered n t) a.0 b.0) (calls-formed n ts a.1 b.1)
 
 part-formed : (n : ℕ) (p : Part) → well_formed_part n p ≡ true → list_all (well_formed_part n) (stripped_part p) ≡ true
-part-formed n (call t) h = together (well_formed_part n (call t)) true h refl
+part-formed n (call t) h = and_from (well_formed_part n (call t)) true h refl
 part-formed n (group cs ts) h =
-    let a = both (list_all (numbered_check n) cs) (nat_le 1 (count_trees ts) && (all_callable ts && numbered_all n ts)) h in
-    let b = both (nat_le 1 (count_trees ts)) (all_callable ts && numbered_all n ts) a.1 in
-    let c = both (all_callable ts) (numbered_all n ts) b.1 in
+    let a = and_parts (list_all (numbered_check n) cs) (nat_le 1 (count_trees ts) && (all_callable ts && numbered_all n ts)) h in
+    let b = and_parts (nat_le 1 (count_trees ts)) (all_callable ts && numbered_all n ts) a.1 in
+    let c = and_parts (all_callable ts) (numbered_all n ts) b.1 in
     calls-formed n ts c.0 c.1
 
 parts-formed : (n : ℕ) (ps : List Part) → list_all (well_formed_part n) ps ≡ true → list_all (well_formed_part n) (flat_map stripped_part ps) ≡ true
 parts-formed n [] h = refl
 parts-formed n (p ∷ ps) h =
-    let a = both (well_formed_part n p) (list_all (well_formed_part n) ps) h in
+    let a = and_parts (well_formed_part n p) (list_all (well_formed_part n) ps) h in
     list_all-append (well_formed_part n) (stripped_part p) (flat_map stripped_part ps)
-    ∙ together _ _ (part-formed n p a.0) (parts-formed n ps a.1)
+    ∙ and_from _ _ (part-formed n p a.0) (parts-formed n ps a.1)
 
 pub stripped-formed : (c : Clause) → IsClause c → IsClause (stripped_clause c)
 stripped-formed c h = record { few = h.few; head = h.head; body = parts-formed c.vars c.body h.body }
-
-take_whole : {X : Type 0} (i : ℕ) (xs : List X) → length xs ≤ i → take i xs ≡ xs
-take_whole zero [] h = refl
-take_whole zero (x ∷ xs) h = absurd (omega arith)
-take_whole (suc i) [] h = refl
-take_whole (suc i) (x ∷ xs) h = ap (λ l. x ∷ l) (take_whole i xs (omega arith))
 
 pub same_clause : (c : Clause) (head : Tree) (body : List Part) (vars line : ℕ) → head ≡ c.head → body ≡ flat_map stripped_part c.body → vars ≡ c.vars → line ≡ c.line
     → record { head = head; body = body; vars = vars; line = line } ≡ stripped_clause c
@@ -67,4 +54,4 @@ same_clause c head body vars line h b v l =
 pub stripped-body : (ps : List code.Part) (i : ℕ) (body parts : List Part) → body ≡ flat_map (λ p. stripped_part (part_of p)) (take i ps) → length ps ≤ i → map part_of ps ≡ parts
     → body ≡ flat_map stripped_part parts
 stripped-body ps i body parts b h p =
-    b ∙ ap (flat_map (λ q. stripped_part (part_of q))) (take_whole i ps h) ∙ sym (flat_map-map stripped_part part_of ps) ∙ ap (flat_map stripped_part) p
+    b ∙ ap (flat_map (λ q. stripped_part (part_of q))) (take_all i ps h) ∙ sym (flat_map-map stripped_part part_of ps) ∙ ap (flat_map stripped_part) p

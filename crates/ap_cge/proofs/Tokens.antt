@@ -1,15 +1,16 @@
 -- A printed name or number before a rest is read as its tokens.
 use Rattle.std.proofs.Common.{◌≡◌, ℕ, suc, ℤ, pos, negsuc, ◌+◌, ◌-◌, ◌*◌, ◌%◌, ◌<◌, ◌≤◌, ◌^◌, ◌==◌, ◌&&◌, ◌||◌, not, Bool, true, false, if◌then◌else◌, List, [], ◌∷◌, ◌++◌, codes, flat_map, length, length-append, take, drop, bytes_eq, Some, refl, ap, sym, subst, ◌∙◌, append_assoc, arith}
-use Rattle.std.specs.Prelude.{All, nat_lt}
+use Rattle.std.specs.Prelude.{All}
 use Rattle.std.specs.Char.{is_ascii_digit}
 use Rattle.std.specs.List.{list_all}
 use Rattle.std.specs.Fmt.{decimal, signed_decimal}
 use Rattle.std.specs.Str.{IsUtf8}
-use Rattle.std.proofs.lemmas.Bool.{false≢true}
+use Rattle.std.proofs.lemmas.Bool.{false≢true, and_parts, ltb-true}
 use Rattle.std.proofs.lemmas.Bool.Decides.{nat_tests}
 use Rattle.std.proofs.lemmas.Fmt.{decimal_by_steps}
 use Rattle.std.proofs.lemmas.List.Folds.{list_all-append}
 use Rattle.std.proofs.lemmas.Slice.Eq.{bytes_eq-Decides}
+use Rattle.std.proofs.lemmas.List.{take_at, drop_at}
 use Rattle.ap_term.specs.Arithmetic.{fits}
 use Rattle.ap_lexer.specs.declared.kind.TokenKind.{TokenKind}
 use Rattle.ap_lexer.specs.declared.kind.TokenKind.TheVariants as token
@@ -23,10 +24,6 @@ use Rattle.ap_writer.specs.Quoted.{is_word, is_symbol, is_name, is_symbols, esca
 use Rattle.ap_cge.specs.Again.{is_apart, one_token, name_tokens, integer_tokens, variable_tokens, IsReadAs}
 use Rattle.ap_cge.proofs.Lexing.{stops, word_again, variable_again, integer_again, symbols_again, quoted_again}
 
-drop-front : (xs ys : List ℕ) → drop (length xs) (xs ++ ys) ≡ ys
-drop-front [] ys = refl
-drop-front (x ∷ xs) ys = drop-front xs ys
-
 -- the token at the front, and what is behind it
 at_front : (row : TokenKind) (tok rest : List ℕ) → 0 < length tok → lexeme (tok ++ rest) ≡ (kind.Token row, length tok)
     → spelled (tok ++ rest) (lexemes (tok ++ rest)) ≡ spelled_by (kind.Token row) (tok ++ rest) (length tok) (begins_token (lexemes rest)) (spelled rest (lexemes rest))
@@ -35,11 +32,7 @@ at_front row tok rest some is =
     let F : Lexeme → List Spelled = λ x. spelled text (x ∷ lexemes (drop x.1 text)) in
     let G : Text → List Spelled = λ r. spelled_by (kind.Token row) text (length tok) (begins_token (lexemes r)) (spelled r (lexemes r)) in
     let one : 0 < (lexeme text).1 = subst (λ (x : Lexeme). 0 < x.1) (sym is) some in
-    ap (spelled text) (lexemes-cons text (omega (arith, length-append tok rest)) one) ∙ ap F is ∙ ap G (drop-front tok rest)
-
-take-front : (xs ys : List ℕ) → take (length xs) (xs ++ ys) ≡ xs
-take-front [] ys = refl
-take-front (x ∷ xs) ys = ap (λ l. x ∷ l) (take-front xs ys)
+    ap (spelled text) (lexemes-cons text (omega (arith, length-append tok rest)) one) ∙ ap F is ∙ ap G (drop_at tok rest (length tok) refl)
 
 -- ---- numbers
 
@@ -128,7 +121,7 @@ one_read : (row : TokenKind) (tok rest : List ℕ) → is_inner row ≡ true →
 one_read row tok rest inner some is =
     at_front row tok rest some is
     ∙ by-row row (tok ++ rest) (length tok) (begins_token (lexemes rest)) (spelled rest (lexemes rest)) inner
-    ∙ ap (λ t. one_token row t (begins_token (lexemes rest)) ++ spelled rest (lexemes rest)) (take-front tok rest)
+    ∙ ap (λ t. one_token row t (begins_token (lexemes rest)) ++ spelled rest (lexemes rest)) (take_at tok rest (length tok) refl)
 
 inner-role : (row : TokenKind) → is_inner row ≡ true → role (kind.Token row) ≡ Part
 inner-role token.End h = absurd (false≢true h)
@@ -142,7 +135,7 @@ one_passes row tok rest inner some is whole at from =
     let G : Role → List Piece = λ r. ended_by r whole (start (Some from) at) at (at + length tok) ++ pieces_from whole (at + length tok) (begun_after r (Some from) at) (lexemes (drop (length tok) text)) in
     let one : 0 < (lexeme text).1 = subst (λ (x : Lexeme). 0 < x.1) (sym is) some in
     ap (pieces_from whole at (Some from)) (lexemes-cons text (omega (arith, length-append tok rest)) one) ∙ ap F is ∙ ap G (inner-role row inner)
-    ∙ ap (λ r. pieces_from whole (at + length tok) (Some from) (lexemes r)) (drop-front tok rest)
+    ∙ ap (λ r. pieces_from whole (at + length tok) (Some from) (lexemes r)) (drop_at tok rest (length tok) refl)
 
 -- A text before a rest is read as these tokens, the first byte of a token stands in front or doesn't, and a piece goes on
 -- behind it.
@@ -241,27 +234,20 @@ digits_lexeme : (ds rest : List ℕ) → 0 < length ds → list_all is_ascii_dig
 digits_lexeme [] rest some h small apart = absurd (omega arith)
 digits_lexeme (d ∷ ds) rest some h small apart = integer_again d ds rest h small (apart-digit rest apart)
 
-below : (n : ℕ) → nat_lt n (2 ^ 63) ≡ true → n < 2 ^ 63
-below n h = grind (arith, nat_tests)
-
 no_symbol_digit : (b : ℕ) → is_ascii_digit b ≡ true → not (is_symbol b) ≡ true
 no_symbol_digit b h = grind (arith, nat_tests)
 
 digits-symbol : (ds rest : List ℕ) → 0 < length ds → list_all is_ascii_digit ds ≡ true → stops is_symbol (ds ++ rest) ≡ true
 digits-symbol [] rest some h = absurd (omega arith)
-digits-symbol (d ∷ ds) rest some h = no_symbol_digit d (first (is_ascii_digit d) (list_all is_ascii_digit ds) h)
-  where
-    first : (a b : Bool) → (a && b) ≡ true → a ≡ true
-    first true b k = refl
-    first false b k = absurd (false≢true k)
+digits-symbol (d ∷ ds) rest some h = no_symbol_digit d (and_parts (is_ascii_digit d) (list_all is_ascii_digit ds) h).0
 
 pub integer_front : (z : ℤ) (rest : List ℕ) → fits z ≡ true → is_apart rest ≡ true → Front true (signed_decimal z) (integer_tokens z) rest
 integer_front (pos n) rest h apart =
-    let small : n < 2 ^ 63 = below n h in
+    let small : n < 2 ^ 63 = ltb-true n (2 ^ 63) h in
     let ds = numeral n (omega arith) in
     one_front token.Integer (decimal n) rest refl ds.some (digits_lexeme (decimal n) rest ds.some ds.digits (omega (arith, ds.value)) apart)
 integer_front (negsuc n) rest h apart =
-    let small : n < 2 ^ 63 = below n h in
+    let small : n < 2 ^ 63 = ltb-true n (2 ^ 63) h in
     let ds = numeral (suc n) (omega arith) in
     let is = digits_lexeme (decimal (suc n)) rest ds.some ds.digits (omega (arith, ds.value)) apart in
     joined_front true true (codes "-") (decimal (suc n)) (one_token token.Symbol (codes "-")) (one_token token.Integer (decimal (suc n))) rest
