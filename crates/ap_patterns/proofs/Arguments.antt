@@ -8,15 +8,11 @@ use Rattle.ap_term.specs.TermView.{tree_of, trees_of}
 use Rattle.ap_term.proofs.TermLists.{trees_of-drop_more, count-trees_of}
 use Rattle.ap_term.specs.WellFormed.{callable, numbered, numbered_all}
 use Rattle.ap_sharing.specs.VarSet.{has, empty, just, union, meets}
-use Rattle.ap_sharing.specs.Sets.{insert_set}
 use Rattle.ap_sharing.specs.Share.{Share, nonground}
 use Rattle.ap_sharing.proofs.Elements.{union_assoc, union-empty, empty-union}
-use Rattle.ap_absunify.specs.declared.states.State.{State}
 use Rattle.ap_absunify.specs.TermSets.{var_set}
-use Rattle.ap_absunify.specs.AfterUnify.{is_free, after_unify}
-use Rattle.ap_absunify.specs.AfterEqual.{after_all}
+use Rattle.ap_absunify.specs.AfterUnify.{is_free}
 use Rattle.ap_patterns.specs.Places.{arguments, argument_sets, places, free_places}
-use Rattle.ap_patterns.specs.Entering.{own, with_own, beside, head_equations}
 use Rattle.ap_patterns.specs.AfterCall.{grounded, kept_free}
 
 pub two : (i : ℕ) → suc (i + 1) ≡ i + 1 + 1
@@ -80,35 +76,6 @@ sets_done F nothing sets i found whole h w = sym (union-empty found) ∙ ap (uni
 pub terms_done : (F : Trees → ℕ) → F none ≡ empty → (ts : List Term) (i found whole : ℕ) → length ts ≤ i → union found (F (trees_of (drop i ts))) ≡ whole → found ≡ whole
 terms_done F nothing ts i found whole h w =
     sym (union-empty found) ∙ ap (union found) (sym nothing) ∙ ap (λ us. union found (F (trees_of us))) (sym (drop_all i ts h)) ∙ w
-
--- ---- numbers from 1
-
-more_one : (i : ℕ) → suc i ≡ i + 1
-more_one i = omega arith
-
-pub own-turn : (vars new i : ℕ) → new ≡ union vars (just (i + 1)) → vars ≡ own i → new ≡ own (i + 1)
-own-turn vars new i n e = n ∙ ap₂ (λ v k. union v (just k)) e (sym (more_one i)) ∙ ap own (more_one i)
-
-pub with_own-turn : (old sets new : List ℕ) (i : ℕ) → new ≡ insert_set sets (just (i + 1)) → sets ≡ with_own i old → new ≡ with_own (i + 1) old
-with_own-turn old sets new i n e = n ∙ ap₂ (λ ss k. insert_set ss (just k)) e (sym (more_one i)) ∙ ap (λ k. with_own k old) (more_one i)
-
-pub beside-turn : (n s vars new i : ℕ) → new ≡ union vars (if has s (i + 1) then just (n + i + 1) else empty) → vars ≡ beside n i s → new ≡ beside n (i + 1) s
-beside-turn n s vars new i e v =
-    let q : n + i + 1 ≡ n + suc i = omega arith in
-    e ∙ ap₂ (λ z k. union z (if has s k then just (n + i + 1) else empty)) v (sym (more_one i)) ∙ ap (λ k. union (beside n i s) (if has s (suc i) then just k else empty)) q
-    ∙ ap (λ k. beside n k s) (more_one i)
-
--- ---- heads, and lists of sets
-
-pub head-turn : (s next all : State) (e i : ℕ) (t : Term) (ts : List Term) → i < length ts → t ≡ get_or ts i t → next ≡ after_unify s (e + i + 1) (tree_of t)
-    → after_all s (head_equations (e + i + 1) (trees_of (drop i ts))) ≡ all → after_all next (head_equations (e + (i + 1) + 1) (trees_of (drop (i + 1) ts))) ≡ all
-head-turn s next all e i t ts h k n w =
-    let q : e + (i + 1) + 1 ≡ suc (e + i + 1) = omega arith in
-    ap₂ (λ r j. after_all r (head_equations j (trees_of (drop (i + 1) ts)))) n q
-    ∙ sym (ap (λ us. after_all s (head_equations (e + i + 1) us)) (trees_of-drop_more ts i t h k)) ∙ w
-
-pub head-done : (s all : State) (e i : ℕ) (ts : List Term) → length ts ≤ i → after_all s (head_equations (e + i + 1) (trees_of (drop i ts))) ≡ all → s ≡ all
-head-done s all e i ts h w = ap (λ us. after_all s (head_equations (e + i + 1) (trees_of us))) (sym (drop_all i ts h)) ∙ w
 
 -- ---- how many, and which numbers
 
