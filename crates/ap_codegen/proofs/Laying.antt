@@ -1,6 +1,6 @@
 -- A predicate whose clauses stand one behind another, with choice instructions before them, is laid out as code has to be.
 use Rattle.std.proofs.Common.{◌≡◌, ℕ, zero, suc, ◌+◌, ◌<◌, ◌≤◌, ◌==◌, Bool, true, false, if◌then◌else◌, List, [], ◌∷◌, ◌++◌, length, drop, take, ◌⊎◌, inl, inr, Some, refl, ap, sym, ◌∙◌, subst, arith, append_assoc}
-use Rattle.std.specs.List.{AllZip, slice_get}
+use Rattle.std.specs.List.{slice_get}
 use Rattle.std.proofs.lemmas.Bool.{false≢true}
 use Rattle.std.proofs.lemmas.Bool.Decides.{Decides-eqb}
 use Rattle.ap_term.specs.Tree.{Tree, var, int, atom, node, count_trees}
@@ -16,13 +16,13 @@ use Rattle.ap_codecheck.specs.Paths.{IsPlaceOf}
 use Rattle.ap_codecheck.specs.Rules.{InRange, GoesInside, CallsKnown, IsAlternative, At}
 use Rattle.ap_codecheck.specs.Judged.{AreAwaited}
 use Rattle.ap_codecheck.specs.Walk.{Walks, WalksFrom, IsLaid}
-use Rattle.ap_codegen.specs.Assembled.{AreAlone, AreInstructionsOf, AreCoded, places, retries, choices, chosen, together, heads, clauses_for}
+use Rattle.ap_codegen.specs.Assembled.{AreAloneIn, AreInstructionsOf, AreCoded, places, retries, choices, chosen, together, heads, clauses_for}
 use Rattle.ap_codegen.proofs.Registers.{both_true}
-use Rattle.ap_codegen.proofs.Placed.{drop_append, length_retries, chosen_many, block_places}
+use Rattle.ap_codegen.proofs.Placed.{drop_append, length_choices, block_places}
 
 -- ---- lists
 
-get_behind : {A : Type 0} (xs ys : List A) (j : ℕ) → slice_get (xs ++ ys) (length xs + j) ≡ slice_get ys j
+pub get_behind : {A : Type 0} (xs ys : List A) (j : ℕ) → slice_get (xs ++ ys) (length xs + j) ≡ slice_get ys j
 get_behind [] ys j = let e : 0 + j ≡ j = omega arith in ap (slice_get ys) e
 get_behind (x ∷ xs) ys j = let e : suc (length xs) + j ≡ suc (length xs + j) = omega arith in ap (slice_get (x ∷ (xs ++ ys))) e ∙ get_behind xs ys j
 
@@ -35,12 +35,12 @@ pub length_both : {A : Type 0} (xs ys : List A) → length (xs ++ ys) ≡ length
 length_both [] ys = omega arith
 length_both (x ∷ xs) ys = let e = length_both xs ys in omega (arith, e)
 
-take_front : {A : Type 0} (xs ys : List A) → take (length xs) (xs ++ ys) ≡ xs
+pub take_front : {A : Type 0} (xs ys : List A) → take (length xs) (xs ++ ys) ≡ xs
 take_front [] ys = refl
 take_front (x ∷ xs) ys = ap (λ l. x ∷ l) (take_front xs ys)
 
 -- the rest of a number
-rest : (a b : ℕ) → a ≤ b → (j : ℕ) × (b ≡ a + j)
+pub rest : (a b : ℕ) → a ≤ b → (j : ℕ) × (b ≡ a + j)
 rest zero b l = (b, omega arith)
 rest (suc a) zero l = absurd (omega arith)
 rest (suc a) (suc b) l = let r = rest a b (omega arith) in (r.0, let e : b ≡ a + r.0 = r.1 in omega arith)
@@ -61,8 +61,10 @@ each_at P (y ∷ xs) (suc j) x h e = each_at P xs j x h.1 e
 
 -- ---- clauses
 
-abbrev AreOf : Compiled → ℕ → List (List Instr) → List Clause → Type 0
-AreOf code arity bs cs = AllZip (λ is c. AreInstructionsOf code c is × (count_trees (arguments c.head) ≡ arity)) bs cs
+abbrev AreOf : Compiled → ℕ → ℕ → List (List Instr) → List Clause → Type 0
+AreOf code arity at [] [] = Unit {0}
+AreOf code arity at (is ∷ bs) (c ∷ cs) = (AreInstructionsOf code at c is × (count_trees (arguments c.head) ≡ arity)) × AreOf code arity (at + length is) bs cs
+AreOf code arity at _ _ = ⊥
 
 heads_arity : (k : ℕ × ℕ) (t : Tree) → heads k t ≡ true → count_trees (arguments t) ≡ k.1
 heads_arity k (var x) h = absurd (false≢true h)
@@ -70,40 +72,40 @@ heads_arity k (int z) h = absurd (false≢true h)
 heads_arity k (atom a) h = (Decides-eqb 0 k.1).0 (both_true (a == k.0) (0 == k.1) h).1
 heads_arity k (node a ts) h = (Decides-eqb (count_trees ts) k.1).0 (both_true (a == k.0) (count_trees ts == k.1) h).1
 
-are_of : (code : Compiled) (k : ℕ × ℕ) (bs : List (List Instr)) (p : Program) → AreCoded code bs (clauses_for k p) → AreOf code k.1 bs (clauses_for k p)
-are_of code k bs [] h = none bs h
+are_of : (code : Compiled) (k : ℕ × ℕ) (at : ℕ) (bs : List (List Instr)) (p : Program) → AreCoded code at bs (clauses_for k p) → AreOf code k.1 at bs (clauses_for k p)
+are_of code k at bs [] h = none bs h
   where
-    none : (bs : List (List Instr)) → AreCoded code bs [] → AreOf code k.1 bs []
+    none : (bs : List (List Instr)) → AreCoded code at bs [] → AreOf code k.1 at bs []
     none [] h = tt
-    none (b ∷ bs) h = h
-are_of code k bs (c ∷ p) h = go (heads k c.head) refl bs h (λ bs h. are_of code k bs p h)
+    none (b ∷ bs) h = absurd h
+are_of code k at bs (c ∷ p) h = go (heads k c.head) refl bs h (λ at bs h. are_of code k at bs p h)
   where
-    go : (b : Bool) → heads k c.head ≡ b → (bs : List (List Instr)) → AreCoded code bs (if b then c ∷ clauses_for k p else clauses_for k p)
-        → ((bs : List (List Instr)) → AreCoded code bs (clauses_for k p) → AreOf code k.1 bs (clauses_for k p)) → AreOf code k.1 bs (if b then c ∷ clauses_for k p else clauses_for k p)
-    go true e [] h ih = h
-    go true e (b ∷ bs) h ih = ((h.0, heads_arity k c.head e), ih bs h.1)
-    go false e bs h ih = ih bs h
+    go : (b : Bool) → heads k c.head ≡ b → (bs : List (List Instr)) → AreCoded code at bs (if b then c ∷ clauses_for k p else clauses_for k p)
+        → ((at : ℕ) (bs : List (List Instr)) → AreCoded code at bs (clauses_for k p) → AreOf code k.1 at bs (clauses_for k p)) → AreOf code k.1 at bs (if b then c ∷ clauses_for k p else clauses_for k p)
+    go true e [] h ih = absurd h
+    go true e (b ∷ bs) h ih = ((h.0, heads_arity k c.head e), ih (at + length b) bs h.1)
+    go false e bs h ih = ih at bs h
 
-filled : (code : Compiled) (c : Clause) (is : List Instr) → AreInstructionsOf code c is → 0 < length is
-filled code c [] h = absurd (h.walks 0 [])
-filled code c (i ∷ is) h = omega arith
+filled : (code : Compiled) (at : ℕ) (c : Clause) (is : List Instr) → AreInstructionsOf code at c is → 0 < length is
+filled code at c [] h = absurd (h.walks [])
+filled code at c (i ∷ is) h = omega arith
 
-not_try : (code : Compiled) (c : Clause) (is : List Instr) (l : ℕ) → AreInstructionsOf code c is → slice_get is 0 ≡ Some (Try l) → ⊥
-not_try code c [] l h e = cc
-not_try code c (i ∷ is) l h e =
+not_try : (code : Compiled) (at : ℕ) (c : Clause) (is : List Instr) (l : ℕ) → AreInstructionsOf code at c is → slice_get is 0 ≡ Some (Try l) → ⊥
+not_try code at c [] l h e = cc
+not_try code at c (i ∷ is) l h e =
     let same : i ≡ Try l = cc in
-    let w = subst (λ i. Walks code 0 0 ((i ∷ is) ++ []) (entry (count_trees (arguments c.head)))) same (h.walks 0 []) in
+    let w = subst (λ i. Walks code at 0 ((i ∷ is) ++ []) (entry (count_trees (arguments c.head)))) same (h.walks []) in
     w.0.on
 
 -- where clauses begin and walk
-clause_at : (code : Compiled) (arity : ℕ) (xs : List Instr) (bs : List (List Instr)) (cs : List Clause) (at : ℕ) → at ≡ length xs → AreOf code arity bs cs
+clause_at : (code : Compiled) (arity : ℕ) (xs : List Instr) (bs : List (List Instr)) (cs : List Clause) (at : ℕ) → at ≡ length xs → AreOf code arity at bs cs
     → (k l : ℕ) → slice_get (places at bs) k ≡ Some l → (at ≤ l) × Walks code l 0 (drop l (xs ++ together bs)) (entry arity)
 clause_at code arity xs [] cs at e h k l d = cc
 clause_at code arity xs (b ∷ bs) [] at e h k l d = absurd h
 clause_at code arity xs (b ∷ bs) (c ∷ cs) at e h zero l d =
     let same : at ≡ l = cc in
     let front : drop l (xs ++ (b ++ together bs)) ≡ b ++ together bs = ap (λ n. drop n (xs ++ (b ++ together bs))) (sym same ∙ e) ∙ drop_append xs (b ++ together bs) in
-    (omega arith, subst (λ is. Walks code l 0 is (entry arity)) (sym front) (subst (λ n. Walks code l 0 (b ++ together bs) (entry n)) h.0.1 (h.0.0.walks l (together bs))))
+    (omega arith, subst (λ is. Walks code l 0 is (entry arity)) (sym front) (subst (λ n. Walks code l 0 (b ++ together bs) (entry n)) h.0.1 (subst (λ n. Walks code n 0 (b ++ together bs) (entry (count_trees (arguments c.head)))) same (h.0.0.walks (together bs)))))
 clause_at code arity xs (b ∷ bs) (c ∷ cs) at e h (suc k) l d =
     let n : at + length b ≡ length (xs ++ b) = ap (λ m. m + length b) e ∙ sym (length_both xs b) in
     let r = clause_at code arity (xs ++ b) bs cs (at + length b) n h.1 k l d in
@@ -128,21 +130,21 @@ abbrev region : ℕ → List (List Instr) → List Instr
 region base bs = choices base bs ++ together bs
 
 -- there is one
-region_filled : (code : Compiled) (arity base : ℕ) (bs : List (List Instr)) (cs : List Clause) → AreOf code arity bs cs → 0 < length (region base bs)
+region_filled : (code : Compiled) (arity base : ℕ) (bs : List (List Instr)) (cs : List Clause) → AreOf code arity base bs cs → 0 < length (region base bs)
 region_filled code arity base [] cs h = omega arith
 region_filled code arity base (b ∷ []) [] h = absurd h
-region_filled code arity base (b ∷ []) (c ∷ cs) h = let e = length_both b [] in let f : 0 < length b = filled code c b h.0.0 in omega (arith, e)
+region_filled code arity base (b ∷ []) (c ∷ cs) h = let e = length_both b [] in let f : 0 < length b = filled code base c b h.0.0 in omega (arith, e)
 region_filled code arity base (b ∷ d ∷ bs) cs h = omega arith
 
-region_awaited : (code : Compiled) (arity base : ℕ) (bs : List (List Instr)) (cs : List Clause) (later : List Instr) (first j : ℕ) → AreOf code arity bs cs
+region_awaited : (code : Compiled) (arity base : ℕ) (bs : List (List Instr)) (cs : List Clause) (later : List Instr) (first j : ℕ) → AreOf code arity base bs cs
     → slice_get (region base bs ++ later) 0 ≡ Some (Try first) → ((k : ℕ) → 0 < k → k < suc j → (l : ℕ) × (slice_get (region base bs ++ later) k ≡ Some (Retry l)))
     → (suc j < length (region base bs)) × ((i : Instr) → slice_get (region base bs ++ later) (suc j) ≡ Some i → IsAlternative i)
 region_awaited code arity base [] cs later first j h e r = cc
 region_awaited code arity base (b ∷ []) [] later first j h e r = absurd h
 region_awaited code arity base (b ∷ []) (c ∷ cs) later first j h e r =
-    let some : 0 < length b = filled code c b h.0.0 in
+    let some : 0 < length b = filled code base c b h.0.0 in
     let n = length_both b [] in
-    absurd (not_try code c b first h.0.0 (sym (get_before b [] 0 some) ∙ sym (get_before (b ++ []) later 0 (omega (arith, n))) ∙ e))
+    absurd (not_try code base c b first h.0.0 (sym (get_before b [] 0 some) ∙ sym (get_before (b ++ []) later 0 (omega (arith, n))) ∙ e))
 region_awaited code arity base (b ∷ d ∷ bs) cs later first j h e r =
     let rs : List Instr = retries (base + length b) (d ∷ bs) in
     let t : List Instr = together (b ∷ d ∷ bs) in
@@ -157,45 +159,42 @@ module _ (code : Compiled) (q : Predicate) where
   abbrev Fine : Instr → Type 0
   Fine i = InRange code i × GoesInside code q i × CallsKnown code i
 
-  each_alone : (is : List Instr) → AreAlone code is → Each Fine is
-  each_alone [] h = tt
-  each_alone (i ∷ is) h = ((h.0.0, h.0.2 q, h.0.1), each_alone is h.1)
-
-  each_clause : (bs : List (List Instr)) (cs : List Clause) → AreOf code q.arity bs cs → Each Fine (together bs)
-  each_clause [] cs h = tt
-  each_clause (b ∷ bs) [] h = absurd h
-  each_clause (b ∷ bs) (c ∷ cs) h = each_both Fine b (together bs) (each_alone b h.0.0.alone) (each_clause bs cs h.1)
-
   module _ (low end : ℕ) (place : (at : ℕ) → low ≤ at → at < end → IsPlaceOf code q at) where
-    each_retry : (at : ℕ) (b : List Instr) (bs : List (List Instr)) (cs : List Clause) → AreOf code q.arity (b ∷ bs) cs → low ≤ at → at + length (together (b ∷ bs)) ≡ end → Each Fine (retries at (b ∷ bs))
+    each_alone : (from to : ℕ) → low ≤ from → to ≤ end → (is : List Instr) → AreAloneIn code from to is → Each Fine is
+    each_alone from to l m [] h = tt
+    each_alone from to l m (i ∷ is) h = ((h.0.0, h.0.2 q (λ at f b. place at (omega arith) (omega arith)), h.0.1), each_alone from to l m is h.1)
+
+    each_clause : (at : ℕ) (bs : List (List Instr)) (cs : List Clause) → AreOf code q.arity at bs cs → low ≤ at → at + length (together bs) ≡ end → Each Fine (together bs)
+    each_clause at [] cs h l e = tt
+    each_clause at (b ∷ bs) [] h l e = absurd h
+    each_clause at (b ∷ bs) (c ∷ cs) h l e =
+        let n = length_both b (together bs) in
+        each_both Fine b (together bs) (each_alone at (at + length b) l (omega (arith, n, e)) b h.0.0.alone) (each_clause (at + length b) bs cs h.1 (omega arith) (omega (arith, n, e)))
+
+    each_retry : (at : ℕ) (b : List Instr) (bs : List (List Instr)) (cs : List Clause) → AreOf code q.arity at (b ∷ bs) cs → low ≤ at → at + length (together (b ∷ bs)) ≡ end → Each Fine (retries at (b ∷ bs))
     each_retry at b bs [] h l e = absurd h
     each_retry at b [] (c ∷ cs) h l e =
         let n = length_both b [] in
-        let some : 0 < length b = filled code c b h.0.0 in
+        let some : 0 < length b = filled code at c b h.0.0 in
         ((tt, place at l (omega (arith, n, e)), tt), tt)
     each_retry at b (d ∷ bs) (c ∷ cs) h l e =
         let n = length_both b (together (d ∷ bs)) in
-        let some : 0 < length b = filled code c b h.0.0 in
+        let some : 0 < length b = filled code at c b h.0.0 in
         ((tt, place at l (omega (arith, n, e)), tt), each_retry (at + length b) d bs cs h.1 (omega arith) (omega (arith, n, e)))
 
-    each_choice : (base : ℕ) (bs : List (List Instr)) (cs : List Clause) → AreOf code q.arity bs cs → low ≤ base → base + length (together bs) ≡ end → Each Fine (choices base bs)
+    each_choice : (base : ℕ) (bs : List (List Instr)) (cs : List Clause) → AreOf code q.arity base bs cs → low ≤ base → base + length (together bs) ≡ end → Each Fine (choices base bs)
     each_choice base [] cs h l e = ((tt, tt, tt), tt)
     each_choice base (b ∷ []) cs h l e = tt
     each_choice base (b ∷ d ∷ bs) [] h l e = absurd h
     each_choice base (b ∷ d ∷ bs) (c ∷ cs) h l e =
         let n = length_both b (together (d ∷ bs)) in
-        let some : 0 < length b = filled code c b h.0.0 in
+        let some : 0 < length b = filled code base c b h.0.0 in
         ((tt, place base l (omega (arith, n, e)), tt), each_retry (base + length b) d bs cs h.1 (omega arith) (omega (arith, n, e)))
 
-length_choices : (base : ℕ) (bs : List (List Instr)) → (length (choices base bs) ≡ chosen (length bs)) ⊎ (bs ≡ [])
-length_choices base [] = inr refl
-length_choices base (b ∷ []) = inl refl
-length_choices base (b ∷ d ∷ bs) = inl (ap suc (length_retries (base + length b) (d ∷ bs)) ∙ sym (chosen_many (length bs)))
-
-pub block_laid : (code : Compiled) (q : Predicate) (k : ℕ × ℕ) (front : List Instr) (bs : List (List Instr)) (later : List Instr) (p : Program) → AreCoded code bs (clauses_for k p) → q.arity ≡ k.1
+pub block_laid : (code : Compiled) (q : Predicate) (k : ℕ × ℕ) (front : List Instr) (bs : List (List Instr)) (later : List Instr) (p : Program) → AreCoded code (length front + chosen (length bs)) bs (clauses_for k p) → q.arity ≡ k.1
     → q.start ≡ length front → q.end ≡ length (front ++ region (length front + chosen (length bs)) bs) → code.instructions ≡ front ++ (region (length front + chosen (length bs)) bs ++ later) → IsLaid code q
 block_laid code q k front bs later p coded a s e w = record {
-  start = place q.start (omega (arith, s)) (omega (arith, s, e, long, whole_long, region_filled code k.1 base bs cs (are_of code k bs p coded)));
+  start = place q.start (omega (arith, s)) (omega (arith, s, e, long, whole_long, region_filled code k.1 base bs cs (are_of code k base bs p coded)));
   range = λ at h i g. (fine at h i g).0;
   inside = λ at h i g. (fine at h i g).1;
   known = λ at h i g. (fine at h i g).2;
@@ -221,8 +220,8 @@ block_laid code q k front bs later p coded a s e w = record {
     place : (at : ℕ) → length front ≤ at → at < length (front ++ own) → IsPlaceOf code q at
     place at l m = record { from = omega (arith, s); before = omega (arith, e); held = omega (arith, long, whole_long) }
 
-    of : AreOf code q.arity bs cs
-    of = subst (λ n. AreOf code n bs cs) (sym a) (are_of code k bs p coded)
+    of : AreOf code q.arity base bs cs
+    of = subst (λ n. AreOf code n base bs cs) (sym a) (are_of code k base bs p coded)
 
     -- an instruction of the predicate by its number there
     get : (j : ℕ) → slice_get code.instructions (length front + j) ≡ slice_get (own ++ later) j
@@ -234,7 +233,10 @@ block_laid code q k front bs later p coded a s e w = record {
         go : (length (choices base bs) ≡ chosen (length bs)) ⊎ (bs ≡ []) → Each (Fine code q) own
         go (inl n) =
             let m = length_both (choices base bs) (together bs) in
-            each_both (Fine code q) (choices base bs) (together bs) (each_choice code q (length front) (length (front ++ own)) place base bs cs of (omega arith) (omega (arith, n, m, long))) (each_clause code q bs cs of)
+            let whole : base + length (together bs) ≡ length (front ++ own) = omega (arith, n, m, long) in
+            each_both (Fine code q) (choices base bs) (together bs)
+            (each_choice code q (length front) (length (front ++ own)) place base bs cs of (omega arith) whole)
+            (each_clause code q (length front) (length (front ++ own)) place base bs cs of (omega arith) whole)
         go (inr n) = subst (λ bs. Each (Fine code q) (region base bs)) (sym n) ((tt, tt, tt), tt)
 
     fine : (at : ℕ) → IsPlaceOf code q at → At code at (Fine code q)

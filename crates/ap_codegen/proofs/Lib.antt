@@ -7,9 +7,11 @@ pub mod FramedLeads
 pub mod StraightLeads
 pub mod BodyTurns
 pub mod Straight
+pub mod Flows
 pub mod Heads
 pub mod Placed
 pub mod Laying
+pub mod Blocks
 pub mod Growing
 pub mod Making
 pub mod AskedClause
@@ -22,6 +24,7 @@ pub mod LeadRanges
 pub mod LeadWalks
 pub mod LeadAlone
 pub mod LocatedLeads
+pub mod ReadAs
 pub mod RelocatedReads
 pub mod RelocatedPaces
 pub mod RelocatedOpen

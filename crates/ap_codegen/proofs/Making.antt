@@ -1,35 +1,30 @@
 -- Predicates made one after another.
-use Rattle.std.proofs.Common.{◌≡◌, ℕ, zero, suc, ◌+◌, ◌<◌, ◌≤◌, Bool, true, false, ◌==◌, ◌&&◌, ◌||◌, is_some, if◌then◌else◌, Option, ◌⊎◌, inl, inr, List, [], ◌∷◌, ◌++◌, map, length, drop, take, get_or, slice_get, Some, None, IfSome, refl, ap, sym, ◌∙◌, subst, arith, append_assoc}
-use Rattle.std.specs.List.{AllZip, IsDistinct, filter}
+use Rattle.std.proofs.Common.{◌≡◌, ℕ, zero, suc, ◌+◌, ◌<◌, ◌≤◌, Bool, true, false, not, if◌then◌else◌, ◌⊎◌, inl, inr, List, [], ◌∷◌, ◌++◌, map, length, take, get_or, slice_get, Some, None, IfSome, refl, ap, sym, ◌∙◌, subst, arith, append_assoc}
+use Rattle.std.specs.List.{IsDistinct, filter}
 use Rattle.std.proofs.lemmas.List.{map-append, take_more}
 use Rattle.std.proofs.lemmas.Option.{slice_get_within}
 use Rattle.std.proofs.lemmas.Bool.{false≢true}
-use Rattle.std.proofs.lemmas.Bool.Decides.{Decides-eqb}
-use Rattle.ap_term.specs.declared.builtins.Relation.{Relation}
-use Rattle.ap_term.specs.declared.fixed.TheConstants.{TRUE, FAIL}
-use Rattle.ap_term.specs.Tree.{Tree, Trees, var, int, atom, node, none, more, count_trees}
-use Rattle.ap_term.specs.Substitution.{Subst}
-use Rattle.ap_term.specs.Builtins.{relation_named, named_answer, builtin}
-use Rattle.ap_term.specs.Goals.{Clause, Program, Query, joined}
+use Rattle.ap_term.specs.Goals.{Clause, Program}
 use Rattle.ap_instr.specs.declared.instruction.Instr.{Instr}
+use Rattle.ap_instr.specs.declared.instruction.Instr.TheVariants.{Call, Execute}
 use Rattle.ap_instr.specs.declared.compiled.Predicate.{Predicate}
+use Rattle.ap_instr.specs.Builtin.{builtin_name}
+use Rattle.ap_instr.specs.Step.{call, execute, with_predicate, step_of as said_by}
+use Rattle.ap_codegen.specs.CodeOf.{calls_apart}
 use Rattle.ap_instr.specs.Code.{Compiled}
-use Rattle.ap_instr.specs.StandsFor.{is_head_of, clauses_of, ReadsAt, alternatives, clause_places, IsOfClauses, asked, asked_query}
+use Rattle.ap_instr.specs.StandsFor.{IsOfClauses, IsOfBuiltin, called_by}
 use Rattle.ap_instr.specs.Groups.{AsksUnmarked}
 use Rattle.ap_instr.specs.Table.{Key, is_key, key_of, AreTiled}
 use Rattle.ap_tracked.specs.Tracked.{IsOneOf}
-use Rattle.ap_codegen.specs.Sequential.{sequential, sequential_program, sequential_query}
-use Rattle.ap_codegen.specs.Assembled.{Numbered, Grows, Holds, Keeps, AreSequences, ReadsInTurn, AreInstructionsOf, AreCoded, chosen, choices, together, heads, clauses_for, IsMade, StandsBeside}
-use Rattle.ap_instr.specs.Runs.{applied}
+use Rattle.ap_codegen.specs.Assembled.{Numbered, Grows, Holds, Keeps, AreCallsApart, AreSequences, AreInstructionsOf, AreCoded, chosen, choices, together, heads, clauses_for, IsStanding, IsBlock, IsMade, StandsBeside}
 use Rattle.ap_codegen.specs.Permanent.{is_builtin_key}
-use Rattle.ap_codegen.proofs.Growing.{push_get, grows_on, holds_less, zip_push, take_all}
-use Rattle.ap_codecheck.specs.Walk.{IsLaid}
+use Rattle.ap_codegen.proofs.Growing.{push_get, holds_less, take_all}
 use Rattle.ap_codecheck.proofs.Walked.{laid-sound}
 use Rattle.ap_codegen.proofs.Straight.{both_sequences, sequence_at}
-use Rattle.ap_codegen.proofs.Placed.{drop_append, block_read, block_sequences}
-use Rattle.ap_codegen.proofs.Laying.{length_both, block_laid}
+use Rattle.ap_codegen.proofs.Laying.{length_both}
+use Rattle.ap_codegen.proofs.Blocks.{both_apart, builtin_key}
 use Rattle.ap_codegen.specs.Heads.{with_heads}
-use Rattle.ap_codegen.proofs.Heads.{tiled_push, one_kept, heads_there, heads_first, predicates_in_turn, take_map, kept_first, keys_same}
+use Rattle.ap_codegen.proofs.Heads.{tiled_push, one_kept, heads_there, heads_first, take_map, kept_first, keys_same}
 
 get_some : {A : Type 0} (xs : List A) (i : ℕ) → i < length xs → (x : A) × (slice_get xs i ≡ Some x)
 get_some [] i l = absurd (omega arith)
@@ -42,32 +37,10 @@ none_beyond (x ∷ xs) zero i e l = cc
 none_beyond (x ∷ xs) (suc n) zero e l = absurd (omega arith)
 none_beyond (x ∷ xs) (suc n) (suc i) e l = none_beyond xs n i e (omega arith)
 
-turned : (m n : ℕ) → (m == n) ≡ (n == m)
-turned m n = go (m == n) (n == m) refl refl
-  where
-    go : (b c : Bool) → (m == n) ≡ b → (n == m) ≡ c → b ≡ c
-    go true true e f = refl
-    go true false e f = absurd (false≢true (sym f ∙ (Decides-eqb n m).1 (sym ((Decides-eqb m n).0 e))))
-    go false true e f = absurd (false≢true (sym e ∙ (Decides-eqb m n).1 (sym ((Decides-eqb n m).0 f))))
-    go false false e f = refl
-
-same_head : (q : Predicate) (t : Tree) → is_head_of q t ≡ heads (q.name, q.arity) t
-same_head q (var x) = refl
-same_head q (int z) = refl
-same_head q (atom a) = ap (λ b. (a == q.name) && b) (turned q.arity 0)
-same_head q (node a ts) = refl
-
-same_clauses : (q : Predicate) (k : ℕ × ℕ) (p : Program) → q.name ≡ k.0 → q.arity ≡ k.1 → clauses_of q p ≡ clauses_for k p
-same_clauses q k p n a =
-    let e : clauses_of q p ≡ clauses_for (q.name, q.arity) p = λ i. filter (λ c. same_head q c.head i) p in
-    e ∙ ap (λ m. clauses_for (m, q.arity) p) n ∙ ap (λ m. clauses_for (k.0, m) p) a
-
 -- one more predicate
-pub made_more : (t u : Numbered) (is is' : List Instr) (qs qs' : List Predicate) (q : Predicate) (k : ℕ × ℕ) (bs : List (List Instr)) (p : Program)
-    → Grows t u → ((code : Compiled) → Holds u code → AreCoded code bs (clauses_for k p))
-    → is' ≡ is ++ (choices (length is + chosen (length bs)) bs ++ together bs) → q.name ≡ k.0 → q.arity ≡ k.1 → q.start ≡ length is → q.end ≡ length is' → qs' ≡ qs ++ q ∷ []
-    → slice_get t.predicates (length qs) ≡ Some k → is_builtin_key k ≡ false → IsMade t is qs p → IsMade u is' qs' p
-made_more t u is is' qs qs' q k bs p g coded ei n a s en eq here away made = record { named = named; apart = apart; placed = placed; tiled = tiled; sequences = sequences; laid = laid }
+pub made_more : (t u : Numbered) (is is' own : List Instr) (qs qs' : List Predicate) (q : Predicate) (k : ℕ × ℕ) (p : Program) → Grows t u → IsBlock u is own k p → is' ≡ is ++ own
+    → q.name ≡ k.0 → q.arity ≡ k.1 → q.start ≡ length is → q.end ≡ length is' → qs' ≡ qs ++ q ∷ [] → slice_get t.predicates (length qs) ≡ Some k → IsMade t is qs p → IsMade u is' qs' p
+made_more t u is is' own qs qs' q k p g block ei n a s en eq here made = record { named = named; stands = stands; tiled = tiled; sequences = sequences; apart = apart }
   where
     at : (m : ℕ) (r : Predicate) → slice_get qs' m ≡ Some r → (slice_get qs m ≡ Some r) ⊎ ((m ≡ length qs) × (q ≡ r))
     at m r e = push_get qs q r m (ap (λ l. slice_get l m) (sym eq) ∙ e)
@@ -81,106 +54,57 @@ made_more t u is is' qs qs' q k bs p g coded ei n a s en eq here away made = rec
       | inr h ↦ ap (slice_get u.predicates) h.0 ∙ g.predicates (length qs) k here ∙ ap Some key ∙ ap (λ r. Some (r.name, r.arity)) h.1
     ]
 
-    apart : (m : ℕ) (r : Predicate) → slice_get qs' m ≡ Some r → is_builtin_key (r.name, r.arity) ≡ false
-    apart m r e = elim (at m r e) [
-      | inl h ↦ made.apart m r h
-      | inr h ↦ ap (λ r. is_builtin_key (r.name, r.arity)) (sym h.1) ∙ ap is_builtin_key (sym key) ∙ away
+    whole : (code : Compiled) (later : List Instr) → code.instructions ≡ is' ++ later → code.instructions ≡ is ++ (own ++ later)
+    whole code later e = e ∙ ap (λ l. l ++ later) ei ∙ append_assoc is own later
+
+    stands : (code : Compiled) (later : List Instr) → Holds u code → code.instructions ≡ is' ++ later → (m : ℕ) (r : Predicate) → slice_get qs' m ≡ Some r → IsStanding code p r
+    stands code later h e m r d = elim (at m r d) [
+      | inl f ↦ made.stands code (own ++ later) (holds_less t u code g h) (whole code later e) m r f
+      | inr f ↦ subst (IsStanding code p) f.1 (block.stands code later h (whole code later e) q n a s (en ∙ ap length ei))
     ]
-
-    placed : (code : Compiled) (later : List Instr) → Holds u code → code.instructions ≡ is' ++ later → (m : ℕ) (r : Predicate) → slice_get qs' m ≡ Some r → AllZip (ReadsInTurn code) (clause_places code r) (clauses_of r p)
-    placed code later h e m r d = go (at m r d)
-      where
-        whole : code.instructions ≡ is ++ ((choices (length is + chosen (length bs)) bs ++ together bs) ++ later)
-        whole = e ∙ ap (λ l. l ++ later) ei ∙ append_assoc is (choices (length is + chosen (length bs)) bs ++ together bs) later
-
-        behind : drop (length is) code.instructions ≡ choices (length is + chosen (length bs)) bs ++ (together bs ++ later)
-        behind = ap (drop (length is)) whole ∙ drop_append is ((choices (length is + chosen (length bs)) bs ++ together bs) ++ later) ∙ append_assoc (choices (length is + chosen (length bs)) bs) (together bs) later
-
-        last : AllZip (ReadsInTurn code) (clause_places code q) (clauses_of q p)
-        last =
-            subst (λ at. AllZip (ReadsInTurn code) (alternatives at (drop at code.instructions)) (clauses_of q p)) (sym s)
-            (subst (λ cs. AllZip (ReadsInTurn code) (alternatives (length is) (drop (length is) code.instructions)) cs) (sym (same_clauses q k p n a))
-            (block_read code (length is) (length is + chosen (length bs)) bs later (clauses_for k p) (coded code h) refl behind))
-
-        go : (slice_get qs m ≡ Some r) ⊎ ((m ≡ length qs) × (q ≡ r)) → AllZip (ReadsInTurn code) (clause_places code r) (clauses_of r p)
-        go (inl f) = made.placed code ((choices (length is + chosen (length bs)) bs ++ together bs) ++ later) (holds_less t u code g h) whole m r f
-        go (inr f) = subst (λ r. AllZip (ReadsInTurn code) (clause_places code r) (clauses_of r p)) f.1 last
 
     tiled : AreTiled 0 qs' (length is')
     tiled =
-        let own : List Instr = choices (length is + chosen (length bs)) bs ++ together bs in
         subst (λ qs. AreTiled 0 qs (length is')) (sym eq)
         (tiled_push 0 qs q (length is) (length is') made.tiled s (let n = length_both is own in let m = ap length ei in omega (arith, n, m)) en)
 
     sequences : (code : Compiled) (later : List Instr) → Holds u code → code.instructions ≡ is' ++ later → AreSequences code 0 is'
     sequences code later h e =
         subst (AreSequences code 0) (sym ei)
-        (both_sequences code 0 is own (made.sequences code (own ++ later) (holds_less t u code g h) whole)
-        (subst (λ n. AreSequences code n own) (let z : length is ≡ 0 + length is = omega arith in z) (block_sequences code (length is) (length is + chosen (length bs)) bs later (clauses_for k p) (coded code h) behind)))
-      where
-        own : List Instr
-        own = choices (length is + chosen (length bs)) bs ++ together bs
+        (both_sequences code 0 is own (made.sequences code (own ++ later) (holds_less t u code g h) (whole code later e))
+        (subst (λ n. AreSequences code n own) (let z : length is ≡ 0 + length is = omega arith in z) (block.sequences code later h (whole code later e))))
 
-        whole : code.instructions ≡ is ++ (own ++ later)
-        whole = e ∙ ap (λ l. l ++ later) ei ∙ append_assoc is own later
+    apart : (code : Compiled) → Holds u code → AreCallsApart code is'
+    apart code h = subst (AreCallsApart code) (sym ei) (both_apart code is own (made.apart code (holds_less t u code g h)) (block.apart code h))
 
-        behind : drop (length is) code.instructions ≡ choices (length is + chosen (length bs)) bs ++ (together bs ++ later)
-        behind = ap (drop (length is)) whole ∙ drop_append is (own ++ later) ∙ append_assoc (choices (length is + chosen (length bs)) bs) (together bs) later
+-- ---- calls
 
-    laid : (code : Compiled) (later : List Instr) → Holds u code → code.instructions ≡ is' ++ later → (m : ℕ) (r : Predicate) → slice_get qs' m ≡ Some r → IsLaid code r
-    laid code later h e m r d = go (at m r d)
-      where
-        own : List Instr
-        own = choices (length is + chosen (length bs)) bs ++ together bs
+apart_at : (code : Compiled) (is : List Instr) (j : ℕ) (i : Instr) → AreCallsApart code is → slice_get is j ≡ Some i → calls_apart (said_by code i) ≡ true
+apart_at code [] j i h e = cc
+apart_at code (k ∷ is) zero i h e = let same : k ≡ i = cc in subst (λ i. calls_apart (said_by code i) ≡ true) same h.0
+apart_at code (k ∷ is) (suc j) i h e = apart_at code is j i h.1 e
 
-        whole : code.instructions ≡ is ++ (own ++ later)
-        whole = e ∙ ap (λ l. l ++ later) ei ∙ append_assoc is own later
+not_both : (b : Bool) → b ≡ true → not b ≡ true → ⊥
+not_both true e f = false≢true f
+not_both false e f = false≢true e
 
-        go : (slice_get qs m ≡ Some r) ⊎ ((m ≡ length qs) × (q ≡ r)) → IsLaid code r
-        go (inl f) = made.laid code (own ++ later) (holds_less t u code g h) whole m r f
-        go (inr f) = subst (IsLaid code) f.1 (block_laid code q k is bs later p (coded code h) a s (en ∙ ap length ei) whole)
+-- a predicate that is called is none of built-in goals
+called_apart : (code : Compiled) (i : Instr) (n : ℕ) (q : Predicate) → calls_apart (said_by code i) ≡ true → called_by i ≡ Some n → slice_get code.predicates n ≡ Some q → not (is_builtin_key (q.name, q.arity)) ≡ true
+called_apart code (Call m) n q h c e =
+    let same : m ≡ n = cc in
+    let f : slice_get code.predicates m ≡ Some q = ap (slice_get code.predicates) same ∙ e in
+    ap (λ o. calls_apart (with_predicate o call)) (sym f) ∙ h
+called_apart code (Execute m) n q h c e =
+    let same : m ≡ n = cc in
+    let f : slice_get code.predicates m ≡ Some q = ap (slice_get code.predicates) same ∙ e in
+    ap (λ o. calls_apart (with_predicate o execute)) (sym f) ∙ h
+called_apart code _ n q h c e = absurd (cc)
 
-abbrev control_answer : Bool → Bool → Option (Option Subst)
-control_answer b d = if b then Some (Some []) else (if d then Some None else None)
-
--- a goal whose name and number of arguments are none of built-in goals is none
-no_builtin : (a : ℕ) (ts : Trees) → is_builtin_key (a, count_trees ts) ≡ false → builtin (applied a ts) ≡ None
-no_builtin a none e = go (a == TRUE) (a == FAIL) (is_some (relation_named a)) e
-  where
-    go : (b d k : Bool) → (((b || d) && true) || (k && false)) ≡ false → control_answer b d ≡ None
-    go true d k e = absurd (false≢true (sym e))
-    go false true k e = absurd (false≢true (sym e))
-    go false false k e = refl
-no_builtin a (more t none) e = refl
-no_builtin a (more t (more u none)) e = go (relation_named a) ((a == TRUE) || (a == FAIL)) e
-  where
-    go : (o : Option Relation) (b : Bool) → ((b && false) || (is_some o && true)) ≡ false → named_answer o t u ≡ None
-    go None b e = refl
-    go (Some r) true e = absurd (false≢true (sym e))
-    go (Some r) false e = absurd (false≢true (sym e))
-no_builtin a (more t (more u (more v ts))) e = refl
-
--- ---- groups whose goals are called one after another
-
--- the same clauses, whichever come first: those of a predicate, or those in that form
-clauses_in_turn : (q : Predicate) (p : Program) → clauses_of q (sequential_program p) ≡ sequential_program (clauses_of q p)
-clauses_in_turn q [] = refl
-clauses_in_turn q (c ∷ p) = go (is_head_of q c.head) (clauses_in_turn q p)
-  where
-    go : (b : Bool) → clauses_of q (sequential_program p) ≡ sequential_program (clauses_of q p)
-        → (if b then sequential c ∷ clauses_of q (sequential_program p) else clauses_of q (sequential_program p)) ≡ sequential_program (if b then c ∷ clauses_of q p else clauses_of q p)
-    go true e = ap (λ cs. sequential c ∷ cs) e
-    go false e = e
-
-zip_in_turn : (code : Compiled) (ns : List ℕ) (cs : Program) → AllZip (ReadsInTurn code) ns cs → AllZip (ReadsAt code) ns (sequential_program cs)
-zip_in_turn code [] [] h = tt
-zip_in_turn code [] (c ∷ cs) h = h
-zip_in_turn code (n ∷ ns) [] h = h
-zip_in_turn code (n ∷ ns) (c ∷ cs) h = (h.0, zip_in_turn code ns cs h.1)
-
--- a query's clauses behind a program's
-pub joined_in_turn : (p : Program) (q : Query) → sequential_program (joined p (asked_query q)) ≡ joined (sequential_program p) (asked_query (sequential_query q))
-joined_in_turn p q = map-append sequential p (asked q ∷ q.lifted)
+of_clauses : (code : Compiled) (p : Program) (q : Predicate) → IsOfClauses code p q ⊎ IsOfBuiltin code q → not (is_builtin_key (q.name, q.arity)) ≡ true → IsOfClauses code p q
+of_clauses code p q (inl h) e = h
+of_clauses code p q (inr h) e =
+    let k : is_builtin_key (q.name, q.arity) ≡ true = ap (λ n. is_builtin_key (n, q.arity)) (sym h.name) ∙ ap (λ n. is_builtin_key (builtin_name h.goal, n)) (sym h.arity) ∙ builtin_key h.goal in
+    absurd (not_both (is_builtin_key (q.name, q.arity)) k e)
 
 -- where all predicates are made, the code stands for the program
 pub made_all : (t : Numbered) (is : List Instr) (qs : List Predicate) (p : Program) (code : Compiled) (m : ℕ) (k : ℕ × ℕ) → IsMade t is qs p → slice_get t.predicates (length qs) ≡ None
@@ -194,14 +118,14 @@ made_all t is qs p code m k made ended at ei ez eq em own first both e1 e2 k2 k1
   named = q.2;
   arity = q.3;
   stands = record {
-    predicates = λ n r e. inl (clauses n r e);
-    calls = λ i n j r e f d. clauses n r d;
+    predicates = λ n r e. (standing n r e).0;
+    calls = λ i n j r e f d. of_clauses code p r (standing n r d).0 (called_apart code j n r (apart_at code is i j (made.apart code holds) (ap (λ is. slice_get is i) (sym ei) ∙ e)) f d);
     sequences = λ i l j e o.
         let n : 0 + i + 1 ≡ i + 1 = omega arith in
         subst (λ n. AsksUnmarked code n l) n (sequence_at code 0 is i l j (made.sequences code [] holds whole) (ap (λ is. slice_get is i) (sym ei) ∙ e) o);
   };
   whole = record {
-    has = λ j h. subst (IsOneOf j) (sym keys) (one_kept j both t.predicates k2 (subst (IsOneOf j) (sym e2) (heads_there j first p (subst (IsOneOf j) (predicates_in_turn p) h))));
+    has = λ j h. subst (IsOneOf j) (sym keys) (one_kept j both t.predicates k2 (subst (IsOneOf j) (sym e2) (heads_there j first p h)));
     once = subst (IsDistinct is_key) (sym keys) once;
     listed =
         ap (λ qs. map key_of (filter (λ q. q.is_listed) qs)) eq
@@ -210,12 +134,11 @@ made_all t is qs p code m k made ended at ei ez eq em own first both e1 e2 k2 k1
         ∙ ap (take (length first)) same
         ∙ kept_first first t.predicates (λ i x e. k2 i x (k1 i x e))
         ∙ e1
-        ∙ heads_first own
-        ∙ sym (predicates_in_turn own);
+        ∙ heads_first own;
     tiled = subst (λ qs. AreTiled 0 qs (length code.instructions)) (sym eq) (subst (λ is. AreTiled 0 qs (length is)) (sym ei) made.tiled);
   };
   sound =
-      laid-sound code (λ n r e. made.laid code [] holds whole n r (ap (λ l. slice_get l n) (sym eq) ∙ e))
+      laid-sound code (λ n r e. (standing n r e).1)
       (subst (λ o. IfSome o (λ n. n < length code.predicates)) (sym em) (slice_get_within code.predicates m q.0 q.1));
 }
   where
@@ -254,13 +177,8 @@ made_all t is qs p code m k made ended at ei ez eq em own first both e1 e2 k2 k1
     whole : code.instructions ≡ is ++ []
     whole = ei ∙ sym (append_nil is)
 
-    clauses : (n : ℕ) (r : Predicate) → slice_get code.predicates n ≡ Some r → IsOfClauses code (sequential_program p) r
-    clauses n r e =
-        let own : slice_get qs n ≡ Some r = ap (λ l. slice_get l n) (sym eq) ∙ e in
-        record {
-          reads = subst (AllZip (ReadsAt code) (clause_places code r)) (sym (clauses_in_turn r p)) (zip_in_turn code (clause_places code r) (clauses_of r p) (made.placed code [] holds whole n r own));
-          apart = λ ts c. no_builtin r.name ts (ap (λ m. is_builtin_key (r.name, m)) c ∙ made.apart n r own);
-        }
+    standing : (n : ℕ) (r : Predicate) → slice_get code.predicates n ≡ Some r → IsStanding code p r
+    standing n r e = made.stands code [] holds whole n r (ap (λ l. slice_get l n) (sym eq) ∙ e)
 
     q : (q : Predicate) × (slice_get code.predicates m ≡ Some q) × (q.name ≡ k.0) × (q.arity ≡ k.1)
     q = entry m k at
@@ -290,26 +208,46 @@ index_turn k cs i c old new l e n o = n ∙ ap (λ p. if heads k c.head then p +
 pub index_end : (k : ℕ × ℕ) (cs : Program) (i : ℕ) (old : Program) → length cs ≤ i → old ≡ clauses_for k (take i cs) → old ≡ clauses_for k cs
 index_end k cs i old l o = o ∙ ap (clauses_for k) (take_all cs i l)
 
+coded_push : (code : Compiled) (at : ℕ) (bs : List (List Instr)) (cs : List Clause) (is : List Instr) (c : Clause) → AreCoded code at bs cs → AreInstructionsOf code (at + length (together bs)) c is → AreCoded code at (bs ++ is ∷ []) (cs ++ c ∷ [])
+coded_push code at [] [] is c h i = (let e : at + 0 ≡ at = omega arith in subst (λ n. AreInstructionsOf code n c is) e i, tt)
+coded_push code at [] (d ∷ cs) is c h i = absurd h
+coded_push code at (b ∷ bs) [] is c h i = absurd h
+coded_push code at (b ∷ bs) (d ∷ cs) is c h i =
+    let n = length_both b (together bs) in
+    let e : at + length (together (b ∷ bs)) ≡ at + length b + length (together bs) = omega (arith, n) in
+    (h.0, coded_push code (at + length b) bs cs is c h.1 (subst (λ n. AreInstructionsOf code n c is) e i))
+
+pub together_push : (at : ℕ) (bs : List (List Instr)) (is : List Instr) → at + length (together bs) + length is ≡ at + length (together (bs ++ is ∷ []))
+together_push at [] is = let n = length_both is [] in omega (arith, n)
+together_push at (b ∷ bs) is =
+    let n = length_both b (together bs) in
+    let m = length_both b (together (bs ++ is ∷ [])) in
+    let e = together_push (at + length b) bs is in
+    omega (arith, n, m, e)
+
 -- one more clause's code
 module _ {R : Type 0} (now : R → Clause) {V : Type 0} (items : V → List Instr) where
-  pub codes_turn : (rs : List R) (i : ℕ) (r : R) (s t u : Numbered) (vs new : List V) (v : V) → i < length rs → r ≡ get_or rs i r → Grows s t → Grows t u → new ≡ vs ++ v ∷ []
-      → ((code : Compiled) → Holds u code → AreInstructionsOf code (now r) (items v)) → ((code : Compiled) → Holds t code → AreCoded code (map items vs) (map now (take i rs)))
-      → Grows s u × ((code : Compiled) → Holds u code → AreCoded code (map items new) (map now (take (i + 1) rs)))
-  codes_turn rs i r s t u vs new v l e f g en d a =
+  pub codes_turn : (rs : List R) (i : ℕ) (r : R) (s t u : Numbered) (vs new : List V) (v : V) (first at : ℕ) → i < length rs → r ≡ get_or rs i r → Grows s t → Grows t u → new ≡ vs ++ v ∷ []
+      → at ≡ first + length (together (map items vs)) → ((code : Compiled) → Holds u code → AreInstructionsOf code at (now r) (items v)) → ((code : Compiled) → Holds t code → AreCoded code first (map items vs) (map now (take i rs)))
+      → (code : Compiled) → Holds u code → AreCoded code first (map items new) (map now (take (i + 1) rs))
+  codes_turn rs i r s t u vs new v first at l e f g en place d a code x =
       let codes : map items new ≡ map items vs ++ items v ∷ [] = ap (map items) en ∙ map-append items vs (v ∷ []) in
       let clauses : map now (take (i + 1) rs) ≡ map now (take i rs) ++ now r ∷ [] =
-      ap (map now) (take_more rs i r l ∙ ap (λ q. take i rs ++ q ∷ []) (sym e)) ∙ map-append now (take i rs) (r ∷ []) in (
-        grows_on s t u f g,
-        λ code x.
-            subst (λ bs. AreCoded code bs (map now (take (i + 1) rs))) (sym codes)
-            (subst (AreCoded code (map items vs ++ items v ∷ [])) (sym clauses) (zip_push (λ is c. AreInstructionsOf code c is) (map items vs) (map now (take i rs)) (items v) (now r) (a code (holds_less t u code g x)) (d code x))),
-      )
+      ap (map now) (take_more rs i r l ∙ ap (λ q. take i rs ++ q ∷ []) (sym e)) ∙ map-append now (take i rs) (r ∷ []) in
+      subst (λ bs. AreCoded code first bs (map now (take (i + 1) rs))) (sym codes)
+      (subst (AreCoded code first (map items vs ++ items v ∷ [])) (sym clauses)
+      (coded_push code first (map items vs) (map now (take i rs)) (items v) (now r) (a code (holds_less t u code g x)) (subst (λ n. AreInstructionsOf code n (now r) (items v)) place (d code x))))
 
-  pub codes_end : (rs : List R) (i : ℕ) (vs : List V) (code : Compiled) → length rs ≤ i → AreCoded code (map items vs) (map now (take i rs)) → AreCoded code (map items vs) (map now rs)
-  codes_end rs i vs code l h = subst (λ ds. AreCoded code (map items vs) (map now ds)) (take_all rs i l) h
+  -- where the next clause begins
+  pub place_turn : (vs new : List V) (v : V) (first at : ℕ) → new ≡ vs ++ v ∷ [] → at ≡ first + length (together (map items vs)) → at + length (items v) ≡ first + length (together (map items new))
+  place_turn vs new v first at en place =
+      ap (λ n. n + length (items v)) place ∙ together_push first (map items vs) (items v) ∙ ap (λ bs. first + length (together bs)) (sym (ap (map items) en ∙ map-append items vs (v ∷ [])))
+
+  pub codes_end : (rs : List R) (i : ℕ) (vs : List V) (code : Compiled) (first : ℕ) → length rs ≤ i → AreCoded code first (map items vs) (map now (take i rs)) → AreCoded code first (map items vs) (map now rs)
+  codes_end rs i vs code first l h = subst (λ ds. AreCoded code first (map items vs) (map now ds)) (take_all rs i l) h
 
 module _ {V : Type 0} (now : V → List Instr) where
-  length_codes : (vs : List V) → length (map now vs) ≡ length vs
+  pub length_codes : (vs : List V) → length (map now vs) ≡ length vs
   length_codes [] = refl
   length_codes (v ∷ vs) = ap suc (length_codes vs)
 

@@ -1,5 +1,5 @@
 -- Clauses one behind another, with choice instructions before them, are read in order.
-use Rattle.std.proofs.Common.{◌≡◌, ℕ, zero, suc, ◌+◌, ◌<◌, ◌≤◌, ◌==◌, Bool, true, false, if◌then◌else◌, List, [], ◌∷◌, ◌++◌, length, drop, map, refl, ap, sym, ◌∙◌, subst, arith, append_assoc}
+use Rattle.std.proofs.Common.{◌≡◌, ℕ, zero, suc, ◌+◌, ◌<◌, ◌≤◌, ◌==◌, Bool, true, false, if◌then◌else◌, List, [], ◌∷◌, ◌++◌, length, drop, map, ◌⊎◌, inl, inr, refl, ap, sym, ◌∙◌, subst, arith, append_assoc}
 use Rattle.std.specs.List.{AllZip}
 use Rattle.std.proofs.lemmas.Bool.Decides.{Decides-eqb}
 use Rattle.ap_term.specs.Tree.{Tree, Trees, var, none, more, count_trees}
@@ -13,9 +13,8 @@ use Rattle.ap_instr.specs.Code.{Compiled}
 use Rattle.ap_instr.specs.Step.{Step, other}
 use Rattle.ap_instr.specs.Steps.{steps_behind}
 use Rattle.ap_instr.specs.Runs.{Reads, set, spread, arguments}
-use Rattle.ap_instr.specs.StandsFor.{tried, alternatives}
-use Rattle.ap_codegen.specs.Assembled.{ReadsInTurn, AreSequences, AreCoded, places, retries, choices, chosen, together}
-use Rattle.ap_codegen.specs.Sequential.{sequential}
+use Rattle.ap_instr.specs.StandsFor.{ReadsAt, tried, alternatives}
+use Rattle.ap_codegen.specs.Assembled.{AreSequences, AreCoded, places, retries, choices, chosen, together}
 use Rattle.ap_codegen.proofs.Registers.{set_here}
 use Rattle.ap_codegen.proofs.Straight.{both_sequences}
 
@@ -84,13 +83,13 @@ length_retries at [] = refl
 length_retries at (is ∷ []) = refl
 length_retries at (is ∷ b ∷ bs) = ap suc (length_retries (at + length is) (b ∷ bs))
 
-places_read : (code : Compiled) (at : ℕ) (bs : List (List Instr)) (later : List Instr) (cs : List Clause) → AreCoded code bs cs → drop at code.instructions ≡ together bs ++ later → AllZip (ReadsInTurn code) (places at bs) cs
+places_read : (code : Compiled) (at : ℕ) (bs : List (List Instr)) (later : List Instr) (cs : List Clause) → AreCoded code at bs cs → drop at code.instructions ≡ together bs ++ later → AllZip (ReadsAt code) (places at bs) cs
 places_read code at [] later [] h e = tt
 places_read code at [] later (c ∷ cs) h e = h
 places_read code at (is ∷ bs) later [] h e = h
 places_read code at (is ∷ bs) later (c ∷ cs) h e =
     let d : drop at code.instructions ≡ is ++ (together bs ++ later) = e ∙ append_assoc is (together bs) later in (
-      h.0.reads at (together bs ++ later) d,
+      h.0.reads (together bs ++ later) d,
       places_read code (at + length is) bs later cs h.1 (drop_twice at (length is) code.instructions ∙ ap (drop (length is)) d ∙ drop_append is (together bs ++ later)),
     )
 
@@ -102,23 +101,23 @@ chosen_many n = go (1 == suc (suc n)) refl
     go false e = refl
 
 -- where its clauses begin, by its instructions
-pub block_places : (code : Compiled) (start base : ℕ) (bs : List (List Instr)) (later : List Instr) (cs : List Clause) → AreCoded code bs cs
+pub block_places : (code : Compiled) (start base : ℕ) (bs : List (List Instr)) (later : List Instr) (cs : List Clause) → AreCoded code base bs cs
     → base ≡ start + chosen (length bs) → drop start code.instructions ≡ choices base bs ++ (together bs ++ later)
     → alternatives start (drop start code.instructions) ≡ places base bs
 block_places code start base [] later cs h b e = ap (alternatives start) e
 block_places code start base (is ∷ []) later [] h b e = absurd h
 block_places code start base (is ∷ []) later (c ∷ cs) h b e =
     let same : start ≡ base = omega (arith, b) in
-    single code start (drop start code.instructions) (sequential c) (places_read code start (is ∷ []) later (c ∷ cs) h e).0.reads ∙ ap (λ n. n ∷ []) same
+    single code start (drop start code.instructions) c (places_read code start (is ∷ []) later (c ∷ cs) (subst (λ n. AreCoded code n (is ∷ []) (c ∷ cs)) (sym same) h) e).0.reads ∙ ap (λ n. n ∷ []) same
 block_places code start base (is ∷ i ∷ bs) later cs h b e = ap (alternatives start) e ∙ ap (λ l. base ∷ l) (tried_retries (base + length is) i bs (together (is ∷ i ∷ bs) ++ later))
 
 -- the clauses of a predicate whose instructions begin at a place
-pub block_read : (code : Compiled) (start base : ℕ) (bs : List (List Instr)) (later : List Instr) (cs : List Clause) → AreCoded code bs cs
+pub block_read : (code : Compiled) (start base : ℕ) (bs : List (List Instr)) (later : List Instr) (cs : List Clause) → AreCoded code base bs cs
     → base ≡ start + chosen (length bs) → drop start code.instructions ≡ choices base bs ++ (together bs ++ later)
-    → AllZip (ReadsInTurn code) (alternatives start (drop start code.instructions)) cs
-block_read code start base bs later cs h b e = subst (λ l. AllZip (ReadsInTurn code) l cs) (sym (block_places code start base bs later cs h b e)) (go bs cs h b e)
+    → AllZip (ReadsAt code) (alternatives start (drop start code.instructions)) cs
+block_read code start base bs later cs h b e = subst (λ l. AllZip (ReadsAt code) l cs) (sym (block_places code start base bs later cs h b e)) (go bs cs h b e)
   where
-    go : (bs : List (List Instr)) (cs : List Clause) → AreCoded code bs cs → base ≡ start + chosen (length bs) → drop start code.instructions ≡ choices base bs ++ (together bs ++ later) → AllZip (ReadsInTurn code) (places base bs) cs
+    go : (bs : List (List Instr)) (cs : List Clause) → AreCoded code base bs cs → base ≡ start + chosen (length bs) → drop start code.instructions ≡ choices base bs ++ (together bs ++ later) → AllZip (ReadsAt code) (places base bs) cs
     go [] [] h b e = tt
     go [] (c ∷ cs) h b e = absurd h
     go (is ∷ []) cs h b e =
@@ -142,18 +141,32 @@ choices_sequences code from at [] = (λ l e. cc, tt)
 choices_sequences code from at (is ∷ []) = tt
 choices_sequences code from at (is ∷ b ∷ bs) = (λ l e. cc, retries_sequences code (from + 1) (at + length is) (b ∷ bs))
 
-together_sequences : (code : Compiled) (at : ℕ) (bs : List (List Instr)) (later : List Instr) (cs : List Clause) → AreCoded code bs cs → drop at code.instructions ≡ together bs ++ later → AreSequences code at (together bs)
+together_sequences : (code : Compiled) (at : ℕ) (bs : List (List Instr)) (later : List Instr) (cs : List Clause) → AreCoded code at bs cs → drop at code.instructions ≡ together bs ++ later → AreSequences code at (together bs)
 together_sequences code at [] later cs h e = tt
 together_sequences code at (is ∷ bs) later [] h e = absurd h
 together_sequences code at (is ∷ bs) later (c ∷ cs) h e =
     let d : drop at code.instructions ≡ is ++ (together bs ++ later) = e ∙ append_assoc is (together bs) later in
-    both_sequences code at is (together bs) (h.0.sequences at (together bs ++ later) d)
+    both_sequences code at is (together bs) (h.0.sequences (together bs ++ later) d)
     (together_sequences code (at + length is) bs later cs h.1 (drop_twice at (length is) code.instructions ∙ ap (drop (length is)) d ∙ drop_append is (together bs ++ later)))
 
+-- how many choice instructions stand before clauses, where there are any
+pub length_choices : (base : ℕ) (bs : List (List Instr)) → (length (choices base bs) ≡ chosen (length bs)) ⊎ (bs ≡ [])
+length_choices base [] = inr refl
+length_choices base (b ∷ []) = inl refl
+length_choices base (b ∷ d ∷ bs) = inl (ap suc (length_retries (base + length b) (d ∷ bs)) ∙ sym (chosen_many (length bs)))
+
 -- each check of a predicate's instructions leads to its group as a sequence
-pub block_sequences : (code : Compiled) (start base : ℕ) (bs : List (List Instr)) (later : List Instr) (cs : List Clause) → AreCoded code bs cs
-    → drop start code.instructions ≡ choices base bs ++ (together bs ++ later) → AreSequences code start (choices base bs ++ together bs)
-block_sequences code start base bs later cs h e =
-    both_sequences code start (choices base bs) (together bs) (choices_sequences code start base bs)
-    (together_sequences code (start + length (choices base bs)) bs later cs h
-    (drop_twice start (length (choices base bs)) code.instructions ∙ ap (drop (length (choices base bs))) e ∙ drop_append (choices base bs) (together bs ++ later)))
+pub block_sequences : (code : Compiled) (start base : ℕ) (bs : List (List Instr)) (later : List Instr) (cs : List Clause) → AreCoded code base bs cs
+    → base ≡ start + chosen (length bs) → drop start code.instructions ≡ choices base bs ++ (together bs ++ later) → AreSequences code start (choices base bs ++ together bs)
+block_sequences code start base bs later cs h b e = both_sequences code start (choices base bs) (together bs) (choices_sequences code start base bs) (go (length_choices base bs))
+  where
+    go : (length (choices base bs) ≡ chosen (length bs)) ⊎ (bs ≡ []) → AreSequences code (start + length (choices base bs)) (together bs)
+    go (inr n) = subst (λ cs. AreSequences code (start + length (choices base bs)) (together cs)) (sym n) tt
+    go (inl n) =
+        let k : start + length (choices base bs) ≡ base = ap (λ m. start + m) n ∙ sym b in
+        let behind : drop base code.instructions ≡ together bs ++ later =
+        ap (λ n. drop n code.instructions) (sym k)
+        ∙ drop_twice start (length (choices base bs)) code.instructions
+        ∙ ap (drop (length (choices base bs))) e
+        ∙ drop_append (choices base bs) (together bs ++ later) in
+        subst (λ n. AreSequences code n (together bs)) (sym k) (together_sequences code base bs later cs h behind)

@@ -1,6 +1,6 @@
 -- Code as it is put together: what its tables hold so far, and what it says wherever they hold that.
-use Rattle.std.specs.Prelude.{◌≡◌, ℕ, ◌+◌, ◌<◌, ◌≤◌, Bool, false, ◌==◌, if◌then◌else◌, ℤ, List, [], ◌∷◌, ◌++◌, length, drop, slice_get, Option, Some, None}
-use Rattle.std.specs.List.{AllZip, filter, flat_map}
+use Rattle.std.specs.Prelude.{◌≡◌, ℕ, ◌+◌, ◌<◌, ◌≤◌, ◌⊎◌, Bool, true, false, ◌==◌, if◌then◌else◌, ℤ, List, [], ◌∷◌, ◌++◌, length, drop, slice_get, Option, Some, None}
+use Rattle.std.specs.List.{filter, flat_map}
 use Rattle.ap_term.specs.Tree.{Tree, atom, node, count_trees}
 use Rattle.ap_term.specs.Goals.{Clause, Program}
 use Rattle.ap_instr.specs.declared.instruction.Instr.{Instr}
@@ -18,18 +18,13 @@ use Rattle.ap_codecheck.specs.Rules.{InRange, GoesInside, CallsKnown, IsSound}
 use Rattle.ap_codegen.specs.declared.steps.Step.{Step as Emitted}
 use Rattle.ap_codegen.specs.declared.steps.Step.TheVariants.{Allocate as EnterStep, Deallocate as LeaveStep}
 use Rattle.ap_codegen.specs.Emitted.{step_of}
-use Rattle.ap_instr.specs.StandsFor.{ReadsAt, clause_places, clauses_of, StandsFor}
-use Rattle.ap_codegen.specs.Permanent.{is_builtin_key}
-use Rattle.ap_codegen.specs.Sequential.{sequential, sequential_program}
+use Rattle.ap_instr.specs.StandsFor.{ReadsAt, IsOfClauses, IsOfBuiltin, StandsFor}
+use Rattle.ap_codegen.specs.CodeOf.{calls_apart}
 
 -- the integers, and the names and arities of predicates, each at its number
 pub record Numbered : Type 0 where
   pub integers : List ℤ
   pub predicates : List (ℕ × ℕ)
-
--- none is the name and arity of built-in goals
-abbrev pub AreApart : List (ℕ × ℕ) → Type 0
-AreApart ks = (i : ℕ) (k : ℕ × ℕ) → slice_get ks i ≡ Some k → is_builtin_key k ≡ false
 
 -- what stands in a list stays at its place
 abbrev pub Keeps : {A : Type 0} → List A → List A → Type 0
@@ -76,26 +71,30 @@ abbrev pub AreAloneIn : Compiled → ℕ → ℕ → List Instr → Type 0
 AreAloneIn code low end [] = Unit {0}
 AreAloneIn code low end (i ∷ is) = IsAloneIn code low end i × AreAloneIn code low end is
 
+-- no instruction calls the predicate of built-in goals
+abbrev pub AreCallsApart : Compiled → List Instr → Type 0
+AreCallsApart code [] = Unit {0}
+AreCallsApart code (i ∷ is) = (calls_apart (said_by code i) ≡ true) × AreCallsApart code is
+
 -- each check among instructions that stand from a place on leads to its group as a sequence
 abbrev pub AreSequences : Compiled → ℕ → List Instr → Type 0
 AreSequences code at [] = Unit {0}
 AreSequences code at (i ∷ is) = ((l : ℕ) → otherwise i ≡ Some l → AsksUnmarked code (at + 1) l) × AreSequences code (at + 1) is
 
--- the code at a place reads as the clause, a group of which is its goals one after another
-abbrev pub ReadsInTurn : Compiled → ℕ → Clause → Type 0
-ReadsInTurn code at c = ReadsAt code at (sequential c)
+-- Where the instructions stand at the place they read as the clause, and each check leads to its group as a sequence; they call
+-- no built-in goals; and they keep the rules of code from the clause's first one on.
+pub record AreInstructionsOf (code : Compiled) (at : ℕ) (c : Clause) (is : List Instr) : Type 0 where
+  pub reads : (later : List Instr) → drop at code.instructions ≡ is ++ later → ReadsAt code at c
+  pub sequences : (later : List Instr) → drop at code.instructions ≡ is ++ later → AreSequences code at is
+  pub apart : AreCallsApart code is
+  pub walks : (later : List Instr) → Walks code at 0 (is ++ later) (entry (count_trees (arguments c.head)))
+  pub alone : AreAloneIn code at (at + length is) is
 
--- Wherever the instructions stand they read as the clause, and each check leads to its group as a sequence; and they keep the
--- rules of code from the clause's first one on.
-pub record AreInstructionsOf (code : Compiled) (c : Clause) (is : List Instr) : Type 0 where
-  pub reads : (at : ℕ) (later : List Instr) → drop at code.instructions ≡ is ++ later → ReadsInTurn code at c
-  pub sequences : (at : ℕ) (later : List Instr) → drop at code.instructions ≡ is ++ later → AreSequences code at is
-  pub walks : (at : ℕ) (later : List Instr) → Walks code at 0 (is ++ later) (entry (count_trees (arguments c.head)))
-  pub alone : AreAlone code is
-
--- each is its clause's code
-abbrev pub AreCoded : Compiled → List (List Instr) → List Clause → Type 0
-AreCoded code bs cs = AllZip (λ is c. AreInstructionsOf code c is) bs cs
+-- each is its clause's code, one behind another from a place on
+abbrev pub AreCoded : Compiled → ℕ → List (List Instr) → List Clause → Type 0
+AreCoded code at [] [] = Unit {0}
+AreCoded code at (is ∷ bs) (c ∷ cs) = AreInstructionsOf code at c is × AreCoded code (at + length is) bs cs
+AreCoded code at _ _ = ⊥
 
 -- where clauses begin that stand one behind another from a place on
 abbrev pub places : ℕ → List (List Instr) → List ℕ
@@ -130,19 +129,27 @@ heads k _ = false
 abbrev pub clauses_for : ℕ × ℕ → Program → Program
 clauses_for k p = filter (λ c. heads k c.head) p
 
--- The first predicates of tables are made: wherever the instructions are followed by others, each is read as the program's
--- clauses for it, and is laid out as code has to be.
+-- the instructions are the predicate's: they read as the program's clauses for it, or are a built-in goal, and are laid out as
+-- code has to be
+abbrev pub IsStanding : Compiled → Program → Predicate → Type 0
+IsStanding code p q = (IsOfClauses code p q ⊎ IsOfBuiltin code q) × IsLaid code q
+
+-- behind other instructions these are those of the predicate of this name and arity, wherever more follow
+pub record IsBlock (t : Numbered) (is own : List Instr) (k : ℕ × ℕ) (p : Program) : Type 0 where
+  pub stands : (code : Compiled) (later : List Instr) → Holds t code → code.instructions ≡ is ++ (own ++ later)
+      → (q : Predicate) → q.name ≡ k.0 → q.arity ≡ k.1 → q.start ≡ length is → q.end ≡ length (is ++ own) → IsStanding code p q
+  pub sequences : (code : Compiled) (later : List Instr) → Holds t code → code.instructions ≡ is ++ (own ++ later) → AreSequences code (length is) own
+  pub apart : (code : Compiled) → Holds t code → AreCallsApart code own
+
+-- the first predicates of tables are made, wherever the instructions are followed by others
 pub record IsMade (t : Numbered) (is : List Instr) (qs : List Predicate) (p : Program) : Type 0 where
   pub named : (n : ℕ) (q : Predicate) → slice_get qs n ≡ Some q → slice_get t.predicates n ≡ Some (q.name, q.arity)
-  pub apart : (n : ℕ) (q : Predicate) → slice_get qs n ≡ Some q → is_builtin_key (q.name, q.arity) ≡ false
-  pub placed : (code : Compiled) (later : List Instr) → Holds t code → code.instructions ≡ is ++ later
-      → (n : ℕ) (q : Predicate) → slice_get qs n ≡ Some q → AllZip (ReadsInTurn code) (clause_places code q) (clauses_of q p)
+  pub stands : (code : Compiled) (later : List Instr) → Holds t code → code.instructions ≡ is ++ later → (n : ℕ) (q : Predicate) → slice_get qs n ≡ Some q → IsStanding code p q
   pub tiled : AreTiled 0 qs (length is)
   pub sequences : (code : Compiled) (later : List Instr) → Holds t code → code.instructions ≡ is ++ later → AreSequences code 0 is
-  pub laid : (code : Compiled) (later : List Instr) → Holds t code → code.instructions ≡ is ++ later → (n : ℕ) (q : Predicate) → slice_get qs n ≡ Some q → IsLaid code q
+  pub apart : (code : Compiled) → Holds t code → AreCallsApart code is
 
--- sound code for clauses, groups of which are their goals one after another, with the query's predicate in its table, which
--- lists those of some of them
+-- sound code for clauses, with the query's predicate in its table, which lists those of some of them
 pub record StandsBeside (code : Compiled) (k : ℕ × ℕ) (own p : Program) : Type 0 where
   pub number : ℕ
   pub predicate : Predicate
@@ -150,6 +157,6 @@ pub record StandsBeside (code : Compiled) (k : ℕ × ℕ) (own p : Program) : T
   pub held : slice_get code.predicates number ≡ Some predicate
   pub named : predicate.name ≡ k.0
   pub arity : predicate.arity ≡ k.1
-  pub stands : StandsFor code (sequential_program p)
-  pub whole : IsWhole code (sequential_program own) (sequential_program p)
+  pub stands : StandsFor code p
+  pub whole : IsWhole code own p
   pub sound : IsSound code

@@ -17,3 +17,6 @@ sequential_query q = record { question = sequential q.question; lifted = sequent
 abbrev pub read_as : Groups → Clause → Clause
 read_as SideBySide c = c
 read_as InTurn c = sequential c
+
+abbrev pub read_program : Groups → Program → Program
+read_program g p = map (read_as g) p

@@ -1,25 +1,32 @@
-//! From a clause's instructions to those of code, which have numbers of its tables.
+//! From a clause's instructions to those of code, which have numbers of its tables and lead to places.
 
-ghost use Rattle.std.specs.Prelude.{◌≡◌, true, IfOk, OnOk};
-ghost use Rattle.std.specs.List.{list_all, AllZip};
+ghost use Rattle.std.specs.Prelude.{◌≡◌, ◌+◌, IfOk, OnOk};
 ghost use Rattle.ap_instr.specs.Code.{Compiled};
 ghost use Rattle.ap_instr.specs.Step.{step_of as said_by};
-ghost use Rattle.ap_codegen.specs.Assembled.{Grows, Holds, frame_of, frame_in, IsSaid};
-ghost use Rattle.ap_codegen.specs.Emitted.{step_of, steps_of};
-ghost use Rattle.ap_codegen.specs.CodeOf.{calls_apart};
+ghost use Rattle.ap_codegen.specs.Assembled.{Grows, Holds};
+ghost use Rattle.ap_codegen.specs.Emitted.{step_of};
+ghost use Rattle.ap_codegen.specs.Said.{special_of, special_in, AreSaidAt};
 
+use crate::permanent::above;
 use crate::steps::Step;
 use crate::tables::Tables;
 use ap_instr::Instr;
 use ap_term::NoMemory;
 use std::alloc::Global;
 
-/// The instruction, with numbers for what the tables hold.
-fn numbered(tables: &mut Tables, step: Step) -> Result<Instr, NoMemory>
-    requires { calls_apart (step_of step) ≡ true }
+/// The place behind the next one that so many others are passed over to.
+fn past(at: u32, n: u32) -> Result<u32, NoMemory>
+    ensures { IfOk result (λ l. l ≡ at + 1 + n) }
+{
+    let next = above(at, 1)?;
+    above(next, n as usize)
+}
+
+/// The instruction at a place, with numbers for what the tables hold.
+fn numbered(tables: &mut Tables, at: u32, step: Step) -> Result<Instr, NoMemory>
     ensures grows { OnOk result (Grows tables.old tables.new) }
     ensures said { IfOk result (λ instr. (code : Compiled) → Holds tables.new code → said_by code instr ≡ step_of step) }
-    ensures frame { IfOk result (λ instr. frame_of instr ≡ frame_in step) }
+    ensures special { IfOk result (λ instr. special_of instr ≡ special_in at step) }
 {
     match step {
         Step::GetVariable(v, a) => Ok(Instr::GetVariable(v, a)),
@@ -42,19 +49,29 @@ fn numbered(tables: &mut Tables, step: Step) -> Result<Instr, NoMemory>
         Step::Proceed => Ok(Instr::Proceed),
         Step::Allocate(n) => Ok(Instr::Allocate(n)),
         Step::Deallocate => Ok(Instr::Deallocate),
-        _ => Err(NoMemory),
+        Step::Jump(n) => Ok(Instr::Jump(past(at, n)?)),
+        Step::CheckGround(v, n) => Ok(Instr::CheckGround(v, past(at, n)?)),
+        Step::CheckIndep(v, w, n) => Ok(Instr::CheckIndep(v, w, past(at, n)?)),
+        Step::AllocParcall(n) => Ok(Instr::AllocParcall(n)),
+        Step::PushGoal(i, p, n) => Ok(Instr::PushGoal(i, tables.predicate(p, n)?)),
+        Step::WaitAll => Ok(Instr::WaitAll),
     }
 }
 
-/// The instructions of a clause.
-pub fn assemble(alloc: Global, tables: &mut Tables, steps: &[Step]) -> Result<Vec<Instr>, NoMemory>
-    requires { list_all calls_apart (steps_of steps.now) ≡ true }
+/// The instructions of a clause that begins at a place.
+pub fn assemble(
+    alloc: Global,
+    tables: &mut Tables,
+    steps: &[Step],
+    start: u32,
+) -> Result<Vec<Instr>, NoMemory>
     ensures grows { OnOk result (Grows tables.old tables.new) }
-    ensures said { IfOk result (λ out. (code : Compiled) → Holds tables.new code → AllZip (IsSaid code) steps.now out.items) }
+    ensures said { IfOk result (λ out. (code : Compiled) → Holds tables.new code → AreSaidAt code start steps.now out.items) }
 {
     let mut out = Vec::new(alloc);
     for step in steps {
-        out.push(numbered(tables, *step)?)?;
+        let at = above(start, out.len())?;
+        out.push(numbered(tables, at, *step)?)?;
     }
     Ok(out)
 }

@@ -42,11 +42,24 @@ pub fn builtin_of(goal: &Term) -> Option<Builtin>
     }
 }
 
+/// The built-in goal of a name and arity.
+#[tactic(auto, using(crate::proofs::BuiltinGoals::relation_back))]
+pub fn builtin_named(name: Atom, arity: u8) -> Option<Builtin>
+    ensures { MatchOption result (is_builtin_key (name, arity) ≡ false) (λ b. (is_builtin_key (name, arity) ≡ true) × (builtin_name b ≡ name) × (builtin_arity b ≡ arity)) }
+{
+    match arity {
+        0 => of_atom(name),
+        2 => match Relation::named(name) {
+            Some(relation) => Some(Builtin::Relation(relation)),
+            None => None,
+        },
+        _ => None,
+    }
+}
+
 /// Whether goals of this name and arity are no built-in ones.
 pub fn is_apart(name: Atom, arity: u8) -> bool
     ensures { result ≡ not (is_builtin_key (name, arity)) }
 {
-    let is_control = name.number() == fixed::TRUE || name.number() == fixed::FAIL;
-    let is_relation = Relation::named(name).is_some();
-    !(is_control && arity == 0 || is_relation && arity == 2)
+    builtin_named(name, arity).is_none()
 }

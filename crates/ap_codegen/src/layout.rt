@@ -1,11 +1,11 @@
 //! The instructions of a predicate: its choice instructions, and then its clauses one behind another.
 
-ghost use Rattle.std.specs.Prelude.{◌≡◌, ◌+◌, ◌++◌, List, map, length, OnOk};
+ghost use Rattle.std.specs.Prelude.{◌≡◌, ◌+◌, [], ◌∷◌, ◌++◌, List, map, length, IfOk, OnOk};
 ghost use Rattle.ap_instr.specs.declared.instruction.Instr.{Instr};
 ghost use Rattle.ap_codegen.specs.Assembled.{retries, choices, chosen, together};
 
 use crate::permanent::above;
-use ap_instr::Instr;
+use ap_instr::{Builtin, Instr};
 use ap_term::NoMemory;
 
 /// What stands behind a `try`, for clauses of which the first begins at a place.
@@ -53,13 +53,28 @@ fn clauses(codes: &[Vec<Instr>], out: &mut Vec<Instr>) -> Result<(), NoMemory>
     Ok(())
 }
 
+/// Where the first of so many clauses begins, of a predicate that begins at a place.
+pub fn first_place(start: u32, count: usize) -> Result<u32, NoMemory>
+    ensures { IfOk result (λ at. at ≡ start + chosen count) }
+{
+    above(start, if count == 1 { 0 } else { count })
+}
+
 /// Puts a predicate behind the code.
 pub fn lay(codes: &[Vec<Instr>], out: &mut Vec<Instr>) -> Result<(), NoMemory>
     ensures { OnOk result (out.new.items ≡ out.old.items ++ (choices (length out.old.items + chosen (length codes.now)) (map (λ v. v.items) codes.now) ++ together (map (λ v. v.items) codes.now))) }
 {
     let start = above(0, out.len())?;
-    let count = codes.len();
-    let base = above(start, if count == 1 { 0 } else { count })?;
+    let base = first_place(start, codes.len())?;
     choices(codes, base, out)?;
     clauses(codes, out)
+}
+
+/// Puts the predicate of a built-in goal behind the code.
+pub fn lay_builtin(builtin: Builtin, out: &mut Vec<Instr>) -> Result<(), NoMemory>
+    ensures { OnOk result (out.new.items ≡ out.old.items ++ Instr.Builtin builtin ∷ Instr.Proceed ∷ []) }
+{
+    out.push(Instr::Builtin(builtin))?;
+    out.push(Instr::Proceed)?;
+    Ok(())
 }

@@ -3,7 +3,7 @@
 //! Stands on `ap_instr` for instructions and what they mean, on `ap_codecheck` for the rules of code, on `ap_term` for
 //! clauses, on `indexmap` for the tables. It doesn't wait for the analysis: a certificate is worth the same for code that
 //! stands for the program. The one contract used above: the code that `compile` makes stands for the program beside the
-//! query, groups being their goals one after another, and is sound.
+//! query, with its groups, and is sound.
 #![tactic(auto)]
 
 mod asking;
@@ -21,4 +21,4 @@ mod steps;
 mod tables;
 mod temporary;
 
-pub use programs::compile;
+pub use programs::{compile, compile_in_turn};

@@ -1,6 +1,6 @@
 //! The numbers of integers and predicates, and instructions that have them.
 
-ghost use Rattle.std.specs.Prelude.{◌≡◌, false, [], length, slice_get, Some, IfOk, IfSome};
+ghost use Rattle.std.specs.Prelude.{◌≡◌, [], length, slice_get, Some, IfOk};
 ghost use Rattle.std.specs.List.{IsDistinct};
 ghost use Rattle.ap_instr.specs.Table.{is_key};
 
@@ -9,7 +9,7 @@ use indexmap::IndexSet;
 use std::alloc::Global;
 use std::marker::Model;
 
-/// The integers of code, and the names and arities of its predicates, each at its number. None is that of built-in goals.
+/// The integers of code, and the names and arities of its predicates, each at its number.
 #[derive(Drop)]
 pub struct Tables {
     integers: IndexSet<i64>,
@@ -22,15 +22,10 @@ impl Model for Tables {
     ghost Value = { Numbered };
 
     ghost view = { λ a. record { integers = a.integers.keys; predicates = a.predicates.keys } };
-
-    ghost use Rattle.ap_codegen.specs.Assembled.{AreApart};
-
-    ghost invariant = { λ a. AreApart a.predicates.keys };
 }
 
 impl Tables {
     ghost use Rattle.ap_codegen.specs.Assembled.{Grows};
-    ghost use Rattle.ap_codegen.specs.Permanent.{is_builtin_key};
     ghost use Rattle.ap_codegen.specs.Heads.{with_key};
 
     pub fn new(alloc: Global) -> Tables
@@ -56,7 +51,6 @@ impl Tables {
 
     /// The number of a predicate.
     pub fn predicate(&mut self, name: Atom, arity: u8) -> Result<u32, NoMemory>
-        requires { is_builtin_key (name, arity) ≡ false }
         ensures number { IfOk result (λ i. slice_get self.new.predicates i ≡ Some (name, arity)) }
         ensures keys { IfOk result (λ _. self.new.predicates ≡ with_key self.old.predicates (Some (name, arity))) }
         ensures grows { IfOk result (λ _. Grows self.old self.new) }
@@ -71,7 +65,6 @@ impl Tables {
     /// The predicate of a number.
     pub fn predicate_at(&self, number: usize) -> Option<(u32, u8)>
         ensures same { result ≡ slice_get self.now.predicates number }
-        ensures apart { IfSome result (λ k. is_builtin_key k ≡ false) }
         ensures once { IsDistinct is_key self.now.predicates }
     {
         match self.predicates.as_slice().get(number) {
