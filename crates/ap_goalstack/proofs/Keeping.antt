@@ -1,5 +1,5 @@
 -- Each call keeps the rules.
-use Rattle.std.proofs.Common.{◌≡◌, ◌≢◌, ◌⊎◌, ⊎_elim, inl, inr, ℕ, zero, suc, ◌<◌, ◌≤◌, Bool, true, false, true≢false, List, [], ◌∷◌, ◌++◌, length, set, sym, refl, ap, ◌∙◌, subst, append_assoc, arith}
+use Rattle.std.proofs.Common.{◌≡◌, ◌≢◌, ◌⊎◌, ⊎_elim, inl, inr, ℕ, zero, suc, ◌≤◌, Bool, true, false, true≢false, List, [], ◌∷◌, ◌++◌, set, sym, refl, ap, ◌∙◌, subst, append_assoc, arith}
 use Rattle.std.proofs.lemmas.List.{append-nil}
 use mathlib.Core.Option.{some, some-ne-none, some-injective}
 use lib.ListN.{get_elem?}
@@ -7,7 +7,7 @@ use Rattle.crossbeam_deque.specs.Tasks.{Pushes, Takes, Pops, Finds, FindsFew, Fo
 use Rattle.crossbeam_deque.proofs.Lists.{at_set, at_snoc}
 use Rattle.ap_board.specs.declared.ticket.Ticket.{Ticket}
 use Rattle.ap_goalstack.specs.declared.view.Hand.{Hand}
-use Rattle.ap_goalstack.specs.Stack.{hand, Has, HasAll, Begins, Knows, Told, Kept, Took, Popped, KeepsPush, KeepsPop, KeepsSteal, IsForked, Ruled, Found}
+use Rattle.ap_goalstack.specs.Stack.{hand, Has, HasAll, Knows, Kept, Took, Popped, KeepsPush, KeepsPop, KeepsSteal, IsForked, Ruled, Found}
 
 has_left : (t : Ticket) (xs ys : List Ticket) → Has t xs → Has t (xs ++ ys)
 has_left t [] ys h = absurd h
