@@ -1,14 +1,13 @@
 -- What a player remembers stays so.
-use Rattle.std.proofs.Common.{◌≡◌, ◌≢◌, ◌⊎◌, ⊎_elim, inl, inr, ℕ, zero, suc, ◌+◌, ◌*◌, ◌/◌, ◌<◌, ◌≤◌, Bool, true, false, List, [], ◌∷◌, length, length-set, set, refl, sym, ap, ◌∙◌, subst, arith}
-use Rattle.std.specs.Prelude.{Option, Some, None, slice_get, MatchBool}
+use Rattle.std.proofs.Common.{◌≡◌, ◌≢◌, ◌⊎◌, ⊎_elim, inl, inr, ℕ, zero, suc, ◌+◌, ◌*◌, ◌/◌, ◌≤◌, Bool, true, false, List, [], ◌∷◌, length, length-set, set, refl, sym, ap, ◌∙◌, subst, arith}
+use Rattle.std.specs.Prelude.{Some, slice_get, MatchBool}
 use Rattle.std.proofs.lemmas.Option.{none-some, cond_some}
 use mathlib.Core.Logic.{dite}
 use native.Mathlib.Decide.{ℕ_discrete}
-use Rattle.ap_board.specs.declared.view.Call.{Call}
 use Rattle.ap_board.specs.declared.view.Kind.{Kind}
 use Rattle.ap_board.specs.declared.view.Kind.TheVariants.{Stop, Look}
 use Rattle.ap_board.specs.declared.view.View.{View}
-use Rattle.ap_board.specs.History.{on, Role, nothing, out, has, role_of, last_of, noted}
+use Rattle.ap_board.specs.History.{on, Role, out, noted}
 use Rattle.ap_board.specs.Rule.{logged, role, last_seen}
 use Rattle.ap_board.specs.Causes.{noting}
 use Rattle.ap_board.proofs.Keeps.{role_logged, last_logged, last_noting, on_other}

@@ -1,9 +1,5 @@
-use Rattle.std.proofs.Common.{rules, refl, sym, ap, subst, ◌∙◌, ◌≡◌, ◌≤◌, ◌+◌, ◌*◌, ◌/◌, ℕ, IsTrue, true, Bool}
-use Rattle.ap_board.specs.declared.view.Kind.TheVariants.{Offer, Take, Reclaim, Stop, Finish, Look, Collect}
-use Rattle.ap_board.specs.Rule.{last_seen}
-use Rattle.ap_board.proofs.Keeps.{role_logged, last_noting}
-use Rattle.ap_board_tests.specs.declared.spot.Spot.TheVariants.{Nothing, Sent, Gone, Has}
-use Rattle.ap_board_tests.proofs.Remembered.{written, looked, still_gone, stop_either}
+use Rattle.std.proofs.Common.{ap, ℕ}
+use Rattle.ap_board_tests.proofs.Remembered.{looked}
 use Rattle.ap_board_tests.proofs.player.Player.stop_asked.Goals as goal
 
 pub invariant_of-self : goal.invariant_of-self
