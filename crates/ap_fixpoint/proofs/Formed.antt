@@ -1,16 +1,13 @@
 -- Goals and clauses are well formed.
-use Rattle.std.proofs.Common.{◌≡◌, ℕ, ◌+◌, ◌<◌, ◌≤◌, ◌&&◌, IsTrue, nat_le, List, [], ◌∷◌, length, drop, get_or, map, refl, ap, sym, ◌∙◌}
-use Rattle.std.proofs.lemmas.List.{drop_more}
+use Rattle.std.proofs.Common.{◌≡◌, ℕ, ◌+◌, ◌<◌, ◌≤◌, ◌&&◌, IsTrue, nat_le, List, [], ◌∷◌, length, drop, get_or, refl, ap, sym, ◌∙◌}
 use Rattle.std.proofs.lemmas.Bool.{and_parts, and_from}
 use Rattle.std.specs.List.{list_all}
 use Rattle.ap_term.specs.declared.clauses.Check.{Check}
-use Rattle.ap_term.specs.declared.clauses.Part.{Part}
 use Rattle.ap_term.specs.declared.terms.Term.{Term}
-use Rattle.ap_term.specs.Tree.{Tree, Trees, count_trees}
+use Rattle.ap_term.specs.Tree.{Trees, count_trees}
 use Rattle.ap_term.specs.TermView.{tree_of, trees_of}
 use Rattle.ap_term.specs.Goals as goals
 use Rattle.ap_term.specs.Goals.{Clause, call, group}
-use Rattle.ap_term.specs.GoalView.{part_of}
 use Rattle.ap_term.specs.WellFormed.{callable, all_callable, numbered, numbered_all, numbered_check, well_formed_part, IsClause}
 use Rattle.ap_term.proofs.TermLists.{trees_of-drop_more}
 use Rattle.ap_patterns.proofs.Arguments.{callable-few, numbered_all-more, numbered-more}
@@ -40,12 +37,6 @@ group-numbered n cs ts h =
     let q = and_parts (nat_le 1 (count_trees ts)) (all_callable ts && numbered_all n ts) r.1 in
     (and_parts (all_callable ts) (numbered_all n ts) q.1).1
 
-pub goal-callable : (n : ℕ) (t : Tree) → IsTrue (well_formed_part n (call t)) → IsTrue (callable t)
-goal-callable n t h = (and_parts (callable t) (numbered n t) h).0
-
-pub goal-numbered : (n : ℕ) (t : Tree) → IsTrue (well_formed_part n (call t)) → IsTrue (numbered n t)
-goal-numbered n t h = (and_parts (callable t) (numbered n t) h).1
-
 pub part-formed : (n : ℕ) (p : goals.Part) → n ≤ 255 → IsTrue (well_formed_part n p) → IsTrue (goals_formed p)
 part-formed n (call t) l h = let r = and_parts (callable t) (numbered n t) h in and_from (callable t) (numbered 255 t) r.0 (numbered-more n 255 t l r.1)
 part-formed n (group cs ts) l h = and_from (all_callable ts) (numbered_all 255 ts) (group-callable n cs ts h) (numbered_all-more n 255 ts l (group-numbered n cs ts h))
@@ -57,12 +48,6 @@ parts-formed n (p ∷ ps) l h =
     and_from (goals_formed p) (list_all goals_formed ps) (part-formed n p l r.0) (parts-formed n ps l r.1)
 
 -- ---- bodies part by part
-
-pub part-turn : (ps : List Part) (i : ℕ) (p : Part) → i < length ps → p ≡ get_or ps i p → IsTrue (list_all goals_formed (map part_of (drop i ps)))
-    → IsTrue (goals_formed (part_of p)) × IsTrue (list_all goals_formed (map part_of (drop (i + 1) ps)))
-part-turn ps i p h e k =
-    and_parts (goals_formed (part_of p)) (list_all goals_formed (map part_of (drop (i + 1) ps)))
-    (ap (λ q. list_all goals_formed (part_of q ∷ map part_of (drop (i + 1) ps))) e ∙ ap (λ qs. list_all goals_formed (map part_of qs)) (sym (drop_more ps i p h)) ∙ k)
 
 pub clause-formed : (c : Clause) → IsClause c → IsTrue (list_all goals_formed c.body)
 clause-formed c h = parts-formed c.vars c.body h.few h.body

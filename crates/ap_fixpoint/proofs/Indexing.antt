@@ -1,7 +1,7 @@
 -- The index of the clauses that read a slot, and the walks that make it and go through it.
-use Rattle.std.proofs.Common.{◌≡◌, ℕ, zero, suc, ◌+◌, ◌<◌, ◌≤◌, ◌||◌, Bool, true, false, cond, List, [], ◌∷◌, ◌++◌, Option, Some, None, length, drop, get_or, append_assoc, append-nil, refl, ap, sym, ◌∙◌, subst, ◌⊎◌, inl, inr, slice_get, arith}
+use Rattle.std.proofs.Common.{◌≡◌, ℕ, zero, suc, ◌+◌, ◌<◌, ◌≤◌, ◌||◌, Bool, true, false, cond, List, [], ◌∷◌, ◌++◌, Option, Some, None, length, drop, get_or, append-nil, refl, ap, sym, ◌∙◌, subst, ◌⊎◌, inl, inr, slice_get, arith}
 use Rattle.std.proofs.lemmas.Bool.{false≢true, eqb-true}
-use Rattle.std.proofs.lemmas.List.{drop_more, drop_all}
+use Rattle.std.proofs.lemmas.List.{drop_all}
 use Rattle.std.proofs.lemmas.Option.{slice_get_past}
 use Rattle.std.proofs.lemmas.List.Sorted.{Contains-permutation}
 use Rattle.std.specs.List.{flat_map, list_any, Contains}
@@ -116,22 +116,6 @@ reread A f ys t ns gs index order e = record {
         Has-flat_map (given_by_number t A) g r.0 (once None ns) (number c r.0 r.1 i) (subst (λ o. Has g (given_if_there t o)) (sym r.1) j)
 
 -- ---- the walks
-
-pub note-turn : (f g : Slot → List ℕ) (n : ℕ) (ys : List Slot) (i : ℕ) (y x : Slot) (whole : List ℕ) → i < length ys → y ≡ get_or ys i y → g x ≡ cond (same_slot y x) (f x ++ n ∷ []) (f x)
-    → f x ++ noted n (drop i ys) x ≡ whole → g x ++ noted n (drop (i + 1) ys) x ≡ whole
-note-turn f g n ys i y x whole l e s w =
-    ap (λ z. z ++ noted n (drop (i + 1) ys) x) (s ∙ go (same_slot y x)) ∙ append_assoc (f x) (cond (same_slot y x) (n ∷ []) []) (noted n (drop (i + 1) ys) x)
-    ∙ ap (λ z. f x ++ z) (sym (ap (λ zs. noted n zs x) (drop_more ys i y l ∙ ap (λ z. z ∷ drop (i + 1) ys) (sym e)))) ∙ w
-  where
-    go : (b : Bool) → cond b (f x ++ n ∷ []) (f x) ≡ f x ++ cond b (n ∷ []) []
-    go true = refl
-    go false = sym (append-nil (f x))
-
-pub readers-turn : (f g : Slot → List ℕ) (A : Program) (i : ℕ) (c : Clause) (ys : List Slot) (x : Slot) (whole : List ℕ) → i < length A → c ≡ get_or A i c → ys ≡ slots_of c → g x ≡ f x ++ noted i ys x
-    → f x ++ readers_from i (drop i A) x ≡ whole → g x ++ readers_from (i + 1) (drop (i + 1) A) x ≡ whole
-readers-turn f g A i c ys x whole l e y s w =
-    ap (λ z. z ++ readers_from (i + 1) (drop (i + 1) A) x) (s ∙ ap (λ z. f x ++ noted i z x) y) ∙ append_assoc (f x) (noted i (slots_of c) x) (readers_from (i + 1) (drop (i + 1) A) x)
-    ∙ ap (λ z. f x ++ z) (sym (ap (λ zs. readers_from i zs x) (drop_more A i c l ∙ ap (λ z. z ∷ drop (i + 1) A) (sym e)))) ∙ w
 
 pub readers-done : (f : Slot → List ℕ) (A P : Program) (i : ℕ) (x : Slot) → A ≡ P → length A ≤ i → f x ++ readers_from i (drop i A) x ≡ readers_from 0 A x → f x ≡ readers_from 0 P x
 readers-done f A P i x e l w = sym (append-nil (f x)) ∙ ap (λ zs. f x ++ readers_from i zs x) (sym (drop_all i A l)) ∙ w ∙ ap (λ z. readers_from 0 z x) e

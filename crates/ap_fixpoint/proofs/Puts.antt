@@ -1,5 +1,5 @@
 -- A pattern put into a table is put into its patterns.
-use Rattle.std.proofs.Common.{◌≡◌, Result, Ok, Err, OnOk, List, ap, sym, ◌∙◌}
+use Rattle.std.proofs.Common.{◌≡◌, List, ap, sym, ◌∙◌}
 use Rattle.std.proofs.Math.Path.{fun_ext}
 use Rattle.ap_absunify.specs.declared.states.State.{State}
 use Rattle.ap_patterns.specs.declared.tables.Predicate.{Predicate}
@@ -24,7 +24,3 @@ put-success rs new x p s e n = ap patterns n ∙ fun_ext go ∙ ap (λ y. put y 
     go : (y : Slot) → patterns (set_success rs p s) y ≡ put (Success p) s (patterns rs) y
     go (Call q) = call-set_success rs p q s
     go (Success q) = success-set_success rs p q s
-
-pub on_ok : {T E : Type 0} (r : Result T E) (P Q : Type 0) → (P → Q) → OnOk r P → OnOk r Q
-on_ok (Ok x) P Q f h = f h
-on_ok (Err e) P Q f h = tt

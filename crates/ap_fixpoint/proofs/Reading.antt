@@ -1,6 +1,6 @@
 -- What a clause gives turns on the patterns that it reads alone.
-use Rattle.std.proofs.Common.{◌≡◌, Bool, true, false, ◌||◌, cond, List, [], ◌∷◌, ◌++◌, Option, Some, None, refl, ap, ap₂, sym, ◌∙◌}
-use Rattle.std.proofs.lemmas.Bool.{false≢true}
+use Rattle.std.proofs.Common.{◌≡◌, Bool, false, ◌||◌, cond, List, [], ◌∷◌, ◌++◌, Option, Some, None, refl, ap, ap₂, ◌∙◌}
+use Rattle.std.proofs.lemmas.Bool.{or_parts}
 use Rattle.std.specs.List.{flat_map, list_any}
 use Rattle.ap_term.specs.Tree.{Tree, Trees, none, more}
 use Rattle.ap_term.specs.Goals.{Part, call, group, Clause}
@@ -16,14 +16,10 @@ use Rattle.ap_patterns.specs.Table.{predicate_of}
 use Rattle.ap_patterns.specs.Given.{Patterns, call_at, success_at, is_builtin, after_goal, given_by_goal, after_goals, given_in_turn, given_at_fork, after_part, given_by_part, after_body, given_by_body, is_analysed, given_from, given_unanalysed, given_by_clause, entered, to_success}
 use Rattle.ap_fixpoint.specs.Reads.{is_among, call_slot, success_slot, slots_of_goals, slots_of_part, reads}
 
-pub neither : (a b : Bool) → (a || b) ≡ false → (a ≡ false) × (b ≡ false)
-neither true b h = absurd (false≢true (sym h))
-neither false b h = (refl, h)
-
 none-append : (p : Slot → Bool) (xs zs : List Slot) → list_any p (xs ++ zs) ≡ false → (list_any p xs ≡ false) × (list_any p zs ≡ false)
 none-append p [] zs h = (refl, h)
 none-append p (x ∷ xs) zs h =
-    let r = neither (p x) (list_any p (xs ++ zs)) h in
+    let r = or_parts (p x) (list_any p (xs ++ zs)) h in
     let q = none-append p xs zs r.1 in
     (ap₂ (λ a b. a || b) r.0 q.0, q.1)
 
@@ -34,11 +30,11 @@ module _ (ys : List Slot) (t u : Patterns) (same : (x : Slot) → is_among x ys 
 
   same-success : (p : Option Predicate) → any_changed (success_slot p) ≡ false → success_at u p ≡ success_at t p
   same-success None h = refl
-  same-success (Some p) h = same (Success p) (neither (is_among (Success p) ys) false h).0
+  same-success (Some p) h = same (Success p) (or_parts (is_among (Success p) ys) false h).0
 
   same-call : (p : Option Predicate) → any_changed (call_slot p) ≡ false → call_at u p ≡ call_at t p
   same-call None h = refl
-  same-call (Some p) h = same (Call p) (neither (is_among (Call p) ys) false h).0
+  same-call (Some p) h = same (Call p) (or_parts (is_among (Call p) ys) false h).0
 
   same-goal : (s : State) (g : Tree) → any_changed (success_slot (predicate_of g)) ≡ false → after_goal u s g ≡ after_goal t s g
   same-goal s g h = ap (λ z. cond (is_builtin g) (after_builtin s g) (after_call s g z)) (same-success (predicate_of g) h)

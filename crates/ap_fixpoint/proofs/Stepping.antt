@@ -1,6 +1,6 @@
 -- A round step by step is the round at once.
-use Rattle.std.proofs.Common.{◌≡◌, ℕ, ◌+◌, ◌<◌, ◌≤◌, length, drop, get_or, append_assoc, append-nil, ap₂, ◌⊎◌, inl, inr, Bool, true, false, cond, List, [], ◌∷◌, ◌++◌, refl, ap, sym, ◌∙◌, subst}
-use Rattle.std.proofs.lemmas.Bool.{false≢true}
+use Rattle.std.proofs.Common.{◌≡◌, ℕ, ◌+◌, ◌<◌, ◌≤◌, length, drop, get_or, append_assoc, ap₂, ◌⊎◌, inl, inr, Bool, true, false, cond, List, [], ◌∷◌, ◌++◌, refl, ap, sym, ◌∙◌, subst}
+use Rattle.std.proofs.lemmas.Bool.{false≢true, or_parts}
 use Rattle.std.proofs.Math.Path.{fun_ext}
 use Rattle.std.proofs.lemmas.List.{drop_more, drop_all}
 use Rattle.ap_absunify.specs.declared.states.State.{State}
@@ -14,15 +14,11 @@ use Rattle.ap_fixpoint.specs.Reads.{is_among}
 use Rattle.ap_fixpoint.specs.Rounds.{put, step, steps, changed, changed_slot}
 use Rattle.ap_fixpoint.proofs.Members.{Has}
 use Rattle.ap_fixpoint.proofs.Order.{Below_refl, Below_trans}
-use Rattle.ap_fixpoint.proofs.Reading.{neither}
 use Rattle.ap_fixpoint.proofs.Joins.{same_slot-true, same_slot-refl, AllKept, united_above, united_holds, united-same}
 
 -- each pattern is as it was, or united
 abbrev Between : List Given → Patterns → Patterns → Type 0
 Between gs t s = (x : Slot) → (s x ≡ t x) ⊎ (s x ≡ united gs t x)
-
-between_above : (gs : List Given) (t s : Patterns) → Between gs t s → (x : Slot) → Below (t x) (s x)
-between_above gs t s b x = elim (b x) [ inl e ↦ subst (Below (t x)) (sym e) (Below_refl (t x)) | inr e ↦ subst (Below (t x)) (sym e) (united_above gs t x) ]
 
 -- what isn't covered yet has its pattern as it was
 not_yet : (gs : List Given) (t s : Patterns) (g : Given) → Has g gs → Between gs t s → is_covered g.pattern (s g.slot) ≡ false → s g.slot ≡ t g.slot
@@ -101,21 +97,8 @@ unchanged gs (g ∷ rest) t x h = go (is_covered g.pattern (t g.slot)) h (unchan
         → steps gs rest (cond c t (put g.slot (united gs t g.slot) t)) x ≡ t x
     go true i ih = ih i
     go false i ih =
-        let r = neither (same_slot g.slot x) (is_among x (changed gs rest (put g.slot (united gs t g.slot) t))) i in
+        let r = or_parts (same_slot g.slot x) (is_among x (changed gs rest (put g.slot (united gs t g.slot) t))) i in
         ih r.1 ∙ apart (same_slot g.slot x) refl r.0
-
--- a round that changes nothing finds all that is given covered
-pub nothing_new : (gs rest : List Given) (t : Patterns) → changed gs rest t ≡ [] → (g : Given) → Has g rest → Below g.pattern (t g.slot)
-nothing_new gs [] t h g k = absurd k
-nothing_new gs (f ∷ rest) t h g k = go (is_covered f.pattern (t f.slot)) refl h (nothing_new gs rest (step gs f t)) k
-  where
-    go : (c : Bool) → is_covered f.pattern (t f.slot) ≡ c
-        → cond c [] (f.slot ∷ []) ++ changed gs rest (cond c t (put f.slot (united gs t f.slot) t)) ≡ []
-        → (changed gs rest (cond c t (put f.slot (united gs t f.slot) t)) ≡ [] → (d : Given) → Has d rest → Below d.pattern (cond c t (put f.slot (united gs t f.slot) t) d.slot))
-        → Has g (f ∷ rest) → Below g.pattern (t g.slot)
-    go true e i ih (inl j) = subst (λ z. Below z.pattern (t z.slot)) (sym j) (Below-covered f.pattern (t f.slot) e)
-    go true e i ih (inr j) = ih i g j
-    go false e i ih j = cc
 
 -- ---- the loop
 
@@ -140,6 +123,3 @@ table-turn gs i g t new whole h e p w =
 
 pub table-done : (gs : List Given) (i : ℕ) (t whole : Patterns) → length gs ≤ i → steps gs (drop i gs) t ≡ whole → t ≡ whole
 table-done gs i t whole h w = ap (λ l. steps gs l t) (sym (drop_all i gs h)) ∙ w
-
-pub slots-done : (gs : List Given) (i : ℕ) (t : Patterns) (out whole : List Slot) → length gs ≤ i → out ++ changed gs (drop i gs) t ≡ whole → out ≡ whole
-slots-done gs i t out whole h w = sym (append-nil out) ∙ ap (λ l. out ++ changed gs l t) (sym (drop_all i gs h)) ∙ w

@@ -1,6 +1,6 @@
 -- The walks over goals, parts and clauses, one after another.
-use Rattle.std.proofs.Common.{◌≡◌, ℕ, ◌+◌, ◌<◌, ◌≤◌, List, ◌∷◌, ◌++◌, length, drop, get_or, map, append_assoc, append-nil, ap, sym, ◌∙◌}
-use Rattle.std.proofs.lemmas.List.{drop_more, drop_all}
+use Rattle.std.proofs.Common.{◌≡◌, ℕ, ◌+◌, ◌<◌, List, ◌∷◌, ◌++◌, length, drop, get_or, map, append_assoc, ap, sym, ◌∙◌}
+use Rattle.std.proofs.lemmas.List.{drop_more}
 use Rattle.std.specs.List.{flat_map}
 use Rattle.ap_term.specs.Goals.{Clause}
 use Rattle.ap_patterns.specs.declared.slots.Given.{Given}
@@ -16,8 +16,3 @@ pub clauses-turn : (f : Clause → List Given) (old new whole : List Given) (cs 
 clauses-turn f old new whole cs i c h e n w =
     ap (λ z. z ++ flat_map f (drop (i + 1) cs)) n ∙ append_assoc old (f c) (flat_map f (drop (i + 1) cs))
     ∙ ap (λ z. old ++ z) (sym (ap (flat_map f) (drop_more cs i c h) ∙ ap (λ d. f d ++ flat_map f (drop (i + 1) cs)) (sym e))) ∙ w
-
-pub clauses-done : (f : Clause → List Given) (found whole : List Given) (cs : List Clause) (i : ℕ) → length cs ≤ i → found ++ flat_map f (drop i cs) ≡ whole → found ≡ whole
-clauses-done f found whole cs i h w = sym (append-nil found) ∙ ap (λ ds. found ++ flat_map f ds) (sym (drop_all i cs h)) ∙ w
-
-pub ruleset clause_turns = (clauses-turn, clauses-done)
