@@ -44,7 +44,7 @@ module _ (what : Shown) (program : Program) (table : List (List ℕ)) where
 
 pub printed_lines : (k : Kind) (E : Entries) (program annotated certified : Program) (table : List (List ℕ)) → annotated ≡ certified → IsMade k E program certified → IsSoundAnnotation program certified (Of E)
     → (ls : List (List ℕ)) → ls ≡ lines_of table annotated → IsPrinted k E program table ls
-printed_lines k E program annotated certified table same made sound ls e = (certified, made, sound, e ∙ ap (lines_of table) same)
+printed_lines k E program annotated certified table same made sound ls e = (certified, (made, sound), e ∙ ap (lines_of table) same)
 
 module _ (what : Shown) (bytes : List ℕ) (names : List (List ℕ)) (r : Refusal) (same : names ≡ fixed_names) (h : RefusesProgram bytes fixed_names r) where
   pub show_refused : (ls : List (List ℕ)) → ls ≡ refusal_line names r ∷ [] → TextShows what bytes status.ProgramRefused ls

@@ -11,7 +11,9 @@ use Rattle.ap_instr.specs.Code.{Compiled}
 use Rattle.ap_instr.specs.Listing.{listing}
 use Rattle.ap_instr.specs.StandsFor.{StandsForQuery}
 use Rattle.ap_codecheck.specs.Rules.{IsSound}
-use Rattle.ap_codegen.specs.Sequential.{sequential_program, sequential_query}
+use Rattle.ap_patterns.specs.declared.entries.Entries.TheVariants.{All}
+use Rattle.ap_mel.specs.declared.annotations.Kind.TheVariants.{Mel}
+use Rattle.ap_top.specs.Shows.{IsAnnotatedAs}
 use Rattle.ap_top.specs.Refusals.{refusal_line}
 use Rattle.ap_top.specs.TextLines.{text_lines}
 use Rattle.ap_top.specs.declared.status.Status.{Status}
@@ -21,9 +23,14 @@ use Rattle.ap_top.specs.declared.status.Status.TheVariants.{Done, FileFault, Pro
 abbrev pub true_query : Query
 true_query = record { question = record { head = atom QUERY; body = call (atom TRUE) ∷ []; vars = 0; line = 1 }; lifted = []; names = [] }
 
--- the listing of sound code that stands for the program, each group's goals in turn, beside that query
-abbrev pub IsListing : Program → List (List ℕ) → List ℕ → Type 0
-IsListing program table text = (code : Compiled) × IsSound code × StandsForQuery code (sequential_program program) (sequential_query true_query) × (text ≡ listing table code)
+-- the listing of sound code that stands for the program beside that query, with the groups that `show` shows
+pub record IsListing (program : Program) (table : List (List ℕ)) (text : List ℕ) : Type 0 where
+  pub annotated : Program
+  pub shown : IsAnnotatedAs Mel All program annotated
+  pub code : Compiled
+  pub sound : IsSound code
+  pub stands : StandsForQuery code annotated true_query
+  pub same : text ≡ listing table code
 
 -- the lines of an accepted program's listing, under its table of names
 abbrev pub IsListed : Program → List (List ℕ) → List (List ℕ) → Type 0

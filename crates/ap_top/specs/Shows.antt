@@ -20,9 +20,13 @@ use Rattle.ap_top.specs.Patterns.{AreEntries}
 use Rattle.ap_top.specs.declared.status.Status.{Status}
 use Rattle.ap_top.specs.declared.status.Status.TheVariants.{Done, FileFault, ProgramRefused, EntryRefused}
 
--- the text of a program with its groups: those at which the passes end, and they are sound
+-- a program with its groups: those at which the passes end, and they are sound
+abbrev pub IsAnnotatedAs : Kind → Entries → Program → Program → Type 0
+IsAnnotatedAs k E program annotated = IsMade k E program annotated × IsSoundAnnotation program annotated (Of E)
+
+-- its text
 abbrev pub IsPrinted : Kind → Entries → Program → List (List ℕ) → List (List ℕ) → Type 0
-IsPrinted k E program table lines = (annotated : Program) × IsMade k E program annotated × IsSoundAnnotation program annotated (Of E) × (lines ≡ lines_of table annotated)
+IsPrinted k E program table lines = (annotated : Program) × IsAnnotatedAs k E program annotated × (lines ≡ lines_of table annotated)
 
 abbrev pub kind_of : Annotator → Kind
 kind_of annotator.Mel = kind.Mel

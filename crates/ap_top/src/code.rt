@@ -1,4 +1,4 @@
-//! Listing the code of a program.
+//! Listing the code of a program, with the groups that `show` finds in it.
 
 ghost use Rattle.std.specs.Prelude.{◌≡◌, ◌∷◌, [], IfOk};
 ghost use Rattle.ap_outside.specs.Faults.{Rises};
@@ -12,10 +12,12 @@ use crate::source::LIMIT;
 use crate::status::Status;
 use crate::text_lines::put_text;
 use ap_clause::{Refusal, program};
+use ap_codegen::compile;
 use ap_instr::listing;
+use ap_mel::{Kind, annotate_sound};
 use ap_outside::{FileErr, Files, Got, Halt, Sink};
+use ap_patterns::Entries;
 use ap_term::{Atom, Atoms, Body, Clause, NoMemory, Part, Program, Query, Term, fixed};
-use ap_worker::compiled;
 use std::alloc::Global;
 
 // The query `true`. Code is for a program beside a query, and this one asks nothing of the program.
@@ -28,13 +30,14 @@ fn true_query(alloc: Global) -> Result<Query, NoMemory>
     Ok(Query::new(question, Program::new(alloc), Vec::new(alloc)))
 }
 
-// The listing of a program's code. The query's own is in no listing.
+// The listing of the code of a program with its groups. The query's own is in no listing.
 fn program_listing(alloc: Global, program: &Program, atoms: &Atoms) -> Result<Vec<u8>, NoMemory>
     ensures { IfOk result (λ text. IsListing program.now atoms.now text.items) }
 {
+    let certified = annotate_sound(alloc, program, &Entries::All, Kind::Mel)?;
     let query = true_query(alloc)?;
-    let sound = compiled(alloc, program, &query)?;
-    listing(alloc, sound.code(), atoms)
+    let code = compile(alloc, certified.annotated().program(), &query)?;
+    listing(alloc, &code, atoms)
 }
 
 // An accepted program.
