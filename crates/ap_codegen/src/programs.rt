@@ -23,7 +23,7 @@ use crate::index::{Index, index_of};
 use crate::layout::{first_place, lay, lay_builtin};
 use crate::permanent::{above, count};
 use crate::tables::Tables;
-use crate::temporary::written_steps;
+use crate::temporary::clause_steps;
 use ap_instr::{Code, Instr, Predicate};
 use ap_term::{Atom, Clause, NoMemory, Program, Query, Term, fixed};
 use std::alloc::Global;
@@ -39,7 +39,7 @@ fn clause_code(
     ensures grows { OnOk result (Grows tables.old tables.new) }
     ensures code { IfOk result (λ is. (code : Compiled) → Holds tables.new code → AreInstructionsOf code start (read_as groups clause.now) is.items) }
 {
-    let steps = written_steps(alloc, clause, groups)?;
+    let steps = clause_steps(alloc, clause, groups)?;
     let out = assemble(alloc, tables, steps.as_slice(), start)?;
     Ok(out)
 }
@@ -216,7 +216,9 @@ fn predicates(
             return Ok(made);
         };
         let is_listed = number < listed;
-        add_predicate(alloc, tables, index, name, arity, is_listed, groups, &mut made)?;
+        add_predicate(
+            alloc, tables, index, name, arity, is_listed, groups, &mut made,
+        )?;
     }
     Err(NoMemory)
 }

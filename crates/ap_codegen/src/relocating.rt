@@ -428,8 +428,6 @@ pub fn tested(
     room: Option<u8>,
     count: u32,
 ) -> Result<Option<Vec<Step>>, NoMemory>
-    ensures code { IfOk result (λ r. IfSome r (λ out. (c : Clause) (vars arity : ℕ) → Paces (olds (changes_of changes.now)) (inside vars arity) → IsCodeOf c (olds (changes_of changes.now)) → IsCodeOf c (steps_of out.items))) }
-    ensures paced { IfOk result (λ r. IfSome r (λ out. (vars arity : ℕ) → Paces (olds (changes_of changes.now)) (inside vars arity) → Paces (steps_of out.items) (within room arity))) }
     ensures grouped { IfOk result (λ r. IfSome r (λ out. (c : Clause) (vars arity : ℕ) → IsEnded (leads_of (map step_in changes.now)) → PacesLeads 0 (leads_of (map step_in changes.now)) (inside vars arity) → IsGroupedCode c (leads_of (map step_in changes.now)) → IsGroupedCode c (leads_of out.items))) }
     ensures led { IfOk result (λ r. IfSome r (λ out. (vars arity : ℕ) → IsEnded (leads_of (map step_in changes.now)) → PacesLeads 0 (leads_of (map step_in changes.now)) (inside vars arity) → Paces (steps_of out.items) (within room arity))) }
 {

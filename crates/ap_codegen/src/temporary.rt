@@ -7,12 +7,12 @@ ghost use Rattle.ap_instr.specs.Runs.{arguments};
 ghost use Rattle.ap_codegen.specs.Emitted.{step_of, steps_of, leads_of};
 ghost use Rattle.ap_codegen.specs.Temporary.{ends};
 ghost use Rattle.ap_codegen.specs.CodeOf.{IsCodeOf};
-ghost use Rattle.ap_codegen.specs.Sequential.{sequential, read_as};
+ghost use Rattle.ap_codegen.specs.Sequential.{read_as};
 ghost use Rattle.ap_codegen.specs.Framed.{leaving};
 ghost use Rattle.ap_codegen.specs.Grouped.{IsEnded, IsGroupedCode};
 ghost use Rattle.ap_codegen.specs.Paces.{Paces, ArePaced, PacesLeads, ArePacedLeads, inside};
 
-use crate::bodies::{permanent_code, written_code};
+use crate::bodies::written_code;
 use crate::choosing::choose;
 use crate::groups::Groups;
 use crate::relocating::tested;
@@ -113,8 +113,6 @@ fn entered(alloc: Global, steps: Vec<Step>, room: Option<u8>) -> Result<Vec<Step
 
 /// The steps with variables in better places, if such are found.
 fn relocated(alloc: Global, steps: &[Step]) -> Result<Option<Vec<Step>>, NoMemory>
-    ensures code { IfOk result (λ r. IfSome r (λ out. (c : Clause) (vars arity : ℕ) → Paces (steps_of steps.now) (inside vars arity) → IsCodeOf c (steps_of steps.now) → IsCodeOf c (steps_of out.items))) }
-    ensures paced { IfOk result (λ r. IfSome r (λ out. (vars arity : ℕ) → Paces (steps_of steps.now) (inside vars arity) → ArePaced arity out.items)) }
     ensures grouped { IfOk result (λ r. IfSome r (λ out. (c : Clause) (vars arity : ℕ) → IsEnded (leads_of steps.now) → PacesLeads 0 (leads_of steps.now) (inside vars arity) → IsGroupedCode c (leads_of steps.now) → IsGroupedCode c (leads_of out.items))) }
     ensures led { IfOk result (λ r. IfSome r (λ out. (vars arity : ℕ) → IsEnded (leads_of steps.now) → PacesLeads 0 (leads_of steps.now) (inside vars arity) → ArePaced arity out.items)) }
 {
@@ -128,8 +126,6 @@ fn relocated(alloc: Global, steps: &[Step]) -> Result<Option<Vec<Step>>, NoMemor
 
 /// The steps with each variable in its place: in better ones, if such are found, or in an environment for so many.
 fn located(alloc: Global, steps: &[Step], vars: u8) -> Result<Vec<Step>, NoMemory>
-    ensures code { IfOk result (λ out. (c : Clause) (arity : ℕ) → Paces (steps_of steps.now) (inside vars arity) → IsCodeOf c (steps_of steps.now) → IsCodeOf c (steps_of out.items)) }
-    ensures paced { IfOk result (λ out. (arity : ℕ) → Paces (steps_of steps.now) (inside vars arity) → ArePaced arity out.items) }
     ensures grouped { IfOk result (λ out. (c : Clause) (arity : ℕ) → IsEnded (leads_of steps.now) → PacesLeads 0 (leads_of steps.now) (inside vars arity) → IsGroupedCode c (leads_of steps.now) → IsGroupedCode c (leads_of out.items)) }
     ensures led { IfOk result (λ out. (arity : ℕ) → IsEnded (leads_of steps.now) → PacesLeads 0 (leads_of steps.now) (inside vars arity) → ArePaced arity out.items ⊎ (out.items ≡ Step.Allocate vars ∷ leaving steps.now)) }
 {
@@ -140,18 +136,8 @@ fn located(alloc: Global, steps: &[Step], vars: u8) -> Result<Vec<Step>, NoMemor
     Ok(framed)
 }
 
-/// The code of a clause.
-pub fn clause_steps(alloc: Global, clause: &Clause) -> Result<Vec<Step>, NoMemory>
-    ensures code { IfOk result (λ code. IsCodeOf (sequential clause.now) (steps_of code.items)) }
-    ensures paced { IfOk result (λ code. ArePaced (count_trees (arguments clause.now.head)) code.items) }
-{
-    let steps = permanent_code(alloc, clause)?;
-    let code = located(alloc, steps.as_slice(), clause.vars() as u8)?;
-    Ok(code)
-}
-
 /// The code of a clause, with its groups or with its goals one after another.
-pub fn written_steps(alloc: Global, clause: &Clause, groups: Groups) -> Result<Vec<Step>, NoMemory>
+pub fn clause_steps(alloc: Global, clause: &Clause, groups: Groups) -> Result<Vec<Step>, NoMemory>
     ensures code { IfOk result (λ code. IsGroupedCode (read_as groups clause.now) (leads_of code.items)) }
     ensures paced { IfOk result (λ code. ArePacedLeads (count_trees (arguments (read_as groups clause.now).head)) code.items) }
 {

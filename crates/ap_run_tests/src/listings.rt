@@ -3,6 +3,8 @@
 // another one has a temporary while it waits: in a head the last one is taken apart first, in a body it is built first. A
 // variable that outlives a call stands in the environment; any other one in the argument register that it comes from or goes
 // to, if nothing else needs that meanwhile, and else behind the arguments. What stands where it is put already needs no move.
+// In a clause with groups each variable stands in the environment. A group's checks come first and lead past its goals, which
+// are pushed by their numbers, to the same goals one after another.
 
 use crate::cases::{Command, check_all};
 use ap_top::Status;
@@ -20,10 +22,20 @@ const LISTED: &str = "p/1:
 q/1:
   allocate 1
   get_variable Y1 A1
+  check_ground Y1 @10
+  alloc_parcall 2
+  put_value Y1 A1
+  push_goal 1 p/1
+  put_value Y1 A1
+  push_goal 2 r/1
+  wait_all
+  jump @14
+  put_value Y1 A1
   call p/1
   put_value Y1 A1
+  call r/1
   deallocate
-  execute r/1
+  proceed
 app/3:
   try @2
   trust @5
@@ -86,7 +98,88 @@ const REVERSED: &str = "rev/2:
   execute app/3
 ";
 
-const LISTINGS: [Command; 6] = [
+const PAIRS: &str = "q(X, Y) :- a(X) & a(Y).  a(1).";
+
+const PAIRS_LISTED: &str = "q/2:
+  allocate 2
+  get_variable Y1 A1
+  get_variable Y2 A2
+  check_indep Y1 Y2 @11
+  alloc_parcall 2
+  put_value Y1 A1
+  push_goal 1 a/1
+  put_value Y2 A1
+  push_goal 2 a/1
+  wait_all
+  jump @15
+  put_value Y1 A1
+  call a/1
+  put_value Y2 A1
+  call a/1
+  deallocate
+  proceed
+a/1:
+  get_integer 1 A1
+  proceed
+";
+
+const COPIES: &str = "cp(t(L, R), t(A, B)) :- cp(L, A), cp(R, B).";
+
+const COPIES_LISTED: &str = "cp/2:
+  allocate 4
+  get_structure t/2 A1
+  unify_variable Y1
+  unify_variable Y2
+  get_structure t/2 A2
+  unify_variable Y3
+  unify_variable Y4
+  check_indep Y1 Y2 @20
+  check_indep Y1 Y4 @20
+  check_indep Y2 Y3 @20
+  check_indep Y3 Y4 @20
+  alloc_parcall 2
+  put_value Y1 A1
+  put_value Y3 A2
+  push_goal 1 cp/2
+  put_value Y2 A1
+  put_value Y4 A2
+  push_goal 2 cp/2
+  wait_all
+  jump @26
+  put_value Y1 A1
+  put_value Y3 A2
+  call cp/2
+  put_value Y2 A1
+  put_value Y4 A2
+  call cp/2
+  deallocate
+  proceed
+";
+
+/// Without checks there is no other way; a built-in goal is pushed by its name, and its predicate isn't listed.
+const APART: &str = "s :- a(1) & X = f(X0) & b, c(X, X0).";
+
+const APART_LISTED: &str = "s/0:
+  allocate 2
+  alloc_parcall 3
+  put_integer 1 A1
+  push_goal 1 a/1
+  put_variable Y1 A1
+  put_structure f/1 A2
+  unify_variable Y2
+  push_goal 2 =/2
+  push_goal 3 b/0
+  wait_all
+  put_value Y1 A1
+  put_value Y2 A2
+  deallocate
+  execute c/2
+";
+
+const LISTINGS: [Command; 9] = [
+    (CODE, PAIRS, "", PAIRS_LISTED, Status::Done),
+    (CODE, COPIES, "", COPIES_LISTED, Status::Done),
+    (CODE, APART, "", APART_LISTED, Status::Done),
     (CODE, PROGRAM, "", LISTED, Status::Done),
     (CODE, REVERSE, "", REVERSED, Status::Done),
     (

@@ -15,10 +15,10 @@ loop-clause-preserved c =
       grows_on c.args.tables.now c.loop-clause.tables c.clause_code.new.tables c.loop-clause.invariant.0 c.in_ok-code.ensures.grows,
       omega (arith, count, place),
       c.in_ok-at.ensures
-      ∙ ap (λ n. c.loop-clause.at + n) long
-      ∙ place_turn (λ (r : Bor Clause). read_as c.args.groups r.now) (λ (v : Vec Instr Global). v.items) c.loop-clause.codes.items c.push.new.self.items c.in_ok-code.code c.args.first c.loop-clause.at c.in_ok-push.ensures.items c.loop-clause.invariant.2,
+          ∙ ap (λ n. c.loop-clause.at + n) long
+          ∙ place_turn (λ (r : Bor Clause). read_as c.args.groups r.now) (λ (v : Vec Instr Global). v.items) c.loop-clause.codes.items c.push.new.self.items c.in_ok-code.code c.args.first c.loop-clause.at c.in_ok-push.ensures.items c.loop-clause.invariant.2,
       codes_turn (λ (r : Bor Clause). read_as c.args.groups r.now) (λ (v : Vec Instr Global). v.items) c.args.clauses.now c.loop-clause.clause-index c.clause-item.result c.args.tables.now c.loop-clause.tables c.clause_code.new.tables
-      c.loop-clause.codes.items c.push.new.self.items c.in_ok-code.code c.args.first c.loop-clause.at (omega arith) c.clause-item.is c.loop-clause.invariant.0 c.in_ok-code.ensures.grows c.in_ok-push.ensures.items c.loop-clause.invariant.2 c.in_ok-code.ensures.code c.loop-clause.invariant.3,
+          c.loop-clause.codes.items c.push.new.self.items c.in_ok-code.code c.args.first c.loop-clause.at (omega arith) c.clause-item.is c.loop-clause.invariant.0 c.in_ok-code.ensures.grows c.in_ok-push.ensures.items c.loop-clause.invariant.2 c.in_ok-code.ensures.code c.loop-clause.invariant.3,
     )
 
 pub returns-clause-count : goal.returns-clause-count

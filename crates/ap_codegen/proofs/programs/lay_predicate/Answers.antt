@@ -30,5 +30,5 @@ returns-clause-block c p indexed =
       _,
       laid_is (λ (v : Vec Instr Global). v.items) c.as_slice.result.now c.in_ok-codes.codes.items c.args.out.now.items c.lay.new.out.items c.as_slice.ensures.value c.in_ok-lay.ensures,
       clauses_block c.predicate_codes.new.tables c.args.out.now.items codes (c.args.name, c.args.arity) (read_program c.args.groups p)
-      (λ code h. subst (AreCoded code (length c.args.out.now.items + chosen (length codes)) codes) same (subst (λ n. AreCoded code n codes (read_program c.args.groups (clauses_at c.args.index.now (c.args.name, c.args.arity)))) first (c.in_ok-codes.ensures.codes code h))) away,
+          (λ code h. subst (AreCoded code (length c.args.out.now.items + chosen (length codes)) codes) same (subst (λ n. AreCoded code n codes (read_program c.args.groups (clauses_at c.args.index.now (c.args.name, c.args.arity)))) first (c.in_ok-codes.ensures.codes code h))) away,
     )

@@ -1,26 +1,9 @@
 use Rattle.std.proofs.Common.{◌≡◌, true, false, ap, sym, ◌∙◌, subst}
 use Rattle.ap_codegen.specs.Emitted.{steps_of}
-use Rattle.ap_codegen.specs.CodeOf.{IsCodeOf}
 use Rattle.ap_codegen.specs.Paces.{Paces}
 use Rattle.ap_codegen.specs.Relocated.{known_by, changes_of, news, all_kept, all_open, within}
-use Rattle.ap_codegen.proofs.RelocatedCode.{tested_code, tested_paces}
 use Rattle.ap_codegen.proofs.RelocatedLeads.{tested_grouped, tested_led}
 use Rattle.ap_codegen.proofs.relocating.tested.Goals as goal
-
-pub returns-then-all_open-clause-code : goal.returns-then-all_open-clause-code
-returns-then-all_open-clause-code c k vars arity p r =
-    let own = changes_of c.args.changes.now in
-    let e : steps_of c.in_ok-steps.steps.items ≡ news own = c.in_ok-steps.ensures in
-    let f : all_kept c.args.room (known_by c.in_ok-numbers.numbers) own ≡ true = c.in_ok-all_kept.ensures c.if-not-branch.false in
-    let o : all_open false (news own) ≡ true = ap (all_open false) (sym e) ∙ ap (λ is. all_open false (steps_of is)) (sym c.as_slice.ensures.value) ∙ c.all_open.ensures c.if-all_open.true in
-    subst (IsCodeOf k) (sym e) (tested_code c.args.room own (known_by c.in_ok-numbers.numbers) k vars arity c.in_ok-numbers.ensures f o p r)
-
-pub returns-then-all_open-clause-paced : goal.returns-then-all_open-clause-paced
-returns-then-all_open-clause-paced c vars arity p =
-    let own = changes_of c.args.changes.now in
-    let e : steps_of c.in_ok-steps.steps.items ≡ news own = c.in_ok-steps.ensures in
-    let f : all_kept c.args.room (known_by c.in_ok-numbers.numbers) own ≡ true = c.in_ok-all_kept.ensures c.if-not-branch.false in
-    subst (λ q. Paces q (within c.args.room arity)) (sym e) (tested_paces c.args.room own (known_by c.in_ok-numbers.numbers) vars arity c.in_ok-numbers.ensures f p)
 
 pub returns-then-all_open-clause-grouped : goal.returns-then-all_open-clause-grouped
 returns-then-all_open-clause-grouped c k vars arity h p g =

@@ -1,25 +1,43 @@
-use Rattle.std.proofs.Common.{◌≡◌, ℕ, sym, subst}
+use Rattle.std.proofs.Common.{◌≡◌, ◌∷◌, ◌⊎◌, ℕ, List, refl, sym, ◌∙◌, subst}
 use Rattle.ap_term.specs.Tree.{count_trees}
+use Rattle.ap_term.specs.Goals.{Clause}
 use Rattle.ap_instr.specs.Runs.{arguments}
-use Rattle.ap_codegen.specs.Emitted.{steps_of}
-use Rattle.ap_codegen.specs.CodeOf.{IsCodeOf}
-use Rattle.ap_codegen.specs.Sequential.{sequential}
-use Rattle.ap_codegen.specs.Paces.{Paces, inside}
+use Rattle.ap_codegen.specs.declared.steps.Step.{Step as Emitted}
+use Rattle.ap_codegen.specs.declared.steps.Step.TheVariants.{Allocate}
+use Rattle.ap_codegen.specs.declared.groups.Groups.{Groups}
+use Rattle.ap_codegen.specs.declared.groups.Groups.TheVariants.{SideBySide, InTurn}
+use Rattle.ap_codegen.specs.Emitted.{leads_of}
+use Rattle.ap_codegen.specs.Framed.{leaving}
+use Rattle.ap_codegen.specs.Grouped.{IsGroupedCode, clause_leads}
+use Rattle.ap_codegen.specs.Said.{AreNumbered}
+use Rattle.ap_codegen.specs.Sequential.{read_as}
+use Rattle.ap_codegen.specs.Paces.{ArePaced, PacesLeads, inside}
+use Rattle.ap_codegen.proofs.LocatedLeads.{written_ended, written_led, located_paced}
 use Rattle.ap_codegen.proofs.temporary.clause_steps.Goals as goal
+
+same_vars : (g : Groups) (c : Clause) → c.vars ≡ (read_as g c).vars
+same_vars SideBySide c = refl
+same_vars InTurn c = refl
 
 pub returns-clause-code : goal.returns-clause-code
 returns-clause-code c =
-    let own : c.as_slice.result.now ≡ c.in_ok-steps.steps.items = c.as_slice.ensures.value in
-    let vars : c.vars.result ≡ c.args.clause.now.vars = c.vars.ensures.vars in
-    let arity : ℕ = count_trees (arguments c.args.clause.now.head) in
-    c.in_ok-code.ensures.code (sequential c.args.clause.now) arity
-    (subst (λ es. Paces (steps_of es) (inside c.vars.result arity)) (sym own) (subst (λ n. Paces (steps_of c.in_ok-steps.steps.items) (inside n arity)) (sym vars) c.in_ok-steps.ensures.paced))
-    (subst (λ es. IsCodeOf (sequential c.args.clause.now) (steps_of es)) (sym own) c.in_ok-steps.ensures.code)
+    let k : Clause = read_as c.args.groups c.args.clause.now in
+    let es : List Emitted = c.as_slice.result.now in
+    let own : es ≡ c.in_ok-steps.steps.items = c.as_slice.ensures.value in
+    let vars : c.vars.result ≡ k.vars = c.vars.ensures.vars ∙ same_vars c.args.groups c.args.clause.now in
+    let arity : ℕ = count_trees (arguments k.head) in
+    let e : leads_of es ≡ clause_leads k = subst (λ fs. leads_of fs ≡ clause_leads k) (sym own) c.in_ok-steps.ensures.leads in
+    c.in_ok-code.ensures.grouped k arity (written_ended k es e) (subst (λ n. PacesLeads 0 (leads_of es) (inside n arity)) (sym vars) (written_led k es c.in_ok-steps.ensures.kept e))
+    (subst (λ fs. IsGroupedCode k (leads_of fs)) (sym own) c.in_ok-steps.ensures.code)
 
 pub returns-clause-paced : goal.returns-clause-paced
 returns-clause-paced c =
-    let own : c.as_slice.result.now ≡ c.in_ok-steps.steps.items = c.as_slice.ensures.value in
-    let vars : c.vars.result ≡ c.args.clause.now.vars = c.vars.ensures.vars in
-    let arity : ℕ = count_trees (arguments c.args.clause.now.head) in
-    c.in_ok-code.ensures.paced arity
-    (subst (λ es. Paces (steps_of es) (inside c.vars.result arity)) (sym own) (subst (λ n. Paces (steps_of c.in_ok-steps.steps.items) (inside n arity)) (sym vars) c.in_ok-steps.ensures.paced))
+    let k : Clause = read_as c.args.groups c.args.clause.now in
+    let es : List Emitted = c.as_slice.result.now in
+    let own : es ≡ c.in_ok-steps.steps.items = c.as_slice.ensures.value in
+    let vars : c.vars.result ≡ k.vars = c.vars.ensures.vars ∙ same_vars c.args.groups c.args.clause.now in
+    let arity : ℕ = count_trees (arguments k.head) in
+    let e : leads_of es ≡ clause_leads k = subst (λ fs. leads_of fs ≡ clause_leads k) (sym own) c.in_ok-steps.ensures.leads in
+    let placed = c.in_ok-code.ensures.led arity (written_ended k es e) (subst (λ n. PacesLeads 0 (leads_of es) (inside n arity)) (sym vars) (written_led k es c.in_ok-steps.ensures.kept e)) in
+    located_paced k es c.in_ok-code.code.items c.in_ok-steps.ensures.kept e (subst (AreNumbered 0) (sym own) c.in_ok-steps.ensures.numbered)
+    (subst (λ n. ArePaced arity c.in_ok-code.code.items ⊎ (c.in_ok-code.code.items ≡ Allocate n ∷ leaving es)) vars placed)
