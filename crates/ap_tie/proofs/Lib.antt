@@ -6,3 +6,4 @@ pub mod Settled
 pub mod Redone
 pub mod Open
 pub mod Judged
+pub mod Rejoined

@@ -172,7 +172,7 @@ join code p o m c b f q rd w qs st t u good below all closed stores (ss, xs, l, 
     behind : Alternatives
     behind = before ys k
 
-    main : t ≡ task r c l → (j : Tracked) × IsJoined code p.program m.roots f w j × ((n : Machine) (d : ℕ) → n.roots ≡ m.roots → Holds code n (j ∷ []) → HasCounts d b u → HoldsTask code p o (section n d b (parcall f q Closed w qs st)) u)
+    main : t ≡ task r c l → (j : Tracked) × IsJoined code p.program o m.roots f w j × ((n : Machine) (d : ℕ) → n.roots ≡ m.roots → Holds code n (j ∷ []) → HasCounts d b u → HoldsTask code p o (section n d b (parcall f q Closed w qs st)) u)
     main is =
         let whole : t ≡ task r c (alternative (frame (untracked s) (round_of rd) v) behind) = is ∙ ap (task r c) z in
         let e = joined_by_verdict (verdict p.loud (round_of rd) r v) r c (untracked s) v behind u (sym (ap (own p Join) whole) ∙ event) in
@@ -182,7 +182,7 @@ join code p o m c b f q rd w qs st t u good below all closed stores (ss, xs, l, 
         let answered : list_all has_answer (rows w) ≡ true = sym (answered-alike p.loud q (rows w) v (alike code p q s.next (instance_all i.own i.goals) w v slots)) ∙ a.1.all in
         let stored = subst (StoresBehind (rows w)) whole stores in (
           tracked_grafts s.next s a.0,
-          record { forked = s; is_forked = i; answers = a.0; held = a.1.are_held; each = a.1.each; same = refl },
+          record { forked = s; is_forked = i; kept = kept; answers = a.0; held = a.1.are_held; each = a.1.each; same = refl },
           λ n d same_roots h counts. (
             tracked_grafts s.next s a.0 ∷ [],
             state (with_answers v s.next (untracked s)) ∷ [],
@@ -195,7 +195,7 @@ join code p o m c b f q rd w qs st t u good below all closed stores (ss, xs, l, 
           ),
         )
 
-    go : (ss : List Tracked) (xs : List Alternative) → AllZip (Shows p.program o) ss xs → t ≡ task r c (before xs l) → (j : Tracked) × IsJoined code p.program m.roots f w j × ((n : Machine) (d : ℕ) → n.roots ≡ m.roots → Holds code n (j ∷ []) → HasCounts d b u → HoldsTask code p o (section n d b (parcall f q Closed w qs st)) u)
+    go : (ss : List Tracked) (xs : List Alternative) → AllZip (Shows p.program o) ss xs → t ≡ task r c (before xs l) → (j : Tracked) × IsJoined code p.program o m.roots f w j × ((n : Machine) (d : ℕ) → n.roots ≡ m.roots → Holds code n (j ∷ []) → HasCounts d b u → HoldsTask code p o (section n d b (parcall f q Closed w qs st)) u)
     go [] [] h is = main is
     go (s ∷ ss) [] h is = absurd h
     go [] (y ∷ ys) h is = absurd h

@@ -7,6 +7,7 @@ pub mod Tied
 pub mod Slots
 pub mod Answered
 pub mod Settled
+pub mod Rejoined
 pub mod Redone
 pub mod Judged
 pub mod Open

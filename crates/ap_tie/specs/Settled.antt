@@ -12,6 +12,7 @@ use Rattle.ap_frames.specs.declared.frame.Round.TheVariants.{First, Draining, La
 use Rattle.ap_frames.specs.Verdicts.{next_redo}
 use Rattle.ap_parcall_laws.specs.Alike.{AreStoredBehind}
 use Rattle.ap_tracked.specs.Tracked.{Tracked}
+use Rattle.ap_tracked.specs.Kept.{IsKept}
 use Rattle.ap_graft.specs.Variables.{IsTrackedBelow}
 use Rattle.ap_graft.specs.Grafts.{tracked_grafts}
 use Rattle.ap_graft.specs.Joins.{AreAnswers}
@@ -54,9 +55,10 @@ MayShut xs (task r c (alternative (state s) l)) = Unit {0}
 MayShut xs (task r c (alternative (frame s rd v) l)) = IsShutIn Closed xs v
 
 -- the state of a frame with the answers of its slots in the places of its goals
-pub record IsJoined (code : Compiled) (p : Program) (roots : List ℕ) (f : Forked) (w : Slots) (j : Tracked) : Type 0 where
+pub record IsJoined (code : Compiled) (p : Program) (o : Tracked) (roots : List ℕ) (f : Forked) (w : Slots) (j : Tracked) : Type 0 where
   pub forked : Tracked
   pub is_forked : IsForked code roots f forked
+  pub kept : IsKept p o forked
   pub answers : List Tracked
   pub held : AreHeld code w answers
   pub each : AreAnswers p forked.next (instance_all is_forked.own is_forked.goals) answers
@@ -73,7 +75,7 @@ abbrev pub JoinLaw : Type 0
 JoinLaw =
     (code : Compiled) (p : Rules) (o : Tracked) (m : Machine) (c b : ℕ) (f : Forked) (q : ℕ) (rd : Round) (w : Slots) (qs : List Point) (st : Stack) (t u : Task)
     → IsProgram p.program → IsTrackedBelow o → AllHeld w → AreClosed st → StoresBehind (rows w) t → HoldsTask code p o (section m c b (parcall f q rd w qs st)) t → own p Join t ≡ Some u
-    → (j : Tracked) × IsJoined code p.program m.roots f w j
+    → (j : Tracked) × IsJoined code p.program o m.roots f w j
     × ((n : Machine) (d : ℕ) → n.roots ≡ m.roots → Holds code n (j ∷ []) → HasCounts d b u → HoldsTask code p o (section n d b (parcall f q Closed w qs st)) u)
 
 -- whether a frame stays when its round fails: a slot is redone again

@@ -5,6 +5,7 @@ ghost use Rattle.ap_tie.specs.Judged.{VerdictLaw};
 ghost use Rattle.ap_tie.specs.Laws.{ForkLaw, InferLaw};
 ghost use Rattle.ap_tie.specs.Open.{LiftLaw, OpenLaw};
 ghost use Rattle.ap_tie.specs.Redone.{RedoLaw};
+ghost use Rattle.ap_tie.specs.Rejoined.{RejoinLaw};
 ghost use Rattle.ap_tie.specs.Settled.{BreakLaw, JoinLaw};
 ghost use Rattle.ap_tie.specs.Slots.{SlotLaw};
 
@@ -61,4 +62,9 @@ pub fn open_law()
 /// Judges the frame that comes first by its slots: what the verdict says is an event of the core, at that cost.
 pub fn verdict_law()
     ensures { VerdictLaw }
+{}
+
+/// Copies a group's answers in: the machine behind the group then stands for the joined state alone.
+pub fn rejoin_law()
+    ensures { RejoinLaw }
 {}
