@@ -7,3 +7,4 @@ pub mod Redone
 pub mod Open
 pub mod Judged
 pub mod Rejoined
+pub mod Grouping

@@ -1,38 +1,33 @@
 -- A machine into which a group's answers were copied stands for the joined state.
-use Rattle.std.proofs.Common.{◌≡◌, ℕ, ◌<◌, List, [], ◌∷◌, ◌++◌, map, Option, Some, None, refl, ap, ap₂, sym, ◌∙◌, subst}
-use Rattle.std.specs.Prelude.{◌↔◌, length, slice_get}
+use Rattle.std.proofs.Common.{◌≡◌, ℕ, ◌<◌, List, [], ◌∷◌, ◌++◌, map, None, refl, ap, ap₂, sym, ◌∙◌, subst}
+use Rattle.std.specs.Prelude.{length, slice_get}
 use Rattle.std.specs.List.{AllByRecursion}
 use Rattle.ap_term.specs.declared.clauses.Check.{Check}
 use Rattle.ap_term.specs.Tree.{Tree, Trees, var, int, atom, node, none, more, append_trees}
 use Rattle.ap_term.specs.Substitution.{instance, instance_all}
 use Rattle.ap_term.specs.Goals.{Program}
-use Rattle.ap_term.specs.WellFormed.{IsProgram}
 use Rattle.ap_term.proofs.Zips.{AllByRecursion-map}
 use Rattle.ap_laws.specs.Graft.{arguments, lifted_var, fitted}
 use Rattle.ap_tracked.specs.Tracked.{Goal, call, fork, moved, calls, opened, Tracked}
-use Rattle.ap_tracked.specs.Marks.{marked, opening}
+use Rattle.ap_tracked.specs.Marks.{marked}
 use Rattle.ap_tracked.specs.Instances.{Inst}
 use Rattle.ap_tracked.specs.Kept.{IsKept}
-use Rattle.ap_graft.specs.Variables.{LocalGoals, IsTrackedBelow}
+use Rattle.ap_graft.specs.Variables.{LocalGoal, LocalGoals, IsTrackedBelow}
 use Rattle.ap_graft.specs.Grafts.{behind, put_first, tracked_graft, tracked_grafts}
 use Rattle.ap_graft.specs.Joins.{AreAnswers, AllMet}
 use Rattle.ap_graft.proofs.Joins.{joining}
 use Rattle.ap_graft.proofs.Sets.{joined_set}
 use Rattle.ap_graft.proofs.Variables.{below_from}
-use Rattle.ap_instr.specs.declared.compiled.Predicate.{Predicate}
 use Rattle.ap_instr.specs.Code.{Compiled}
 use Rattle.ap_instr.specs.Runs.{applied}
-use Rattle.ap_match.specs.Fits.{Fits}
-use Rattle.ap_resolution.specs.Instances.{SameSet, IsSetOf}
 use Rattle.ap_steps.specs.Standing.{tuple_under, Waits}
-use Rattle.ap_standing.specs.Machine.{Now, returning, Machine, standing}
-use Rattle.ap_standing.specs.Holds.{AtReturn, SetOf, SetAt, IsOpenAt, AreOpen, IsNamed, AllNamed, IsNamedGoal, AreNamed, IsPlain, Holds, HoldsPoints}
+use Rattle.ap_standing.specs.Machine.{standing}
+use Rattle.ap_standing.specs.Holds.{AtReturn, SetOf, SetAt, IsOpenAt, AreOpen, IsNamed, AllNamed, IsNamedGoal, AreNamed, IsPlain, HoldsPoints}
 use Rattle.ap_standing.proofs.Moved.{Waits-agree}
 use Rattle.ap_standing.proofs.Named.{named-opened}
-use Rattle.ap_tie.specs.Sections.{Pushed, Forked, Slots}
-use Rattle.ap_tie.specs.Forked.{goal_by, goals_under, AtFork, IsForked}
-use Rattle.ap_tie.specs.Settled.{IsJoined}
-use Rattle.ap_tie.specs.Rejoined.{MeetAnswers, IsKnown, IsPushed, HasRejoined, RejoinLaw}
+use Rattle.ap_tie.specs.Sections.{Pushed}
+use Rattle.ap_tie.specs.Forked.{goal_by, goals_under, IsForked}
+use Rattle.ap_tie.specs.Rejoined.{MeetAnswers, IsKnown, RejoinLaw}
 
 -- ---- goals and their arguments
 
@@ -49,10 +44,10 @@ arguments-instance f (node a ts) h = refl
 arguments-by : (code : Compiled) (k : ℕ → Tree) (p : Pushed) → IsKnown code p → arguments (goal_by (slice_get code.predicates p.predicate) (tuple_under k p.arguments)) ≡ tuple_under k p.arguments
 arguments-by code k p (q, e) = ap (λ o. arguments (goal_by o (tuple_under k p.arguments))) e ∙ arguments-applied q.name (tuple_under k p.arguments)
 
-first-same : {t u : Tree} {ts us : Trees} → more t ts ≡ more u us → t ≡ u
+pub first-same : {t u : Tree} {ts us : Trees} → more t ts ≡ more u us → t ≡ u
 first-same h = cc
 
-rest-same : {t u : Tree} {ts us : Trees} → more t ts ≡ more u us → ts ≡ us
+pub rest-same : {t u : Tree} {ts us : Trees} → more t ts ≡ more u us → ts ≡ us
 rest-same h = cc
 
 -- the goals on both sides are equal one by one, and so is what stands behind them
@@ -103,12 +98,12 @@ marked-calls : (own : ℕ → Tree) (ts : Trees) (gs : List Goal) → marked (ca
 marked-calls own none gs = refl
 marked-calls own (more t ts) gs = ap (more (instance own t)) (marked-calls own ts gs)
 
-opened-marks : (P : ℕ → Type 0) (cs : List Check) (ts : Trees) (own : ℕ → Tree) (now : List Check) (gs : List Goal) → LocalGoals P (fork cs ts own now ∷ gs)
+pub opened-marks : (P : ℕ → Type 0) (cs : List Check) (ts : Trees) (own : ℕ → Tree) (now : List Check) (gs : List Goal) → LocalGoal P (fork cs ts own now)
     → marked (opened (fork cs ts own now ∷ gs)) ≡ append_trees (instance_all own ts) (marked gs)
-opened-marks P cs none own now gs h = absurd h.0
+opened-marks P cs none own now gs h = absurd h
 opened-marks P cs (more t ts) own now gs h = ap (more (instance own t)) (marked-calls own ts gs)
 
-instance-append : (f : ℕ → Tree) (ts us : Trees) → instance_all f (append_trees ts us) ≡ append_trees (instance_all f ts) (instance_all f us)
+pub instance-append : (f : ℕ → Tree) (ts us : Trees) → instance_all f (append_trees ts us) ≡ append_trees (instance_all f ts) (instance_all f us)
 instance-append f none us = refl
 instance-append f (more t ts) us = ap (more (instance f t)) (instance-append f ts us)
 
@@ -160,7 +155,7 @@ rejoins code p o roots f w j n good below i pushed h = (j ∷ [], [], ((λ gs t.
     named = named-all x.own x.goals (subst AreNamed x.first x.plain.1).0
 
     marks_are : marked (opened s.goals) ≡ append_trees goals (marked x.behind)
-    marks_are = ap (λ gs. marked (opened gs)) x.first ∙ opened-marks (λ v. v < s.next) x.checks x.goals x.own x.now x.behind (subst (LocalGoals (λ v. v < s.next)) x.first below_s.0)
+    marks_are = ap (λ gs. marked (opened gs)) x.first ∙ opened-marks (λ v. v < s.next) x.checks x.goals x.own x.now x.behind (subst (LocalGoals (λ v. v < s.next)) x.first below_s.0).0
 
     joined_kept : IsKept p o (tracked_grafts s.next s us)
     joined_kept = (joining p o s x.checks x.goals x.own x.now x.behind us good below i.kept x.first x.apart i.each).0

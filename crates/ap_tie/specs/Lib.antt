@@ -8,6 +8,7 @@ pub mod Slots
 pub mod Answered
 pub mod Settled
 pub mod Rejoined
+pub mod Grouping
 pub mod Redone
 pub mod Judged
 pub mod Open

@@ -8,7 +8,7 @@ use Rattle.ap_core.specs.Tasks.{Task, task, exhausted, alternative, state, frame
 use Rattle.ap_core.specs.Conditions.{spent_by}
 use Rattle.ap_core.specs.Relation.{Rules, own}
 use Rattle.ap_frames.specs.declared.frame.Round.{Round}
-use Rattle.ap_frames.specs.declared.frame.Round.TheVariants.{First, Draining, Later, Closed}
+use Rattle.ap_frames.specs.declared.frame.Round.TheVariants.{Later, Closed}
 use Rattle.ap_frames.specs.Verdicts.{next_redo}
 use Rattle.ap_parcall_laws.specs.Alike.{AreStoredBehind}
 use Rattle.ap_tracked.specs.Tracked.{Tracked}
@@ -19,7 +19,7 @@ use Rattle.ap_graft.specs.Joins.{AreAnswers}
 use Rattle.ap_instr.specs.Code.{Compiled}
 use Rattle.ap_standing.specs.Machine.{Point, failed, Machine}
 use Rattle.ap_standing.specs.Holds.{Holds}
-use Rattle.ap_tie.specs.Sections.{Row, Section, section, Stack, bottom, parcall, Slots, no_slot, slot, nothing, held, Forked, machine_in, rows}
+use Rattle.ap_tie.specs.Sections.{Row, section, Stack, bottom, parcall, Slots, no_slot, slot, nothing, held, Forked, machine_in, rows}
 use Rattle.ap_tie.specs.Forked.{IsForked}
 use Rattle.ap_tie.specs.Slots.{rest_of}
 use Rattle.ap_tie.specs.Tied.{IsShutIn, HoldsTask}

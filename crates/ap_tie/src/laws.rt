@@ -1,6 +1,7 @@
 //! Laws, each as the contract of a function that does nothing.
 
 ghost use Rattle.ap_tie.specs.Answered.{AlikeLaw, AnswerSlotLaw};
+ghost use Rattle.ap_tie.specs.Grouping.{MarkLaw, PushLaw};
 ghost use Rattle.ap_tie.specs.Judged.{VerdictLaw};
 ghost use Rattle.ap_tie.specs.Laws.{ForkLaw, InferLaw};
 ghost use Rattle.ap_tie.specs.Open.{LiftLaw, OpenLaw};
@@ -67,4 +68,14 @@ pub fn verdict_law()
 /// Copies a group's answers in: the machine behind the group then stands for the joined state alone.
 pub fn rejoin_law()
     ensures { RejoinLaw }
+{}
+
+/// Passes over a group's marks: a check of the code is the first one left, and behind the last mark is the conjunction.
+pub fn mark_law()
+    ensures { MarkLaw }
+{}
+
+/// Pushes a group's goals: what is stood for stays, and at the group's end it is the fork's.
+pub fn push_law()
+    ensures { PushLaw }
 {}

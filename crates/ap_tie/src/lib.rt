@@ -9,6 +9,6 @@
 mod laws;
 
 pub use laws::{
-    alike_law, answer_slot_law, break_law, fork_law, infer_law, join_law, lift_law, open_law,
-    redo_law, rejoin_law, slot_law, verdict_law,
+    alike_law, answer_slot_law, break_law, fork_law, infer_law, join_law, lift_law, mark_law,
+    open_law, push_law, redo_law, rejoin_law, slot_law, verdict_law,
 };
