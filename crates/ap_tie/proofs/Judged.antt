@@ -1,7 +1,6 @@
 -- Verdicts on the frame that comes first are the core's.
-use Rattle.std.proofs.Common.{◌≡◌, ℕ, ◌+◌, ◌-◌, ◌⊎◌, inl, inr, Bool, true, false, ◌||◌, not, if◌then◌else◌, is_some, List, [], ◌∷◌, Some, None, refl, ap, ap₂, sym, ◌∙◌, subst, arith}
+use Rattle.std.proofs.Common.{◌≡◌, ℕ, ◌+◌, ◌-◌, inl, inr, Bool, true, false, ◌||◌, not, is_some, List, [], ◌∷◌, Some, refl, ap, ap₂, sym, ◌∙◌, subst, arith}
 use Rattle.std.specs.List.{AllZip, list_any}
-use Rattle.std.proofs.lemmas.Bool.{false≢true}
 use Rattle.ap_term.specs.Tree.{Tree, Trees}
 use Rattle.ap_term.specs.Search.{State}
 use Rattle.ap_term.specs.Substitution.{instance_all}
@@ -20,16 +19,16 @@ use Rattle.ap_frames.specs.declared.slots.Ending.TheVariants as ending
 use Rattle.ap_frames.specs.declared.frame.Round.{Round}
 use Rattle.ap_frames.specs.declared.frame.Round.TheVariants as round
 use Rattle.ap_frames.specs.declared.verdict.Verdict.{Verdict}
-use Rattle.ap_frames.specs.declared.verdict.Verdict.TheVariants.{Wait, Joined, Broken, Drain, Raised, Spent}
+use Rattle.ap_frames.specs.declared.verdict.Verdict.TheVariants.{Wait, Joined, Broken, Spent}
 use Rattle.ap_frames.specs.Slots.{is_running, stands_running}
-use Rattle.ap_frames.specs.Verdicts.{judged, next_redo}
-use Rattle.ap_parcall_laws.specs.Alike.{busy_of, AreAlike, StandsAs, HasAnswer, IsRound, verdict_of}
+use Rattle.ap_frames.specs.Verdicts.{judged}
+use Rattle.ap_parcall_laws.specs.Alike.{busy_of, AreAlike, StandsAs, HasAnswer, verdict_of}
 use Rattle.ap_parcall_laws.proofs.Judged.{judgements}
 use Rattle.ap_parcall_laws.proofs.Rows.{more-alike}
 use Rattle.ap_tracked.specs.Tracked.{Tracked, untracked}
 use Rattle.ap_instr.specs.Code.{Compiled}
 use Rattle.ap_standing.specs.Machine.{Point, Machine}
-use Rattle.ap_standing.specs.Holds.{Holds, HoldsPoints}
+use Rattle.ap_standing.specs.Holds.{HoldsPoints}
 use Rattle.ap_standing.proofs.Machines.{failed-points}
 use Rattle.ap_tie.specs.Sections.{Row, section, Stack, parcall, Slots, Forked, rows}
 use Rattle.ap_tie.specs.Shows.{Shows, before}

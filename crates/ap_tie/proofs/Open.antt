@@ -1,6 +1,5 @@
 -- Events of sections that run a slot's goal.
-use Rattle.std.proofs.Common.{◌≡◌, ℕ, zero, suc, ◌-◌, ◌⊎◌, inl, inr, Bool, true, false, if◌then◌else◌, List, [], ◌∷◌, ◌++◌, map, Option, Some, None, refl, ap, sym, ◌∙◌, subst}
-use Rattle.std.specs.Prelude.{length}
+use Rattle.std.proofs.Common.{◌≡◌, ℕ, zero, suc, ◌-◌, inl, inr, true, if◌then◌else◌, List, [], ◌∷◌, ◌++◌, Some, None, refl, ap, sym, ◌∙◌}
 use Rattle.std.specs.List.{AllZip}
 use Rattle.std.proofs.lemmas.Bool.{false≢true}
 use Rattle.ap_term.specs.Tree.{Tree, Trees, none, more}
@@ -8,11 +7,10 @@ use Rattle.ap_term.specs.Search.{State}
 use Rattle.ap_term.specs.Substitution.{instance_all}
 use Rattle.ap_core.specs.declared.events.Kind.{Kind}
 use Rattle.ap_core.specs.declared.tasks.Round.{Round as CoreRound}
-use Rattle.ap_core.specs.declared.tasks.Busy.{Busy}
 use Rattle.ap_core.specs.Tasks as core
 use Rattle.ap_core.specs.Tasks.{Answer, Task, task, Alternatives, exhausted, alternative, Alternative, state, frame, Progress, idle, stored, busy, redone, again, drained}
 use Rattle.ap_core.specs.Conditions.{is_running, is_open}
-use Rattle.ap_core.specs.Relation.{Rules, in_task, in_alternatives, in_slots, mapped}
+use Rattle.ap_core.specs.Relation.{Rules, in_task, in_slots, mapped}
 use Rattle.ap_core.specs.Lifting.{running_of, running_in, running_task, at_end}
 use Rattle.ap_core.proofs.Lifted.{filled, in_filled, chosen}
 use Rattle.ap_core.proofs.Options.{Some-if}
@@ -30,8 +28,8 @@ use Rattle.ap_standing.specs.Holds.{Holds}
 use Rattle.ap_tie.specs.Sections as views
 use Rattle.ap_tie.specs.Sections.{Row, Section, section, Stack, bottom, parcall, Slots, no_slot, slot, Held, nothing, rows}
 use Rattle.ap_tie.specs.Shows.{Shows, before}
-use Rattle.ap_tie.specs.Tied.{round_of, IsShutIn, HoldsTask, HoldsStack, HoldsSlots, HoldsSource}
-use Rattle.ap_tie.specs.Open.{origin_in, origin_of, Outer, places_of, StandOpen, IsInnermost, LiftLaw, OpenLaw}
+use Rattle.ap_tie.specs.Tied.{round_of, IsShutIn, HoldsTask, HoldsSlots, HoldsSource}
+use Rattle.ap_tie.specs.Open.{origin_in, origin_of, places_of, LiftLaw, OpenLaw}
 
 refused : {A : Type 0} {x : A} → None ≡ Some x → ⊥
 refused h = absurd (cc)

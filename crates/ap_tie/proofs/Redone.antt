@@ -1,5 +1,5 @@
 -- A slot of the closed frame that comes first is redone.
-use Rattle.std.proofs.Common.{◌≡◌, ℕ, zero, suc, ◌+◌, ◌-◌, ◌<◌, ◌⊎◌, inl, inr, Bool, true, false, ◌&&◌, not, if◌then◌else◌, is_some, List, [], ◌∷◌, Option, Some, None, refl, ap, ap₂, sym, ◌∙◌, subst, arith}
+use Rattle.std.proofs.Common.{◌≡◌, ℕ, suc, ◌+◌, ◌-◌, ◌<◌, inl, inr, Bool, true, false, if◌then◌else◌, is_some, List, [], ◌∷◌, Option, Some, None, refl, ap, ap₂, sym, ◌∙◌, subst, arith}
 use Rattle.std.specs.List.{AllZip}
 use Rattle.ap_term.specs.Tree.{Tree, Trees, none, more}
 use Rattle.ap_term.specs.Substitution.{instance_all}
@@ -9,7 +9,7 @@ use Rattle.ap_core.specs.Tasks as core
 use Rattle.ap_core.specs.Tasks.{Task, task, Alternatives, alternative, Alternative, state, frame, Progress, again}
 use Rattle.ap_core.specs.Conditions.{some_has_more}
 use Rattle.ap_core.specs.Relation.{Rules, own, redo_from, all_put_away, put_away, restarted_with, kept, only_if}
-use Rattle.ap_frames.specs.declared.frame.Round.TheVariants.{Later, Closed}
+use Rattle.ap_frames.specs.declared.frame.Round.TheVariants.{Later}
 use Rattle.ap_frames.specs.Slots.{has_more}
 use Rattle.ap_frames.specs.Verdicts.{next_redo, place_behind}
 use Rattle.ap_frames.specs.Rounds.{resumed}
@@ -18,14 +18,12 @@ use Rattle.ap_parcall_laws.proofs.Rows.{more-alike}
 use Rattle.ap_parcall_laws.proofs.Redone.{redos, redo-from-one}
 use Rattle.ap_tracked.specs.Tracked.{Tracked, untracked}
 use Rattle.ap_instr.specs.Code.{Compiled}
-use Rattle.ap_standing.specs.Machine.{Point, Machine}
 use Rattle.ap_standing.specs.Holds.{Holds, HoldsPoints}
 use Rattle.ap_standing.proofs.Machines.{failed-points}
 use Rattle.ap_tie.specs.Sections as views
 use Rattle.ap_tie.specs.Sections.{Row, section, Stack, parcall, Slots, no_slot, slot, Held, nothing, held, Forked, rows}
 use Rattle.ap_tie.specs.Shows.{Shows, before}
-use Rattle.ap_tie.specs.Tied.{HoldsTask, HoldsStack, HoldsSlots, HoldsSource}
-use Rattle.ap_tie.specs.Settled.{HasFailed}
+use Rattle.ap_tie.specs.Tied.{HoldsTask, HoldsSlots, HoldsSource}
 use Rattle.ap_tie.specs.Redone.{keeping, closed_row, taken, RedoLaw}
 use Rattle.ap_tie.proofs.Answered.{alike}
 

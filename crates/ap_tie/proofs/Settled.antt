@@ -1,7 +1,7 @@
 -- Joins and breaks of the frame that comes first.
 use Rattle.std.proofs.Common.{◌≡◌, ℕ, zero, suc, ◌+◌, ◌-◌, ◌⊎◌, inl, inr, Bool, true, false, ◌&&◌, not, if◌then◌else◌, List, [], ◌∷◌, map, Option, Some, None, refl, ap, ap₂, sym, ◌∙◌, subst}
 use Rattle.std.specs.Prelude.{is_none, is_some, take}
-use Rattle.std.specs.List.{AllZip, AllByRecursion, list_all}
+use Rattle.std.specs.List.{AllZip, list_all}
 use Rattle.std.proofs.lemmas.Bool.{false≢true}
 use Rattle.ap_term.specs.declared.faults.Fault.{Fault}
 use Rattle.ap_term.specs.Tree.{Tree, Trees, none, more}
@@ -16,15 +16,15 @@ use Rattle.ap_core.specs.declared.tasks.Round.TheVariants as core_round
 use Rattle.ap_core.specs.declared.events.Kind.TheVariants.{Join, Break}
 use Rattle.ap_core.specs.Tasks as core
 use Rattle.ap_core.specs.Tasks.{Answer, Task, task, Alternatives, exhausted, alternative, Alternative, state, frame, Progress, idle, stored, busy, redone, again, drained}
-use Rattle.ap_core.specs.Conditions.{is_done, all_answered, some_has_more, some_runs, spent_by, Verdict, wait, joins, breaks, drains, raises, spends, verdict, is_open}
-use Rattle.ap_core.specs.Relation.{Rules, own, answer, plain_answer, with_answers, joined, joined_by, broken, broken_by, after_failure, only_if}
+use Rattle.ap_core.specs.Conditions.{is_done, all_answered, some_has_more, some_runs, spent_by, Verdict, wait, joins, breaks, drains, raises, spends, verdict}
+use Rattle.ap_core.specs.Relation.{Rules, own, answer, plain_answer, with_answers, joined_by, broken_by, after_failure}
 use Rattle.ap_core.proofs.Options.{Some-if}
 use Rattle.ap_frames.specs.declared.frame.Round.{Round}
 use Rattle.ap_frames.specs.declared.frame.Round.TheVariants.{First, Draining, Later, Closed}
 use Rattle.ap_frames.specs.Slots.{has_answer}
 use Rattle.ap_frames.specs.Verdicts.{next_redo}
 use Rattle.ap_parcall_laws.proofs.Rows.{answered-alike, more-alike}
-use Rattle.ap_tracked.specs.Tracked.{Goal, Tracked, untracked, untracked_goal, opened}
+use Rattle.ap_tracked.specs.Tracked.{Tracked, untracked, untracked_goal, opened}
 use Rattle.ap_tracked.specs.Marks.{opening}
 use Rattle.ap_tracked.specs.Forks.{alone}
 use Rattle.ap_tracked.specs.Kept.{IsKept}
@@ -32,15 +32,14 @@ use Rattle.ap_graft.specs.Grafts.{tracked_grafts}
 use Rattle.ap_graft.specs.Joins.{IsAnswerOf, AreAnswers, graft_states}
 use Rattle.ap_graft.proofs.Joins.{joining}
 use Rattle.ap_instr.specs.Code.{Compiled}
-use Rattle.ap_standing.specs.Machine.{Point, failed, Machine}
+use Rattle.ap_standing.specs.Machine.{Point, Machine}
 use Rattle.ap_standing.specs.Holds.{Holds, HoldsPoints, AreOpen}
 use Rattle.ap_standing.proofs.Machines.{points-failed}
-use Rattle.ap_tie.specs.Sections as views
 use Rattle.ap_tie.specs.Sections.{Section, section, Stack, bottom, parcall, Slots, no_slot, slot, nothing, held, Forked, machine_in, rows}
 use Rattle.ap_tie.specs.Shows.{Shows, before}
 use Rattle.ap_tie.specs.Forked.{IsForked}
 use Rattle.ap_tie.specs.Slots.{rest_of}
-use Rattle.ap_tie.specs.Tied.{round_of, IsShutIn, AnswersFrom, HoldsTask, HoldsStack, HoldsSlots}
+use Rattle.ap_tie.specs.Tied.{round_of, IsShutIn, HoldsTask, HoldsStack, HoldsSlots}
 use Rattle.ap_tie.specs.Settled.{AllHeld, AreHeld, AreClosed, StoresBehind, MayShut, IsJoined, HasCounts, JoinLaw, stays, HasFailed, BreakLaw}
 use Rattle.ap_tie.proofs.Answered.{alike}
 use Rattle.ap_tie.proofs.Calls.{no-goals}
