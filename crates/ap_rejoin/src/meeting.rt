@@ -1,0 +1,60 @@
+//! Places and the terms of an answer.
+
+ghost use Rattle.std.specs.Prelude.{◌≡◌, ◌+◌, ◌<◌, ◌≤◌, length, IfOk};
+ghost use Rattle.ap_cells.specs.Store.{Keeps};
+ghost use Rattle.ap_cells.specs.Walks.{Each};
+ghost use Rattle.ap_instr.specs.Runs.{spread};
+ghost use Rattle.ap_match.specs.Fits.{Answered};
+ghost use Rattle.ap_rejoin.specs.Meets.{IsInstance};
+ghost use Rattle.ap_steps.specs.Standing.{tuple_under};
+
+use ap_cells::Cells;
+use ap_copy::{Parcelled, copy_in};
+use ap_match::equate;
+use ap_term::NoMemory;
+use ap_unify::Work;
+
+/// Makes the terms of some places an instance of an answer, if they can be: puts the answer behind the cells, with new
+/// variables, and makes the terms equal one by one. After false, or want of memory, cells and bindings may be there that
+/// `undo_to` takes back.
+pub fn meet(
+    cells: &mut Cells,
+    places: &[usize],
+    answer: &Parcelled,
+    work: &mut Work,
+) -> Result<bool, NoMemory>
+    requires { Each (λ r. r < length cells.old.cells) places.now }
+    ensures answered { IfOk result (λ r. Answered cells.old.cells cells.new.cells (IsInstance places.now answer.now) r) }
+    ensures keeps { Keeps cells.old cells.new }
+{
+    cells.is_store();
+    if places.len() != answer.len() {
+        return Ok(false);
+    }
+    let roots = copy_in(cells, answer)?;
+    let met = equate_all(cells, places, roots.first, work)?;
+    Ok(met)
+}
+
+/// Makes the terms of some places equal to those of as many places from `first` on, if they can be.
+fn equate_all(
+    cells: &mut Cells,
+    places: &[usize],
+    first: usize,
+    work: &mut Work,
+) -> Result<bool, NoMemory>
+    requires inside { Each (λ r. r < length cells.old.cells) places.now }
+    requires behind { first + length places.now ≤ length cells.old.cells }
+    ensures answered { IfOk result (λ r. Answered cells.old.cells cells.new.cells (λ k. tuple_under k places.now ≡ spread k first (length places.now)) r) }
+    ensures keeps { Keeps cells.old cells.new }
+{
+    let mut at = first;
+    for place in places {
+        let _few = cells.len();
+        if !equate(cells, *place, at, work)? {
+            return Ok(false);
+        }
+        at += 1;
+    }
+    Ok(true)
+}
