@@ -35,7 +35,7 @@ use Rattle.ap_standing.proofs.Moved.{Waits-agree, some-waits}
 use Rattle.ap_tie.specs.Sections.{Pushed}
 use Rattle.ap_tie.specs.Forked.{goal_by, goals_under}
 use Rattle.ap_tie.specs.Grouping.{MarksLeft, NoMarkLeft, MarkLaw, Pushing, places_from, AreInside, PushLaw}
-use Rattle.ap_tie.proofs.Rejoined.{opened-marks, first-same, rest-same}
+use Rattle.ap_tie.proofs.Rejoined.{tuple-agree, opened-marks, first-same, rest-same}
 
 -- ---- trees that are instances of one another
 
@@ -212,13 +212,10 @@ goals-more : (code : Compiled) (k : ℕ → Tree) (ps : List Pushed) (p : Pushed
 goals-more code k [] p ts = refl
 goals-more code k (q ∷ ps) p ts = ap (more (goal_by (slice_get code.predicates q.predicate) (tuple_under k q.arguments))) (goals-more code k ps p ts)
 
-tuple-agree : (code : Compiled) (n : ℕ) (k l : ℕ → Tree) → Agree n k l → (rs : List ℕ) → AllByRecursion (λ r. r < n) rs → tuple_under k rs ≡ tuple_under l rs
-tuple-agree code n k l a rs h = (Waits-agree code n k l a [] rs tt h none (tuple_under k rs) (refl, refl)).1
-
 goals-agree : (code : Compiled) (n : ℕ) (k l : ℕ → Tree) → Agree n k l → (ps : List Pushed) → AreInside n ps → goals_under code k ps ≡ goals_under code l ps
 goals-agree code n k l a [] h = refl
 goals-agree code n k l a (p ∷ ps) h =
-    ap (λ t. more (goal_by (slice_get code.predicates p.predicate) t) (goals_under code k ps)) (tuple-agree code n k l a p.arguments h.0)
+    ap (λ t. more (goal_by (slice_get code.predicates p.predicate) t) (goals_under code k ps)) (tuple-agree n k l a p.arguments h.0)
     ∙ ap (more (goal_by (slice_get code.predicates p.predicate) (tuple_under l p.arguments))) (goals-agree code n k l a ps h.1)
 
 module _ (code : Compiled) (s : Standing) (x y : ℕ → ℕ) (p n number : ℕ) (q : Predicate) (is : List Step) (ps : List Pushed) (known : slice_get code.predicates number ≡ Some q) (named : q.name ≡ p) where

@@ -1,7 +1,7 @@
 -- A machine behind a group, whose goals' answers were copied in.
-use Rattle.std.specs.Prelude.{◌≡◌, ℕ, ◌<◌, List, [], ◌∷◌, length, slice_get, Some}
+use Rattle.std.specs.Prelude.{◌≡◌, ℕ, ◌<◌, Bool, List, [], ◌∷◌, ◌++◌, length, slice_get, Some}
 use Rattle.std.specs.List.{AllByRecursion}
-use Rattle.ap_term.specs.Tree.{Tree}
+use Rattle.ap_term.specs.Tree.{Tree, Trees}
 use Rattle.ap_term.specs.Substitution.{instance_all}
 use Rattle.ap_term.specs.Goals.{Program}
 use Rattle.ap_term.specs.WellFormed.{IsProgram}
@@ -9,7 +9,8 @@ use Rattle.ap_tracked.specs.Tracked.{Tracked}
 use Rattle.ap_graft.specs.Variables.{IsTrackedBelow}
 use Rattle.ap_instr.specs.declared.compiled.Predicate.{Predicate}
 use Rattle.ap_instr.specs.Code.{Compiled}
-use Rattle.ap_match.specs.Fits.{Fits, Agree}
+use Rattle.ap_cells.specs.declared.cells.Raw.{Raw}
+use Rattle.ap_match.specs.Fits.{Fits, Becomes, Answered}
 use Rattle.ap_steps.specs.Standing.{tuple_under}
 use Rattle.ap_standing.specs.Machine.{returning, Machine, AreWithin}
 use Rattle.ap_standing.specs.Holds.{Holds}
@@ -40,11 +41,22 @@ pub record HasRejoined (roots : List ℕ) (f : Forked) (us : List Tracked) (n : 
   pub returns : n.returns ≡ f.returns
   pub roots_stay : n.roots ≡ roots
   pub points : n.points ≡ []
-  pub only : (k : ℕ → Tree) → Fits n.cells k → Fits f.cells k × MeetAnswers k f.goals us
-  pub each : (k : ℕ → Tree) → Fits f.cells k → MeetAnswers k f.goals us → (l : ℕ → Tree) × Agree (length f.cells) k l × Fits n.cells l
+  pub cells : Becomes f.cells n.cells (λ k. MeetAnswers k f.goals us) (λ k. Unit {0})
 
--- Such a machine stands for the joined state alone.
-abbrev pub RejoinLaw : Type 0
-RejoinLaw =
-    (code : Compiled) (p : Program) (o : Tracked) (roots : List ℕ) (f : Forked) (w : Slots) (j : Tracked) (n : Machine) → IsProgram p → IsTrackedBelow o
-    → (i : IsJoined code p o roots f w j) → IsPushed code roots f i.answers → HasRejoined roots f i.answers n → Holds code n (j ∷ [])
+-- Answers of a group can be met together, and a machine that has met them stands for the joined state alone.
+pub record RejoinLaw : Type 0 where
+  pub some : (code : Compiled) (p : Program) (o : Tracked) (roots : List ℕ) (f : Forked) (w : Slots) (j : Tracked) → IsProgram p → IsTrackedBelow o
+      → (i : IsJoined code p o roots f w j) → IsPushed code roots f i.answers → (k : ℕ → Tree) × Fits f.cells k × MeetAnswers k f.goals i.answers
+  pub rejoined : (code : Compiled) (p : Program) (o : Tracked) (roots : List ℕ) (f : Forked) (w : Slots) (j : Tracked) (n : Machine) → IsProgram p → IsTrackedBelow o
+      → (i : IsJoined code p o roots f w j) → IsPushed code roots f i.answers → HasRejoined roots f i.answers n → Holds code n (j ∷ [])
+
+-- tuples that have the same instances, as an answer and its copy
+abbrev pub AsGeneral : Trees → Trees → Type 0
+AsGeneral ts us = ((h : ℕ → Tree) → (g : ℕ → Tree) × (instance_all h ts ≡ instance_all g us)) × ((g : ℕ → Tree) → (h : ℕ → Tree) × (instance_all g us ≡ instance_all h ts))
+
+-- Answers are met one goal after another.
+pub record MeetLaw : Type 0 where
+  pub none_met : (cs : List Raw) → Becomes cs cs (λ k. MeetAnswers k [] []) (λ k. Unit {0})
+  pub one_more : (cs ds es : List Raw) (ps : List Pushed) (us : List Tracked) (p : Pushed) (u : Tracked) (ts : Trees) (r : Bool) → length ps ≡ length us → AllByRecursion (λ a. a < length cs) p.arguments → AsGeneral ts u.tuple
+      → Becomes cs ds (λ k. MeetAnswers k ps us) (λ k. Unit {0}) → Answered ds es (λ k. (h : ℕ → Tree) × (tuple_under k p.arguments ≡ instance_all h ts)) r
+      → Answered cs es (λ k. MeetAnswers k (ps ++ p ∷ []) (us ++ u ∷ [])) r

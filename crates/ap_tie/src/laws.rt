@@ -6,7 +6,7 @@ ghost use Rattle.ap_tie.specs.Judged.{VerdictLaw};
 ghost use Rattle.ap_tie.specs.Laws.{ForkLaw, InferLaw};
 ghost use Rattle.ap_tie.specs.Open.{LiftLaw, OpenLaw};
 ghost use Rattle.ap_tie.specs.Redone.{RedoLaw};
-ghost use Rattle.ap_tie.specs.Rejoined.{RejoinLaw};
+ghost use Rattle.ap_tie.specs.Rejoined.{MeetLaw, RejoinLaw};
 ghost use Rattle.ap_tie.specs.Settled.{BreakLaw, JoinLaw};
 ghost use Rattle.ap_tie.specs.Slots.{SlotLaw};
 
@@ -65,7 +65,14 @@ pub fn verdict_law()
     ensures { VerdictLaw }
 {}
 
-/// Copies a group's answers in: the machine behind the group then stands for the joined state alone.
+/// Meets the answers of a group's goals one after another: the cells are then those of the fork with all of them met, and an
+/// answer is refused only where no map meets it beside those before it.
+pub fn meet_law()
+    ensures { MeetLaw }
+{}
+
+/// Copies a group's answers in: they can be met together, and the machine behind the group then stands for the joined state
+/// alone.
 pub fn rejoin_law()
     ensures { RejoinLaw }
 {}

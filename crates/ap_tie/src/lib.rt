@@ -10,5 +10,5 @@ mod laws;
 
 pub use laws::{
     alike_law, answer_slot_law, break_law, fork_law, infer_law, join_law, lift_law, mark_law,
-    open_law, push_law, redo_law, rejoin_law, slot_law, verdict_law,
+    meet_law, open_law, push_law, redo_law, rejoin_law, slot_law, verdict_law,
 };
