@@ -1,5 +1,5 @@
 -- A machine into which a group's answers were copied stands for the joined state.
-use Rattle.std.proofs.Common.{◌≡◌, ℕ, ◌+◌, ◌<◌, Bool, true, false, List, [], ◌∷◌, ◌++◌, map, None, refl, ap, ap₂, sym, ◌∙◌, subst, arith}
+use Rattle.std.proofs.Common.{◌≡◌, ℕ, ◌<◌, Bool, true, false, List, [], ◌∷◌, ◌++◌, map, None, refl, ap, ap₂, sym, ◌∙◌, subst, arith}
 use Rattle.std.specs.Prelude.{length, slice_get}
 use Rattle.std.specs.List.{AllByRecursion}
 use Rattle.ap_term.specs.declared.clauses.Check.{Check}
