@@ -1,7 +1,7 @@
 -- What an annotator keeps, and what it makes.
 use Rattle.std.proofs.Common.{◌≡◌, ℕ, ◌+◌, ◌<◌, ◌≤◌, inl, inr, Bool, true, false, ◌&&◌, ◌||◌, not, nat_le, if◌then◌else◌, IsTrue, List, [], ◌∷◌, ◌++◌, length, take, drop, get_or, refl, ap, sym, ◌∙◌, subst, arith}
 use Rattle.std.specs.List.{list_all, list_any, filter, flat_map, All}
-use Rattle.std.proofs.lemmas.Bool.{false≢true, and_parts, and_from, le-leb}
+use Rattle.std.proofs.lemmas.Bool.{false≢true, and_parts, and_from, le-leb, or_right, not-true, or_cases}
 use Rattle.std.proofs.lemmas.List.{take-append-drop, take_more}
 use Rattle.std.proofs.lemmas.List.Folds.{list_all-append}
 use Rattle.std.proofs.lemmas.List.Elements.{All-nil, All-cons}
@@ -14,7 +14,6 @@ use Rattle.ap_term.specs.Independence.{shared, of_two_goals, IsInFullCondition, 
 use Rattle.ap_term.specs.WellFormed.{in_range, callable, all_callable, numbered, numbered_all, numbered_check, well_formed_part, IsClause}
 use Rattle.ap_term.proofs.Solutions.{same_var}
 use Rattle.ap_absunify.specs.declared.states.State.{State}
-use Rattle.ap_absunify.proofs.Vars.{or_cases, and_both}
 use Rattle.ap_patterns.specs.Given.{Patterns, is_builtin, is_analysed, after_part}
 use Rattle.ap_conditions.specs.FullCondition.{full_condition}
 use Rattle.ap_conditions.specs.Simplified.{gives, left}
@@ -45,26 +44,22 @@ mutual
       let r = and_parts (numbered n t) (numbered_all n ts) h in
       elim (or_cases (occurs x t) (occurs_all x ts) o) [ inl i ↦ numbered_in n t r.0 x i | inr i ↦ numbered_all_in n ts r.1 x i ]
 
-right : (a : Bool) {b : Bool} → b ≡ true → (a || b) ≡ true
-right true h = refl
-right false h = h
-
 shared_occurs : (x : ℕ) (ts : Trees) → shared x ts ≡ true → occurs_all x ts ≡ true
 shared_occurs x none h = absurd (false≢true h)
 shared_occurs x (more t ts) h =
     elim (or_cases (occurs x t && occurs_all x ts) (shared x ts) h) [
-      | inl k ↦ right (occurs x t) (and_both (occurs x t) (occurs_all x ts) k).1
-      | inr k ↦ right (occurs x t) (shared_occurs x ts k)
+      | inl k ↦ or_right (occurs x t) (occurs_all x ts) (and_parts (occurs x t) (occurs_all x ts) k).1
+      | inr k ↦ or_right (occurs x t) (occurs_all x ts) (shared_occurs x ts k)
     ]
 
 two_occur : (x y : ℕ) (ts : Trees) → of_two_goals x y ts ≡ true → (occurs_all x ts ≡ true) × (occurs_all y ts ≡ true)
 two_occur x y none h = absurd (false≢true h)
 two_occur x y (more t ts) h =
     elim (or_cases (occurs x t && occurs_all y ts) ((occurs y t && occurs_all x ts) || of_two_goals x y ts) h) [
-      | inl k ↦ (let r = and_both (occurs x t) (occurs_all y ts) k in (ap (λ b. b || occurs_all x ts) r.0, right (occurs y t) r.1))
+      | inl k ↦ (let r = and_parts (occurs x t) (occurs_all y ts) k in (ap (λ b. b || occurs_all x ts) r.0, or_right (occurs y t) (occurs_all y ts) r.1))
       | inr k ↦ elim (or_cases (occurs y t && occurs_all x ts) (of_two_goals x y ts) k) [
-        | inl l ↦ (let r = and_both (occurs y t) (occurs_all x ts) l in (right (occurs x t) r.1, ap (λ b. b || occurs_all y ts) r.0))
-        | inr l ↦ (let r = two_occur x y ts l in (right (occurs x t) r.0, right (occurs y t) r.1))
+        | inl l ↦ (let r = and_parts (occurs y t) (occurs_all x ts) l in (or_right (occurs x t) (occurs_all x ts) r.1, ap (λ b. b || occurs_all y ts) r.0))
+        | inr l ↦ (let r = two_occur x y ts l in (or_right (occurs x t) (occurs_all x ts) r.0, or_right (occurs y t) (occurs_all y ts) r.1))
       ]
     ]
 
@@ -223,14 +218,10 @@ program-stripped r t (c ∷ cs) (d ∷ ds) h =
 
 -- ---- which groups are made
 
-not_true : (b : Bool) → not b ≡ true → b ≡ false
-not_true true h = absurd (false≢true h)
-not_true false h = refl
-
 user_goals : (ps : List Part) → list_all is_user_call ps ≡ true → AreUserGoals (goals_of ps)
 user_goals [] h = tt
 user_goals (call g ∷ ps) h =
-    let r = and_parts (is_user_call (call g)) (list_all is_user_call ps) h in (not_true (is_builtin g) r.0, user_goals ps r.1)
+    let r = and_parts (is_user_call (call g)) (list_all is_user_call ps) h in (not-true (is_builtin g) r.0, user_goals ps r.1)
 user_goals (group cs gs ∷ ps) h = absurd (false≢true h)
 
 no_group : Part → Bool

@@ -3,6 +3,7 @@ use Rattle.std.proofs.Common.{◌≡◌, ℕ, zero, suc, ◌+◌, ◌-◌, ◌<�
 use Rattle.std.specs.List.{list_all, filter, flat_map}
 use Rattle.std.proofs.lemmas.Bool.{false≢true, and_parts, and_from}
 use Rattle.std.proofs.lemmas.List.{take-map, length-map}
+use Rattle.std.proofs.Math.Bool.{and-false}
 use Rattle.ap_term.proofs.TermLists.{count-trees_of}
 use Rattle.ap_term.specs.declared.terms.Term.{Term}
 use Rattle.ap_term.specs.declared.clauses.Part as code
@@ -133,10 +134,6 @@ filter-none p h (x ∷ xs) = rw h (filter-none p h xs)
 flat_map-none : (f : ℕ → List Check) → ((x : ℕ) → f x ≡ []) → (xs : List ℕ) → flat_map f xs ≡ []
 flat_map-none f h [] = refl
 flat_map-none f h (x ∷ xs) = ap (λ z. z ++ flat_map f xs) (h x) ∙ flat_map-none f h xs
-
-and-false : (b : Bool) → (b && false) ≡ false
-and-false true = refl
-and-false false = refl
 
 few_shared : (gs : Trees) → count_trees gs ≤ 1 → (x : ℕ) → shared x gs ≡ false
 few_shared none l x = refl
