@@ -1,0 +1,16 @@
+pub mod Live
+pub mod View
+pub mod Sane
+pub mod Choices
+pub mod Lasting
+pub mod Back
+pub mod Goal
+pub mod Stands
+pub mod Due
+pub mod Advanced
+pub mod Ends
+pub mod Started
+pub mod Jumps
+pub mod Forks
+pub mod Forking
+pub mod Ahead

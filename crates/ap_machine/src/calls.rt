@@ -1,0 +1,288 @@
+//! Calls, and the clauses that are tried.
+
+ghost use Rattle.std.specs.Prelude.{◌≡◌, ℕ, ◌+◌, ◌<◌, ◌≤◌, List, [], ◌∷◌, length, take, drop, slice_get, Some, None, Ok, true, false, IfOk, IfSome, OnOk, OnErr};
+ghost use Rattle.ap_term.specs.Goals.{Program};
+ghost use Rattle.ap_term.specs.WellFormed.{IsProgram};
+ghost use Rattle.ap_instr.specs.declared.compiled.Predicate.{Predicate as PredicateOf};
+ghost use Rattle.ap_instr.specs.StandsFor.{StandsFor, clause_places};
+ghost use Rattle.ap_environments.specs.Kept.{Moment};
+ghost use Rattle.ap_cells.specs.Store.{Store, Keeps};
+ghost use Rattle.ap_steps.specs.Moves.{held, HoldPlaces, IsStuck};
+ghost use Rattle.ap_instr.specs.Steps.{steps_from};
+ghost use Rattle.ap_needs.specs.Needs.{AllHaveTargets, room, IsRoomOf};
+ghost use Rattle.ap_standing.specs.Machine.{Point, calling, inside, failed, places_from};
+ghost use Rattle.ap_standing.specs.Laws.{IsTurn, KeepsStanding};
+ghost use Rattle.ap_control.specs.Heads.{PassesOver};
+ghost use Rattle.ap_control.specs.Taking.{CanTake};
+ghost use Rattle.ap_machine.specs.View.{IsFor};
+ghost use Rattle.ap_machine.specs.Live.{UnifiesAtNewest, KeepsLive};
+ghost use Rattle.ap_machine.specs.Choices.{Stays, AtNewest, Returned, LeavesOut, places_of, called_point, points_left};
+ghost use Rattle.ap_machine.specs.Lasting.{moves_left};
+ghost use Rattle.ap_machine.specs.Back.{CanGoBack, WentBack};
+
+use crate::state::{Now, Search};
+use ap_cells::{CellMark, Cells};
+use ap_codecheck::Sound;
+use ap_control::{Alternative, can_take, first_possible, following, pass_over, surely_unifies};
+use ap_environments::{Choice, Environments};
+use ap_instr::{Code, Predicate};
+use ap_needs::Room;
+use ap_term::NoMemory;
+use ap_unify::Work;
+
+/// A predicate of the table.
+pub(crate) fn predicate_at(code: &Code, number: u32) -> Option<Predicate>
+    ensures { result ≡ slice_get code.now.predicates number }
+{
+    code.predicates().get(number as usize).copied()
+}
+
+/// Goes back to the newest choice point.
+fn back_to_newest(cells: &mut Cells, environments: &mut Environments, x: &mut [u32], y: &mut [u32])
+    requires { CanGoBack cells.old environments.old.moments (length x.old) }
+    ensures back { (m : Moment) (ms : List Moment) → environments.old.moments ≡ m ∷ ms → WentBack cells.old cells.new environments.old environments.new x.new y.new m }
+    ensures x_len { length x.new ≡ length x.old }
+    ensures y_len { length y.new ≡ length y.old }
+{
+    if let Some(choice) = environments.newest() {
+        cells.undo_to(CellMark {
+            cells: choice.cells,
+            trail: choice.trail,
+        });
+        environments.go_back(x);
+        y.fill(0);
+    }
+}
+
+/// Whether the clause at a place can be taken, and back to the newest choice point.
+fn run_and_go_back(
+    cells: &mut Cells,
+    environments: &mut Environments,
+    x: &mut [u32],
+    y: &mut [u32],
+    code: &Code,
+    at: usize,
+    work: &mut Work,
+) -> Result<bool, NoMemory>
+    requires room { room (drop at code.now.instructions) ≤ cells.old.spare }
+    requires targets { (p : ℕ) → AllHaveTargets (drop p code.now.instructions) (length x.old) (length y.old) }
+    requires holds_x { HoldPlaces (length cells.old.cells) x.old }
+    requires holds_y { HoldPlaces (length cells.old.cells) y.old }
+    requires back { CanGoBack cells.old environments.old.moments (length x.old) }
+    ensures taken { IfOk result (λ b. b ≡ true → CanTake code.now cells.old.cells (held x.old) at) }
+    ensures stuck { IfOk result (λ b. b ≡ false → IsStuck cells.old.cells (held x.old) (held y.old) (steps_from code.now at)) }
+    ensures back { (w : Store) × Keeps cells.old w × ((m : Moment) (ms : List Moment) → environments.old.moments ≡ m ∷ ms → WentBack w cells.new environments.old environments.new x.new y.new m) }
+    ensures x_len { length x.new ≡ length x.old }
+    ensures y_len { length y.new ≡ length y.old }
+{
+    let outcome = can_take(cells, x, y, code, at, work);
+    back_to_newest(cells, environments, x, y);
+    outcome
+}
+
+impl Search {
+    /// The first clause of a predicate that doesn't fail at once on the argument registers.
+    fn first_clause(&self, sound: &Sound, predicate: &Predicate) -> Option<Alternative>
+        ensures none { result ≡ None → PassesOver sound.now self.now.machine.cells (held self.now.machine.x) (clause_places sound.now predicate.now) [] }
+        ensures some { IfSome result (λ a. PassesOver sound.now self.now.machine.cells (held self.now.machine.x) (clause_places sound.now predicate.now) (a.place ∷ places_from sound.now a.behind)) }
+    {
+        first_possible(&self.cells, &self.x, sound, predicate)
+    }
+
+    /// The first choice, from one on, whose clause doesn't fail at once on the argument registers.
+    fn choice_from(&self, sound: &Sound, behind: Option<usize>) -> Option<usize>
+        ensures { PassesOver sound.now self.now.machine.cells (held self.now.machine.x) (places_from sound.now behind) (places_from sound.now result) }
+    {
+        pass_over(&self.cells, &self.x, sound, behind)
+    }
+
+    /// Whether the head of a clause surely unifies with the call of a predicate of so many arguments.
+    fn surely_takes(&self, code: &Code, arity: u8, place: u32) -> bool
+        requires { arity < length self.now.machine.x }
+        ensures { result ≡ true → CanTake code.now self.now.machine.cells (held (take (arity + 1) self.now.machine.x)) place }
+    {
+        let arguments = &self.x[..arity as usize + 1];
+        surely_unifies(&self.cells, arguments, code, place as usize)
+    }
+
+    /// Keeps a choice point for the call of a predicate of so many arguments.
+    fn keep(&mut self, number: u32, arity: u8, left: Alternative) -> Result<(), NoMemory>
+        requires { arity < length self.old.machine.x }
+        ensures ok { OnOk result (self.new ≡ record self.old { machine = record self.old.machine { points = called_point number arity left self.old.machine ∷ self.old.machine.points } }) }
+        ensures err { OnErr result (self.new ≡ self.old) }
+    {
+        self.cells.is_store();
+        let mark = self.cells.mark();
+        let choice = Choice {
+            cells: mark.cells,
+            trail: mark.trail,
+            predicate: number,
+            place: left.place,
+            behind: left.behind,
+        };
+        let arguments = &self.x[..arity as usize + 1];
+        self.environments.keep(choice, arguments)?;
+        Ok(())
+    }
+
+    /// Enters a predicate of the table, which is a turn. Clauses that fail at once are passed over, and control goes right
+    /// inside the first one that is left; a choice point keeps the next one, where its head surely unifies with the call.
+    /// Where that isn't sure, the choice point keeps both, and is gone back to. Without memory nothing changes.
+    pub(crate) fn enter(&mut self, sound: &Sound, number: u32) -> Result<(), NoMemory>
+        requires due { self.old.machine.now ≡ calling number }
+        requires is_for { IsFor sound.now self.old }
+        ensures turn { OnOk result ((p : Program) (q : PredicateOf) → slice_get sound.now.predicates number ≡ Some q → IsProgram p → StandsFor sound.now p → IsTurn sound.now p self.old.machine self.new.machine) }
+        ensures kept { OnErr result (self.new ≡ self.old) }
+        ensures stays { Stays self.old self.new }
+        ensures live { KeepsLive sound.now self.old.machine self.new.machine }
+    {
+        let code = sound.code();
+        let Some(predicate) = predicate_at(code, number) else {
+            self.fail();
+            return Ok(());
+        };
+        let Some(first) = self.first_clause(sound, &predicate) else {
+            self.fail();
+            return Ok(());
+        };
+        let rest = self.choice_from(sound, first.behind);
+        let Some(next) = following(code, rest) else {
+            self.resume(first.place as usize);
+            return Ok(());
+        };
+        let arity = predicate.arity;
+        if self.surely_takes(code, arity, next.place) {
+            self.keep(number, arity, next)?;
+            self.resume(first.place as usize);
+        } else {
+            self.keep(number, arity, first)?;
+            self.fail();
+        }
+        Ok(())
+    }
+
+    /// The newest choice point.
+    fn newest(&self) -> Option<Choice>
+        ensures none { result ≡ None → self.now.machine.points ≡ [] }
+        ensures some { IfSome result (λ c. (q : Point) × (qs : List Point) × (self.now.machine.points ≡ q ∷ qs) × (q.place ≡ c.place) × (q.behind ≡ c.behind)) }
+    {
+        self.environments.newest()
+    }
+
+    /// Goes back to the newest choice point.
+    fn go_back(&mut self)
+        requires { (q : Point) × (qs : List Point) × (self.old.machine.points ≡ q ∷ qs) }
+        ensures { Returned self.old self.new }
+    {
+        back_to_newest(
+            &mut self.cells,
+            &mut self.environments,
+            &mut self.x,
+            &mut self.y,
+        );
+    }
+
+    /// Whether the clause at a place can be taken at the newest choice point, where the search stands. A head that surely
+    /// unifies with the call isn't run for that.
+    fn try_clause(&mut self, code: &Code, room: &Room, place: u32) -> Result<bool, NoMemory>
+        requires is_for { IsFor code.now self.old }
+        requires room { IsRoomOf code.now room.now }
+        requires at { AtNewest self.old.machine }
+        ensures taken { IfOk result (λ b. b ≡ true → CanTake code.now self.old.machine.cells (held self.old.machine.x) place) }
+        ensures stuck { IfOk result (λ b. b ≡ false → IsStuck self.old.machine.cells (held self.old.machine.x) (held self.old.machine.y) (steps_from code.now place)) }
+        ensures back { Returned self.old self.new }
+    {
+        if surely_unifies(&self.cells, &self.x, code, place as usize) {
+            return Ok(true);
+        }
+        self.cells.reserve(room.cells)?;
+        run_and_go_back(
+            &mut self.cells,
+            &mut self.environments,
+            &mut self.x,
+            &mut self.y,
+            code,
+            place as usize,
+            &mut self.work,
+        )
+    }
+
+    /// The first clause behind a choice whose head unifies with the call of the newest choice point.
+    fn next_match(
+        &mut self,
+        sound: &Sound,
+        behind: Option<usize>,
+    ) -> Result<Option<Alternative>, NoMemory>
+        requires is_for { IsFor sound.now self.old }
+        requires at { AtNewest self.old.machine }
+        ensures left { IfOk result (λ found. LeavesOut sound.now self.old.machine (places_from sound.now behind) (places_of sound.now found)) }
+        ensures live { IfOk result (λ found. IfSome found (λ a. UnifiesAtNewest sound.now self.old.machine a.place)) }
+        ensures back { Returned self.old self.new }
+    {
+        let code = sound.code();
+        let mut rest = self.choice_from(sound, behind);
+        while let Some(found) = following(code, rest) {
+            if self.try_clause(code, sound.room(), found.place)? {
+                return Ok(Some(found));
+            }
+            rest = self.choice_from(sound, found.behind);
+        }
+        Ok(None)
+    }
+
+    /// The newest choice point names these clauses.
+    fn set_place(&mut self, place: u32, behind: Option<usize>)
+        requires { (q : Point) × (qs : List Point) × (self.old.machine.points ≡ q ∷ qs) }
+        ensures { (q : Point) (qs : List Point) → self.old.machine.points ≡ q ∷ qs → self.new ≡ record self.old { machine = record self.old.machine { points = record q { place = place; behind = behind } ∷ qs } } }
+    {
+        self.environments.set_place(place, behind);
+    }
+
+    /// Forgets the newest choice point.
+    fn forget(&mut self)
+        requires { (q : Point) × (qs : List Point) × (self.old.machine.points ≡ q ∷ qs) }
+        ensures { (q : Point) (qs : List Point) → self.old.machine.points ≡ q ∷ qs → self.new ≡ record self.old { machine = record self.old.machine { points = qs } } }
+    {
+        self.environments.forget();
+    }
+
+    /// Leaves an alternative of the newest choice point, with those behind it.
+    fn leave(&mut self, found: Option<Alternative>)
+        requires { (q : Point) × (qs : List Point) × (self.old.machine.points ≡ q ∷ qs) }
+        ensures { (q : Point) (qs : List Point) → self.old.machine.points ≡ q ∷ qs → self.new ≡ record self.old { machine = record self.old.machine { points = points_left found q qs } } }
+    {
+        match found {
+            Some(alternative) => self.set_place(alternative.place, alternative.behind),
+            None => self.forget(),
+        }
+    }
+
+    /// Control is at a place in a clause.
+    pub(crate) fn resume(&mut self, place: usize)
+        ensures { self.new ≡ record self.old { machine = record self.old.machine { now = inside place } } }
+    {
+        self.next = Now::Inside(place);
+    }
+
+    /// Takes the next clause of the newest choice point, which stays only where the head of another one unifies. False
+    /// where there is no choice point. Without memory the search is at the newest choice point, with all its clauses left.
+    pub(crate) fn retry(&mut self, sound: &Sound) -> Result<bool, NoMemory>
+        requires due { self.old.machine.now ≡ failed }
+        requires is_for { IsFor sound.now self.old }
+        ensures holds { KeepsStanding sound.now self.old.machine self.new.machine }
+        ensures ended { result ≡ Ok false → (self.new ≡ self.old) × (self.old.machine.points ≡ []) }
+        ensures live { KeepsLive sound.now self.old.machine self.new.machine }
+        ensures fewer { result ≡ Ok true → moves_left sound.now self.new.machine < moves_left sound.now self.old.machine }
+        ensures still { OnErr result (self.new.machine.now ≡ failed) }
+        ensures stays { Stays self.old self.new }
+    {
+        let Some(choice) = self.newest() else {
+            return Ok(false);
+        };
+        self.go_back();
+        let found = self.next_match(sound, choice.behind)?;
+        self.leave(found);
+        self.resume(choice.place as usize);
+        Ok(true)
+    }
+}

@@ -1,0 +1,175 @@
+//! A search begins.
+
+ghost use Rattle.std.specs.Prelude.{◌≡◌, ℕ, ◌+◌, ◌<◌, ◌≤◌, [], ◌∷◌, length, replicate, slice_get, None, Some, true, false, IfOk, IfSome};
+ghost use Rattle.ap_term.specs.Tree.{count_trees};
+ghost use Rattle.ap_instr.specs.Builtin.{builtin_name, builtin_arity};
+ghost use Rattle.ap_instr.specs.StandsFor.{IsOfBuiltin};
+ghost use Rattle.ap_instr.specs.declared.compiled.Predicate.{Predicate as PredicateOf};
+ghost use Rattle.ap_steps.specs.Moves.{held, HoldPlaces};
+ghost use Rattle.ap_machine.specs.Sane.{HasBottom};
+ghost use Rattle.ap_machine.specs.View.{now_of};
+ghost use Rattle.ap_machine.specs.Started.{IsQuestion, IsFirst, Started};
+
+use crate::calls::predicate_at;
+use crate::goals::behind;
+use crate::state::{Now, Search};
+use ap_arith::Pending;
+use ap_cells::{Cell, Cells};
+use ap_checks::Comparison;
+use ap_codecheck::Sound;
+use ap_control::{first, following, instruction_at};
+use ap_copy::{Parcelled, Roots, copy_in};
+use ap_environments::Environments;
+use ap_group::Goals;
+use ap_instr::{Builtin, Code, Instr, Predicate};
+use ap_term::{Atom, NoMemory};
+use ap_unify::Work;
+use std::alloc::Global;
+
+/// Registers that hold place 0.
+fn registers(alloc: Global, count: usize) -> Result<Vec<u32>, NoMemory>
+    ensures { IfOk result (λ registers. registers.items ≡ replicate count 0) }
+{
+    let registers = vec![in alloc; 0; count]?;
+    Ok(registers)
+}
+
+/// The places of a tuple.
+fn places(alloc: Global, tuple: Roots) -> Result<Vec<usize>, NoMemory>
+    requires { tuple.first + tuple.count ≤ 4294967295 }
+    ensures len { IfOk result (λ places. length places.items ≡ tuple.count) }
+    ensures each { IfOk result (λ places. (i : ℕ) → i < tuple.count → held places.items i ≡ tuple.first + i) }
+{
+    let mut places = Vec::new(alloc);
+    for i in 0..tuple.count {
+        places.push(tuple.first + i)?;
+    }
+    Ok(places)
+}
+
+/// Registers of which those of the arguments hold the places of a tuple.
+fn arguments(alloc: Global, count: usize, tuple: Roots) -> Result<Vec<u32>, NoMemory>
+    requires room { tuple.count < count }
+    requires few { tuple.first + tuple.count ≤ 4294967295 }
+    ensures len { IfOk result (λ x. length x.items ≡ count) }
+    ensures each { IfOk result (λ x. (i : ℕ) → i < tuple.count → held x.items (i + 1) ≡ tuple.first + i) }
+    ensures inside { IfOk result (λ x. (n : ℕ) → 0 < n → tuple.first + tuple.count ≤ n → HoldPlaces n x.items) }
+{
+    let mut x = registers(alloc, count)?;
+    for i in 0..tuple.count {
+        x[i + 1] = (tuple.first + i) as u32;
+    }
+    Ok(x)
+}
+
+/// Cells of which the first is an atom.
+fn with_bottom(alloc: Global) -> Result<Cells, NoMemory>
+    ensures { IfOk result (λ cells. HasBottom cells) }
+{
+    let mut cells = Cells::new(alloc);
+    cells.reserve(1)?;
+    cells.push(Cell::Atom(Atom::at(0)));
+    Ok(cells)
+}
+
+/// Where the question begins, if that is the predicate.
+fn question(code: &Code, number: u32) -> Option<u32>
+    ensures some { IfSome result (λ at. (question : IsQuestion code.now number) × (question.3 ≡ at)) }
+    ensures none { result ≡ None → IsQuestion code.now number → ⊥ }
+{
+    if code.query() != Some(number) {
+        return None;
+    }
+    let predicate = predicate_at(code, number)?;
+    let alternative = first(code, &predicate)?;
+    match following(code, alternative.behind) {
+        Some(_) => None,
+        None => Some(alternative.place),
+    }
+}
+
+/// Whether a built-in goal is what a predicate is of.
+fn is_goal_of(builtin: Builtin, predicate: &Predicate) -> bool
+    ensures yes { result ≡ true → (builtin_name builtin ≡ predicate.now.name) × (builtin_arity builtin ≡ predicate.now.arity) }
+    ensures no { result ≡ false → builtin_name builtin ≡ predicate.now.name → builtin_arity builtin ≡ predicate.now.arity → ⊥ }
+{
+    let arity = match builtin {
+        Builtin::True => 0,
+        Builtin::Fail => 0,
+        Builtin::Relation(_) => 2,
+    };
+    builtin.name() == predicate.name && predicate.arity == arity
+}
+
+/// Where the code of a built-in goal's predicate begins, if that is one.
+fn goal_place(code: &Code, number: u32) -> Option<u32>
+    ensures some { IfSome result (λ at. (q : PredicateOf) × (slice_get code.now.predicates number ≡ Some q) × IsOfBuiltin code.now q × (q.start ≡ at)) }
+    ensures none { result ≡ None → (q : PredicateOf) → slice_get code.now.predicates number ≡ Some q → IsOfBuiltin code.now q → ⊥ }
+{
+    let predicate = predicate_at(code, number)?;
+    let place = predicate.start as usize;
+    match instruction_at(code, place) {
+        Some(Instr::Builtin(builtin)) if is_goal_of(builtin, &predicate) => {
+            match instruction_at(code, behind(code, place)) {
+                Some(Instr::Proceed) => Some(predicate.start),
+                _ => None,
+            }
+        }
+        _ => None,
+    }
+}
+
+/// What a search does first.
+fn first_step(code: &Code, number: u32) -> Now
+    ensures { IsFirst code.now number (now_of result) }
+{
+    if let Some(at) = question(code, number) {
+        return Now::Inside(at as usize);
+    }
+    match goal_place(code, number) {
+        Some(at) => Now::Inside(at as usize),
+        None => Now::Calling(number),
+    }
+}
+
+impl Search {
+    /// A search for a goal of the code's table on the terms of a tuple, with so many calls to make. The query is entered
+    /// without a call, and so is a built-in goal's predicate: the goal is the call.
+    pub fn start(
+        alloc: Global,
+        sound: &Sound,
+        tuple: &Parcelled,
+        predicate: u32,
+        rest: u64,
+    ) -> Result<Search, NoMemory>
+        requires { (q : PredicateOf) × (slice_get sound.now.predicates predicate ≡ Some q) × (q.arity ≡ count_trees tuple.now) }
+        ensures { IfOk result (λ found. Started sound.now tuple.now predicate rest found) }
+    {
+        let code = sound.code();
+        let widths = sound.widths();
+        let mut cells = with_bottom(alloc)?;
+        let copied = copy_in(&mut cells, tuple)?;
+        let _few = cells.len();
+        let x = arguments(alloc, widths.x, copied)?;
+        let y = registers(alloc, widths.y)?;
+        let roots = places(alloc, copied)?;
+        let found = Search {
+            cells,
+            environments: Environments::new(alloc),
+            x,
+            y,
+            roots,
+            next: first_step(code, predicate),
+            spent: 0,
+            budget: rest,
+            before_x: Vec::new(alloc),
+            before_y: Vec::new(alloc),
+            goals: Goals::new(alloc),
+            work: Work::new(alloc),
+            pending: Pending::new(alloc),
+            comparison: Comparison::new(alloc),
+            alloc,
+        };
+        Ok(found)
+    }
+}

@@ -1,5 +1,0 @@
-use Rattle.ap_section.proofs.Resting.{roots-inside}
-use Rattle.ap_section.proofs.section.Section.roots_are_cells.Goals as goal
-
-pub returns : goal.returns
-returns c = roots-inside _ c.args.self.now c.self.view_is c.self.invariant.inside
