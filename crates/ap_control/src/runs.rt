@@ -40,6 +40,7 @@ pub fn run_to_transfer(
     requires holds_y { HoldPlaces (length cells.old.cells) y.old }
     ensures ran { IfOk result (λ to. RanOrStuck code.now at cells.old.cells x.old y.old to cells.new.cells x.new y.new) }
     ensures transfer { IfOk result (λ to. IfSome to (λ place. IsTransferAt code.now place)) }
+    ensures forward { IfOk result (λ to. IfSome to (λ place. at ≤ place)) }
     ensures wants { OnErr result (wants (drop at code.now.instructions) ≡ true) }
     ensures x_len { length x.new ≡ length x.old }
     ensures y_len { length y.new ≡ length y.old }

@@ -1,6 +1,6 @@
 //! Environments, choice points and forks in three vectors.
 
-ghost use Rattle.std.specs.Prelude.{◌≡◌, ℕ, ◌+◌, ◌<◌, ◌≤◌, List, [], ◌∷◌, ◌++◌, length, OnOk, OnErr, IfSome, Some, None, is_some, false};
+ghost use Rattle.std.specs.Prelude.{◌≡◌, ℕ, ◌+◌, ◌<◌, ◌≤◌, List, [], ◌∷◌, ◌++◌, length, drop, slice_get, OnOk, OnErr, IfSome, Some, None, is_some, false};
 ghost use Rattle.ap_steps.specs.Moves.{held};
 ghost use Rattle.ap_steps.specs.Standing.{Return};
 ghost use Rattle.ap_environments.specs.Kept.{Moment, Forked, Kept};
@@ -10,7 +10,7 @@ ghost use Rattle.ap_environments.specs.declared.environments.Entry.TheVariants.{
 ghost use Rattle.ap_environments.specs.declared.environments.Fork.{Fork as ForkOf};
 ghost use Rattle.ap_environments.specs.declared.environments.Point.{Point as PointOf};
 
-use crate::frames::{cut, fill_registers, push_frame, registers_of};
+use crate::frames::{above, cut, fill_registers, push_frame, registers_of};
 use ap_term::NoMemory;
 use std::alloc::Global;
 use std::marker::Model;
@@ -271,6 +271,60 @@ impl Environments {
             self.top = self.frames[point.frames as usize - 1].up;
             self.trim();
         }
+    }
+
+    /// Takes off all returns that are waited for.
+    pub fn leave(&mut self)
+        ensures { self.new ≡ record self.old { returns = [] } }
+    {
+        self.top = 0;
+        self.trim();
+    }
+
+    /// Takes off so many returns, or all, where there are fewer.
+    pub fn leave_some(&mut self, n: usize)
+        ensures { self.new ≡ record self.old { returns = drop n self.old.returns } }
+    {
+        self.top = above(&self.frames, self.top, n);
+        self.trim();
+    }
+
+    /// Goes back to the newest fork, which is still kept, and takes off as many returns as it has goals. Without one it
+    /// changes nothing.
+    pub fn go_behind_goals(&mut self)
+        requires newest { self.old.moments ≡ [] }
+        ensures behind { (f : Forked) (fs : List Forked) → self.old.forks ≡ f ∷ fs → self.new ≡ record self.old { returns = drop f.fork.goals f.returns } }
+        ensures none { self.old.forks ≡ [] → self.new ≡ self.old }
+    {
+        let Some(fork) = self.newest_fork() else {
+            return;
+        };
+        self.go_back_to_fork();
+        self.leave_some(fork.goals as usize);
+    }
+
+    /// A goal of the newest fork, the first of which is on top: its return's place and registers. None past the last one.
+    pub fn goal(&self, i: usize) -> Option<(u32, &[u32])>
+        requires newest { self.now.moments ≡ [] }
+        ensures some { IfSome result (λ g. (f : Forked) × (fs : List Forked) × (w : Return) × (self.now.forks ≡ f ∷ fs) × (i < f.fork.goals) × (slice_get f.returns i ≡ Some w) × (w.place ≡ g.0) × (w.y ≡ g.1.now)) }
+        ensures none { result ≡ None → (f : Forked) (fs : List Forked) → self.now.forks ≡ f ∷ fs → i < f.fork.goals → slice_get f.returns i ≡ None }
+    {
+        let Some(fork) = self.newest_fork() else {
+            return None;
+        };
+        if i >= fork.goals as usize {
+            return None;
+        }
+        let Some(point) = last_point(&self.points) else {
+            return None;
+        };
+        let up = self.frames[point.frames as usize - 1].up;
+        let top = above(&self.frames, up, i);
+        if top == 0 {
+            return None;
+        }
+        let frame = self.frames[top as usize - 1];
+        Some((frame.place, registers_of(&self.slots, &frame)))
     }
 
     /// The newest choice point names these clauses. Without one it changes nothing.

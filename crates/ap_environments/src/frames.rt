@@ -1,8 +1,8 @@
 //! Frames: registers that were saved, with a place and the frame above which they were put on.
 
-ghost use Rattle.std.specs.Prelude.{◌≡◌, ℕ, ◌+◌, ◌≤◌, ◌∷◌, [], ◌++◌, length, take, drop, IfOk, OnOk, OnErr};
+ghost use Rattle.std.specs.Prelude.{◌≡◌, ℕ, ◌+◌, ◌≤◌, List, ◌∷◌, [], ◌++◌, length, take, drop, IfOk, OnOk, OnErr};
 ghost use Rattle.ap_steps.specs.Moves.{held};
-ghost use Rattle.ap_environments.specs.Frames.{AreFrames, chain, chains};
+ghost use Rattle.ap_environments.specs.Frames.{LeadUp, AreFrames, chain, chains};
 
 use crate::environments::Frame;
 use ap_term::NoMemory;
@@ -59,6 +59,23 @@ pub fn cut(frames: &mut Vec<Frame>, slots: &mut Vec<u32>, n: usize)
         slots.truncate(first as usize);
         frames.truncate(n);
     }
+}
+
+/// The frame that is so many frames above another one, each counted from 1; 0 where there are fewer.
+pub fn above(frames: &[Frame], top: u32, n: usize) -> u32
+    requires up { LeadUp 0 frames.now }
+    requires top { top ≤ length frames.now }
+    ensures chain { (ss : List ℕ) → chain ss frames.now result ≡ drop n (chain ss frames.now top) }
+    ensures top { result ≤ length frames.now }
+{
+    let mut up = top;
+    for _ in 0..n {
+        if up == 0 {
+            return 0;
+        }
+        up = frames[up as usize - 1].up;
+    }
+    up
 }
 
 /// The registers that a frame saved.

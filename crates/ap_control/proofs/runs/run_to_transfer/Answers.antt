@@ -63,6 +63,7 @@ run-preserved c =
     subst (λ o. CameTo code c.in-Some.instr (c.run.place + 1) c.run.cells c.run.x c.run.y o c.step.new.cells c.step.new.x c.step.new.y) c.in-On.is c.in_ok-outcome.ensures.came
     in
     record {
+      forward = omega (arith, v.forward);
       ran = ran-on code c.args.at c.run.place c.args.cells.now.cells c.args.x.now c.args.y.now c.run.cells c.run.x c.run.y c.in-Some.instr e v.ran c.in-On.arguments c.step.new.cells c.step.new.x c.step.new.y p;
       room = room-on code c.args.at c.run.place c.args.cells.now.cells c.args.x.now c.args.y.now c.run.cells c.run.x c.run.y c.in-Some.instr e c.in-On.arguments c.step.new.cells c.step.new.x c.step.new.y p v.room;
       wants = λ w. v.wants (wants-behind code c.args.at c.run.place c.args.cells.now.cells c.args.x.now c.args.y.now c.run.cells c.run.x c.run.y c.in-Some.instr e c.in-On.arguments c.step.new.cells c.step.new.x c.step.new.y p w);

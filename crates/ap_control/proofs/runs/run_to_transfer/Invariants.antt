@@ -9,6 +9,7 @@ decreases-run l = length l.code.instructions - l.place
 
 abbrev pub invariant-run : goal.invariant-run
 invariant-run l = record {
+  forward : l.at ≤ l.place;
   ran : Ran l.code l.at l.fn.cells.cells l.fn.x l.fn.y l.place l.cells.cells l.x l.y;
   room : room (drop l.place l.code.instructions) ≤ l.cells.spare;
   wants : wants (drop l.place l.code.instructions) ≡ true → wants (drop l.at l.code.instructions) ≡ true;
