@@ -1,0 +1,23 @@
+use Rattle.std.proofs.Common.{sym, subst}
+use Rattle.ap_group.specs.Gathers.{begins}
+use Rattle.ap_group.specs.Turns.{ChecksTo}
+use Rattle.ap_group.proofs.Checks.{past, to-goals}
+use Rattle.ap_group.proofs.checking.check_all.Goals as goal
+
+pub loop-place-init : goal.loop-place-init
+loop-place-init c = record { passes = begins }
+
+pub returns-in-Begins : goal.returns-in-Begins
+returns-in-Begins c =
+    let a = c.args in
+    to-goals a.cells.now.cells a.x.now a.y.now c.requires.holds_x c.requires.holds_y a.code.now a.at c.loop-place.place c.in-Some.instr (sym c.in-Some.ensures) c.loop-place.invariant.passes c.in-Begins.count
+    (subst (ChecksTo c.in-Some.instr a.cells.now.cells a.x.now a.y.now) c.in-Begins.is c.in_ok-ask.ensures)
+
+pub loop-place-preserved : goal.loop-place-preserved
+loop-place-preserved c =
+    let a = c.args in
+    record {
+      passes =
+          past a.cells.now.cells a.x.now a.y.now c.requires.holds_x c.requires.holds_y a.code.now a.at c.loop-place.place c.in-Some.instr (sym c.in-Some.ensures) c.loop-place.invariant.passes
+          (subst (ChecksTo c.in-Some.instr a.cells.now.cells a.x.now a.y.now) c.in-Holds.is c.in_ok-ask.ensures);
+    }

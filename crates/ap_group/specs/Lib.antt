@@ -1,0 +1,4 @@
+pub mod Groups
+pub mod Listed
+pub mod Gathers
+pub mod Turns

@@ -1,0 +1,12 @@
+//! Floor: engine. Groups as a machine runs their code: the goals that it pushes, and the move from a group's first check to its end.
+//!
+//! Stands on `ap_steps` for instructions and on `ap_control` for runs of them and for checks on registers. The contract that is used
+//! above: `gather`, behind which a group's checks hold and its goals were pushed, or one of its checks doesn't hold.
+#![tactic(auto)]
+
+mod checking;
+mod gathering;
+mod goals;
+
+pub use gathering::{Gathered, gather};
+pub use goals::Goals;
