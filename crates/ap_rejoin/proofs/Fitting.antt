@@ -44,7 +44,7 @@ Each-at n [] h i l = absurd (omega arith)
 Each-at n (r ∷ rs) h zero l = h.0
 Each-at n (r ∷ rs) h (suc i) l = Each-at n rs h.1 i (omega arith)
 
-tuple-agree : (n : ℕ) (k l : ℕ → Tree) → Agree n k l → (rs : List ℕ) → Each (λ r. r < n) rs → tuple_under k rs ≡ tuple_under l rs
+pub tuple-agree : (n : ℕ) (k l : ℕ → Tree) → Agree n k l → (rs : List ℕ) → Each (λ r. r < n) rs → tuple_under k rs ≡ tuple_under l rs
 tuple-agree n k l a [] h = refl
 tuple-agree n k l a (r ∷ rs) h = ap₂ more (a r h.0) (tuple-agree n k l a rs h.1)
 

@@ -5,11 +5,12 @@ ghost use Rattle.ap_cells.specs.Store.{Keeps};
 ghost use Rattle.ap_cells.specs.Walks.{Each};
 ghost use Rattle.ap_instr.specs.Runs.{spread};
 ghost use Rattle.ap_match.specs.Fits.{Answered};
-ghost use Rattle.ap_rejoin.specs.Meets.{IsInstance};
+ghost use Rattle.ap_rejoin.specs.Meets.{IsInstance, MeetAll, AreInside};
 ghost use Rattle.ap_steps.specs.Standing.{tuple_under};
 
 use ap_cells::Cells;
 use ap_copy::{Parcelled, copy_in};
+use ap_group::Goals;
 use ap_match::equate;
 use ap_term::NoMemory;
 use ap_unify::Work;
@@ -19,7 +20,7 @@ use ap_unify::Work;
 /// `undo_to` takes back.
 pub fn meet(
     cells: &mut Cells,
-    places: &[usize],
+    places: &[u32],
     answer: &Parcelled,
     work: &mut Work,
 ) -> Result<bool, NoMemory>
@@ -39,7 +40,7 @@ pub fn meet(
 /// Makes the terms of some places equal to those of as many places from `first` on, if they can be.
 fn equate_all(
     cells: &mut Cells,
-    places: &[usize],
+    places: &[u32],
     first: usize,
     work: &mut Work,
 ) -> Result<bool, NoMemory>
@@ -51,10 +52,36 @@ fn equate_all(
     let mut at = first;
     for place in places {
         let _few = cells.len();
-        if !equate(cells, *place, at, work)? {
+        if !equate(cells, *place as usize, at, work)? {
             return Ok(false);
         }
         at += 1;
+    }
+    Ok(true)
+}
+
+/// Makes the arguments of each goal an instance of its answer, if all of them can be. After false, or want of memory, cells
+/// and bindings may be there that `undo_to` takes back.
+pub fn meet_all(
+    cells: &mut Cells,
+    goals: &Goals,
+    answers: &[Parcelled],
+    work: &mut Work,
+) -> Result<bool, NoMemory>
+    requires { AreInside (length cells.old.cells) goals.now }
+    ensures answered { IfOk result (λ r. Answered cells.old.cells cells.new.cells (MeetAll goals.now answers.now) r) }
+    ensures keeps { Keeps cells.old cells.new }
+{
+    if goals.len() != answers.len() {
+        return Ok(false);
+    }
+    for i in 0..answers.len() {
+        let Some((_, places)) = goals.goal(i) else {
+            return Ok(true);
+        };
+        if !meet(cells, places, &answers[i], work)? {
+            return Ok(false);
+        }
     }
     Ok(true)
 }
