@@ -1,4 +1,4 @@
-//! Floor: parallel. Parcall frames: the slots of goals that run side by side, the verdicts on them, which slot is redone next, and
+//! Floor: section. Parcall frames: the slots of goals that run side by side, the verdicts on them, which slot is redone next, and
 //! the answers that are stored to be given again.
 //!
 //! Stands on `ap_term`, for its faults and its want of memory alone. A frame knows nothing of the sections that its slots hold

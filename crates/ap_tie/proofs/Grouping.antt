@@ -32,9 +32,10 @@ use Rattle.ap_steps.specs.Standing.{Return, Standing, tuple_under, InCode}
 use Rattle.ap_standing.specs.Machine.{AreWithin}
 use Rattle.ap_standing.specs.Holds.{AreOpen}
 use Rattle.ap_standing.proofs.Moved.{Waits-agree, some-waits}
-use Rattle.ap_tie.specs.Sections.{Pushed}
+use Rattle.ap_group.specs.Groups.{Pushed}
 use Rattle.ap_tie.specs.Forked.{goal_by, goals_under}
-use Rattle.ap_tie.specs.Grouping.{MarksLeft, NoMarkLeft, MarkLaw, Pushing, places_from, AreInside, PushLaw}
+use Rattle.ap_group.specs.Gathers.{places_from}
+use Rattle.ap_tie.specs.Grouping.{MarksLeft, NoMarkLeft, MarkLaw, Pushing, AreInside, PushLaw}
 use Rattle.ap_tie.proofs.Rejoined.{tuple-agree, opened-marks, first-same, rest-same}
 
 -- ---- trees that are instances of one another

@@ -30,7 +30,8 @@ use Rattle.ap_instr.specs.Code.{Compiled}
 use Rattle.ap_standing.specs.Machine.{Point, Machine}
 use Rattle.ap_standing.specs.Holds.{HoldsPoints}
 use Rattle.ap_standing.proofs.Machines.{failed-points}
-use Rattle.ap_tie.specs.Sections.{Row, section, Stack, parcall, Slots, Forked, rows}
+use Rattle.ap_group.specs.Groups.{Forked}
+use Rattle.ap_tie.specs.Sections.{Row, section, Stack, parcall, Slots, rows}
 use Rattle.ap_tie.specs.Shows.{Shows, before}
 use Rattle.ap_tie.specs.Slots.{rest_of}
 use Rattle.ap_tie.specs.Settled.{HasFailed}

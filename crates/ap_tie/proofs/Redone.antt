@@ -21,7 +21,8 @@ use Rattle.ap_instr.specs.Code.{Compiled}
 use Rattle.ap_standing.specs.Holds.{Holds, HoldsPoints}
 use Rattle.ap_standing.proofs.Machines.{failed-points}
 use Rattle.ap_tie.specs.Sections as views
-use Rattle.ap_tie.specs.Sections.{Row, section, Stack, parcall, Slots, no_slot, slot, Held, nothing, held, Forked, rows}
+use Rattle.ap_group.specs.Groups.{Forked}
+use Rattle.ap_tie.specs.Sections.{Row, section, Stack, parcall, Slots, no_slot, slot, Held, nothing, held, rows}
 use Rattle.ap_tie.specs.Shows.{Shows, before}
 use Rattle.ap_tie.specs.Tied.{HoldsTask, HoldsSlots, HoldsSource}
 use Rattle.ap_tie.specs.Redone.{keeping, closed_row, taken, RedoLaw}

@@ -28,7 +28,8 @@ use Rattle.ap_standing.specs.Machine.{standing, Machine}
 use Rattle.ap_standing.specs.Holds.{AtReturn, SetOf, SetAt, IsOpenAt, AreOpen, IsNamed, AllNamed, IsNamedGoal, AreNamed, IsPlain, Holds, HoldsPoints}
 use Rattle.ap_standing.proofs.Moved.{Waits-agree}
 use Rattle.ap_standing.proofs.Named.{named-opened}
-use Rattle.ap_tie.specs.Sections.{Pushed, Slots, Forked}
+use Rattle.ap_group.specs.Groups.{Pushed, Forked}
+use Rattle.ap_tie.specs.Sections.{Slots}
 use Rattle.ap_tie.specs.Forked.{goal_by, goals_under, IsForked}
 use Rattle.ap_tie.specs.Settled.{IsJoined}
 use Rattle.ap_tie.specs.Rejoined.{MeetAnswers, IsKnown, IsPushed, HasRejoined, RejoinLaw, AsGeneral, MeetLaw}

@@ -35,7 +35,8 @@ use Rattle.ap_instr.specs.Code.{Compiled}
 use Rattle.ap_standing.specs.Machine.{Point, Machine}
 use Rattle.ap_standing.specs.Holds.{Holds, HoldsPoints, AreOpen}
 use Rattle.ap_standing.proofs.Machines.{points-failed}
-use Rattle.ap_tie.specs.Sections.{Section, section, Stack, bottom, parcall, Slots, no_slot, slot, nothing, held, Forked, machine_in, rows}
+use Rattle.ap_group.specs.Groups.{Forked}
+use Rattle.ap_tie.specs.Sections.{Section, section, Stack, bottom, parcall, Slots, no_slot, slot, nothing, held, machine_in, rows}
 use Rattle.ap_tie.specs.Shows.{Shows, before}
 use Rattle.ap_tie.specs.Forked.{IsForked}
 use Rattle.ap_tie.specs.Slots.{rest_of}
@@ -67,12 +68,12 @@ itself u s h (inl q) = q
 itself u s h (inr q) = q ∙ ap (λ gs. record { goals = gs; tuple = u.tuple; next = u.next; steps = u.steps; fault = u.fault }) (ap opened h ∙ sym h)
 
 -- what a section's task answers is a state that the machine stands at
-record IsAt (code : Compiled) (p : Program) (b : ℕ) (g : Tree) (m : Machine) (a : Answer) (u : Tracked) : Type 0 where
-  is_answer : IsAnswerOf p b g u
-  at : (ss : List Tracked) × Holds code m (u ∷ ss)
-  plain : plain_answer a ≡ plain_of (untracked u)
+pub record IsAt (code : Compiled) (p : Program) (b : ℕ) (g : Tree) (m : Machine) (a : Answer) (u : Tracked) : Type 0 where
+  pub is_answer : IsAnswerOf p b g u
+  pub at : (ss : List Tracked) × Holds code m (u ∷ ss)
+  pub plain : plain_answer a ≡ plain_of (untracked u)
 
-answer_at : (code : Compiled) (p : Rules) (b : ℕ) (g : Tree) (a : Section) (z t : Task) (x : Answer) → HoldsTask code p (alone g b) a z → answer z ≡ Some (x, t) → (u : Tracked) × IsAt code p.program b g (machine_in a) x u
+pub answer_at : (code : Compiled) (p : Rules) (b : ℕ) (g : Tree) (a : Section) (z t : Task) (x : Answer) → HoldsTask code p (alone g b) a z → answer z ≡ Some (x, t) → (u : Tracked) × IsAt code p.program b g (machine_in a) x u
 answer_at code p b g (section m c e st) z t x (ss, xs, l, holds, shown, stack, is) n = go ss xs holds shown (sym (ap answer is) ∙ n)
   where
     here : (s : Tracked) (ss : List Tracked) (y : State) (l : Alternatives) (u : Tracked) → Holds code m (s ∷ ss) → IsKept p.program (alone g b) u → y ≡ untracked u → (s ≡ u) ⊎ (s ≡ opening u)
@@ -131,7 +132,7 @@ answers code p q b (more g gs) (slot x (held n) w) v (k, y, u, (loud, stands, (i
 
 -- ---- closed frames
 
-rest_left : (code : Compiled) (p : Rules) (o : Tracked) (roots : List ℕ) (r x : ℕ) (st : Stack) (l : Alternatives) → AreClosed st → HoldsStack code p o roots r st l → HoldsStack code p o roots x st l
+pub rest_left : (code : Compiled) (p : Rules) (o : Tracked) (roots : List ℕ) (r x : ℕ) (st : Stack) (l : Alternatives) → AreClosed st → HoldsStack code p o roots r st l → HoldsStack code p o roots x st l
 rest_left code p o roots r x bottom l a h = h
 rest_left code p o roots r x (parcall f q First w qs st) l a h = absurd a
 rest_left code p o roots r x (parcall f q (Draining n) w qs st) l a h = absurd a
@@ -224,7 +225,7 @@ leaves p q r c (Later i) w s v l u redo h =
     (r - e.0, c + e.0, e.1 ∙ ap (λ b. task (r - e.0) (c + e.0) (if b then alternative (frame s core_round.Closed v) l else l)) redo)
 leaves p q r c Closed w s v l u redo h = (r, c, sym (same (Some-if (not (some_has_more v)) (Some (task r c l)) u h).1))
 
-nothing_due : (code : Compiled) (roots : List ℕ) (qs : List Point) (n : Machine) (ss : List Tracked) → HasFailed roots qs n → HoldsPoints code roots qs ss → Holds code n ss
+pub nothing_due : (code : Compiled) (roots : List ℕ) (qs : List Point) (n : Machine) (ss : List Tracked) → HasFailed roots qs n → HoldsPoints code roots qs ss → Holds code n ss
 nothing_due code roots qs n ss h k =
     points-failed code n h.now (subst (AreOpen code) (sym h.returns) tt) ss
     (subst (λ rs. HoldsPoints code rs n.points ss) (sym h.roots_stay) (subst (λ ps. HoldsPoints code roots ps ss) (sym h.points) k))

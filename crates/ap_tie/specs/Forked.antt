@@ -14,7 +14,7 @@ use Rattle.ap_tracked.specs.Instances.{Inst}
 use Rattle.ap_resolution.specs.Instances.{SameSet}
 use Rattle.ap_steps.specs.Standing.{Waits, tuple_under}
 use Rattle.ap_standing.specs.Holds.{IsPlain, AreOpen}
-use Rattle.ap_tie.specs.Sections.{Pushed, Forked}
+use Rattle.ap_group.specs.Groups.{Pushed, Forked}
 
 abbrev pub goal_by : Option Predicate → Trees → Tree
 goal_by None ts = atom 0

@@ -24,7 +24,8 @@ use Rattle.ap_steps.specs.Moves.{held, Moves}
 use Rattle.ap_steps.specs.Standing.{Return, Standing, InCode, Waits}
 use Rattle.ap_standing.specs.Machine.{AreWithin}
 use Rattle.ap_standing.specs.Holds.{AreOpen}
-use Rattle.ap_tie.specs.Sections.{Pushed}
+use Rattle.ap_group.specs.Groups.{Pushed}
+use Rattle.ap_group.specs.Gathers.{places_from}
 use Rattle.ap_tie.specs.Forked.{goals_under, AtFork}
 
 -- the instances of a state whose group comes first, of whose marks these checks' and the group's are left
@@ -58,11 +59,6 @@ pub record MarkLaw : Type 0 where
 abbrev pub Pushing : Compiled → Standing → (ℕ → ℕ) → (ℕ → ℕ) → List Step → List Pushed → Trees → Trees → Type 0
 Pushing code s x y is ps gs t =
     (k : ℕ → Tree) × (bs : Trees) × (qs : Trees) × Fits s.cells k × Runs is none (λ w. k (x w)) (λ w. k (y w)) bs × (gs ≡ append_trees (goals_under code k ps) (append_trees bs qs)) × Waits code s.returns s.roots k qs t
-
--- n places from register a on
-abbrev pub places_from : (ℕ → ℕ) → ℕ → ℕ → List ℕ
-places_from x a zero = []
-places_from x a (suc n) = x a ∷ places_from x (a + 1) n
 
 abbrev pub AreInside : ℕ → List Pushed → Type 0
 AreInside n ps = AllByRecursion (λ p. AllByRecursion (λ r. r < n) p.arguments) ps

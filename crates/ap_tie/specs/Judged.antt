@@ -15,7 +15,8 @@ use Rattle.ap_parcall_laws.specs.Alike.{IsRound}
 use Rattle.ap_tracked.specs.Tracked.{Tracked}
 use Rattle.ap_instr.specs.Code.{Compiled}
 use Rattle.ap_standing.specs.Machine.{Point, Machine}
-use Rattle.ap_tie.specs.Sections.{Row, section, Stack, parcall, Slots, Forked, rows}
+use Rattle.ap_group.specs.Groups.{Forked}
+use Rattle.ap_tie.specs.Sections.{Row, section, Stack, parcall, Slots, rows}
 use Rattle.ap_tie.specs.Slots.{rest_of}
 use Rattle.ap_tie.specs.Settled.{HasFailed}
 use Rattle.ap_tie.specs.Tied.{HoldsTask}

@@ -11,7 +11,8 @@ use Rattle.ap_term.specs.Tree.{Trees}
 use Rattle.ap_tracked.specs.Tracked.{Tracked}
 use Rattle.ap_instr.specs.Code.{Compiled}
 use Rattle.ap_standing.specs.Machine.{Point, Machine}
-use Rattle.ap_tie.specs.Sections.{Row, section, Stack, parcall, Slots, no_slot, slot, nothing, Forked, rows}
+use Rattle.ap_group.specs.Groups.{Forked}
+use Rattle.ap_tie.specs.Sections.{Row, section, Stack, parcall, Slots, no_slot, slot, nothing, rows}
 use Rattle.ap_tie.specs.Settled.{HasFailed}
 use Rattle.ap_tie.specs.Tied.{HoldsTask}
 

@@ -14,7 +14,8 @@ use Rattle.ap_match.specs.Fits.{Fits, Becomes, Answered}
 use Rattle.ap_steps.specs.Standing.{tuple_under}
 use Rattle.ap_standing.specs.Machine.{returning, Machine, AreWithin}
 use Rattle.ap_standing.specs.Holds.{Holds}
-use Rattle.ap_tie.specs.Sections.{Pushed, Forked, Slots}
+use Rattle.ap_group.specs.Groups.{Pushed, Forked}
+use Rattle.ap_tie.specs.Sections.{Slots}
 use Rattle.ap_tie.specs.Settled.{IsJoined}
 
 -- under the map each goal's arguments are an instance of its answer's tuple, whose variables have no name here

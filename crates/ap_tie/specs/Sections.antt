@@ -1,22 +1,10 @@
 -- A section as its callers see it: a machine, and below it the frames with the choice points between them.
 use Rattle.std.specs.Prelude.{ℕ, List, [], ◌∷◌}
 use Rattle.ap_term.specs.Tree.{Trees}
-use Rattle.ap_cells.specs.declared.cells.Raw.{Raw}
 use Rattle.ap_frames.specs.declared.frame.Round.{Round}
 use Rattle.ap_frames.specs.declared.slots.Slot.{Slot}
-use Rattle.ap_steps.specs.Standing.{Return}
+use Rattle.ap_group.specs.Groups.{Forked}
 use Rattle.ap_standing.specs.Machine.{Point, Machine}
-
--- a goal that was pushed: a predicate of the table on the terms of some places
-pub record Pushed : Type 0 where
-  pub predicate : ℕ
-  pub arguments : List ℕ
-
--- where a group's goals were pushed: cells, and the returns, the first of which leads behind the group
-pub record Forked : Type 0 where
-  pub cells : List Raw
-  pub returns : List Return
-  pub goals : List Pushed
 
 -- a slot of a frame, without the section that it may hold; its record has tuples
 abbrev pub Row : Type 0

@@ -19,7 +19,8 @@ use Rattle.ap_graft.specs.Joins.{AreAnswers}
 use Rattle.ap_instr.specs.Code.{Compiled}
 use Rattle.ap_standing.specs.Machine.{Point, failed, Machine}
 use Rattle.ap_standing.specs.Holds.{Holds}
-use Rattle.ap_tie.specs.Sections.{Row, section, Stack, bottom, parcall, Slots, no_slot, slot, nothing, held, Forked, machine_in, rows}
+use Rattle.ap_group.specs.Groups.{Forked}
+use Rattle.ap_tie.specs.Sections.{Row, section, Stack, bottom, parcall, Slots, no_slot, slot, nothing, held, machine_in, rows}
 use Rattle.ap_tie.specs.Forked.{IsForked}
 use Rattle.ap_tie.specs.Slots.{rest_of}
 use Rattle.ap_tie.specs.Tied.{IsShutIn, HoldsTask}

@@ -1,4 +1,4 @@
-//! Floor: parallel. The tie of a section that has parcall frames to a task of the core: which task it stands for, and how that
+//! Floor: section. The tie of a section that has parcall frames to a task of the core: which task it stands for, and how that
 //! moves with the core's events.
 //!
 //! Stands on `ap_core` for tasks and events, on `ap_tracked` and `ap_standing` for what a machine's states are, and on
