@@ -1,0 +1,41 @@
+use Rattle.std.proofs.Common.{◌≡◌, ◌+◌, ◌≤◌, max, sym, subst}
+use Rattle.ap_section.specs.Views.{view_of, spent_in, budget_in}
+use Rattle.ap_section.specs.Moving.{IsEndedBy}
+use Rattle.ap_section.proofs.Shut.{moved-on, shut-view}
+use Rattle.ap_section.proofs.Ended.{answer-ends}
+use Rattle.ap_section.proofs.section.Section.move_on.Goals as goal
+
+pub returns-then-is_open-clause-end : goal.returns-then-is_open-clause-end
+returns-then-is_open-clause-end g c = c.is_open.ensures.open c.if-is_open.true c.args.sound.now c.requires
+
+pub search_on-requires : goal.search_on-requires
+search_on-requires g c = c.is_open.ensures.shut c.if-is_open.false c.args.sound.now c.requires
+
+pub returns-in_err-fork-in-Group-clause-moved : goal.returns-in_err-fork-in-Group-clause-moved
+returns-in_err-fork-in-Group-clause-moved g c = moved-on c.reaching_law.ensures c.args.sound.now (view_of c.args.self.now) (view_of c.search_on.new.self) (view_of c.fork.new.self) c.search_on.ensures.moved c.fork.ensures.moved
+
+pub returns-then-branch-clause-moved : goal.returns-then-branch-clause-moved
+returns-then-branch-clause-moved g c = moved-on c.reaching_law.ensures c.args.sound.now (view_of c.args.self.now) (view_of c.search_on.new.self) (view_of c.fork.new.self) c.search_on.ensures.moved c.fork.ensures.moved
+
+pub returns-else-branch-clause-moved : goal.returns-else-branch-clause-moved
+returns-else-branch-clause-moved g c = moved-on c.reaching_law.ensures c.args.sound.now (view_of c.args.self.now) (view_of c.search_on.new.self) (view_of c.fork.new.self) c.search_on.ensures.moved c.fork.ensures.moved
+
+pub returns-in-Answer-clause-end : goal.returns-in-Answer-clause-end
+returns-in-Answer-clause-end g c =
+    let u = view_of c.args.self.now in
+    let v = view_of c.search_on.new.self in
+    answer-ends c.args.sound.now c.args.left u v (shut-view c.args.sound.now c.search_on.new.self c.search_on.ensures.shut) (subst (IsEndedBy c.args.sound.now c.args.left u v) c.in-Answer.is c.in_ok-search_on.ensures.end)
+
+pub returns-in-Failed-clause-moved : goal.returns-in-Failed-clause-moved
+returns-in-Failed-clause-moved g c =
+    moved-on c.reaching_law.ensures c.args.sound.now (view_of c.args.self.now) (view_of c.search_on.new.self) (view_of c.come_back.new.self) c.search_on.ensures.moved (c.come_back.ensures.moved c.args.sound.now c.search_on.ensures.shut)
+
+pub returns-in-Failed-clause-ready : goal.returns-in-Failed-clause-ready
+returns-in-Failed-clause-ready g c = c.come_back.ensures.ready c.args.sound.now c.search_on.ensures.shut
+
+pub returns-in-Failed-clause-within : goal.returns-in-Failed-clause-within
+returns-in-Failed-clause-within g c =
+    subst (λ n. n ≤ max (budget_in (view_of c.args.self.now)) (spent_in (view_of c.args.self.now))) (sym (c.come_back.ensures.spent c.args.sound.now c.search_on.ensures.shut)) c.search_on.ensures.within
+
+pub returns-in-Failed-clause-few : goal.returns-in-Failed-clause-few
+returns-in-Failed-clause-few g c = subst (λ n. n ≤ spent_in (view_of c.args.self.now) + c.args.left) (sym (c.come_back.ensures.spent c.args.sound.now c.search_on.ensures.shut)) c.search_on.ensures.few

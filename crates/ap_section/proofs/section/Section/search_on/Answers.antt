@@ -1,0 +1,37 @@
+use Rattle.std.proofs.Common.{◌≡◌, List, reverse}
+use Rattle.ap_tracked.specs.Tracked.{Tracked}
+use Rattle.ap_standing.specs.Holds.{Holds}
+use Rattle.ap_machine.specs.Ends.{Ends, AreStates}
+use Rattle.ap_section.specs.declared.section.Section.{out-Section, roll-Section}
+use Rattle.ap_section.specs.Views.{view_of}
+use Rattle.ap_section.specs.Moving.{IsEndedBy}
+use Rattle.ap_section.proofs.Levels.{stack_now, view_of-roll, view_of-out}
+use Rattle.ap_section.proofs.Parts.{shut-out, shut-roll}
+use Rattle.ap_section.proofs.Shut.{seen_now, moved-same, turned-now, turned-shut}
+use Rattle.ap_section.proofs.Ended.{search-ends, both-ok, ended-same}
+use Rattle.ap_section.proofs.section.Section.search_on.Goals as goal
+
+pub returns-clause-moved : goal.returns-clause-moved
+returns-clause-moved g c =
+    let s = out-Section c.args.self.now in
+    let x = record s { search = c.advance.new.self } in
+    moved-same c.args.sound.now (seen_now s) (seen_now x) (view_of c.args.self.now) (view_of (roll-Section x)) (view_of-out c.args.self.now) (view_of-roll x)
+    (turned-now c.reaching_law.ensures c.args.sound.now s c.advance.new.self c.advance.ensures.advanced c.advance.ensures.within (shut-out c.args.sound.now c.args.self.now c.requires))
+
+pub returns-clause-shut : goal.returns-clause-shut
+returns-clause-shut g c =
+    let s = out-Section c.args.self.now in
+    shut-roll c.args.sound.now (record s { search = c.advance.new.self }) (turned-shut c.args.sound.now s c.advance.new.self c.advance.ensures.advanced c.advance.ensures.is_for (shut-out c.args.sound.now c.args.self.now c.requires))
+
+pub returns-clause-end : goal.returns-clause-end
+returns-clause-end g c =
+    let code = c.args.sound.now in
+    let s = out-Section c.args.self.now in
+    let p = c.advance.new.self in
+    let x = record s { search = p } in
+    let u = view_of c.args.self.now in
+    let v = view_of (roll-Section x) in
+    both-ok c.advance.result (λ turn. Ends code c.args.left s.search p turn) (λ turn. (ss : List Tracked) → Holds code p.machine ss → AreStates p.machine ss turn) (λ turn. IsEndedBy code c.args.left u v turn)
+    (λ turn h k. ended-same code c.args.left (seen_now s) (seen_now x) u v turn (view_of-out c.args.self.now) (view_of-roll x)
+    (search-ends code c.args.left s.search p (stack_now s.search.older (reverse s.frames.items)) (stack_now p.older (reverse s.frames.items)) turn h k))
+    c.advance.ensures.end c.advance.ensures.states

@@ -1,0 +1,13 @@
+use Rattle.std.proofs.Common.{rules, ◌∙◌}
+use Rattle.ap_section.proofs.Newest.{count-at}
+use Rattle.ap_section.proofs.AtFork.{verdict-at}
+use Rattle.ap_section.proofs.section.Section.verdict.Goals as goal
+
+pub overflow_sub-newest : goal.overflow_sub-newest
+overflow_sub-newest c = let h = count-at c.args.self.now c.requires in let e = c.len-newest.ensures in search rules
+
+pub index-requires : goal.index-requires
+index-requires c = let h = count-at c.args.self.now c.requires in let e = c.len-newest.ensures in search rules
+
+pub returns : goal.returns
+returns c = c.verdict.ensures ∙ verdict-at c.args.self.now c.len-newest.result c.index.result.now c.len-newest.ensures c.requires c.index.ensures
