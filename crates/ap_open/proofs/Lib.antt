@@ -1,0 +1,14 @@
+pub mod Lifting
+pub mod Opening
+pub mod Moving
+pub mod Resting
+pub mod Calling
+pub mod Solving
+pub mod Harmless
+pub mod Blocks
+pub mod Stripping
+pub mod Tracing
+pub mod Reading
+pub mod Elsewhere
+pub mod Outcomes
+pub mod Sharing
