@@ -120,6 +120,11 @@ own_pads p n k more = (
       let d : n ≤ p / k = dite (dec_le n (p / k)) (λ y. y) (λ no. absurd (b (lt_of_not-le no))) in omega arith),
 )
 
+-- a pad among the seat's own ones
+pub owned_at : {P O : Type 0} (v : View P O) (order rounds : List ℕ) (first total : ℕ) → IsSeat v order rounds first total → (p j : ℕ) → j < length rounds → p ≡ first + j → p / v.pads ≡ v.number
+owned_at v order rounds first total k p j less at = let n : ℕ = v.number in let pads : ℕ = v.pads in let starts : first ≡ n * pads = k.starts in let count : length rounds ≡ pads = k.count in
+    (own_pads p n pads k.some_pads).1 (omega (arith, at, starts), omega (arith, at, starts, count, less))
+
 pub among_at : (xs : List ℕ) (i : ℕ) → i < length xs → Among (get_or xs i 0) xs
 among_at [] i l = absurd (omega arith)
 among_at (x ∷ xs) zero l = inl refl

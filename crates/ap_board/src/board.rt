@@ -1,5 +1,5 @@
 //! The board and its calls.
-ghost use Rattle.std.specs.Prelude.{◌≡◌, ◌≢◌, ℕ, ◌+◌, ◌*◌, ◌/◌, ◌^◌, ◌<◌, ◌≤◌, Bool, List, true, IsTrue, ◌↔◌, IsSome, MatchOption, MatchResult, MatchBool};
+ghost use Rattle.std.specs.Prelude.{◌≡◌, ◌≢◌, ℕ, ◌+◌, ◌*◌, ◌/◌, ◌^◌, ◌<◌, ◌≤◌, Bool, List, true, IsTrue, ◌↔◌, IsSome, IfOk, MatchOption, MatchResult, MatchBool};
 ghost use Rattle.ap_board.specs.History.{nothing, keeps, out, has};
 ghost use Rattle.ap_board.specs.Rule.{logged, role, last_seen, taking_in, Recorded};
 ghost use Rattle.ap_board.specs.Causes.{HasCause, noting, noting_all};
@@ -32,6 +32,7 @@ impl<P: Fits<O> + Drop, O: Drop> Board<P, O> {
     pub fn offer(&self, seat: &mut BoardSeat<P, O>, parcel: P) -> Result<Ticket, P>
         requires { seat.old.0 ≡ self.now.table.shared.table_id }
         ensures table { seat.new.0 ≡ seat.old.0 }
+        ensures own { IfOk result (λ t. t.pad / seat.old.1.pads ≡ seat.old.1.number) }
         ensures told { MatchResult result (λ t. (role seat.old.1 t.pad ≡ keeps t.round) × (t.pad < seat.old.0.slots) × (seat.new.1 ≡ logged seat.old.1 t.pad t.round (Offer parcel))) (λ x. (x ≡ parcel) × (seat.new.1 ≡ seat.old.1) × ((p r : ℕ) → role seat.old.1 p ≡ keeps r → 2 ^ 60 ≤ r)) }
     {
         match seat.find_free() {

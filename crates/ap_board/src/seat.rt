@@ -45,7 +45,7 @@ impl<P, O> BoardSeat<P, O> {
 
     // A free pad, with its round.
     pub(crate) fn find_free(&self) -> Option<Ticket>
-        ensures { MatchOption result ((p r : ℕ) → role self.now.1 p ≡ keeps r → 2 ^ 60 ≤ r) (λ t. (role self.now.1 t.pad ≡ keeps t.round) × (t.pad < self.now.0.slots)) }
+        ensures { MatchOption result ((p r : ℕ) → role self.now.1 p ≡ keeps r → 2 ^ 60 ≤ r) (λ t. (role self.now.1 t.pad ≡ keeps t.round) × (t.pad < self.now.0.slots) × (t.pad / self.now.1.pads ≡ self.now.1.number)) }
     {
         for i in 0..self.hand.order.len() {
             let pad = self.hand.order[i];

@@ -1,6 +1,7 @@
 -- Each call keeps the tickets true of the seat's view.
 use Rattle.std.proofs.Common.{◌≡◌, ◌≢◌, ◌⊎◌, ⊎_elim, inl, inr, ℕ, ◌+◌, ◌*◌, ◌/◌, ◌==◌, ◌||◌, ◌<◌, Bool, true, false, List, [], ◌∷◌, ◌++◌, length, slice_get, Some, None, refl, sym, ap, ◌∙◌, subst, eq-eqb, arith}
 use Rattle.std.specs.Prelude.{Option}
+use Rattle.std.proofs.lemmas.Option.{none-some}
 use mathlib.Core.Logic.{dite}
 use native.Mathlib.Decide.{ℕ_discrete}
 use Rattle.ap_board.specs.declared.ticket.Ticket.{Ticket}
@@ -9,11 +10,12 @@ use Rattle.ap_board.specs.declared.view.Kind.{Kind}
 use Rattle.ap_board.specs.declared.view.Kind.TheVariants.{Take, Finish, Look}
 use Rattle.ap_board.specs.declared.view.Cause.{Cause}
 use Rattle.ap_board.specs.declared.view.Cause.TheVariants.{Free, Asked, Elsewhere}
-use Rattle.ap_board.specs.History.{Role, nothing, keeps, out, has, noted, role_of}
+use Rattle.ap_board.specs.History.{Role, nothing, keeps, out, has, noted, after, role_of}
 use Rattle.ap_board.specs.Rule.{logged, role}
 use Rattle.ap_board.specs.Causes.{noting, HasCause}
 use Rattle.ap_board.proofs.Keeps.{role_logged, on_other}
 use Rattle.ap_desk.specs.Held.{Holding, AreHeld, WasAsked, IsFound, IsCauseAt, KeptBelow}
+use Rattle.ap_desk.specs.Offered.{taken_of}
 use Rattle.ap_desk.proofs.Rows.{at_below, at_longer, at_last, there_or_last, same_at}
 
 or_true : (b : Bool) → (b || true) ≡ true
@@ -56,11 +58,11 @@ module _ {P : Type 0} where
   asked_of (has k z d) = d
 
 module _ {P O : Type 0} where
-  role_other : (v : View P O) (p q z : ℕ) (kind : Kind P O) → z ≢ p → role (logged v p q kind) z ≡ role v z
+  pub role_other : (v : View P O) (p q z : ℕ) (kind : Kind P O) → z ≢ p → role (logged v p q kind) z ≡ role v z
   role_other v p q z kind ne = ap (role_of nothing) (on_other v p q z kind (λ e. ne (sym e)))
 
   -- a look changes a role by what it found, or not at all
-  looked_at : (v : View P O) (p n z : ℕ) → (role (noting v p n) z ≡ noted (role v z) n) ⊎ (role (noting v p n) z ≡ role v z)
+  pub looked_at : (v : View P O) (p n z : ℕ) → (role (noting v p n) z ≡ noted (role v z) n) ⊎ (role (noting v p n) z ≡ role v z)
   looked_at v p n z = dite (ℕ_discrete z p)
       (λ (is : z ≡ p). inl (subst (λ (y : ℕ). role (noting v p n) y ≡ noted (role v y) n) (sym is) (role_logged v p (n / 8) (Look n))))
       (λ (ne : z ≢ p). inr (role_other v p (n / 8) z (Look n) ne))
@@ -98,6 +100,10 @@ module _ {P O : Type 0} where
     role_logged v t.pad (n / 8) (Look n) ∙ ap (λ s. noted s n) h.2 ∙ ap (λ c. has t.round h.0 (h.1 || c)) (eq-eqb n n refl) ∙ ap (λ c. has t.round h.0 c) (or_true h.1),
   )
 
+  -- a goal that was taken is on another pad than one on which none was
+  pub not_taken : (v : View P O) (p z r : ℕ) (x : P) (b : Bool) → taken_of (role v p) ≡ None → role v z ≡ has r x b → z ≢ p
+  not_taken v p z r x b none e is = none-some x (sym none ∙ ap (λ y. taken_of (role v y)) (sym is) ∙ ap taken_of e)
+
   -- a goal was taken on a pad to which the seat was nothing
   pub takes_held : (v : View P O) (slots : ℕ) (ts : List Ticket) (t : Ticket) (x : P) → AreHeld v slots ts → t.pad < slots → role v t.pad ≡ nothing → AreHeld (logged v t.pad t.round (Take x)) slots (ts ++ t ∷ [])
   takes_held v slots ts t x k lt none = record {
@@ -124,6 +130,21 @@ module _ {P O : Type 0} where
   pub takes_found : (v : View P O) (ts : List Ticket) (t : Ticket) (x : P) (a : Option ℕ) → role v t.pad ≡ nothing → IsFound v ts a → IsFound (logged v t.pad t.round (Take x)) (ts ++ t ∷ []) a
   takes_found v ts t x None none f = tt
   takes_found v ts t x (Some i) none f = (f.0, f.1, at_longer ts t i f.0 f.2, role_other v t.pad t.round (f.0).pad (Take x) (λ same. nothing_has (f.0).round f.1 true (sym none ∙ ap (role v) (sym same) ∙ f.3)) ∙ f.3)
+
+  -- a call on a pad on which no goal of another was taken, and none is now
+  pub elsewhere_held : (v : View P O) (slots : ℕ) (ts : List Ticket) (p q : ℕ) (kind : Kind P O) → AreHeld v slots ts → taken_of (role v p) ≡ None → taken_of (after (role v p) q kind) ≡ None → AreHeld (logged v p q kind) slots ts
+  elsewhere_held v slots ts p q kind k none still = record {
+    below = k.below;
+    held = λ i t e. let h = k.held i t e in (h.0, h.1, role_other v p q t.pad kind (not_taken v p t.pad t.round h.0 h.1 none h.2) ∙ h.2);
+    apart = k.apart;
+    all = λ z r x b e. dite (ℕ_discrete z p)
+        (λ (is : z ≡ p). absurd (not_taken (logged v p q kind) p z r x b (ap taken_of (role_logged v p q kind) ∙ still) e is))
+        (λ (ne : z ≢ p). k.all z r x b (sym (role_other v p q z kind ne) ∙ e));
+  }
+
+  pub elsewhere_found : (v : View P O) (ts : List Ticket) (p q : ℕ) (kind : Kind P O) (a : Option ℕ) → IsFound v ts a → taken_of (role v p) ≡ None → IsFound (logged v p q kind) ts a
+  elsewhere_found v ts p q kind None f none = tt
+  elsewhere_found v ts p q kind (Some i) f none = (f.0, f.1, f.2, role_other v p q (f.0).pad kind (not_taken v p (f.0).pad (f.0).round f.1 true none f.3) ∙ f.3)
 
   -- an older goal is on another pad than the last
   pub older : (v : View P O) (slots : ℕ) (ts : List Ticket) (t : Ticket) → AreHeld v slots (ts ++ t ∷ []) → (i : ℕ) (u : Ticket) → slice_get ts i ≡ Some u → u.pad ≢ t.pad

@@ -1,4 +1,5 @@
 pub mod Rows
 pub mod Holding
+pub mod Notes
 pub mod Looking
 pub mod Keeping

@@ -1,13 +1,18 @@
 -- Looks, one after another.
-use Rattle.std.proofs.Common.{◌≡◌, ◌≢◌, ℕ, suc, ◌+◌, List, [], ◌∷◌, ◌++◌, length, slice_get, Some, None, true, refl, sym, ap, ◌∙◌, subst, arith}
+use Rattle.std.proofs.Common.{◌≡◌, ◌≢◌, ℕ, zero, suc, ◌+◌, ◌/◌, List, [], ◌∷◌, ◌++◌, length, slice_get, Some, None, true, refl, sym, ap, ◌∙◌, subst, arith}
 use Rattle.std.specs.Prelude.{Option}
 use Rattle.std.proofs.lemmas.Option.{none-some, cond_some}
 use Rattle.ap_board.specs.declared.ticket.Ticket.{Ticket}
 use Rattle.ap_board.specs.declared.view.View.{View}
+use Rattle.ap_board.specs.declared.view.Kind.TheVariants.{Look}
+use Rattle.ap_board.specs.Rule.{role}
 use Rattle.ap_board.specs.Causes.{noting}
 use Rattle.ap_desk.specs.Held.{AreHeld, WasAsked, IsFound}
 use Rattle.ap_desk.specs.Looks.{asked_word, NoneAsked, noting_each, Looked}
+use Rattle.ap_desk.specs.declared.note.Note.{Note}
+use Rattle.ap_desk.specs.Offered.{out_of, JobsStay, AreOut}
 use Rattle.ap_desk.proofs.Holding.{noting_held, finds_asked}
+use Rattle.ap_desk.proofs.Notes.{look_same, jobs_same, jobs_then, jobs_looked, elsewhere_out, notes_elsewhere}
 
 one_longer : (ns : List ℕ) (n : ℕ) → length (ns ++ n ∷ []) ≡ suc (length ns)
 one_longer [] n = refl
@@ -60,3 +65,33 @@ module _ {P O : Type 0} where
     subst (λ (y : View P O). AreHeld y slots ts) (sym l.5) (noting_held u slots ts (l.1).pad (asked_word l.1) held),
     subst (λ (y : View P O). WasAsked y ts i) (sym l.5) (finds_asked u slots ts i l.1 held l.3),
   )
+
+  -- nor is any goal of the seat's own another one, or less seen
+  abbrev NoneOut : View P O → List Ticket → Type 0
+  NoneOut v ts = (i : ℕ) (t : Ticket) → slice_get ts i ≡ Some t → out_of (role v t.pad) ≡ None
+
+  none_out : (v : View P O) (slots : ℕ) (ts : List Ticket) → AreHeld v slots ts → NoneOut v ts
+  none_out v slots ts k i t e = ap out_of (k.held i t e).2
+
+  each_jobs : (v : View P O) (us : List Ticket) (ms : List ℕ) (ts : List Ticket) (ns : List Note) → JobsStay v (noting_each v us ms) ts ns
+  each_jobs v us [] ts ns = jobs_same v ts ns
+  each_jobs v [] (m ∷ ms) ts ns = jobs_same v ts ns
+  each_jobs v (u ∷ us) (m ∷ ms) ts ns = jobs_then v (noting v u.pad m) (noting_each (noting v u.pad m) us ms) ts ns (jobs_looked v u.pad m ts ns) (each_jobs (noting v u.pad m) us ms ts ns)
+
+  look_out : (v : View P O) (slots p m : ℕ) (ns : List Note) → out_of (role v p) ≡ None → AreOut v slots ns → AreOut (noting v p m) slots ns
+  look_out v slots p m ns none a = elsewhere_out v p (m / 8) (Look m) slots ns a (notes_elsewhere v slots ns p a none)
+
+  each_out : (v : View P O) (slots : ℕ) (us : List Ticket) (ms : List ℕ) (ns : List Note) → NoneOut v us → AreOut v slots ns → AreOut (noting_each v us ms) slots ns
+  each_out v slots us [] ns none a = a
+  each_out v slots [] (m ∷ ms) ns none a = a
+  each_out v slots (u ∷ us) (m ∷ ms) ns none a = each_out (noting v u.pad m) slots us ms ns (λ i t e. (look_same v u.pad m t.pad).1 ∙ none (suc i) t e) (look_out v slots u.pad m ns (none zero u refl) a)
+
+  pub looked_stays : (v w : View P O) (ts : List Ticket) (a : Option ℕ) (us : List Ticket) (ns : List Note) → Looked v ts w a → JobsStay v w us ns
+  looked_stays v w ts None us ns l = subst (λ (y : View P O). JobsStay v y us ns) (sym l.3) (each_jobs v ts l.0 us ns)
+  looked_stays v w ts (Some i) us ns l = let u : View P O = noting_each v ts l.0 in
+      subst (λ (y : View P O). JobsStay v y us ns) (sym l.5) (jobs_then v u (noting u (l.1).pad (asked_word l.1)) us ns (each_jobs v ts l.0 us ns) (jobs_looked u (l.1).pad (asked_word l.1) us ns))
+
+  pub looked_still : (v w : View P O) (slots : ℕ) (ts : List Ticket) (a : Option ℕ) (ns : List Note) → Looked v ts w a → AreHeld v slots ts → AreOut v slots ns → AreOut w slots ns
+  looked_still v w slots ts None ns l k a = subst (λ (y : View P O). AreOut y slots ns) (sym l.3) (each_out v slots ts l.0 ns (none_out v slots ts k) a)
+  looked_still v w slots ts (Some i) ns l k a = let u : View P O = noting_each v ts l.0 in let none = none_out u slots ts (each_held v slots ts ts l.0 k) i l.1 l.3 in
+      subst (λ (y : View P O). AreOut y slots ns) (sym l.5) (look_out u slots (l.1).pad (asked_word l.1) ns none (each_out v slots ts l.0 ns (none_out v slots ts k) a))

@@ -1,2 +1,3 @@
 pub mod Held
 pub mod Looks
+pub mod Offered

@@ -1,4 +1,4 @@
-//! A seat with the tickets of the goals that it took.
+//! A seat with the tickets of the goals that it took and the notes of those that it has out.
 ghost use Rattle.std.specs.Prelude.{◌≡◌, ℕ, ◌<◌, Bool, List, [], ◌∷◌, ◌++◌, length, Option, Some, None, IfOk, MatchOption, MatchResult, is_some};
 ghost use Rattle.atomic_table.specs.Seated.{TableId};
 ghost use Rattle.ap_board.specs.declared.ticket.Ticket.{Ticket};
@@ -8,39 +8,45 @@ ghost use Rattle.ap_board.specs.History.{nothing, has};
 ghost use Rattle.ap_board.specs.Rule.{logged, role};
 ghost use Rattle.ap_desk.specs.Held.{AreHeld, IsFound, IsCauseAt, KeptBelow};
 ghost use Rattle.ap_desk.specs.Looks.{Looked, Missed};
+ghost use Rattle.ap_desk.specs.declared.note.Note.{Note};
+ghost use Rattle.ap_desk.specs.Offered.{AreOut, JobsStay};
 
 use crate::looks::{find_asked, kept};
+use crate::note::Note;
 use ap_board::{Board, BoardSeat, Fits, Ticket};
 use std::alloc::{AllocError, Global};
 use std::marker::Model;
 
-/// A seat, the tickets of the goals that it took and hasn't finished, the oldest first, and the place of the one that was found asked
-/// to stop. To a contract it is the seat's table, its view, the tickets and that place.
+/// A seat, the tickets of the goals that it took and hasn't finished, the oldest first, the place of the one that was found asked
+/// to stop, and the notes of its own goals that are out, the oldest first. To a contract it is the seat's table, its view, the
+/// tickets, that place and the notes.
 #[derive(Drop)]
 pub struct Desk<P, O> {
-    seat: BoardSeat<P, O>,
-    tickets: Vec<Ticket>,
-    asked: Option<usize>,
+    pub(crate) seat: BoardSeat<P, O>,
+    pub(crate) tickets: Vec<Ticket>,
+    pub(crate) asked: Option<usize>,
+    pub(crate) notes: Vec<Note>,
 }
 
 impl<P, O> Model for Desk<P, O> {
-    ghost Value = { TableId × View P O × List Ticket × Option ℕ };
+    ghost Value = { TableId × View P O × List Ticket × Option ℕ × List Note };
 
-    ghost view = { λ d. (d.seat.0, d.seat.1, d.tickets.items, d.asked) };
+    ghost view = { λ d. (d.seat.0, d.seat.1, d.tickets.items, d.asked, d.notes.items) };
 
-    ghost invariant = { λ d. AreHeld d.seat.1 d.seat.0.slots d.tickets.items × IsFound d.seat.1 d.tickets.items d.asked };
+    ghost invariant = { λ d. AreHeld d.seat.1 d.seat.0.slots d.tickets.items × IsFound d.seat.1 d.tickets.items d.asked × AreOut d.seat.1 d.seat.0.slots d.notes.items };
 }
 
 impl<P: Fits<O> + Drop, O: Drop> Desk<P, O> {
-    /// Makes the desk of a seat that has no goal of another.
+    /// Makes the desk of a seat that has no goal of another. No goal of its own is noted.
     pub fn new(alloc: Global, seat: BoardSeat<P, O>) -> Desk<P, O>
         requires { (p r : ℕ) (x : P) (b : Bool) → role seat.1 p ≡ has r x b → ⊥ }
-        ensures { result ≡ (seat.0, seat.1, [], None) }
+        ensures { result ≡ (seat.0, seat.1, [], None, []) }
     {
         Desk {
             seat,
             tickets: Vec::new(alloc),
             asked: None,
+            notes: Vec::new(alloc),
         }
     }
 
@@ -62,7 +68,8 @@ impl<P: Fits<O> + Drop, O: Drop> Desk<P, O> {
     /// of the board's call, wasn't that offer. Fails only for want of memory, and then nothing is taken.
     pub fn take(&mut self, board: &Board<P, O>, ticket: Ticket) -> Result<Option<P>, AllocError>
         requires { self.old.0 ≡ board.now.table.shared.table_id }
-        ensures same { (self.new.0 ≡ self.old.0) × (self.new.3 ≡ self.old.3) }
+        ensures same { (self.new.0 ≡ self.old.0) × (self.new.3 ≡ self.old.3) × (self.new.4 ≡ self.old.4) }
+        ensures jobs { JobsStay self.old.1 self.new.1 self.old.2 self.old.4 }
         ensures told { MatchResult result (λ r. MatchOption r ((self.new.2 ≡ self.old.2) × Missed self.old.0.slots self.old.1 ticket self.new.1) (λ x. (self.new.2 ≡ self.old.2 ++ ticket ∷ []) × (role self.old.1 ticket.pad ≡ nothing) × (self.new.1 ≡ logged self.old.1 ticket.pad ticket.round (Take x)))) (λ _. (self.new.1 ≡ self.old.1) × (self.new.2 ≡ self.old.2)) }
     {
         if !self.seat.may_take(ticket) {
@@ -81,7 +88,8 @@ impl<P: Fits<O> + Drop, O: Drop> Desk<P, O> {
     /// Tells whether one of its goals was asked to stop. It looks at them, the oldest first, until one was found, and keeps which.
     pub fn poll(&mut self, board: &Board<P, O>) -> bool
         requires { self.old.0 ≡ board.now.table.shared.table_id }
-        ensures same { (self.new.0 ≡ self.old.0) × (self.new.2 ≡ self.old.2) }
+        ensures same { (self.new.0 ≡ self.old.0) × (self.new.2 ≡ self.old.2) × (self.new.4 ≡ self.old.4) }
+        ensures jobs { JobsStay self.old.1 self.new.1 self.old.2 self.old.4 }
         ensures told { result ≡ is_some self.new.3 }
         ensures looked { MatchOption self.old.3 (Looked self.old.1 self.old.2 self.new.1 self.new.3) (λ i. (self.new.1 ≡ self.old.1) × (self.new.3 ≡ Some i)) }
     {
@@ -99,7 +107,8 @@ impl<P: Fits<O> + Drop, O: Drop> Desk<P, O> {
         requires some { 0 < length self.old.2 }
         requires fits { (ts : List Ticket) (t : Ticket) → self.old.2 ≡ ts ++ t ∷ [] → (x : P) (b : Bool) → role self.old.1 t.pad ≡ has t.round x b → P.fits x outcome }
         requires cause { (ts : List Ticket) (t : Ticket) → self.old.2 ≡ ts ++ t ∷ [] → IsCauseAt (P.cause outcome) self.old.3 (length ts) }
-        ensures table { self.new.0 ≡ self.old.0 }
+        ensures same { (self.new.0 ≡ self.old.0) × (self.new.4 ≡ self.old.4) }
+        ensures jobs { JobsStay self.old.1 self.new.1 self.new.2 self.old.4 }
         ensures told { (ts : List Ticket) × (t : Ticket) × (self.old.2 ≡ ts ++ t ∷ []) × (self.new.2 ≡ ts) × (self.new.1 ≡ logged self.old.1 t.pad t.round (Finish outcome)) }
         ensures asked { KeptBelow self.old.3 (length self.new.2) self.new.3 }
     {

@@ -1,11 +1,11 @@
-use Rattle.std.proofs.Common.{rules, arith, refl, sym, ap, subst, ◌∙◌, ℕ, ◌≡◌, ◌+◌, ◌-◌, ◌^◌, ◌<◌, ◌≤◌, get_or, length}
+use Rattle.std.proofs.Common.{rules, arith, refl, sym, ap, subst, ◌∙◌, ℕ, ◌≡◌, ◌+◌, ◌-◌, ◌/◌, ◌^◌, ◌<◌, ◌≤◌, get_or, length}
 use Rattle.std.proofs.lemmas.List.{get_or_read}
 use Rattle.atomic_table.specs.Seated.{TableId}
 use Rattle.ap_board.specs.declared.view.View.{View}
 use Rattle.ap_board.specs.History.{keeps}
 use Rattle.ap_board.specs.Rule.{role}
 use Rattle.ap_board.specs.Seats.{Among}
-use Rattle.ap_board.proofs.Sittings.{free_here, none_free, among_at}
+use Rattle.ap_board.proofs.Sittings.{free_here, none_free, among_at, owned_at}
 use Rattle.ap_board.proofs.seat.BoardSeat.find_free.Goals as goal
 
 pub returns-then-round-lt-LAST_ROUND : goal.returns-then-round-lt-LAST_ROUND
@@ -20,8 +20,8 @@ returns-then-round-lt-LAST_ROUND g c =
     let q_is : q ≡ get_or rounds j 0 = get_or_read rounds j q in_rounds c.index-round.ensures 0 in
     let a : Among p order = subst (λ (z : ℕ). Among z order) (sym p_is) (among_at order i less) in
     let low = c.if-self-pad.true in let at : p ≡ first + j = omega arith in
-    subst (λ (y : TableId × View g.row.P.Denot g.row.O.Denot). (role y.1 p ≡ keeps q) × (p < y.0.slots)) c.self.view_is
-    (free_here v order rounds first total c.self.invariant p j a in_rounds at ∙ ap keeps (sym q_is), c.self.invariant.slots.below p a)
+    subst (λ (y : TableId × View g.row.P.Denot g.row.O.Denot). (role y.1 p ≡ keeps q) × (p < y.0.slots) × (p / y.1.pads ≡ y.1.number)) c.self.view_is
+    (free_here v order rounds first total c.self.invariant p j a in_rounds at ∙ ap keeps (sym q_is), c.self.invariant.slots.below p a, owned_at v order rounds first total c.self.invariant p j in_rounds at)
 
 pub returns : goal.returns
 returns g c =
