@@ -7,7 +7,7 @@ _andprolog() {
     return
   fi
   case ${COMP_WORDS[1]} in
-    run) known=(--workers --budget --answers) ;;
+    run) known=(--workers --budget --answers --annotator) ;;
     show) known=(--entry --annotator) ;;
     code) known=() ;;
     load) known=(--workers) ;;

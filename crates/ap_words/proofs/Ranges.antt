@@ -9,7 +9,8 @@ use Rattle.std.proofs.lemmas.Bool.{false≢true}
 use Rattle.ap_words.specs.Numbers.{is_numeral, number}
 use Rattle.ap_words.specs.Table.{Text}
 use Rattle.ap_words.specs.Values.{Values, given}
-use Rattle.ap_words.specs.Asked.{Asked, Show, asked_by, codes_of, load_by, loads, number_at, number_or, run, run_by, runs, show_by, shows, text_at, workers_by}
+use Rattle.ap_words.specs.Asked.{Asked, Show, annotator_or, asked_by, codes_of, load_by, loads, number_at, number_or, run, run_by, runs, show_by, shows, text_at, workers_by}
+use Rattle.ap_words.specs.declared.asked.Annotator.{Annotator}
 use Rattle.ap_words.specs.Reading.{InRange, asks}
 use Rattle.ap_words.proofs.Tests.{both}
 
@@ -56,18 +57,19 @@ workers_in n vs e = number_or_in 1 32 n (given (codes "workers") vs) (omega arit
 
 run_in : (vs : Values) (what : Asked) → option_map runs (run_by vs) ≡ Some what → InRange (asks what)
 run_in vs what e =
-    go (workers_by vs) (number_or 10000000 1 1000000000000 (given (codes "budget") vs)) (number_or 1000000 1 1000000000 (given (codes "answers") vs)) refl refl refl e
+    go (workers_by vs) (number_or 10000000 1 1000000000000 (given (codes "budget") vs)) (number_or 1000000 1 1000000000 (given (codes "answers") vs)) (annotator_or (given (codes "annotator") vs)) refl refl refl e
   where
     file : Text
     file = text_at (codes "FILE") vs
 
-    go : (w b a : Option ℕ) → workers_by vs ≡ w → number_or 10000000 1 1000000000000 (given (codes "budget") vs) ≡ b → number_or 1000000 1 1000000000 (given (codes "answers") vs) ≡ a
-        → option_map runs (option_and_then (λ workers. option_and_then (λ budget. option_map (run file workers budget) a) b) w) ≡ Some what → InRange (asks what)
-    go None b a l h k e = cc
-    go (Some workers) None a l h k e = cc
-    go (Some workers) (Some budget) None l h k e = cc
-    go (Some workers) (Some budget) (Some answers) l h k e =
-        let same : runs (run file workers budget answers) ≡ what = cc in
+    go : (w b a : Option ℕ) (g : Option Annotator) → workers_by vs ≡ w → number_or 10000000 1 1000000000000 (given (codes "budget") vs) ≡ b → number_or 1000000 1 1000000000 (given (codes "answers") vs) ≡ a
+        → option_map runs (option_and_then (λ workers. option_and_then (λ budget. option_and_then (λ answers. option_map (run file workers budget answers) g) a) b) w) ≡ Some what → InRange (asks what)
+    go None b a g l h k e = cc
+    go (Some workers) None a g l h k e = cc
+    go (Some workers) (Some budget) None g l h k e = cc
+    go (Some workers) (Some budget) (Some answers) None l h k e = cc
+    go (Some workers) (Some budget) (Some answers) (Some groups) l h k e =
+        let same : runs (run file workers budget answers groups) ≡ what = cc in
         let w = workers_in workers vs l in
         let b = number_or_in 10000000 1000000000000 budget (given (codes "budget") vs) (omega arith) (omega arith) h in
         let a = number_or_in 1000000 1000000000 answers (given (codes "answers") vs) (omega arith) (omega arith) k in

@@ -10,16 +10,17 @@ use Rattle.ap_words.specs.declared.asked.Asked.TheVariants as kept
 use Rattle.ap_words.specs.declared.asked.Run.{Run as KeptRun}
 use Rattle.ap_words.specs.declared.asked.Show.{Show as KeptShow}
 
--- of `run`: the file, how many workers may run its goals, the calls that a query may make, and the answers that it may
--- print
+-- of `run`: the file, how many workers may run its goals, the calls that a query may make, the answers that it may print, and
+-- which groups are made
 pub record Run : Type 0 where
   pub file : Text
   pub workers : ℕ
   pub budget : ℕ
   pub answers : ℕ
+  pub groups : Annotator
 
-abbrev pub run : Text → ℕ → ℕ → ℕ → Run
-run file workers budget answers = record { file = file; workers = workers; budget = budget; answers = answers }
+abbrev pub run : Text → ℕ → ℕ → ℕ → Annotator → Run
+run file workers budget answers groups = record { file = file; workers = workers; budget = budget; answers = answers; groups = groups }
 
 -- of `show`: the file, the pattern of an entry, if there is one, and which groups are made
 pub record Show : Type 0 where
@@ -37,7 +38,7 @@ pub data Asked : Type 0 where
   loads : ℕ → ℕ → ℕ → Asked
 
 abbrev pub run_of : KeptRun → Run
-run_of r = run r.file.now r.workers r.budget r.answers
+run_of r = run r.file.now r.workers r.budget r.answers r.annotator
 
 abbrev pub show_of : KeptShow → Show
 show_of s = show s.file.now (option_map (λ w. w.now) s.entry) s.annotator
@@ -77,8 +78,8 @@ workers_by vs = number_or 1 1 32 (given (codes "workers") vs)
 
 abbrev pub run_by : Values → Option Run
 run_by vs =
-    option_and_then (λ workers. option_and_then (λ budget. option_map (run (text_at (codes "FILE") vs) workers budget) (number_or 1000000 1 1000000000 (given (codes "answers") vs)))
-    (number_or 10000000 1 1000000000000 (given (codes "budget") vs))) (workers_by vs)
+    option_and_then (λ workers. option_and_then (λ budget. option_and_then (λ answers. option_map (run (text_at (codes "FILE") vs) workers budget answers) (annotator_or (given (codes "annotator") vs)))
+    (number_or 1000000 1 1000000000 (given (codes "answers") vs))) (number_or 10000000 1 1000000000000 (given (codes "budget") vs))) (workers_by vs)
 
 abbrev pub show_by : Values → Option Show
 show_by vs = option_map (show (text_at (codes "FILE") vs) (given (codes "entry") vs)) (annotator_or (given (codes "annotator") vs))

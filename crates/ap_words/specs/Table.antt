@@ -13,7 +13,7 @@ abbrev pub words : List Text → List Text → Words
 words places options = record { places = places; options = options }
 
 abbrev pub run_words : Words
-run_words = words (codes "FILE" ∷ []) (codes "workers" ∷ codes "budget" ∷ codes "answers" ∷ [])
+run_words = words (codes "FILE" ∷ []) (codes "workers" ∷ codes "budget" ∷ codes "answers" ∷ codes "annotator" ∷ [])
 
 abbrev pub show_words : Words
 show_words = words (codes "FILE" ∷ []) (codes "entry" ∷ codes "annotator" ∷ [])

@@ -28,6 +28,7 @@ pub struct Run<'a> {
     pub budget: u64,
     /// The answers that a query may print.
     pub answers: u64,
+    pub annotator: Annotator,
 }
 
 /// What `show` is asked.
@@ -107,12 +108,14 @@ fn run_by<'a>(values: &[Value<'a>]) -> Option<Run<'a>>
     let workers = number_or(1, MOST_WORKERS, given("workers", values))?;
     let budget = number_or(10_000_000, MOST_CALLS, given("budget", values))?;
     let answers = number_or(1_000_000, MOST_ANSWERS, given("answers", values))?;
+    let annotator = annotator_or(given("annotator", values))?;
     let file = text_at("FILE", values);
     Some(Run {
         file,
         workers,
         budget,
         answers,
+        annotator,
     })
 }
 

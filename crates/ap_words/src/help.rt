@@ -3,7 +3,7 @@
 /// What `--help` shows.
 pub const HELP: &[u8] = b"andprolog: pure Prolog, with answers that are proved.
 
-usage: andprolog run FILE [--workers N] [--budget N] [--answers N] < QUERIES
+usage: andprolog run FILE [--workers N] [--budget N] [--answers N] [--annotator NAME] < QUERIES
        andprolog show FILE [--entry PATTERN] [--annotator NAME]
        andprolog code FILE
        andprolog load SEED SIZE [--workers N]

@@ -13,7 +13,7 @@ pub struct Words {
 
 pub const RUN: Words = Words {
     places: &["FILE"],
-    options: &["workers", "budget", "answers"],
+    options: &["workers", "budget", "answers", "annotator"],
 };
 
 pub const SHOW: Words = Words {

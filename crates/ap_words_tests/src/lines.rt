@@ -7,27 +7,45 @@ use std::process::Abort;
 // The words behind the program's name, and what is asked: a command with its texts and numbers, a point where none is
 // given.
 static LINES: [(&[&str], &str); 73] = [
-    (&["run", "f.pl"], "run f.pl 1 10000000 1000000"),
-    (&["run", "f.pl", "--budget", "5"], "run f.pl 1 5 1000000"),
-    (&["run", "--budget", "5", "f.pl"], "run f.pl 1 5 1000000"),
-    (&["run", "f.pl", "--answers", "2"], "run f.pl 1 10000000 2"),
+    (&["run", "f.pl"], "run f.pl 1 10000000 1000000 mel"),
+    (
+        &["run", "f.pl", "--budget", "5"],
+        "run f.pl 1 5 1000000 mel",
+    ),
+    (
+        &["run", "--budget", "5", "f.pl"],
+        "run f.pl 1 5 1000000 mel",
+    ),
+    (
+        &["run", "f.pl", "--answers", "2"],
+        "run f.pl 1 10000000 2 mel",
+    ),
     (
         &["run", "--answers", "2", "f.pl", "--budget", "5"],
-        "run f.pl 1 5 2",
+        "run f.pl 1 5 2 mel",
     ),
     (
         &["run", "--budget", "5", "--answers", "2", "f.pl"],
-        "run f.pl 1 5 2",
+        "run f.pl 1 5 2 mel",
     ),
     (
         &["run", "f.pl", "--budget", "1000000000000"],
-        "run f.pl 1 1000000000000 1000000",
+        "run f.pl 1 1000000000000 1000000 mel",
     ),
     (
         &["run", "f.pl", "--answers", "1000000000"],
-        "run f.pl 1 10000000 1000000000",
+        "run f.pl 1 10000000 1000000000 mel",
     ),
-    (&["run", "run"], "run run 1 10000000 1000000"),
+    (&["run", "run"], "run run 1 10000000 1000000 mel"),
+    (
+        &["run", "--annotator", "udg", "f.pl"],
+        "run f.pl 1 10000000 1000000 udg",
+    ),
+    (
+        &["run", "f.pl", "--annotator=none"],
+        "run f.pl 1 10000000 1000000 none",
+    ),
+    (&["run", "f.pl", "--annotator", "cdg"], "usage"),
     (&["show", "f.pl"], "show f.pl . mel"),
     (
         &["show", "f.pl", "--entry", "p(g,f)"],
@@ -48,7 +66,7 @@ static LINES: [(&[&str], &str); 73] = [
     (&["load", "4294967295", "10000"], "load 4294967295 10000 1"),
     (
         &["run", "--workers", "32", "f.pl"],
-        "run f.pl 32 10000000 1000000",
+        "run f.pl 32 10000000 1000000 mel",
     ),
     (
         &[
@@ -61,7 +79,7 @@ static LINES: [(&[&str], &str); 73] = [
             "--budget",
             "5",
         ],
-        "run f.pl 4 5 2",
+        "run f.pl 4 5 2 mel",
     ),
     (&["load", "1", "--workers", "2", "3"], "load 1 3 2"),
     (&["run", "f.pl", "--workers", "33"], "usage"),
@@ -80,27 +98,27 @@ static LINES: [(&[&str], &str); 73] = [
     (&["load", "1", "0"], "usage"),
     (&["load", "1", "10001"], "usage"),
     (&["show", "f.pl", "--annotator", "Mel"], "usage"),
-    (&["run", "f.pl", "--budget=5"], "run f.pl 1 5 1000000"),
+    (&["run", "f.pl", "--budget=5"], "run f.pl 1 5 1000000 mel"),
     (
         &["run", "--budget=5", "f.pl", "--answers=2"],
-        "run f.pl 1 5 2",
+        "run f.pl 1 5 2 mel",
     ),
     (
         &["run", "--budget=5", "--answers", "2", "f.pl"],
-        "run f.pl 1 5 2",
+        "run f.pl 1 5 2 mel",
     ),
     (
         &["run", "f.pl", "--workers=2"],
-        "run f.pl 2 10000000 1000000",
+        "run f.pl 2 10000000 1000000 mel",
     ),
     (&["load", "1", "3", "--workers=32"], "load 1 3 32"),
-    (&["run", "--", "-f.pl"], "run -f.pl 1 10000000 1000000"),
+    (&["run", "--", "-f.pl"], "run -f.pl 1 10000000 1000000 mel"),
     (
         &["run", "--budget", "5", "--", "f.pl"],
-        "run f.pl 1 5 1000000",
+        "run f.pl 1 5 1000000 mel",
     ),
     (&["run", ""], "run  1 10000000 1000000"),
-    (&["run", "-"], "run - 1 10000000 1000000"),
+    (&["run", "-"], "run - 1 10000000 1000000 mel"),
     (&["show", "f.pl", "--entry="], "show f.pl  mel"),
     (&["show", "f.pl", "--entry", ""], "show f.pl  mel"),
     (&["show", "f.pl", "--entry=-(g,g)"], "show f.pl -(g,g) mel"),
@@ -148,8 +166,12 @@ fn told(alloc: Global, reading: &Reading) -> Result<String, AllocError> {
         Reading::Usage => String::from_str(alloc, "usage"),
         Reading::Asks(Asked::Run(run)) => {
             format!(in alloc;
-                "run {} {} {} {}",
-                run.file, run.workers, run.budget, run.answers
+                "run {} {} {} {} {}",
+                run.file,
+                run.workers,
+                run.budget,
+                run.answers,
+                name_of(run.annotator)
             )
         }
         Reading::Asks(Asked::Show(show)) => {
