@@ -1,39 +1,36 @@
 -- A query that is asked by a clause for `?-`.
-use Rattle.std.proofs.Common.{◌≡◌, ℕ, List, ◌∷◌, take, map, length, slice_get, Some, refl, ap, sym, ◌∙◌}
-use Rattle.std.proofs.lemmas.List.Elements.{All-append, All-cons}
+use Rattle.std.proofs.Common.{◌≡◌, ℕ, List, [], ◌∷◌, length, slice_get, Option, Result, Some, None, refl, ap, sym, ◌∙◌, subst}
+use Rattle.ap_outside.specs.Halting.{Finishes}
+use Rattle.ap_outside.specs.declared.halting.Halt.{Halt}
+use Rattle.ap_outside.proofs.Halts.{finishes_map}
 use Rattle.ap_term.specs.declared.fixed.TheConstants.{QUERY}
 use Rattle.ap_term.specs.Tree.{Trees}
 use Rattle.ap_term.specs.Goals.{Program, Query, joined}
-use Rattle.ap_term.specs.WellFormed.{IsClause, IsProgram, IsQuery}
-use Rattle.ap_term.specs.Search.{start}
-use Rattle.ap_term.specs.Blocks.{End}
+use Rattle.ap_term.specs.Search.{start, variables}
+use Rattle.ap_term.specs.Blocks.{IsBlock}
+use Rattle.ap_term.specs.UpToNames.{SameUpToNames}
+use Rattle.ap_term.specs.WellFormed.{IsProgram, IsQuery}
+use Rattle.ap_graft.specs.Starts.{tracked_start}
+use Rattle.ap_graft.specs.Uncalled.{NeverCalls}
 use Rattle.ap_instr.specs.declared.compiled.Predicate.{Predicate}
 use Rattle.ap_instr.specs.Code.{Compiled}
-use Rattle.ap_instr.specs.StandsFor.{asked, asked_query, StandsForQuery}
-use Rattle.ap_codegen.proofs.AskedClause.{asked_fits}
-use Rattle.ap_section.specs.Started.{IsAsked}
-use Rattle.ap_worker.specs.Asking.{NeverCalls}
-use Rattle.ap_worker.specs.Reached.{end_by, IsSolved}
+use Rattle.ap_instr.specs.StandsFor.{asked_query, StandsForQuery}
+use Rattle.ap_machine.specs.Started.{IsAsked}
+use Rattle.ap_tie.specs.Sections.{Section}
+use Rattle.ap_tied.specs.Ties.{IsSearched}
+use Rattle.ap_open.specs.Opened.{IsSolving}
+use Rattle.ap_open.specs.Solving.{SolvingLaw}
+use Rattle.ap_open.specs.Reading.{AreRead, IsSafeQuery, rules_beside, ReadingLaw}
+use Rattle.ap_section.specs.Ends.{Begins}
+use Rattle.ap_worker.specs.declared.emission.End.{End}
+use Rattle.ap_worker.specs.Ends.{end_of}
 use Rattle.ap_worker.specs.Sought.{MayBeAsked}
-use Rattle.ap_worker.proofs.Asked.{asking}
-
-pub asked-good : (p : Program) (q : Query) → IsProgram p → IsQuery q → IsProgram (joined p (asked_query q))
-asked-good p q good is = All-append IsClause p (asked q ∷ q.lifted) good (All-cons IsClause (asked q) q.lifted (asked_fits q.question (asked q) is.question refl refl refl) is.lifted)
 
 pub is-asked : (code : Compiled) (p : Program) (q : Query) → IsQuery q → StandsForQuery code p q → MayBeAsked p q → IsAsked code p q
 is-asked code p q is stands may = record { is_query = is; stands = stands; program = may.program; lifted = may.lifted }
 
 some-is : {A : Type 0} {a b : A} → Some a ≡ Some b → a ≡ b
 some-is e = cc
-
--- the lines that solve it so solve the query
-pub asked-solved : {L : Type 0} (line : Trees → L) (p : Program) (q : Query) → IsQuery q → NeverCalls QUERY (joined p q) → (budget limit : ℕ) (lines : List L) (end : End)
-    → IsSolved line (joined p (asked_query q)) (start q) budget limit lines end → IsSolved line (joined p q) (start q) budget limit lines end
-asked-solved line p q is never budget limit lines end h =
-    let e = asking p q is never budget in record {
-      lines_are = h.lines_are ∙ ap (λ f. map line (take limit f.answers)) e;
-      ends_by = h.ends_by ∙ ap (end_by limit (length lines)) e;
-    }
 
 -- the query's predicate, by its number
 pub query-predicate : (code : Compiled) (p : Program) (q : Query) (number : ℕ) → IsAsked code p q → code.query ≡ Some number → (n : ℕ) → n ≡ length q.names
@@ -42,3 +39,27 @@ query-predicate code p q number a e n count =
     let s = a.stands in
     let same : s.number ≡ number = some-is (sym s.is_query ∙ e) in
     (s.predicate, ap (slice_get code.predicates) (sym same) ∙ s.held, s.arity ∙ sym a.is_query.named ∙ sym count)
+
+-- a section that begins by the query's predicate makes the query's search
+pub begun-solves : SolvingLaw → (code : Compiled) (p : Program) (q : Query) (number rest n : ℕ) (ts : Trees) (s : Section) → Begins code ts number rest s → code.query ≡ Some number → n ≡ length q.names → SameUpToNames ts (variables n)
+    → IsAsked code p q → IsSearched code (rules_beside p q) (tracked_start q) → IsSolving code (rules_beside p q) (tracked_start q) (start q) rest [] s []
+begun-solves law code p q number rest n ts s begins is count same asked searched =
+    let holds = begins.1.asks is p q asked (subst (λ k. SameUpToNames ts (variables k)) (count ∙ asked.is_query.named) same) in
+    subst (λ v. IsSolving code (rules_beside p q) (tracked_start q) (start q) rest [] v []) (sym begins.3) (law.begun code (rules_beside p q) q begins.0.machine rest asked.is_query searched holds)
+
+-- ---- what was read
+
+turned : (p a : Program) (q b : Query) → AreRead p q a b → AreRead a b p q
+turned p a q b h = record { same_program = sym h.same_program; same_question = sym h.same_question; same_lifted = sym h.same_lifted }
+
+-- the query's search by its code, and the lines that it puts
+module _ (law : ReadingLaw) (code : Compiled) (a : Program) (b : Query) (good : IsProgram a) (is : IsQuery b) (may : MayBeAsked a b) (stands : StandsForQuery code a b) where
+  pub is-searched : IsSafeQuery a b → IsSearched code (rules_beside a b) (tracked_start b)
+  is-searched safe = law.searched code a b good is may.calls safe stands.stands
+
+  pub read-finishes : (line : Trees → List ℕ) (budget limit : ℕ) (o o' : Option (List (List ℕ))) (r : Result End Halt) (p : Program) (q : Query) → IsProgram p → IsQuery q → AreRead p q a b
+      → Finishes o o' (λ end put. IsBlock line (joined a (asked_query b)) (start b) budget limit put (end_of end)) r → Finishes o o' (λ end put. IsBlock line (joined p q) (start q) budget limit put (end_of end)) r
+  read-finishes line budget limit o o' r p q fine asks read h =
+      let never = law.never_calls a p b q QUERY (turned p a q b read) may.calls in
+      finishes_map o o' (λ end put. IsBlock line (joined a (asked_query b)) (start b) budget limit put (end_of end)) (λ end put. IsBlock line (joined p q) (start q) budget limit put (end_of end)) r
+      (λ end put block. law.blocks line p a q b budget limit put (end_of end) fine asks good is read never block) h

@@ -1,10 +1,8 @@
-pub mod Advancing
-pub mod Asked
 pub mod Asks
+pub mod Begun
+pub mod Calls
 pub mod Emitted
-pub mod Reaching
-pub mod SolvedBlocks
-pub mod Solving
+pub mod Finding
+pub mod Opening
 pub mod Spans
-pub mod Ungrouped
-pub mod Untracking
+pub mod Waiting
