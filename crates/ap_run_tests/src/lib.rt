@@ -13,6 +13,8 @@ mod choices;
 #[cfg(test)]
 mod faults;
 #[cfg(test)]
+mod groups;
+#[cfg(test)]
 mod listings;
 #[cfg(test)]
 mod loads;

@@ -13,4 +13,5 @@ pub mod LoadLayers
 pub mod Layers
 pub mod Readings
 pub mod Complete
+pub mod Grouped
 pub mod Grown

@@ -7,21 +7,20 @@ use Rattle.ap_outside.proofs.Puts.{adds_nothing, puts_then}
 use Rattle.ap_outside.proofs.Halts.{passes_on}
 use Rattle.ap_term.specs.Goals.{Program, Query, joined}
 use Rattle.ap_term.specs.Search.{start}
+use Rattle.ap_term.specs.Blocks.{IsBlock}
 use Rattle.ap_worker.specs.declared.emission.End.{End}
 use Rattle.ap_worker.specs.Ends.{end_of}
-use Rattle.ap_worker.specs.Reached.{IsSolved}
-use Rattle.ap_worker.proofs.SolvedBlocks.{solved-block}
 use Rattle.ap_top.specs.Output.{line_of, end_line, is_spent, IsQueryBlock}
 
 module _ (budget limit : ℕ) (program : Program) (table : List (List ℕ)) (query : Query) where
   -- the answers' lines that go with an end
   abbrev pub Solved : End → List (List ℕ) → Type 0
-  Solved end put = IsSolved (line_of table query) (joined program query) (start query) budget limit put (end_of end)
+  Solved end put = IsBlock (line_of table query) (joined program query) (start query) budget limit put (end_of end)
 
   whole : (end : End) (ps qs : List (List ℕ)) (line : List ℕ) (spent : Bool) → line ≡ end_line (end_of end) → spent ≡ is_spent (end_of end) → Solved end ps → qs ≡ line ∷ []
       → IsQueryBlock budget limit program table query spent (ps ++ qs)
   whole end ps qs line spent e s p q =
-      (ps, end_of end, ap (λ xs. ps ++ xs) (q ∙ ap (λ x. x ∷ []) e), s, solved-block (line_of table query) (joined program query) (start query) budget limit ps (end_of end) p)
+      (ps, end_of end, ap (λ xs. ps ++ xs) (q ∙ ap (λ x. x ∷ []) e), s, p)
 
   pub query_puts : (end : End) (a b c : Option (List (List ℕ))) (line : List ℕ) (spent : Bool) → line ≡ end_line (end_of end) → spent ≡ is_spent (end_of end) → Puts a b (Solved end) → Puts b c (λ ps. ps ≡ line ∷ [])
       → Puts a c (IsQueryBlock budget limit program table query spent)

@@ -30,14 +30,17 @@ use Rattle.ap_clause.specs.declared.refusal.Refusal.{Refusal}
 use Rattle.ap_clause.specs.declared.source.Source.{Source}
 use Rattle.ap_clause.specs.declared.source.Source.TheVariants as source
 use Rattle.ap_clause.specs.Reads.{Position, Taken, Verdict, Refused, Took, Stopped, Whole, Sentence, fits, refused_outside, judged, JudgesOpen, JudgesBy, Judges, Goes, Reads, start, beside, AcceptsProgram, AcceptsQuery}
-use Rattle.ap_section.specs.Started.{HasName, NoneIsFor}
-use Rattle.ap_worker.specs.Asking.{IsOther, AreOthers, BodyIsOther, NeverCalls}
+use Rattle.ap_graft.specs.Uncalled.{IsOther, AreOthers, BodyIsOther, NeverCalls}
+use Rattle.ap_machine.specs.Started.{HasName, NoneIsFor}
 use Rattle.ap_worker.specs.Sought.{MayBeAsked}
-use Rattle.ap_worker.proofs.Asked.{append-other}
 use Rattle.ap_top.specs.Unasked.{LeavesQuery}
 use Rattle.ap_top.proofs.Grown.{clash, took_if, took_outside, took_past, took, put_behind, by_behind}
 
 -- ---- goals
+
+append-other : (a : ℕ) (ts us : Trees) → AreOthers a ts → AreOthers a us → AreOthers a (append_trees ts us)
+append-other a none us h k = k
+append-other a (more t ts) us h k = (h.0, append-other a ts us h.1 k)
 
 none-some : {A : Type 0} (a : A) → Some a ≡ None → ⊥
 none-some a e = cc

@@ -2,8 +2,8 @@
 use Rattle.std.specs.Prelude.{ℕ, ◌≤◌, List, length}
 use Rattle.ap_term.specs.declared.fixed.TheConstants.{QUERY}
 use Rattle.ap_term.specs.Goals.{Program}
-use Rattle.ap_section.specs.Started.{NoneIsFor}
-use Rattle.ap_worker.specs.Asking.{NeverCalls}
+use Rattle.ap_graft.specs.Uncalled.{NeverCalls}
+use Rattle.ap_machine.specs.Started.{NoneIsFor}
 
 -- Nothing in the program has that name, and the table has the fixed names up to it.
 pub record LeavesQuery (program : Program) (table : List (List ℕ)) : Type 0 where

@@ -8,25 +8,30 @@ ghost use Rattle.ap_worker.specs.Sought.{MayBeAsked};
 ghost use Rattle.ap_top.specs.Output.{line_of, fault_line, end_line, is_spent, IsQueryBlock};
 ghost use Rattle.ap_top.specs.Lines.{line_same};
 
+use ap_grouping::group_query;
+use ap_mel::Kind;
 use ap_outside::{Halt, Sink, put_line};
 use ap_term::{Args, Atoms, Fault, NoMemory, Program, Query};
 use ap_worker::{Answers, End, solve};
 use ap_writer::answer_line;
 use std::alloc::Global;
 
-/// How far the search of a query goes.
+/// How far the search of a query goes, and which groups it has.
 #[derive(Clone, Copy, Debug, PartialEq, Eq)]
 pub struct Bounds {
     /// How many calls it may make.
     pub budget: u64,
     /// How many of its answers are printed at most.
     pub answers: u64,
+    /// Which of its goals may run side by side.
+    pub kind: Kind,
 }
 
 /// The bounds where none are given.
 pub const BOUNDS: Bounds = Bounds {
     budget: 10_000_000,
     answers: 1_000_000,
+    kind: Kind::Mel,
 };
 
 fn fault_line(fault: Fault) -> &'static [u8]
@@ -100,8 +105,25 @@ pub fn print_query<K: Sink>(
     ensures count { SinkCount (K.faults out.old) (K.faults out.new) result }
 {
     let lines = Lines { query, atoms };
-    let Bounds { budget, answers } = bounds;
-    let end = solve(alloc, program, query, budget, answers, &lines, out)?;
+    let Bounds {
+        budget,
+        answers,
+        kind,
+    } = bounds;
+    let Ok(grouped) = group_query(alloc, program, query, kind) else {
+        return Err(Halt::NoMemory);
+    };
+    let _good = program.as_slice();
+    let _asked = query.question();
+    let end = solve(
+        alloc,
+        &grouped.program,
+        &grouped.query,
+        budget,
+        answers,
+        &lines,
+        out,
+    )?;
     put_line(end_line(end), out)?;
     Ok(is_spent(end))
 }

@@ -16,7 +16,7 @@ use crate::closing::{close, tell};
 use crate::code::code_file;
 use crate::load::load;
 use crate::queries::print_refusal;
-use crate::show::show_file;
+use crate::show::{kind_of, show_file};
 use crate::source::{DrainErr, LIMIT, drain};
 use crate::status::Status;
 use crate::texts::print_text;
@@ -47,6 +47,7 @@ fn run_source<S: Source, K: Sink>(
     let bounds = Bounds {
         budget: command.budget,
         answers: command.answers,
+        kind: kind_of(command.annotator),
     };
     let mut text = Vec::new(alloc);
     match drain(&mut text, queries) {

@@ -23,7 +23,8 @@ use ap_term::{Atoms, Program};
 use ap_words::{Annotator, Show};
 use std::alloc::Global;
 
-fn kind_of(annotator: Annotator) -> Kind
+/// The groups that an annotator makes.
+pub(crate) fn kind_of(annotator: Annotator) -> Kind
     ensures { result ≡ kind_of annotator }
 {
     match annotator {
