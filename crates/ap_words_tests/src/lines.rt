@@ -6,7 +6,7 @@ use std::process::Abort;
 
 // The words behind the program's name, and what is asked: a command with its texts and numbers, a point where none is
 // given.
-static LINES: [(&[&str], &str); 73] = [
+static LINES: [(&[&str], &str); 76] = [
     (&["run", "f.pl"], "run f.pl 1 10000000 1000000 mel"),
     (
         &["run", "f.pl", "--budget", "5"],
@@ -117,7 +117,7 @@ static LINES: [(&[&str], &str); 73] = [
         &["run", "--budget", "5", "--", "f.pl"],
         "run f.pl 1 5 1000000 mel",
     ),
-    (&["run", ""], "run  1 10000000 1000000"),
+    (&["run", ""], "run  1 10000000 1000000 mel"),
     (&["run", "-"], "run - 1 10000000 1000000 mel"),
     (&["show", "f.pl", "--entry="], "show f.pl  mel"),
     (&["show", "f.pl", "--entry", ""], "show f.pl  mel"),
