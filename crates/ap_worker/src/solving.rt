@@ -89,5 +89,7 @@ pub fn solve<A: Answers, K: Sink>(
         return Err(Halt::NoMemory);
     };
     let width = query.names().len();
-    put_found(alloc, &sound, &mut stack, width, limit, answers, out)
+    let found = put_found(alloc, &sound, &mut stack, width, limit, answers, out);
+    stack.release(alloc);
+    found
 }

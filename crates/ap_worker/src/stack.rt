@@ -5,6 +5,7 @@ ghost use Rattle.std.specs.Prelude.{vec_len, vec_capacity};
 ghost use Rattle.ap_worker.specs.declared.stack.Open.{Open as Held};
 
 use ap_section::Section;
+use std::alloc::Global;
 use std::mem;
 
 /// How the search of the query ended.
@@ -75,5 +76,15 @@ impl Stack {
             place: below.place,
             since: below.since,
         })
+    }
+
+    /// Drops the searches one after another, however deep frames are nested in them.
+    pub(crate) fn release(self, alloc: Global) {
+        let Stack { outer, newest } = self;
+        newest.release(alloc);
+        for open in outer {
+            let Open { section, .. } = open;
+            section.release(alloc);
+        }
     }
 }

@@ -11,5 +11,5 @@ returns-clause-lines g c = λ p q fine asks read.
     let is = c.question-asked.ensures.kept in
     let solves = c.in-Ok-begun.ensures.solves a (is-asked code a b is c.in-Ok.ensures c.requires.asked)
     (is-searched c.reading_law.ensures code a b good is c.requires.asked c.in-Ok.ensures c.requires.safe) in
-    read-finishes c.reading_law.ensures code a b good is c.requires.asked c.in-Ok.ensures (g.A.Answers.line c.args.answers.now) c.args.budget c.args.limit _ _ c.put_found.result p q fine asks read
-    (c.put_found.ensures.lines (rules_beside a b) b c.args.budget is solves)
+    read-finishes c.reading_law.ensures code a b good is c.requires.asked c.in-Ok.ensures (g.A.Answers.line c.args.answers.now) c.args.budget c.args.limit _ _ c.put_found-found.result p q fine asks read
+    (c.put_found-found.ensures.lines (rules_beside a b) b c.args.budget is solves)
