@@ -15,7 +15,7 @@ use Rattle.ap_instr.specs.Runs.{read}
 use Rattle.ap_steps.specs.Moves.{held, HoldPlaces}
 use Rattle.ap_group.specs.declared.checking.Check.{Check}
 use Rattle.ap_group.specs.declared.checking.Check.TheVariants.{Holds, Fails}
-use Rattle.ap_group.specs.Gathers.{Passes, is_ground, are_apart, ComesToGroup}
+use Rattle.ap_group.specs.Gathers.{Passes, begins, is_ground, are_apart, ComesToGroup, IsPlainWay}
 use Rattle.ap_group.specs.Turns.{IsPast, ChecksTo}
 use Rattle.ap_group.proofs.Ways.{steps-on}
 
@@ -53,3 +53,7 @@ module _ (code : Compiled) (place : ℕ) where
 
   pub comes-here : (n : ℕ) → slice_get code.instructions place ≡ Some (AllocParcall n) → ComesToGroup (steps_from code place)
   comes-here n e = subst ComesToGroup (sym (steps-on code place (AllocParcall n) e refl)) tt
+
+  -- a check with a group behind it leads to that group's goals, one after another
+  pub way-here : (i : Instr) (to : ℕ) → slice_get code.instructions place ≡ Some i → otherwise i ≡ Some to → ComesToGroup (steps_from code (place + 1)) → (cs : List Raw) (x y : List ℕ) → IsPlainWay code place cs x y to
+  way-here i to e l c cs x y = record { from = place; check = i; stands = e; leads = l; passes = begins; comes = c }

@@ -1,5 +1,5 @@
 -- How a group's code is run: its checks are asked one after another, and its goals are pushed.
-use Rattle.std.specs.Prelude.{◌≡◌, ℕ, zero, suc, ◌+◌, ◌<◌, List, [], ◌∷◌, ◌++◌, length, slice_get, Some}
+use Rattle.std.specs.Prelude.{◌≡◌, ℕ, zero, suc, ◌+◌, ◌<◌, List, [], ◌∷◌, ◌++◌, length, slice_get, Some, None}
 use Rattle.ap_term.specs.Independence.{IsGround, SharesNoVariable}
 use Rattle.ap_cells.specs.declared.cells.Raw.{Raw}
 use Rattle.ap_cells.specs.Trees.{tree_at, trees}
@@ -65,7 +65,7 @@ ComesToGroup (check_indep v w ∷ is) = ComesToGroup is
 ComesToGroup (group n ∷ is) = Unit {0}
 ComesToGroup _ = ⊥
 
--- Checks of the group at a place hold up to one that doesn't, which leads to the place `to`.
+-- Checks of the group at a place hold up to one that leads to the place `to`.
 pub record IsPlainWay (code : Compiled) (at : ℕ) (cs : List Raw) (x y : List ℕ) (to : ℕ) : Type 0 where
   pub from : ℕ
   pub check : Instr
@@ -73,7 +73,14 @@ pub record IsPlainWay (code : Compiled) (at : ℕ) (cs : List Raw) (x y : List �
   pub leads : otherwise check ≡ Some to
   pub passes : Passes cs (held x) (held y) (steps_from code at) (steps_from code from)
   pub comes : ComesToGroup (steps_from code (from + 1))
-  pub fails : FailsCheck cs (held x) (held y) check
+
+-- the same, and that one doesn't hold
+abbrev pub IsForcedWay : Compiled → ℕ → List Raw → List ℕ → List ℕ → ℕ → Type 0
+IsForcedWay code at cs x y to = (way : IsPlainWay code at cs x y to) × FailsCheck cs (held x) (held y) way.check
+
+-- no check stands at the place
+abbrev pub IsUnchecked : Compiled → ℕ → Type 0
+IsUnchecked code at = (i : Instr) → slice_get code.instructions at ≡ Some i → otherwise i ≡ None
 
 -- the checks of the group at a place hold, and behind them an instruction can't be taken
 pub record IsCutOff (code : Compiled) (at : ℕ) (cs : List Raw) (x y : List ℕ) : Type 0 where

@@ -20,7 +20,7 @@ use Rattle.ap_group.specs.declared.gathering.Turn.TheVariants.{On, End, Stuck}
 use Rattle.ap_group.specs.declared.gathering.Gathered.{Gathered}
 use Rattle.ap_group.specs.declared.gathering.Gathered.TheVariants.{Pushed as Forks, Plain}
 use Rattle.ap_group.specs.Groups.{Pushed}
-use Rattle.ap_group.specs.Gathers.{Passes, Gathers, places_from, IsGathered, FailsCheck, IsPlainWay, IsCutOff}
+use Rattle.ap_group.specs.Gathers.{Passes, Gathers, places_from, IsGathered, FailsCheck, IsForcedWay, IsCutOff}
 
 -- ---- checks
 
@@ -38,7 +38,7 @@ ChecksTo i cs x y (Begins n) = i ≡ AllocParcall n
 -- all checks of the group at a place hold, and behind them so many goals are to be pushed; or one doesn't hold
 abbrev pub AreChecked : Compiled → ℕ → List Raw → List ℕ → List ℕ → Checked → Type 0
 AreChecked code at cs x y (Group n from) = Passes cs (held x) (held y) (steps_from code at) (group n ∷ steps_from code from)
-AreChecked code at cs x y (Leads to) = IsPlainWay code at cs x y to
+AreChecked code at cs x y (Leads to) = IsForcedWay code at cs x y to
 
 -- ---- goals
 
@@ -98,7 +98,7 @@ pub record HasPushed (code : Compiled) (at : ℕ) (cs : List Raw) (x y : List �
 
 -- a check of it doesn't hold, and leads to a place, with nothing done
 pub record LeadsPlain (code : Compiled) (at : ℕ) (cs : List Raw) (x y : List ℕ) (to : ℕ) (ds : List Raw) (x' y' : List ℕ) : Type 0 where
-  pub way : IsPlainWay code at cs x y to
+  pub way : IsForcedWay code at cs x y to
   pub same_cells : ds ≡ cs
   pub same_x : x' ≡ x
   pub same_y : y' ≡ y

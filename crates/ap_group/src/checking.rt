@@ -1,11 +1,12 @@
 //! The checks of a group, one after another.
 
-ghost use Rattle.std.specs.Prelude.{◌≡◌, ℕ, ◌≤◌, length, is_some, true, false, IfOk};
+ghost use Rattle.std.specs.Prelude.{◌≡◌, ℕ, ◌≤◌, List, length, is_some, None, Ok, true, false, IfOk, IfSome};
+ghost use Rattle.ap_cells.specs.declared.cells.Raw.{Raw};
 ghost use Rattle.ap_instr.specs.declared.instruction.Instr.TheVariants.{AllocParcall};
 ghost use Rattle.ap_instr.specs.Groups.{otherwise};
 ghost use Rattle.ap_instr.specs.Steps.{steps_from};
 ghost use Rattle.ap_steps.specs.Moves.{HoldPlaces};
-ghost use Rattle.ap_group.specs.Gathers.{IsGroupAt, ComesToGroup};
+ghost use Rattle.ap_group.specs.Gathers.{IsGroupAt, ComesToGroup, IsPlainWay, IsUnchecked};
 ghost use Rattle.ap_group.specs.Turns.{ChecksTo, AreChecked};
 
 use ap_cells::{Cells, Walk};
@@ -74,6 +75,17 @@ fn ask(
     }
 }
 
+/// Where a check leads to that doesn't hold. None for another instruction.
+fn leads_to(instr: &Instr) -> Option<usize>
+    ensures { result ≡ otherwise instr.now }
+{
+    match *instr {
+        Instr::CheckGround(_, to) => Some(to as usize),
+        Instr::CheckIndep(_, _, to) => Some(to as usize),
+        _ => None,
+    }
+}
+
 /// Whether an instruction is a check.
 fn is_check(instr: &Instr) -> bool
     ensures { result ≡ is_some (otherwise instr.now) }
@@ -111,6 +123,24 @@ fn comes_to_group(code: &Code, from: usize) -> bool
         }
     }
     false
+}
+
+/// Finds the place where the goals of the group at a place stand one after another. None where the group has no check.
+pub fn plain_way(code: &Code, at: usize) -> Result<Option<usize>, NoMemory>
+    ensures way { IfOk result (λ found. IfSome found (λ to. (cs : List Raw) (x y : List ℕ) → IsPlainWay code.now at cs x y to)) }
+    ensures none { result ≡ Ok None → IsUnchecked code.now at }
+{
+    let places = code.instructions().len();
+    let Some(instr) = instruction_at(code, at) else {
+        return Ok(None);
+    };
+    prove!(at < places);
+    match leads_to(&instr) {
+        Some(to) if comes_to_group(code, at + 1) => Ok(Some(to)),
+        // Behind a group's checks its goals begin.
+        Some(_) => Err(NoMemory),
+        None => Ok(None),
+    }
 }
 
 /// Asks the checks of the group at a place, up to one that doesn't hold.

@@ -1,9 +1,10 @@
 -- A search at a new fork.
-use Rattle.std.proofs.Common.{◌≡◌, ℕ, zero, suc, ◌+◌, ◌-◌, ◌<◌, ◌≤◌, List, [], ◌∷◌, ◌++◌, length, take, drop, map, replicate, slice_get, Option, Some, inl, inr, Result, Ok, Err, refl, ap, ap₂, sym, ◌∙◌, subst, arith}
-use Rattle.std.specs.Prelude.{OnOk}
+use Rattle.std.proofs.Common.{◌≡◌, ℕ, zero, suc, ◌+◌, ◌-◌, ◌<◌, ◌≤◌, List, [], ◌∷◌, ◌++◌, length, take, drop, map, replicate, slice_get, Option, None, Some, inl, inr, Result, Ok, Err, refl, ap, ap₂, sym, ◌∙◌, subst, arith}
+use Rattle.std.specs.Prelude.{IfOk, IfSome, OnOk}
 use Rattle.std.specs.List.{AllByRecursion}
 use Rattle.std.proofs.lemmas.List.{length-map, length-replicate, drop_at}
 use Rattle.std.proofs.Math.Seq.{take-append_seam}
+use Rattle.ap_cells.specs.declared.cells.Raw.{Raw}
 use Rattle.ap_cells.specs.Store.{Store, Keeps}
 use Rattle.ap_cells.specs.Walks.{Each}
 use Rattle.ap_instr.specs.Code.{Compiled}
@@ -11,19 +12,19 @@ use Rattle.ap_needs.specs.Needs.{AllHaveTargets}
 use Rattle.ap_environments.specs.Kept.{Forked as ForkKept, Kept}
 use Rattle.ap_group.specs.declared.gathering.Gathered.{Gathered}
 use Rattle.ap_group.specs.Groups.{Pushed}
-use Rattle.ap_group.specs.Gathers.{IsGathered, IsPlainWay, IsCutOff}
+use Rattle.ap_group.specs.Gathers.{IsGathered, IsPlainWay, IsForcedWay, IsUnchecked, IsCutOff}
 use Rattle.ap_group.specs.Turns.{IsKnown, IsInside, HasPushed}
 use Rattle.ap_rejoin.specs.Meets.{AreInside}
 use Rattle.ap_steps.specs.Moves.{held, HoldPlaces}
 use Rattle.ap_steps.specs.Standing.{Return}
-use Rattle.ap_standing.specs.Machine.{inside, AreWithin}
+use Rattle.ap_standing.specs.Machine.{inside, Machine, AreWithin}
 use Rattle.ap_machine.specs.declared.state.Now.{Now as Kind}
 use Rattle.ap_machine.specs.declared.state.Now.TheVariants.{Inside, Failed}
 use Rattle.ap_machine.specs.View.{Segment, Paused, now_of, point_of, pushed_of, forked_of, segment_of, paused_of, AreLiveAt, IsFor}
 use Rattle.ap_machine.specs.Sane.{AreShort, IsMoment, AreMoments, moment_at, all_moments, Sane}
 use Rattle.ap_machine.specs.Choices.{Stays}
 use Rattle.ap_machine.specs.Lasting.{SameRest}
-use Rattle.ap_machine.specs.Forking.{frame_of, frames_on, HasKept, ForksTo, HasForked, HasGoneOn}
+use Rattle.ap_machine.specs.Forking.{frame_of, frames_on, HasKept, ForksTo, HasForked, HasPlainWay, IsAtUnchecked, HasGoneOn}
 use Rattle.ap_machine.proofs.Kept.{AreWithin-more, inside-more, AreMoments-now, HasBottom-keeps}
 use Rattle.ap_machine.proofs.Living.{all-live, live-none, live-on, live-failed}
 use Rattle.ap_machine.proofs.Progress.{still-for}
@@ -209,6 +210,21 @@ module _ (code : Compiled) (v w : Store) (k l : Kept) (x y x' y' x'' y'' roots :
 
 -- ---- no goals
 
+pub plain-for : (code : Compiled) (s t : Paused) (at to : ℕ) → s.machine.now ≡ inside at → t ≡ record s { machine = record s.machine { now = inside to } } → IsFor code s → IsFor code t
+plain-for code s t at to here e h =
+    let u : Paused = record s { machine = record s.machine { now = inside to } } in
+    subst (IsFor code) (sym e)
+    (still-for code s u h (record { x = refl; y = refl; roots = refl; spent = refl; budget = refl; older = refl }) (live-on code s.machine u.machine (inside at) here (λ qs. refl) refl))
+
+module _ (kode code : Compiled) (same : kode ≡ code) (m : Machine) (at : ℕ) (here : m.now ≡ inside at) where
+  pub plain-found : {E : Type 0} (found : Result (Option ℕ) E) → IfOk found (λ o. IfSome o (λ to. (cs : List Raw) (x y : List ℕ) → IsPlainWay kode at cs x y to)) → IfOk found (λ o. IfSome o (λ to. HasPlainWay code m to))
+  plain-found (Ok (Some to)) h = record { at = at; here = here; way = subst (λ k. IsPlainWay k at m.cells m.x m.y to) same (h m.cells m.x m.y) }
+  plain-found (Ok None) h = tt
+  plain-found (Err error) h = tt
+
+  pub unchecked-there : IsUnchecked kode at → IsAtUnchecked code m
+  unchecked-there h = λ to there. subst (IsUnchecked code) (let e : inside at ≡ inside to = sym here ∙ there in cc) (subst (λ k. IsUnchecked k at) same h)
+
 -- control goes on elsewhere, with all else as it was
 module _ (code : Compiled) (v w : Store) (k l : Kept) (x y x' y' roots : List ℕ) (next : Kind) (spent budget at : ℕ) (s : Paused)
     (view : paused_of v k x y roots next spent budget ≡ s) (sane : Sane v k x y roots) (keeps : Keeps v w) (same : l ≡ k) (cells : w.cells ≡ v.cells) where
@@ -221,20 +237,13 @@ module _ (code : Compiled) (v w : Store) (k l : Kept) (x y x' y' roots : List �
   pub goes-on : (to : ℕ) → x' ≡ x → y' ≡ y → ◌≡◌ {A = Paused} (paused_of w l x' y' roots (Inside to) spent budget) (record s { machine = record s.machine { now = inside to } })
   goes-on to ex ey = as-before (Inside to) ex ey ∙ ap (λ (u : Paused). record u { machine = record u.machine { now = inside to } }) view
 
-  pub gone-plain : (to : ℕ) → x' ≡ x → y' ≡ y → s.machine.now ≡ inside at → IsPlainWay code at v.cells x y to → HasGoneOn code s (paused_of w l x' y' roots (Inside to) spent budget)
-  gone-plain to ex ey here way = inl (record {
-    at = at;
-    to = to;
-    here = here;
-    way = subst (λ (u : Paused). IsPlainWay code at u.machine.cells u.machine.x u.machine.y to) view way;
-    goes_on = goes-on to ex ey;
-  })
+  pub gone-plain : (to : ℕ) → x' ≡ x → y' ≡ y → s.machine.now ≡ inside at → IsForcedWay code at v.cells x y to → HasGoneOn code s (paused_of w l x' y' roots (Inside to) spent budget)
+  gone-plain to ex ey here way =
+      let seen = subst (λ (u : Paused). IsForcedWay code at u.machine.cells u.machine.x u.machine.y to) view way in
+      inl (record { gone = record { to = to; leads = record { at = at; here = here; way = seen.0 }; goes_on = goes-on to ex ey }; fails = seen.1 })
 
   pub for-plain : (to : ℕ) → x' ≡ x → y' ≡ y → s.machine.now ≡ inside at → IsFor code s → IsFor code (paused_of w l x' y' roots (Inside to) spent budget)
-  for-plain to ex ey here h =
-      let t : Paused = record s { machine = record s.machine { now = inside to } } in
-      subst (IsFor code) (sym (goes-on to ex ey))
-      (still-for code s t h (record { x = refl; y = refl; roots = refl; spent = refl; budget = refl; older = refl }) (live-on code s.machine t.machine (inside at) here (λ qs. refl) refl))
+  for-plain to ex ey here h = plain-for code s (paused_of w l x' y' roots (Inside to) spent budget) at to here (goes-on to ex ey) h
 
   module _ (n m : ℕ) (ex : x' ≡ replicate n 0) (ey : y' ≡ replicate m 0) (en : n ≡ length x) (em : m ≡ length y) where
     abbrev cut : Paused

@@ -8,12 +8,12 @@ use Rattle.ap_environments.specs.declared.environments.Fork.{Fork}
 use Rattle.ap_group.specs.declared.gathering.Gathered.{Gathered}
 use Rattle.ap_group.specs.declared.gathering.Gathered.TheVariants.{Pushed as Forks, Plain}
 use Rattle.ap_group.specs.Groups.{Pushed, Forked}
-use Rattle.ap_group.specs.Gathers.{IsGathered, IsPlainWay, IsCutOff}
+use Rattle.ap_group.specs.Gathers.{IsGathered, FailsCheck, IsPlainWay, IsUnchecked, IsCutOff}
 use Rattle.ap_group.specs.Turns.{IsKnown, HasPushed, LeadsPlain}
 use Rattle.ap_rejoin.specs.Meets.{AreInside}
 use Rattle.ap_steps.specs.Moves.{held}
 use Rattle.ap_steps.specs.Standing.{Return}
-use Rattle.ap_standing.specs.Machine.{inside, failed, AreWithin}
+use Rattle.ap_standing.specs.Machine.{Machine, inside, failed, AreWithin}
 use Rattle.ap_machine.specs.View.{Paused}
 use Rattle.ap_machine.specs.Choices.{Stays}
 use Rattle.ap_machine.specs.Forks.{IsAtFork}
@@ -76,12 +76,20 @@ pub record HasForked (code : Compiled) (s t : Paused) : Type 0 where
   pub returns_before : AreWithin (length s.machine.cells) s.machine.returns
   pub roots_before : AllByRecursion (λ r. r < length s.machine.cells) s.machine.roots
 
--- a check of the group doesn't hold, and control is where its goals stand one after another
-pub record HasGonePlain (code : Compiled) (s t : Paused) : Type 0 where
+-- a check of the group leads to a place, where its goals stand one after another
+pub record HasPlainWay (code : Compiled) (m : Machine) (to : ℕ) : Type 0 where
   pub at : ℕ
+  pub here : m.now ≡ inside at
+  pub way : IsPlainWay code at m.cells m.x m.y to
+
+-- the group has no check
+abbrev pub IsAtUnchecked : Compiled → Machine → Type 0
+IsAtUnchecked code m = (at : ℕ) → m.now ≡ inside at → IsUnchecked code at
+
+-- control is where the group's goals stand one after another
+pub record HasGonePlain (code : Compiled) (s t : Paused) : Type 0 where
   pub to : ℕ
-  pub here : s.machine.now ≡ inside at
-  pub way : IsPlainWay code at s.machine.cells s.machine.x s.machine.y to
+  pub leads : HasPlainWay code s.machine to
   pub goes_on : t ≡ record s { machine = record s.machine { now = inside to } }
 
 -- an instruction of the group can't be taken
@@ -94,5 +102,10 @@ pub record IsCut (code : Compiled) (s t : Paused) : Type 0 where
   pub rest : SameRest s.machine t.machine
   pub stays : Stays s t
 
+-- control is there as a check of the group doesn't hold
+pub record IsForced (code : Compiled) (s t : Paused) : Type 0 where
+  pub gone : HasGonePlain code s t
+  pub fails : FailsCheck s.machine.cells (held s.machine.x) (held s.machine.y) gone.leads.way.check
+
 abbrev pub HasGoneOn : Compiled → Paused → Paused → Type 0
-HasGoneOn code s t = HasGonePlain code s t ⊎ IsCut code s t
+HasGoneOn code s t = IsForced code s t ⊎ IsCut code s t

@@ -36,7 +36,7 @@ pub enum Turn {
     Group,
 }
 
-/// What asks a search to stop.
+/// What asks a search to stop, and for its goals.
 pub trait Hook {
     /// It was asked to stop, which stays so.
     ghost asked: { Self → Type 0 };
@@ -46,6 +46,9 @@ pub trait Hook {
         ensures yes { result ≡ true → asked self.new }
         ensures no { result ≡ false → asked self.new → asked self.old }
         ensures stays { asked self.old → asked self.new };
+
+    /// Whether goals of groups are wanted by others. Where they aren't, a group that has a check runs its goals in turn.
+    fn wants(&self) -> bool;
 }
 
 impl Search {

@@ -1,17 +1,19 @@
 //! A group at which the search stands.
 
-ghost use Rattle.std.specs.Prelude.{◌≡◌, ℕ, ◌<◌, ◌≤◌, ◌++◌, length, drop, map, slice_get, Some, true, false, Ok, IfOk, OnOk, OnErr};
+ghost use Rattle.std.specs.Prelude.{◌≡◌, ℕ, ◌<◌, ◌≤◌, ◌++◌, length, drop, map, slice_get, None, Some, true, false, Ok, IfOk, IfSome, OnOk, OnErr};
 ghost use Rattle.ap_cells.specs.Store.{Keeps};
 ghost use Rattle.ap_environments.specs.declared.environments.Fork.{Fork as ForkOf};
 ghost use Rattle.ap_instr.specs.declared.compiled.Predicate.{Predicate};
+ghost use Rattle.ap_instr.specs.Code.{Compiled};
 ghost use Rattle.ap_instr.specs.Steps.{steps_from};
 ghost use Rattle.ap_group.specs.Gathers.{IsGroupAt};
 ghost use Rattle.ap_needs.specs.Needs.{AllHaveTargets};
 ghost use Rattle.ap_steps.specs.Moves.{HoldPlaces};
+ghost use Rattle.ap_standing.specs.Machine.{inside};
 ghost use Rattle.ap_machine.specs.View.{IsFor, Paused};
 ghost use Rattle.ap_machine.specs.Stands.{IsAtGroup};
 ghost use Rattle.ap_machine.specs.Ahead.{goals_ahead, goals_said};
-ghost use Rattle.ap_machine.specs.Forking.{frame_of, frames_on, with_fork, HasKept, ForksTo, HasForked, HasGoneOn};
+ghost use Rattle.ap_machine.specs.Forking.{frame_of, frames_on, with_fork, HasKept, ForksTo, HasForked, HasPlainWay, IsAtUnchecked, HasGoneOn};
 
 use crate::control::{behind, save};
 use crate::state::{Now, Search};
@@ -19,7 +21,7 @@ use ap_cells::{Cells, Walk};
 use ap_codecheck::Sound;
 use ap_control::{instruction_at, used};
 use ap_environments::{Environments, Fork};
-use ap_group::{Gathered, Goals, gather};
+use ap_group::{Gathered, Goals, gather, plain_way};
 use ap_instr::{Code, Instr};
 use ap_marks::Marks;
 use ap_term::NoMemory;
@@ -194,6 +196,27 @@ impl Search {
             unreachable!();
         };
         goals_from(sound.code(), at)
+    }
+
+    /// Finds the place where the goals of the group at which the search stands are called one after another. None where the
+    /// group has no check.
+    pub fn plain_way(&self, sound: &Sound) -> Result<Option<usize>, NoMemory>
+        requires here { IsAtGroup sound.now self.now.machine }
+        ensures way { IfOk result (λ found. IfSome found (λ to. HasPlainWay sound.now self.now.machine to)) }
+        ensures none { result ≡ Ok None → IsAtUnchecked sound.now self.now.machine }
+    {
+        let Now::Inside(at) = self.now() else {
+            unreachable!();
+        };
+        plain_way(sound.code(), at)
+    }
+
+    /// Goes on at a place, where the goals of the group at which the search stands are called one after another.
+    pub fn go_plain(&mut self, to: usize)
+        ensures goes { self.new ≡ record self.old { machine = record self.old.machine { now = inside to } } }
+        ensures is_for { (code : Compiled) → HasPlainWay code self.old.machine to → IsFor code self.old → IsFor code self.new }
+    {
+        self.next = Now::Inside(to);
     }
 
     /// Runs the group at which the search stands: pushes its goals where its checks hold, and forks; else goes on to its

@@ -19,8 +19,3 @@ mod state;
 
 pub use advance::{Hook, Turn};
 pub use state::Search;
-
-#[cfg(test)]
-mod group_tests;
-#[cfg(test)]
-mod tests;

@@ -16,7 +16,7 @@ use Rattle.ap_graft.proofs.Variables.{over-opened}
 use Rattle.ap_instr.specs.declared.instruction.Instr.{Instr}
 use Rattle.ap_instr.specs.declared.instruction.Instr.TheVariants.{CheckGround, CheckIndep}
 use Rattle.ap_instr.specs.Code.{Compiled}
-use Rattle.ap_instr.specs.Groups.{AsksUnmarked}
+use Rattle.ap_instr.specs.Groups.{otherwise, AsksUnmarked}
 use Rattle.ap_instr.specs.Step.{Step, check_ground, check_indep, group, push}
 use Rattle.ap_instr.specs.Steps.{steps_from}
 use Rattle.ap_instr.specs.Runs.{Runs, read}
@@ -29,7 +29,7 @@ use Rattle.ap_standing.proofs.Machines.{steps-at}
 use Rattle.ap_standing.proofs.Named.{named-opened}
 use Rattle.ap_standing.proofs.Turns.{SameSet-trans}
 use Rattle.ap_group.specs.Groups.{Pushed}
-use Rattle.ap_group.specs.Gathers.{IsGroupAt, Passes, begins, is_ground, are_apart, Gathers, there, pushes, moves, FailsCheck, ComesToGroup, IsPlainWay, IsCutOff}
+use Rattle.ap_group.specs.Gathers.{IsGroupAt, Passes, begins, is_ground, are_apart, Gathers, there, pushes, moves, ComesToGroup, IsPlainWay, IsCutOff}
 use Rattle.ap_tie.specs.Sections.{section, Stack}
 use Rattle.ap_tie.specs.Settled.{AreClosed}
 use Rattle.ap_tie.specs.Grouping.{MarksLeft, NoMarkLeft}
@@ -64,7 +64,7 @@ comes-unmarked (check_indep v w ∷ is) x y bs h (cs, e, r) = let k = comes-unma
 comes-unmarked (group n ∷ is) x y bs h (cs, e, r) = (cs, subst (λ b. Unmarked b cs) (sym e) (past_group n))
 comes-unmarked is x y bs h r = absurd h
 
--- ---- a check that doesn't hold
+-- ---- a check that leads to the goals one after another
 
 -- A step asks for marks before others, whatever the registers hold.
 record AsksMarks (i : Step) : Type 0 where
@@ -122,14 +122,14 @@ module _ (code : Compiled) (m : Machine) (u : Tracked) (ts : Trees) (own : ℕ �
           let s : append_trees v.0 qs ≡ instance_all f Goals = only-unmarked f own cs (count_trees ts) Goals (append_trees bs qs) (append_trees v.0 qs) (unmarked-append bs v.0 qs n) (sym eq) in
           (k, v.0, qs, fits, leads.each x y d.0 v.0 v.1 d.2, e1 ∙ sym s, w)
 
-  led-by : (i : Instr) (cs : List Check) → slice_get code.instructions from ≡ Some i → FailsCheck m.cells (held m.x) (held m.y) i → AsksUnmarked code (from + 1) to → ComesToGroup (steps_from code (from + 1))
+  led-by : (i : Instr) (cs : List Check) → slice_get code.instructions from ≡ Some i → otherwise i ≡ Some to → AsksUnmarked code (from + 1) to → ComesToGroup (steps_from code (from + 1))
       → SameSet (InCode code (standing m) (held m.x) (held m.y) (steps_from code from)) (MarksLeft u cs ts own gs)
       → SameSet (InCode code (standing m) (held m.x) (held m.y) (steps_from code to)) (NoMarkLeft u ts own gs)
-  led-by (CheckGround v l) cs e fails leads comes same =
+  led-by (CheckGround v l) cs e is leads comes same =
       led (check_ground v) (ground-marks v) cs leads comes (subst (λ is. SameSet (InCode code (standing m) (held m.x) (held m.y) is) (MarksLeft u cs ts own gs)) (steps-at code from (CheckGround v l) e (λ d. cc)) same)
-  led-by (CheckIndep v w l) cs e fails leads comes same =
+  led-by (CheckIndep v w l) cs e is leads comes same =
       led (check_indep v w) (apart-marks v w) cs leads comes (subst (λ is. SameSet (InCode code (standing m) (held m.x) (held m.y) is) (MarksLeft u cs ts own gs)) (steps-at code from (CheckIndep v w l) e (λ d. cc)) same)
-  led-by i cs e fails leads comes same = absurd fails
+  led-by i cs e is leads comes same = cc
 
 plain-opening : (s : Tracked) → IsPlain s → IsPlain (opening s)
 plain-opening s h = ((over-opened (Below s.next) s.goals h.0.0, h.0.1, h.0.2, subst (λ e. NoneBehind e (opening s).goals) (sym h.2) tt), named-opened s.goals h.1, h.2)
@@ -146,7 +146,7 @@ goes-plain code m c b st at to closed now is_group way p o t searched tied =
     let local : LocalGoal (Below u.next) (fork e.checks e.goals e.own e.now) = (subst (AllByRecursion (LocalGoal (Below u.next))) g.begins_with g.plain.0.0).0 in
     let same : SameSet (InCode code (standing m) (held m.x) (held m.y) (steps_from code to)) (Inst (opening u)) =
     SameSet-trans (InCode code (standing m) (held m.x) (held m.y) (steps_from code to)) (NoMarkLeft u e.goals e.own e.behind) (Inst (opening u))
-    (led-by code m u e.goals e.own e.behind way.from to way.check passed.0 way.stands way.fails leads way.comes passed.1) (marking.opened u e.checks e.goals e.own e.now e.behind g.begins_with local) in
+    (led-by code m u e.goals e.own e.behind way.from to way.check passed.0 way.stands way.leads leads way.comes passed.1) (marking.opened u e.checks e.goals e.own e.now e.behind g.begins_with local) in
     let holds : Holds code n (opening u ∷ g.others) = (opening u ∷ [], g.others, (same, refl), (plain-opening u g.plain, tt), leads.openly, g.opens, g.points, refl) in (
       [],
       t,

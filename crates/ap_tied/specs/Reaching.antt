@@ -37,7 +37,7 @@ pub record ReachingLaw : Type 0 where
       → AreClosed st → m.now ≡ inside at → IsGroupAt code at → IsInside m → IsGathered code at m.cells m.x m.y to f.cells x' y' f.goals
       → f.returns ≡ w ∷ m.returns → w.place ≡ to + 1 → ((k : ℕ) → held w.y k ≡ held y' k) → IsPlaced code m.roots f → HasFailed m.roots [] n
       → Goes code (section m c b st) (section n c b (parcall f (b - c) First (ready_slots (length f.goals)) m.points st))
-  -- a check that doesn't hold leads to the group's goals one after another
+  -- a check leads to the group's goals one after another, also where it would hold
   pub goes_plain : (code : Compiled) (m : Machine) (c b : ℕ) (st : Stack) (at to : ℕ) → AreClosed st → m.now ≡ inside at → IsGroupAt code at → IsPlainWay code at m.cells m.x m.y to
       → Goes code (section m c b st) (section (record m { now = inside to }) c b st)
   -- an instruction on the way through the group can't be taken

@@ -21,3 +21,18 @@ loop-place-preserved c =
           past a.cells.now.cells a.x.now a.y.now c.requires.holds_x c.requires.holds_y a.code.now a.at c.loop-place.place c.in-Some.instr (sym c.in-Some.ensures) c.loop-place.invariant.passes
           (subst (ChecksTo c.in-Some.instr a.cells.now.cells a.x.now a.y.now) c.in-Holds.is c.in_ok-ask.ensures);
     }
+
+pub returns-in-Fails : goal.returns-in-Fails
+returns-in-Fails c =
+    let a = c.args in
+    let d = subst (ChecksTo c.in-Some.instr a.cells.now.cells a.x.now a.y.now) c.in-Fails.is c.in_ok-ask.ensures in (
+      record {
+        from = c.loop-place.place;
+        check = c.in-Some.instr;
+        stands = sym c.in-Some.ensures;
+        leads = d.0;
+        passes = c.loop-place.invariant.passes;
+        comes = c.comes_to_group.ensures c.if-comes_to_group.true;
+      },
+      d.1,
+    )

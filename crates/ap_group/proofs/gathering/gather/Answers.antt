@@ -1,4 +1,4 @@
-use Rattle.std.proofs.Common.{subst}
+use Rattle.std.proofs.Common.{refl, subst}
 use Rattle.ap_group.specs.Turns.{AreChecked, ArePushedOrCut}
 use Rattle.ap_group.proofs.Ways.{gathered}
 use Rattle.ap_group.proofs.gathering.gather.Goals as goal
@@ -16,4 +16,14 @@ returns-in-Some-clause-leads c =
       ready = g.0.ready;
       holds_x = g.0.holds_x;
       holds_y = g.0.holds_y;
+    }
+
+pub returns-in-Plain-clause-leads : goal.returns-in-Plain-clause-leads
+returns-in-Plain-clause-leads c =
+    let a = c.args in
+    record {
+      way = subst (AreChecked a.sound.now a.at a.cells.now.cells a.x.now a.y.now) c.in-Plain.is (subst (λ k. AreChecked k a.at a.cells.now.cells a.x.now a.y.now c.in_ok-to.field-0) c.code.ensures.same c.in_ok-to.ensures);
+      same_cells = refl;
+      same_x = refl;
+      same_y = refl;
     }

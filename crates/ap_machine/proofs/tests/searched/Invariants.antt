@@ -1,5 +1,0 @@
-use Rattle.ap_machine.specs.View.{IsFor}
-use Rattle.ap_machine.proofs.tests.searched.Given as goal
-
-abbrev pub invariant-loop-turn : goal.invariant-loop-turn
-invariant-loop-turn l = IsFor l.sound l.section
