@@ -1,22 +1,16 @@
 -- A section that comes back to its newest frame, all of whose frames are closed.
-use Rattle.std.proofs.Common.{◌≡◌, ◌∙◌, ◌⊎◌, ℕ, ◌+◌, ◌-◌, ◌≤◌, List, [], ◌∷◌, ◌++◌, length, reverse, map, ap, ap₂, sym, subst, refl, inl, inr, Option, Some, None, is_some, true, false, take, vec_len, Vec, Global}
+use Rattle.std.proofs.Common.{◌≡◌, ◌∙◌, ℕ, ◌-◌, List, [], ◌∷◌, ◌++◌, length, reverse, map, ap, sym, subst, refl, Option, Some, None, is_some, false, take, vec_len, Vec, Global}
 use Rattle.std.proofs.lemmas.List.{reverse-append}
 use Rattle.ap_term.specs.Tree.{Trees}
 use Rattle.ap_frames.specs.declared.frame.Frame.{Frame}
-use Rattle.ap_frames.specs.declared.frame.Round.{Round}
 use Rattle.ap_frames.specs.declared.frame.Round.TheVariants.{Closed}
-use Rattle.ap_frames.specs.declared.slots.Slot.{Slot}
-use Rattle.ap_frames.specs.declared.slots.Stand.{Stand}
-use Rattle.ap_frames.specs.declared.slots.Stand.TheVariants.{Ready, Waiting, Running, Answered, Replayed, Ended, GivenBack}
-use Rattle.ap_frames.specs.Slots.{more_at, has_more, tuples_of}
-use Rattle.ap_frames.specs.Verdicts.{place_behind, next_redo}
+use Rattle.ap_frames.specs.Verdicts.{next_redo}
 use Rattle.ap_instr.specs.Code.{Compiled}
-use Rattle.ap_standing.specs.Machine.{Machine, failed}
+use Rattle.ap_standing.specs.Machine.{Machine}
 use Rattle.ap_machine.specs.View.{Segment, Paused, IsFor}
 use Rattle.ap_machine.specs.Stands.{IsAtEnd}
 use Rattle.ap_machine.specs.Forks.{IsAtFork, IsBehindFork}
-use Rattle.ap_tie.specs.Sections as seen
-use Rattle.ap_tie.specs.Sections.{section, Slots, Stack, bottom, parcall, rows, machine_in}
+use Rattle.ap_tie.specs.Sections.{section, bottom, parcall, rows, machine_in}
 use Rattle.ap_tie.specs.Settled.{HasFailed}
 use Rattle.ap_tie.specs.Tied.{IsRest}
 use Rattle.ap_tied.specs.Ties.{Goes}
@@ -27,12 +21,12 @@ use Rattle.ap_section.specs.declared.section.Section.{roll-Section, out-Section}
 use Rattle.ap_section.specs.declared.section.Section.TheViews.{out-roll-Section}
 use Rattle.ap_section.specs.declared.advance.Turn.TheVariants.{Failed}
 use Rattle.ap_section.specs.Ends.{Ends}
-use Rattle.ap_section.specs.Views.{view_of, spent_in, budget_in, row_of, bare}
+use Rattle.ap_section.specs.Views.{view_of}
 use Rattle.ap_section.specs.Ready.{Shape, shape_of, AreMatched, AreShut}
 use Rattle.ap_section.specs.Slots.{IsAtFrame, IsSlotOf}
-use Rattle.ap_section.specs.Moving.{IsShut, HasMoved, IsRested}
-use Rattle.ap_section.proofs.Levels.{slots_now, stack_now, seen_as, view_of-roll, view_of-out}
-use Rattle.ap_section.proofs.Parts.{FramesReady, IsReadyNow, IsShutNow, part_now, shut-out}
+use Rattle.ap_section.specs.Moving.{IsShut, IsRested}
+use Rattle.ap_section.proofs.Levels.{slots_now, stack_now, view_of-roll, view_of-out}
+use Rattle.ap_section.proofs.Parts.{FramesReady, IsShutNow, part_now, shut-out}
 use Rattle.ap_section.proofs.Newest.{Top, frames-front, length-rows, length-before}
 use Rattle.ap_section.proofs.Shown.{redo-shown}
 use Rattle.ap_section.proofs.Shut.{seen_now, shut-now-ready, same-most}

@@ -1,39 +1,33 @@
 -- A section whose first frame is closed, forgotten or joined.
-use Rattle.std.proofs.Common.{◌≡◌, ◌∙◌, ◌⊎◌, inl, inr, ℕ, zero, suc, ◌+◌, ◌-◌, ◌<◌, ◌≤◌, List, [], ◌∷◌, ◌++◌, length, reverse, map, take, ap, ap₂, sym, subst, refl, Some, None, Option, Bool, true, false, get_or, vec_len, Vec, Global, rules, arith}
-use Rattle.std.specs.Prelude.{IfOk, OnErr, Result, Ok, Err, option_to_list}
+use Rattle.std.proofs.Common.{◌≡◌, ◌∙◌, ◌⊎◌, inl, inr, ℕ, ◌+◌, ◌-◌, ◌<◌, List, [], ◌∷◌, ◌++◌, length, reverse, map, take, ap, ap₂, sym, subst, refl, Bool, true, false, get_or, vec_len, Vec, Global, rules, arith}
+use Rattle.std.specs.Prelude.{IfOk, OnErr, Result, Ok, Err}
 use Rattle.std.proofs.lemmas.List.{reverse-append, set_at, length_push, get_or_at}
 use lib.ListN.{set}
 use Rattle.std.specs.Vec.{with_item}
-use Rattle.std.specs.List.{AllByRecursion}
-use Rattle.ap_term.specs.Tree.{Tree, Trees}
+use Rattle.ap_term.specs.Tree.{Trees}
 use Rattle.ap_frames.specs.declared.frame.Frame.{Frame}
 use Rattle.ap_frames.specs.declared.frame.Round.{Round}
 use Rattle.ap_frames.specs.declared.frame.Round.TheVariants.{First, Draining, Later, Closed}
 use Rattle.ap_frames.specs.Rows.{row, with_round}
-use Rattle.ap_frames.specs.declared.slots.Slot.{Slot}
 use Rattle.ap_instr.specs.Code.{Compiled}
-use Rattle.ap_match.specs.Fits.{Fits}
-use Rattle.ap_rejoin.specs.Meets.{MeetAll}
-use Rattle.ap_standing.specs.Machine.{Machine, failed}
+use Rattle.ap_standing.specs.Machine.{failed}
 use Rattle.ap_tied.specs.SlotCalls.{gone_on}
 use Rattle.ap_machine.specs.View.{Segment, Paused, IsFor}
-use Rattle.ap_machine.specs.Forks.{IsAtFork, IsBehindFork, HasRejoined, Rejoined}
-use Rattle.ap_tie.specs.Sections as seen
-use Rattle.ap_tie.specs.Sections.{section, Stack, bottom, parcall, rows}
+use Rattle.ap_machine.specs.Forks.{IsAtFork, IsBehindFork, Rejoined}
+use Rattle.ap_tie.specs.Sections.{section, Stack, parcall}
 use Rattle.ap_tie.specs.Settled.{HasFailed}
 use Rattle.ap_tie.specs.Tied.{IsRest}
-use Rattle.ap_tied.specs.Settling.{HasMet}
 use Rattle.ap_tied.specs.Ties.{stack_in}
 use Rattle.ap_section.specs.declared.section.Section.{Section, roll-Section, out-Section}
 use Rattle.ap_section.specs.declared.section.Section.TheViews.{out-roll-Section}
 use Rattle.ap_section.specs.declared.section.Section.TheOpen.{Section-F}
-use Rattle.ap_section.specs.Views.{view_of, spent_in}
+use Rattle.ap_section.specs.Views.{view_of}
 use Rattle.ap_section.specs.Lending.{count_in, with_newest}
 use Rattle.ap_section.specs.Slots.{IsAtFrame, IsSlotOf, closed_stack}
-use Rattle.ap_section.specs.Ready.{Shape, Part, shape_of, parts_of, AreMatched, AreShut, AreInOrder, IsAtNewest, AreReady, IsReady, IsShutPart}
-use Rattle.ap_section.specs.Closes.{HasFrame, IsAtFirst, closed_in, charged_in, IsForgotten, IsBack, HasMetIn, CannotMeet, IsRejoined, AreShutBehind, AreNearlyReady, IsNearlyReady, IsShut}
+use Rattle.ap_section.specs.Ready.{Shape, Part, shape_of, parts_of, AreMatched, AreShut, AreInOrder, IsAtNewest, AreReady, IsReady}
+use Rattle.ap_section.specs.Closes.{HasFrame, IsAtFirst, closed_in, charged_in, IsForgotten, IsBack, IsRejoined, AreShutBehind, AreNearlyReady, IsNearlyReady, IsShut}
 use Rattle.ap_section.proofs.Levels.{slots_now, stack_now, seen_as, view_of-out, view_of-roll}
-use Rattle.ap_section.proofs.Parts.{SlotsReady, FramesReady, IsReadyNow, part_now, parts-out, parts-roll, frames-into, frames-from, ready-roll, shut-out}
+use Rattle.ap_section.proofs.Parts.{SlotsReady, FramesReady, parts-out, parts-roll, frames-into, frames-from, ready-roll, shut-out}
 use Rattle.ap_section.proofs.Newest.{Top, view-top, view-newest, put_at, length-rows, frames-join, frames-front, frames-back}
 
 -- ---- the newest frame

@@ -1,21 +1,20 @@
 -- A section whose group was forked, or gone past.
-use Rattle.std.proofs.Common.{◌≡◌, ◌∙◌, ◌⊎◌, ℕ, zero, suc, ◌+◌, ◌-◌, ◌<◌, ◌≤◌, false, List, [], ◌∷◌, ◌++◌, length, replicate, reverse, map, ap, ap₂, sym, subst, refl, inl, inr, Vec, Global}
+use Rattle.std.proofs.Common.{◌≡◌, ◌∙◌, ℕ, zero, suc, ◌-◌, ◌<◌, false, List, [], ◌∷◌, ◌++◌, length, replicate, reverse, map, ap, ap₂, sym, subst, refl, inl, inr, Vec, Global}
 use Rattle.std.specs.List.{AllByRecursion}
 use Rattle.std.proofs.lemmas.List.{reverse-append}
 use Rattle.ap_term.specs.Tree.{Trees}
 use Rattle.ap_frames.specs.declared.frame.Frame.{Frame}
-use Rattle.ap_frames.specs.declared.frame.Round.{Round}
-use Rattle.ap_frames.specs.declared.frame.Round.TheVariants.{First, Closed}
-use Rattle.ap_frames.specs.Rows.{row, opened, all_fresh}
+use Rattle.ap_frames.specs.declared.frame.Round.TheVariants.{First}
+use Rattle.ap_frames.specs.Rows.{all_fresh}
 use Rattle.ap_cells.specs.Walks.{Each}
 use Rattle.ap_instr.specs.Code.{Compiled}
-use Rattle.ap_group.specs.Groups.{Pushed, Forked}
+use Rattle.ap_group.specs.Groups.{Pushed}
 use Rattle.ap_group.specs.Gathers.{IsGroupAt}
 use Rattle.ap_group.specs.Turns.{IsInside}
 use Rattle.ap_standing.specs.Machine.{Machine, inside, failed}
 use Rattle.ap_machine.specs.View.{Segment, Paused, IsFor}
 use Rattle.ap_machine.specs.Stands.{IsAtGroup}
-use Rattle.ap_machine.specs.Forking.{HasForked, HasGonePlain, IsCut, HasGoneOn}
+use Rattle.ap_machine.specs.Forking.{HasForked, HasPlainWay, HasGonePlain, IsCut, HasGoneOn}
 use Rattle.ap_tie.specs.Sections as seen
 use Rattle.ap_tie.specs.Sections.{section, Slots, Stack, parcall, rows, machine_in}
 use Rattle.ap_tie.specs.Settled.{HasFailed}
@@ -25,11 +24,11 @@ use Rattle.ap_section.specs.declared.section.Section.{Section}
 use Rattle.ap_section.specs.declared.section.Section.TheOpen.{Section-F}
 use Rattle.ap_section.specs.declared.section.Section.{roll-Section, out-Section}
 use Rattle.ap_section.specs.declared.section.Section.TheViews.{out-roll-Section}
-use Rattle.ap_section.specs.Views.{view_of, spent_in, budget_in}
+use Rattle.ap_section.specs.Views.{view_of, spent_in}
 use Rattle.ap_frames.specs.declared.slots.Stand.TheVariants.{Ready}
 use Rattle.ap_frames.specs.declared.slots.Recording.TheVariants.{Growing}
 use Rattle.std.proofs.Common.{None}
-use Rattle.ap_section.specs.Ready.{Shape, shape_of, IsReadyPart, AreMatched, AreShut, AreInOrder, IsAtNewest, IsReady}
+use Rattle.ap_section.specs.Ready.{shape_of, IsReadyPart, AreMatched, AreInOrder, IsAtNewest, IsReady}
 use Rattle.ap_section.specs.Slots.{IsAtFrame, IsSlotOf}
 use Rattle.ap_section.specs.Moving.{IsShut, HasMoved, IsOpened}
 use Rattle.ap_section.proofs.Levels.{slots_now, stack_now, seen_as, view_of-roll, view_of-out}
@@ -200,11 +199,12 @@ module _ (code : Compiled) (s : Section-F Section) (p : Paused) (v : Vec (Frame 
   }
 
   module _ (law : ReachingLaw) (shut : IsShutNow code s) (here : IsAtGroup code s.search.machine) (is_for : IsFor code p) where
-    plain-leads : HasGonePlain code s.search p → Leads code s gone
+    pub plain-leads : HasGonePlain code s.search p → Leads code s gone
     plain-leads h =
         let q = s.search in
+        let w = h.leads in
         gone-leads (record q.machine { now = inside h.to }) (ap (λ (r : Paused). r.machine) h.goes_on) (ap (λ (r : Paused). r.spent) h.goes_on) (ap (λ (r : Paused). r.budget) h.goes_on) (ap (λ (r : Paused). r.older) h.goes_on) is_for shut
-        (law.goes_plain code q.machine q.spent q.budget (stack_now q.older (reverse s.frames.items)) h.at h.to (shut-closed code s shut) h.here (group-at code q.machine h.at h.here here) h.way)
+        (law.goes_plain code q.machine q.spent q.budget (stack_now q.older (reverse s.frames.items)) w.at h.to (shut-closed code s shut) w.here (group-at code q.machine w.at w.here here) w.way)
 
     cut-machine : (h : IsCut code s.search p) → p.machine ≡ record s.search.machine { x = p.machine.x; y = p.machine.y; now = failed }
     cut-machine h =
@@ -220,8 +220,18 @@ module _ (code : Compiled) (s : Section-F Section) (p : Paused) (v : Vec (Frame 
         (law.is_cut code q.machine q.spent q.budget (stack_now q.older (reverse s.frames.items)) h.at p.machine.x p.machine.y (shut-closed code s shut) h.here (group-at code q.machine h.at h.here here) h.cut)
 
     pub past-leads : HasGoneOn code s.search p → Leads code s gone
-    past-leads (inl h) = plain-leads h
+    past-leads (inl h) = plain-leads h.gone
     past-leads (inr h) = cut-leads h
+
+-- a section whose search goes on where the goals stand one after another
+pub plain-came : ReachingLaw → (code : Compiled) (s : Section) (p : Paused) (to : ℕ) → IsShut code s → IsAtGroup code (machine_in (view_of s)) → HasPlainWay code (out-Section s).search.machine to
+    → p ≡ record (out-Section s).search { machine = record (out-Section s).search.machine { now = inside to } } → (IsFor code (out-Section s).search → IsFor code p)
+    → Came code s (roll-Section (record (out-Section s) { search = p }))
+plain-came law code s p to shut here way goes stays =
+    let x = out-Section s in
+    let now = shut-out code s shut in
+    came code s (record x { search = p })
+    (plain-leads code x p x.frames refl law now (subst (λ v. IsAtGroup code (machine_in v)) (view_of-out s) here) (stays now.0.0) (record { to = to; leads = way; goes_on = goes }))
 
 -- ---- one change behind another
 

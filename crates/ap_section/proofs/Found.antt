@@ -1,19 +1,21 @@
 -- The leftmost slot that can be started, and whether none can.
-use Rattle.std.proofs.Common.{◌≡◌, ◌∙◌, ℕ, suc, ◌+◌, ◌-◌, ◌<◌, ◌≤◌, inl, inr, Bool, true, false, ◌||◌, not, nat_lt, cond, List, [], ◌∷◌, length, slice_get, take, Some, None, ap, ap₂, sym, subst, refl, get_or, rules, arith}
-use Rattle.std.specs.Prelude.{position}
+use Rattle.std.proofs.Common.{◌≡◌, ◌∙◌, ℕ, zero, suc, ◌+◌, ◌-◌, ◌<◌, ◌≤◌, inl, inr, Bool, true, false, ◌||◌, not, nat_lt, cond, List, [], ◌∷◌, length, slice_get, take, Option, Some, None, ap, ap₂, sym, subst, refl, get_or, rules, arith}
+use Rattle.std.specs.Prelude.{position, IfSome}
 use Rattle.std.specs.List.{list_any, position_or_len}
 use Rattle.std.proofs.lemmas.Bool.{ltb-true, ltb-false}
 use Rattle.ap_term.specs.Tree.{Trees}
 use Rattle.ap_tie.specs.Sections.{Row, rows}
 use Rattle.ap_frames.specs.declared.frame.Frame.{Frame}
+use Rattle.ap_frames.specs.declared.slots.Slot.{Slot}
 use Rattle.ap_frames.specs.declared.frame.Round.TheVariants.{Closed}
 use Rattle.ap_frames.specs.Rows.{of_slot}
 use Rattle.ap_frames.specs.Slots.{is_startable}
 use Rattle.ap_section.specs.declared.section.Section.{Section, out-Section}
 use Rattle.ap_section.specs.Views.{view_of}
-use Rattle.ap_section.specs.Slots.{IsAtFrame, IsFirstReady, HasNoReady, slots_in}
+use Rattle.ap_section.specs.Slots.{IsAtFrame, IsFirstReady, IsReadyAt, HasNoReady, slots_in}
 use Rattle.ap_section.specs.Lending.{count_in}
-use Rattle.ap_section.proofs.Newest.{top-at, slots-at, round-at, startable-row}
+use Rattle.ap_section.proofs.Newest.{top-at, slots-at, round-at, startable-row, length-rows}
+use Rattle.ap_section.proofs.Levels.{slots_now}
 use Rattle.ap_section.proofs.AtFork.{same-some}
 use Rattle.ap_section.proofs.Shown.{position-shown}
 
@@ -79,3 +81,29 @@ first-ready s n f k e at v opened h =
     let l : k < length (rows (slots_in (view_of s))) = r.0 in
     let found = subst (IsFound (rows (slots_in (view_of s)))) m r.1 in
     ((omega arith, omega (arith, l)), found.0, found.1, λ c. opened (sym (round-at s f (top-at s n f e at v) at) ∙ c))
+
+-- ---- the rightmost slot that is ready
+
+abbrev pub IsReadyPlace : List (Slot Section Trees) → ℕ → Type 0
+IsReadyPlace xs i = (0 < i) × (i ≤ length xs) × (of_slot is_startable false (slice_get xs (i - 1)) ≡ true)
+
+told-shown : (k : ℕ) (xs : List (Slot Section Trees)) → of_slot is_startable false (slice_get (rows (slots_now xs)) k) ≡ of_slot is_startable false (slice_get xs k)
+told-shown zero [] = refl
+told-shown (suc k) [] = refl
+told-shown zero (x ∷ xs) = startable-row x
+told-shown (suc k) (x ∷ xs) = told-shown k xs
+
+ready-place : (s : Section) (n : ℕ) (f : Frame Section Trees) (i : ℕ) → n ≡ count_in s → IsAtFrame (view_of s) → f ≡ get_or (out-Section s).frames.items (n - 1) f → (f.round ≡ Closed → ⊥) → IsReadyPlace f.slots.items i → IsReadyAt i (view_of s)
+ready-place s n f i e at v opened h =
+    let t = top-at s n f e at v in
+    let shown = slots-at s f t at in
+    let size : length (rows (slots_in (view_of s))) ≡ length f.slots.items = ap (λ w. length (rows w)) shown ∙ length-rows f.slots.items in (
+      (h.0, subst (λ m. i ≤ m) (sym size) h.1),
+      ap (λ w. of_slot is_startable false (slice_get (rows w) (i - 1))) shown ∙ told-shown (i - 1) f.slots.items ∙ h.2,
+      λ c. opened (sym (round-at s f t at) ∙ c),
+    )
+
+pub last-ready : (s : Section) (n : ℕ) (f : Frame Section Trees) (o : Option ℕ) → n ≡ count_in s → IsAtFrame (view_of s) → f ≡ get_or (out-Section s).frames.items (n - 1) f → (f.round ≡ Closed → ⊥)
+    → IfSome o (IsReadyPlace f.slots.items) → IfSome o (λ i. IsReadyAt i (view_of s))
+last-ready s n f None e at v opened h = tt
+last-ready s n f (Some i) e at v opened h = ready-place s n f i e at v opened h

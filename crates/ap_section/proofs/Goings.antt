@@ -1,8 +1,8 @@
 -- What it is in the core that a section's first frame is settled.
-use Rattle.std.proofs.Common.{◌≡◌, ◌∙◌, ◌⊎◌, inl, inr, ℕ, zero, suc, ◌+◌, ◌-◌, ◌<◌, List, [], ◌∷◌, ◌++◌, length, map, ap, sym, subst, refl, Some, None, Option, Bool, true, false, get_or, Vec, Global, Result, Ok, Err, arith}
+use Rattle.std.proofs.Common.{◌≡◌, ◌∙◌, inr, ℕ, ◌+◌, ◌-◌, List, [], ◌∷◌, ◌++◌, ap, sym, subst, refl, Some, None, Option, true, false, get_or, Result, Ok, Err, arith}
 use Rattle.std.specs.Prelude.{IfOk, IfSome}
 use Rattle.std.specs.List.{list_any}
-use Rattle.ap_term.specs.Tree.{Tree, Trees}
+use Rattle.ap_term.specs.Tree.{Trees}
 use Rattle.ap_core.specs.Tasks.{Task}
 use Rattle.ap_frames.specs.declared.frame.Round.{Round}
 use Rattle.ap_frames.specs.declared.frame.Round.TheVariants.{First, Draining, Later, Closed}
@@ -19,15 +19,15 @@ use Rattle.ap_standing.specs.Holds.{Holds, AreOpen, HoldsPoints}
 use Rattle.ap_standing.proofs.Machines.{failed-points, points-failed}
 use Rattle.ap_tie.specs.Sections as seen
 use Rattle.ap_tie.specs.Sections.{section, Stack, bottom, parcall, Slots, no_slot, slot, nothing, held, rows, machine_in}
-use Rattle.ap_tie.specs.Settled.{HasFailed, AreClosed}
+use Rattle.ap_tie.specs.Settled.{HasFailed}
 use Rattle.ap_tie.specs.Tied.{HoldsStack}
-use Rattle.ap_tied.specs.Ties.{Goes, IsTied, IsQuietStack, IsInOrder, IsInRound, stack_in}
+use Rattle.ap_tied.specs.Ties.{Goes, IsQuietStack, IsInRound, stack_in}
 use Rattle.ap_tied.specs.Settling.{IsAnswerIn, AreAnswersOf, IsRedoable, SettlingLaw}
 use Rattle.ap_frames.specs.declared.frame.Frame.{Frame}
 use Rattle.ap_section.specs.declared.section.Section.{Section, out-Section}
 use Rattle.ap_section.specs.Lending.{count_in}
 use Rattle.ap_section.proofs.Newest.{top-at, slots-at}
-use Rattle.ap_section.specs.Slots.{IsAtFrame, verdict_in, slots_in, round_in, closed_stack}
+use Rattle.ap_section.specs.Slots.{IsAtFrame, verdict_in, slots_in, closed_stack}
 use Rattle.ap_section.specs.Views.{view_of, row_of, spent_in, budget_in}
 use Rattle.ap_section.specs.Settles.{HasCharged}
 use Rattle.ap_section.specs.Closes.{HasFrame, IsAtFirst, closed_in, charged_in, IsForgotten, IsBack, HasMetIn, CannotMeet, stays_in, IsHeldAnswer, IsStandAnswer, AreSlotAnswers}

@@ -1,5 +1,5 @@
 -- A section's view, one level at a time.
-use Rattle.std.proofs.Common.{◌≡◌, ◌∙◌, ℕ, List, [], ◌∷◌, ◌++◌, reverse, map, ap, sym, refl, Some, None, Option, Bool, false}
+use Rattle.std.proofs.Common.{◌≡◌, ◌∙◌, ℕ, List, [], ◌∷◌, reverse, map, ap, refl, Some, None, Option, Bool, false}
 use mathlib.Core.List.{reverse_aux}
 use Rattle.ap_term.specs.Tree.{Trees}
 use Rattle.ap_tie.specs.Sections as seen

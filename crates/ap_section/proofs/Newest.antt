@@ -1,17 +1,15 @@
 -- A section whose newest frame changes.
-use Rattle.std.proofs.Common.{◌≡◌, ◌∙◌, ◌⊎◌, ℕ, zero, suc, ◌+◌, ◌-◌, ◌<◌, ◌≤◌, List, [], ◌∷◌, ◌++◌, length, slice_get, reverse, map, ap, sym, subst, refl, Some, None, Option, Bool, true, false, get_or, inl, inr}
+use Rattle.std.proofs.Common.{◌≡◌, ◌∙◌, ℕ, zero, suc, ◌-◌, ◌<◌, ◌≤◌, List, [], ◌∷◌, ◌++◌, length, slice_get, reverse, map, ap, sym, subst, refl, Some, None, Bool, true, false, get_or, inl, inr}
 use Rattle.std.proofs.lemmas.List.{reverse-append, set_at, length_push, get_or_at}
 use Rattle.std.proofs.Common.{Vec, Global, vec_len, rules}
 use lib.ListN.{set}
 use Rattle.std.specs.Vec.{with_item}
 use Rattle.ap_term.specs.Tree.{Trees}
-use Rattle.ap_tie.specs.Sections as seen
-use Rattle.ap_tie.specs.Sections.{Row, section, Slots, no_slot, slot, Held, nothing, held, Stack, bottom, parcall, rows}
+use Rattle.ap_tie.specs.Sections.{Row, section, Slots, slot, nothing, Stack, parcall, rows}
 use Rattle.ap_frames.specs.declared.frame.Frame.{Frame}
 use Rattle.ap_frames.specs.declared.slots.Slot.{Slot}
 use Rattle.ap_frames.specs.declared.slots.Stand.{Stand}
 use Rattle.ap_frames.specs.declared.slots.Stand.TheVariants.{Ready, Waiting, Running, Answered, Replayed, Ended, GivenBack}
-use Rattle.ap_frames.specs.declared.slots.Run.{Run}
 use Rattle.ap_frames.specs.Slots.{stands_startable, stands_running, stands_first, is_startable, is_running, may_be_given_back}
 use Rattle.ap_frames.specs.Rows.{row, at_place, standing, slot_at, IsAt, IsPlace}
 use Rattle.ap_frames.specs.Rows as frames
@@ -21,15 +19,16 @@ use Rattle.ap_instr.specs.Code.{Compiled}
 use Rattle.ap_tied.specs.SlotCalls.{stood_in, stood_stack, stood}
 use Rattle.ap_section.specs.declared.section.Section.{Section, roll-Section, out-Section}
 use Rattle.ap_section.specs.Views.{view_of, row_of, bare}
-use Rattle.ap_section.specs.Ready.{Shape, Part, shape_of, AreMatched, AreShut, AreInOrder, IsAtNewest, IsReady, IsReadyPart}
-use Rattle.ap_section.specs.Slots.{IsAtFrame, IsPlaceIn, IsSlotOf, told_of, slots_in, round_in, redone_of, redone_in}
+use Rattle.ap_section.specs.Ready.{Shape, shape_of, AreMatched, AreShut, AreInOrder, IsAtNewest, IsReady, IsReadyPart}
+use Rattle.ap_section.specs.Slots.{IsAtFrame, IsPlaceIn, told_of, slots_in, round_in, redone_of, redone_in}
 use Rattle.ap_section.specs.Lending.{count_in, with_newest}
 use Rattle.ap_frames.specs.declared.frame.Round.{Round}
 use Rattle.ap_frames.specs.declared.frame.Round.TheVariants.{First, Draining, Later, Closed}
 use Rattle.ap_tie.specs.Settled.{AreClosed}
 use Rattle.ap_tied.specs.Ties.{stack_in}
 use Rattle.ap_section.proofs.Levels.{held_now, slots_now, stack_now, seen_as, view_of-out, view_of-roll}
-use Rattle.ap_section.proofs.Parts.{HeldReady, StandReady, SlotsReady, FramesReady, IsReadyNow, part_now, ready-out, ready-roll, out-shut}
+use Rattle.ap_section.proofs.Stood.{one-less, at-stood, place-stood}
+use Rattle.ap_section.proofs.Parts.{HeldReady, StandReady, SlotsReady, FramesReady, part_now, ready-out, ready-roll, out-shut}
 
 false_true : false ≡ true → ⊥
 false_true h = search rules
@@ -79,16 +78,7 @@ pub length-rows : (xs : List (Slot Section Trees)) → length (rows (slots_now x
 length-rows [] = refl
 length-rows (x ∷ xs) = ap suc (length-rows xs)
 
-pub length-stood : (i : ℕ) (e : Stand (Unit {0})) (h : Held) (w : Slots) → length (rows (stood_in i e h w)) ≡ length (rows w)
-length-stood i e h no_slot = refl
-length-stood zero e h (slot x a w) = refl
-length-stood (suc zero) e h (slot x a w) = refl
-length-stood (suc (suc i)) e h (slot x a w) = ap suc (length-stood (suc i) e h w)
-
 -- ---- the frame at which a section stands
-
-one-less : (i : ℕ) → 0 < i → suc (i - 1) ≡ i
-one-less i h = search rules
 
 no-stack : (p : Paused) (gs : List Segment) → IsAtFrame (section p.machine p.spent p.budget (stack_now gs [])) → ⊥
 no-stack p [] h = h
@@ -116,15 +106,6 @@ stack-stood : (gs : List Segment) (fs : List (Frame Section Trees)) (f h : Frame
 stack-stood [] fs f h i y e = refl
 stack-stood (g ∷ gs) fs f h i y e = ap (λ r. parcall g.forked r.rest r.round (slots_now r.slots) g.points (stack_now gs fs)) e
     ∙ ap (λ w. parcall g.forked f.rest f.round w g.points (stack_now gs fs)) (stood-now (i - 1) y f.slots.items)
-
-pub at-stood : (i : ℕ) (e : Stand (Unit {0})) (a : Held) (v : seen.Section) → IsAtFrame v → IsAtFrame (stood i e a v)
-at-stood i e a (section m c b bottom) h = h
-at-stood i e a (section m c b (parcall f q rd w qs st)) h =
-    (h.0, h.1, length-stood i e a w ∙ h.2, h.3, subst (λ n. IsSlotOf n rd) (sym (length-stood i e a w)) h.4)
-
-pub place-stood : (i j : ℕ) (e : Stand (Unit {0})) (a : Held) (v : seen.Section) → IsPlaceIn i v → IsPlaceIn i (stood j e a v)
-place-stood i j e a (section m c b bottom) h = h
-place-stood i j e a (section m c b (parcall f q rd w qs st)) h = (h.0, subst (λ n. i ≤ n) (sym (length-stood j e a w)) h.1)
 
 pub frames-join : (code : Compiled) (fs gs : List (Frame Section Trees)) → FramesReady code fs → FramesReady code gs → FramesReady code (fs ++ gs)
 frames-join code [] gs h k = k
@@ -231,20 +212,6 @@ startable-row x = startable-stand x.stand
 
 pub running-row : (x : Slot Section Trees) → is_running (row_of x) ≡ is_running x
 running-row x = running-stand x.stand
-
-no-place : (i : ℕ) → 0 < i → i ≤ 0 → ⊥
-no-place i h k = search rules
-
-told-stood : (r : Run) (k : ℕ) (a : Held) (w : Slots) → k < length (rows w) → frames.of_slot is_running false (slice_get (rows (stood_in (suc k) (Running r) a w)) k) ≡ true
-told-stood r k a no_slot h = absurd (no-place (suc k) (search rules) (search rules))
-told-stood r zero a (slot x b w) h = refl
-told-stood r (suc k) a (slot x b w) h = told-stood r k a w (search rules)
-
--- a slot that was made to run runs
-pub runs-stood : (r : Run) (i : ℕ) (a : Held) (v : seen.Section) → IsPlaceIn i v → told_of is_running i (stood i (Running r) a v) ≡ true
-runs-stood r i a (section m c b bottom) h = absurd (no-place i h.0 h.1)
-runs-stood r i a (section m c b (parcall f q rd w qs st)) h =
-    ap (λ k. frames.of_slot is_running false (slice_get (rows (stood_in k (Running r) a w)) (i - 1))) (sym (one-less i h.0)) ∙ told-stood r (i - 1) a w (search rules)
 
 given-back-stand : (y : Stand Section) → stands_first (bare y) ≡ stands_first y
 given-back-stand Ready = refl

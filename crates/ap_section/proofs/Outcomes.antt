@@ -1,6 +1,5 @@
 -- What settling a frame comes to.
-use Rattle.std.proofs.Common.{◌≡◌, ◌∙◌, ◌⊎◌, ℕ, ◌+◌, ◌-◌, ◌<◌, ◌^◌, List, ap, sym, subst, refl, Some, Bool, true, false, Ok, Err}
-use Rattle.std.specs.List.{list_any}
+use Rattle.std.proofs.Common.{◌≡◌, ◌∙◌, ℕ, ◌+◌, ◌-◌, ◌<◌, ◌^◌, List, ap, sym, subst, refl, Some, Bool, true, false, Ok, Err}
 use Rattle.std.specs.Prelude.{Result, IsErr}
 use Rattle.ap_frames.specs.declared.verdict.Verdict.{Verdict}
 use Rattle.ap_section.specs.declared.settle.Settled.{Settled}
@@ -11,18 +10,17 @@ use Rattle.ap_frames.specs.declared.frame.Round.TheVariants.{Closed}
 use Rattle.ap_frames.specs.declared.verdict.Verdict.TheVariants.{Wait, Joined as JoinedBy, Broken as BrokenBy, Drain, Raised, Spent as SpentBy}
 use Rattle.ap_frames.specs.Verdicts.{next_redo}
 use Rattle.ap_instr.specs.Code.{Compiled}
-use Rattle.ap_tie.specs.Sections as seen
 use Rattle.ap_tie.specs.Sections.{rows}
 use Rattle.ap_tied.specs.SlotCalls.{held_in}
-use Rattle.ap_tied.specs.Ties.{Goes, stack_in}
+use Rattle.ap_tied.specs.Ties.{Goes}
 use Rattle.ap_tied.specs.Settling.{AreAnswersOf, SettlingLaw}
 use Rattle.ap_section.specs.declared.section.Section.{Section}
 use Rattle.ap_section.specs.declared.settle.Settled.TheVariants.{Open, Joined, Broken, Spent, Redo}
 use Rattle.ap_section.specs.Views.{view_of, spent_in, budget_in}
 use Rattle.ap_section.specs.Ready.{IsReady}
-use Rattle.ap_section.specs.Slots.{IsAtFrame, verdict_in, slots_in, round_in, closed_stack, is_held, held_spent}
-use Rattle.ap_section.specs.Settles.{HasCharged, IsOpenIn, IsSettled}
-use Rattle.ap_section.specs.Closes.{HasFrame, IsAtFirst, closed_in, charged_in, IsForgotten, IsBack, HasMetIn, CannotMeet, stays_in, MayBreak, CannotBreak, IsNearlyReady, IsOutcome}
+use Rattle.ap_section.specs.Slots.{IsAtFrame, verdict_in, slots_in, round_in, is_held, held_spent}
+use Rattle.ap_section.specs.Settles.{IsOpenIn, IsSettled}
+use Rattle.ap_section.specs.Closes.{closed_in, charged_in, IsForgotten, IsBack, HasMetIn, CannotMeet, stays_in, MayBreak, CannotBreak, IsNearlyReady, IsOutcome}
 use Rattle.ap_section.proofs.Closes.{ready-nearly, nearly-ready}
 use Rattle.ap_section.proofs.Goings.{stays-there, goes-back, at-back, stack-back, charged-back, charged-none, goes-joined, goes-unmet, joined-charged, joined-now, joined-stack, goes-broken, goes-closed, broken-charged, broken-now, closed-charged, closed-now}
 

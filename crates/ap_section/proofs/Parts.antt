@@ -1,5 +1,5 @@
 -- What the searches in a section are ready for, one level at a time.
-use Rattle.std.proofs.Common.{◌≡◌, ◌∙◌, ◌⊎◌, ℕ, List, [], ◌∷◌, ◌++◌, length, reverse, map, ap, sym, subst, refl, Some, None, Option, Bool, false}
+use Rattle.std.proofs.Common.{◌≡◌, ◌∙◌, ℕ, List, [], ◌∷◌, ◌++◌, reverse, map, ap, sym, subst, refl, Some, None, Option, Bool, false}
 use Rattle.std.specs.List.{AllByRecursion}
 use Rattle.std.proofs.lemmas.List.{length-map}
 use Rattle.ap_term.specs.Tree.{Trees}
@@ -13,7 +13,7 @@ use Rattle.ap_section.specs.declared.section.Section.{Section, fold-roll-Section
 use Rattle.ap_section.specs.declared.section.Section.TheOpen.{Section-F}
 use Rattle.ap_section.specs.declared.section.Section.TheShapes.{former-Section-frames-at-17, former-Section-frames-at-19}
 use Rattle.ap_section.specs.declared.section.Section.TheFolds.{map-Section}
-use Rattle.ap_section.specs.Ready.{Shape, Part, shape_of, parts_at, parts_of_slots, parts_of_frames, parts_level, parts_of, IsReadyPart, IsShutPart, AreReady, IsReady}
+use Rattle.ap_section.specs.Ready.{Part, shape_of, parts_at, parts_of_slots, parts_of_frames, parts_level, parts_of, IsReadyPart, IsShutPart, AreReady, IsReady}
 use Rattle.ap_section.proofs.Levels.{reverse-map}
 
 -- ---- one level

@@ -1,10 +1,8 @@
 -- A section whose newest frame readies the slots behind a redone one.
-use Rattle.std.proofs.Common.{◌≡◌, ◌∙◌, ℕ, zero, suc, ◌+◌, ◌-◌, Bool, true, false, if◌then◌else◌, nat_lt, List, [], ◌∷◌, length, reverse, ap, sym, subst, refl, get_or}
+use Rattle.std.proofs.Common.{◌≡◌, ◌∙◌, ℕ, ◌+◌, ◌-◌, Bool, true, false, if◌then◌else◌, nat_lt, List, [], ◌∷◌, length, reverse, ap, sym, subst, refl, get_or}
 use Rattle.ap_term.specs.Tree.{Trees}
 use Rattle.ap_instr.specs.Code.{Compiled}
-use Rattle.ap_tie.specs.Sections as seen
-use Rattle.ap_tie.specs.Sections.{Slots, no_slot, slot, section, Stack, bottom, parcall, rows}
-use Rattle.ap_tied.specs.SlotCalls.{readied_behind}
+use Rattle.ap_tie.specs.Sections.{section, parcall}
 use Rattle.ap_frames.specs.declared.frame.Frame.{Frame}
 use Rattle.ap_frames.specs.declared.slots.Slot.{Slot}
 use Rattle.ap_frames.specs.declared.slots.Stand.{Stand}
@@ -16,27 +14,18 @@ use Rattle.ap_machine.specs.View.{Segment}
 use Rattle.ap_section.specs.declared.section.Section.{Section, out-Section}
 use Rattle.ap_section.specs.Views.{view_of}
 use Rattle.ap_section.specs.Ready.{shape_of, IsReady}
-use Rattle.ap_section.specs.Slots.{IsAtFrame, IsSlotOf, readied_in, readied_stack}
+use Rattle.ap_section.specs.Slots.{IsAtFrame, readied_in, readied_stack}
 use Rattle.ap_section.specs.Lending.{count_in, with_newest}
 use Rattle.ap_section.proofs.Levels.{slots_now, stack_now}
 use Rattle.ap_section.proofs.Parts.{StandReady, SlotsReady}
 use Rattle.ap_section.proofs.Newest.{Top, top-at, view-top, view-newest, ready-newest, put_at}
+use Rattle.ap_section.proofs.Stood.{at-readied}
 use Rattle.ap_section.proofs.Shown.{readied-shown}
 
 stack-readied : (gs : List Segment) (fs : List (Frame Section Trees)) (f h : Frame Section Trees) (i : ℕ) → row h ≡ restarted i (row f) → stack_now gs (h ∷ fs) ≡ readied_stack i (stack_now gs (f ∷ fs))
 stack-readied [] fs f h i e = refl
 stack-readied (g ∷ gs) fs f h i e = ap (λ r. parcall g.forked r.rest r.round (slots_now r.slots) g.points (stack_now gs fs)) e
     ∙ ap (λ w. parcall g.forked f.rest f.round w g.points (stack_now gs fs)) (readied-shown i f.slots.items)
-
-length-readied : (i : ℕ) (w : Slots) → length (rows (readied_behind i w)) ≡ length (rows w)
-length-readied i no_slot = refl
-length-readied zero (slot x h w) = ap suc (length-readied zero w)
-length-readied (suc i) (slot x h w) = ap suc (length-readied i w)
-
-at-readied : (i : ℕ) (v : seen.Section) → IsAtFrame v → IsAtFrame (readied_in i v)
-at-readied i (section m c b bottom) h = h
-at-readied i (section m c b (parcall f q rd w qs st)) h =
-    (h.0, h.1, length-readied i w ∙ h.2, h.3, subst (λ n. IsSlotOf n rd) (sym (length-readied i w)) h.4)
 
 stand-readied : (code : Compiled) (y : Stand Section) → StandReady code y → StandReady code (readied_stand y)
 stand-readied code Ready h = tt

@@ -1,5 +1,5 @@
 -- What is read of the newest frame's slots, and of the one that is redone next.
-use Rattle.std.proofs.Common.{◌≡◌, ◌∙◌, ℕ, zero, suc, ◌+◌, ◌-◌, ◌<◌, ◌≤◌, ◌^◌, List, [], ◌∷◌, ◌++◌, length, take, slice_get, ap, ap₂, sym, subst, refl, Some, None, Option, Bool, true, false, ◌||◌, ◌&&◌, get_or, arith}
+use Rattle.std.proofs.Common.{◌≡◌, ◌∙◌, ℕ, zero, suc, ◌+◌, ◌-◌, ◌<◌, ◌≤◌, List, [], ◌∷◌, length, take, ap, ap₂, sym, refl, Some, None, Option, Bool, true, false, ◌||◌, ◌&&◌, get_or, arith}
 use Rattle.std.specs.List.{list_any, list_all}
 use Rattle.ap_term.specs.Tree.{Trees}
 use Rattle.ap_frames.specs.declared.frame.Frame.{Frame}

@@ -1,5 +1,5 @@
 -- Sections all of whose frames are closed.
-use Rattle.std.proofs.Common.{◌≡◌, ◌∙◌, ◌⊎◌, ℕ, zero, suc, ◌+◌, ◌-◌, ◌<◌, ◌≤◌, max, get_or, slice_get, Some, None, List, [], ◌∷◌, ◌++◌, length, reverse, map, ap, ap₂, sym, subst, refl, inl, inr, arith, rules, Vec, Global}
+use Rattle.std.proofs.Common.{◌≡◌, ◌∙◌, ◌⊎◌, ℕ, zero, suc, ◌+◌, ◌-◌, ◌<◌, ◌≤◌, max, get_or, slice_get, Some, None, List, [], ◌∷◌, ◌++◌, length, reverse, map, ap, sym, subst, refl, inl, inr, arith, rules}
 use Rattle.std.proofs.lemmas.List.{reverse-append}
 use Rattle.std.proofs.lemmas.Option.{slice_get-get_or}
 use Rattle.ap_term.specs.Tree.{Trees}
@@ -15,14 +15,14 @@ use Rattle.ap_tie.specs.Settled.{AreClosed}
 use Rattle.ap_tie.specs.Tied.{IsRest}
 use Rattle.ap_tied.specs.Ties.{Goes, stack_in}
 use Rattle.ap_tied.specs.Reaching.{ReachingLaw}
-use Rattle.ap_section.specs.declared.section.Section.{Section, roll-Section, out-Section}
+use Rattle.ap_section.specs.declared.section.Section.{Section, out-Section}
 use Rattle.ap_section.specs.declared.section.Section.TheOpen.{Section-F}
-use Rattle.ap_section.specs.Views.{view_of, spent_in, budget_in}
+use Rattle.ap_section.specs.Views.{view_of, spent_in}
 use Rattle.ap_section.specs.Ready.{Shape, shape_of, AreMatched, AreShut, AreInOrder, IsAtNewest, IsReady}
 use Rattle.ap_section.specs.Slots.{IsAtFrame, IsSlotOf}
 use Rattle.ap_section.specs.Moving.{IsShut, HasMoved}
-use Rattle.ap_section.proofs.Levels.{slots_now, stack_now, seen_as, view_of-out, view_of-roll}
-use Rattle.ap_section.proofs.Parts.{FramesReady, IsReadyNow, IsShutNow, part_now, ready-out, ready-roll, shut-out, shut-roll, out-shut, out-ready}
+use Rattle.ap_section.proofs.Levels.{slots_now, stack_now, seen_as, view_of-out}
+use Rattle.ap_section.proofs.Parts.{FramesReady, IsReadyNow, IsShutNow, part_now, ready-out, shut-out, out-shut, out-ready}
 use Rattle.ap_section.proofs.Newest.{Top, view-top, length-rows}
 
 -- a level as its view has it

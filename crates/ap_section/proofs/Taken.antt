@@ -1,14 +1,11 @@
 -- A section from whose newest frame a slot's section is taken.
-use Rattle.std.proofs.Common.{◌≡◌, ◌∙◌, ℕ, zero, suc, ◌+◌, ◌-◌, ◌<◌, ◌≤◌, List, [], ◌∷◌, ◌++◌, length, reverse, map, slice_get, ap, ap₂, sym, subst, refl, Some, None, Option, Bool, true, false, ◌&&◌, is_some, get_or, vec_len, arith}
-use Rattle.std.proofs.lemmas.List.{reverse-append}
-use Rattle.std.specs.Vec.{with_item}
+use Rattle.std.proofs.Common.{◌≡◌, ◌∙◌, ℕ, zero, suc, ◌+◌, ◌-◌, ◌<◌, ◌≤◌, List, [], ◌∷◌, length, reverse, slice_get, ap, ap₂, sym, subst, refl, Some, None, Option, Bool, true, false, ◌&&◌, is_some, get_or, arith}
 use Rattle.std.specs.Cmp.{nat_cmp_is}
 use Rattle.std.specs.Ordering.{nat_cmp}
 use Rattle.std.specs.declared.cmp.Ordering.{Ordering}
 use Rattle.std.specs.declared.cmp.Ordering.TheVariants.{Less, Equal, Greater}
 use Rattle.ap_term.specs.Tree.{Trees}
 use Rattle.ap_frames.specs.declared.frame.Frame.{Frame}
-use Rattle.ap_frames.specs.declared.frame.Round.{Round}
 use Rattle.ap_frames.specs.declared.frame.Round.TheVariants.{Later, Closed}
 use Rattle.ap_frames.specs.declared.slots.Slot.{Slot}
 use Rattle.ap_frames.specs.declared.slots.Run.TheVariants.{Redone}
@@ -23,8 +20,8 @@ use Rattle.ap_instr.specs.Code.{Compiled}
 use Rattle.ap_machine.specs.View.{Segment, Paused}
 use Rattle.ap_tie.specs.Sections as seen
 use Rattle.ap_tie.specs.Sections.{Row, section, Slots, no_slot, slot, Held, nothing, held, Stack, bottom, parcall, rows}
-use Rattle.ap_tie.specs.Redone.{keeping, taken}
-use Rattle.ap_section.specs.declared.section.Section.{Section, roll-Section, out-Section}
+use Rattle.ap_tie.specs.Redone.{keeping}
+use Rattle.ap_section.specs.declared.section.Section.{Section, out-Section}
 use Rattle.ap_tied.specs.SlotCalls.{held_in, gone_on}
 use Rattle.ap_section.specs.Views.{view_of, row_of, bare, spent_in, budget_in}
 use Rattle.ap_section.specs.Lending.{count_in}

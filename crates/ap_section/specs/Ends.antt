@@ -1,5 +1,5 @@
 -- Where a section begins, and where it comes to rest.
-use Rattle.std.specs.Prelude.{◌≡◌, ℕ, ◌+◌, ◌<◌, ◌≤◌, ◌⊎◌, Bool, true, false, List, [], ◌∷◌}
+use Rattle.std.specs.Prelude.{◌≡◌, ℕ, ◌+◌, ◌<◌, ◌≤◌, ◌⊎◌, List, [], ◌∷◌}
 use Rattle.ap_term.specs.Tree.{Trees}
 use Rattle.ap_tracked.specs.Tracked.{Tracked}
 use Rattle.ap_instr.specs.Code.{Compiled}
@@ -7,11 +7,10 @@ use Rattle.ap_standing.specs.Machine.{Machine, failed}
 use Rattle.ap_standing.specs.Holds.{Holds}
 use Rattle.ap_machine.specs.View.{Paused}
 use Rattle.ap_machine.specs.Started.{Started}
-use Rattle.ap_tie.specs.Sections.{Section, section, Stack, bottom, machine_in}
+use Rattle.ap_tie.specs.Sections.{Section, section, bottom}
 use Rattle.ap_tie.specs.Settled.{AreClosed}
 use Rattle.ap_tie.specs.Tied.{IsAtAnswer}
 use Rattle.ap_tied.specs.Settling.{HasGoals}
-use Rattle.ap_tied.specs.Ties.{stack_in}
 use Rattle.ap_section.specs.declared.advance.Turn.{Turn}
 use Rattle.ap_section.specs.declared.advance.Turn.TheVariants.{Answer, Failed, Spent, More, Stopped, Fork}
 use Rattle.ap_section.specs.Slots.{IsAtFrame}

@@ -13,7 +13,7 @@ use Rattle.ap_tie.specs.Sections.{section}
 use Rattle.ap_tie.specs.Tied.{IsAtAnswer}
 use Rattle.ap_tied.specs.Ties.{Goes}
 use Rattle.ap_section.specs.declared.section.Section.{Section}
-use Rattle.ap_section.specs.Views.{view_of, spent_in, budget_in}
+use Rattle.ap_section.specs.Views.{spent_in, budget_in}
 use Rattle.ap_section.specs.Ready.{parts_of, IsShutPart}
 use Rattle.ap_section.specs.declared.advance.Turn.{Turn}
 use Rattle.ap_section.specs.Ends.{IsCallNext, Ends}

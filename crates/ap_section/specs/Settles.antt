@@ -1,13 +1,13 @@
 -- What becomes of a section whose first frame is settled.
-use Rattle.std.specs.Prelude.{◌≡◌, ℕ, ◌+◌, ◌-◌, ◌<◌, ◌^◌, ◌⊎◌, Bool, true, false, Some, None}
+use Rattle.std.specs.Prelude.{◌≡◌, ℕ, ◌+◌, ◌-◌, ◌<◌, ◌^◌, ◌⊎◌, true, Some}
 use Rattle.std.specs.List.{list_any}
 use Rattle.ap_frames.specs.declared.frame.Round.TheVariants.{Closed}
 use Rattle.ap_frames.specs.declared.verdict.Verdict.{Verdict}
-use Rattle.ap_frames.specs.declared.verdict.Verdict.TheVariants.{Wait, Joined as JoinedBy, Broken as BrokenBy, Drain, Raised, Spent as SpentBy}
+use Rattle.ap_frames.specs.declared.verdict.Verdict.TheVariants.{Joined as JoinedBy, Broken as BrokenBy, Spent as SpentBy}
 use Rattle.ap_frames.specs.Slots.{is_running}
 use Rattle.ap_frames.specs.Verdicts.{next_redo}
 use Rattle.ap_standing.specs.Machine.{returning, failed}
-use Rattle.ap_tie.specs.Sections.{Section, section, Slots, machine_in, rows}
+use Rattle.ap_tie.specs.Sections.{Section, Slots, machine_in, rows}
 use Rattle.ap_tied.specs.Settling.{IsRedoable}
 use Rattle.ap_tied.specs.SlotCalls.{held_in}
 use Rattle.ap_tied.specs.Ties.{stack_in}

@@ -1,5 +1,5 @@
 -- What is read of the frame that comes first, and what becomes of it.
-use Rattle.std.specs.Prelude.{◌≡◌, ℕ, ◌+◌, ◌-◌, ◌<◌, ◌≤◌, ◌⊎◌, Bool, true, false, List, [], length, slice_get, take, Option, Some, None}
+use Rattle.std.specs.Prelude.{◌≡◌, ℕ, ◌-◌, ◌<◌, ◌≤◌, ◌⊎◌, Bool, true, false, List, [], length, slice_get, take, Option, Some, None}
 use Rattle.std.specs.List.{list_any}
 use Rattle.ap_term.specs.Tree.{Trees, count_trees}
 use Rattle.ap_term.specs.UpToNames.{SameUpToNames}
@@ -11,17 +11,16 @@ use Rattle.ap_frames.specs.declared.verdict.Verdict.{Verdict}
 use Rattle.ap_frames.specs.declared.verdict.Verdict.TheVariants.{Wait}
 use Rattle.ap_frames.specs.Slots.{is_startable}
 use Rattle.ap_frames.specs.Rows.{of_slot}
-use Rattle.ap_frames.specs.Verdicts.{judged, next_redo}
+use Rattle.ap_frames.specs.Verdicts.{judged}
 use Rattle.ap_instr.specs.declared.compiled.Predicate.{Predicate}
 use Rattle.ap_instr.specs.Code.{Compiled}
-use Rattle.ap_group.specs.Groups.{Pushed, Forked}
+use Rattle.ap_group.specs.Groups.{Pushed}
 use Rattle.ap_steps.specs.Standing.{tuple_under}
-use Rattle.ap_standing.specs.Machine.{Machine}
-use Rattle.ap_tie.specs.Sections.{Row, Section, section, Stack, bottom, parcall, Slots, no_slot, slot, Held, nothing, held, rows}
+use Rattle.ap_tie.specs.Sections.{Row, Section, section, Stack, bottom, parcall, Slots, no_slot, Held, nothing, held, rows}
 use Rattle.ap_tie.specs.Redone.{taken}
 use Rattle.ap_tie.specs.Settled.{HasFailed}
 use Rattle.ap_tie.specs.Tied.{IsRest}
-use Rattle.ap_tied.specs.SlotCalls.{row_in, held_in, readied_behind, gone_on}
+use Rattle.ap_tied.specs.SlotCalls.{row_in, readied_behind, gone_on}
 use Rattle.ap_tied.specs.Ties.{stack_in}
 
 -- ---- at a frame
@@ -81,6 +80,10 @@ IsPlaceIn i s = (0 < i) × (i ≤ length (rows (slots_in s)))
 -- slot i can be started, and none left of it can
 abbrev pub IsFirstReady : ℕ → Section → Type 0
 IsFirstReady i s = IsPlaceIn i s × (told_of is_startable i s ≡ true) × (list_any is_startable (take (i - 1) (rows (slots_in s))) ≡ false) × (round_in s ≡ Closed → ⊥)
+
+-- slot i can be started
+abbrev pub IsReadyAt : ℕ → Section → Type 0
+IsReadyAt i s = IsPlaceIn i s × (told_of is_startable i s ≡ true) × (round_in s ≡ Closed → ⊥)
 
 -- no slot can
 abbrev pub HasNoReady : Section → Type 0

@@ -4,7 +4,7 @@ ghost use Rattle.std.specs.Prelude.{◌≡◌, ◌+◌, ◌-◌, ◌≤◌, max,
 ghost use Rattle.ap_instr.specs.Code.{Compiled};
 ghost use Rattle.ap_machine.specs.View.{Paused};
 ghost use Rattle.ap_machine.specs.Stands.{IsAtEnd, IsAtGroup};
-ghost use Rattle.ap_machine.specs.Forking.{HasForked};
+ghost use Rattle.ap_machine.specs.Forking.{HasForked, IsAtUnchecked};
 ghost use Rattle.ap_tie.specs.Sections.{machine_in};
 ghost use Rattle.ap_ledger.specs.Counts.{capped};
 ghost use Rattle.ap_tied.specs.Ties.{Goes};
@@ -102,6 +102,30 @@ impl Section {
         Ok(forked)
     }
 
+    /// Takes the group at which the search stands. One whose goals are wanted is forked, as its checks say, and so is one without
+    /// a check; else its goals are called one after another.
+    fn take_group(&mut self, sound: &Sound, wanted: bool) -> Result<bool, NoMemory>
+        requires shut { IsShut sound.now self.old }
+        requires here { IsAtGroup sound.now (machine_in (view_of self.old)) }
+        ensures moved { HasMoved sound.now (view_of self.old) (view_of self.new) }
+        ensures spent { spent_in (view_of self.new) ≡ spent_in (view_of self.old) }
+        ensures ready { IsReady sound.now self.new }
+        ensures forked { result ≡ Ok true → IsAtFrame (view_of self.new) }
+        ensures unwanted { wanted ≡ false → result ≡ Ok true → IsAtUnchecked sound.now (machine_in (view_of self.old)) }
+    {
+        if wanted {
+            return self.fork(sound);
+        }
+        reaching_law();
+        match self.search.plain_way(sound)? {
+            Some(to) => {
+                self.search.go_plain(to);
+                Ok(false)
+            }
+            None => self.fork(sound),
+        }
+    }
+
     /// Comes back to the newest frame, where nothing newer is left to do. One that has no slot to redo is dropped.
     fn come_back(&mut self) -> Option<Turn>
         requires end { IsAtEnd (machine_in (view_of self.old)) }
@@ -172,7 +196,7 @@ impl Section {
             SearchTurn::More => Ok(Some(Turn::More)),
             SearchTurn::Stopped => Ok(Some(Turn::Stopped)),
             SearchTurn::Group => {
-                if self.fork(sound)? {
+                if self.take_group(sound, hook.wants())? {
                     return Ok(Some(Turn::Fork));
                 }
                 Ok(None)

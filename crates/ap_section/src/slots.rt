@@ -1,19 +1,19 @@
 //! The slots of the frame at which a section stands.
 
-ghost use Rattle.std.specs.Prelude.{◌≡◌, ◌<◌, true, false, length, position, IfOk, IfSome, IfNone, Some};
+ghost use Rattle.std.specs.Prelude.{◌≡◌, ◌<◌, ◌≤◌, ◌-◌, true, false, length, position, slice_get, IfOk, IfSome, IfNone, Some};
 ghost use Rattle.ap_instr.specs.Code.{Compiled};
 ghost use Rattle.ap_frames.specs.declared.slots.Stand.TheVariants.{Running as RunningStand, Ended as EndedStand};
 ghost use Rattle.ap_frames.specs.declared.slots.Run.TheVariants.{First as FirstRun};
 ghost use Rattle.ap_frames.specs.declared.slots.Ending.TheVariants.{Failed as FailedEnding, Spent as SpentEnding};
 ghost use Rattle.ap_frames.specs.Slots.{is_running, is_startable, may_be_given_back};
-ghost use Rattle.ap_frames.specs.Rows.{stopped};
+ghost use Rattle.ap_frames.specs.Rows.{of_slot, stopped};
 ghost use Rattle.ap_tie.specs.Sections.{nothing, held};
 ghost use Rattle.ap_tie.specs.Settled.{AreClosed};
 ghost use Rattle.ap_tied.specs.Ties.{stack_in};
 ghost use Rattle.ap_tied.specs.SlotCalls.{stood, answered};
 ghost use Rattle.ap_section.specs.Views.{view_of};
 ghost use Rattle.ap_section.specs.Ready.{IsReady};
-ghost use Rattle.ap_section.specs.Slots.{IsAtFrame, IsPlaceIn, IsFirstReady, HasNoReady, IsGoalOf, IsKnownAt, IsParcelOf, told_of, verdict_in, redone_in, readied_in};
+ghost use Rattle.ap_section.specs.Slots.{IsAtFrame, IsPlaceIn, IsFirstReady, IsReadyAt, HasNoReady, IsGoalOf, IsKnownAt, IsParcelOf, told_of, verdict_in, redone_in, readied_in};
 
 use crate::section::Section;
 use ap_copy::Parcelled;
@@ -33,6 +33,25 @@ fn first_startable(slots: &[Slot<Section, Parcelled>]) -> Option<usize>
     ensures place { IfSome result (λ i. i < length slots.now) }
 {
     slots.iter().position(|x| can_start(x))
+}
+
+/// Whether a slot is ready, and wasn't given back.
+fn is_ready(x: &Slot<Section, Parcelled>) -> bool
+    ensures { result ≡ true → is_startable x.now ≡ true }
+{
+    matches!(&x.stand, Stand::Ready)
+}
+
+/// Finds the rightmost slot that is ready, from 1.
+fn last_ready(slots: &[Slot<Section, Parcelled>]) -> Option<usize>
+    ensures { IfSome result (λ i. (0 < i) × (i ≤ length slots.now) × (of_slot is_startable false (slice_get slots.now (i - 1)) ≡ true)) }
+{
+    for i in (0..slots.len()).rev() {
+        if is_ready(&slots[i]) {
+            return Some(i + 1);
+        }
+    }
+    None
 }
 
 impl Section {
@@ -59,6 +78,19 @@ impl Section {
                 Some(i) => Some(i + 1),
                 None => None,
             },
+        }
+    }
+
+    /// Finds the rightmost slot that is ready, from 1; one that was given back isn't.
+    pub fn last_ready(&self) -> Option<usize>
+        requires { IsAtFrame (view_of self.now) }
+        ensures { IfSome result (λ i. IsReadyAt i (view_of self.now)) }
+    {
+        let newest = self.frames.len() - 1;
+        let frame = &self.frames[newest];
+        match frame.round {
+            Round::Closed => None,
+            _ => last_ready(&frame.slots),
         }
     }
 
@@ -102,6 +134,7 @@ impl Section {
         ensures at_frame { IsAtFrame (view_of self.new) }
         ensures place { IsPlaceIn i (view_of self.new) }
         ensures runs { told_of is_running i (view_of self.new) ≡ true }
+        ensures first { told_of may_be_given_back i (view_of self.new) ≡ true }
         ensures ready { (code : Compiled) → IsReady code self.old → IsReady code self.new }
     {
         let newest = self.frames.len() - 1;

@@ -1,4 +1,3 @@
-use Rattle.std.proofs.Common.{◌≡◌, ◌+◌, ◌-◌, ◌≤◌, subst, ap, arith, ◌∙◌}
 use Rattle.ap_section.specs.Views.{view_of, spent_in, budget_in}
 use Rattle.ap_section.proofs.Shut.{moved-on, within-on, few-on}
 use Rattle.ap_section.proofs.section.Section.advance_by.Goals as goal

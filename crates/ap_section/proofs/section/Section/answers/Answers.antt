@@ -1,4 +1,4 @@
-use Rattle.std.proofs.Common.{rules, ◌≡◌, ◌∙◌, ap, sym, subst}
+use Rattle.std.proofs.Common.{rules}
 use Rattle.ap_section.proofs.Newest.{count-at}
 use Rattle.ap_section.proofs.Goings.{answers-found}
 use Rattle.ap_section.proofs.section.Section.answers.Goals as goal

@@ -1,4 +1,4 @@
-use Rattle.std.proofs.Common.{◌≡◌, ◌∙◌, sym, false}
+use Rattle.std.proofs.Common.{◌∙◌, sym}
 use Rattle.ap_section.proofs.Shut.{top-last, none-last}
 use Rattle.ap_section.proofs.Back.{none-rested, not-some, back-came, back-framed, fewer-came}
 use Rattle.ap_section.proofs.section.Section.come_back.Goals as goal

@@ -1,4 +1,4 @@
-use Rattle.std.proofs.Common.{◌≡◌, ◌+◌, ◌≤◌, max, sym, subst}
+use Rattle.std.proofs.Common.{◌+◌, ◌≤◌, max, sym, subst}
 use Rattle.ap_section.specs.Views.{view_of, spent_in, budget_in}
 use Rattle.ap_section.specs.Moving.{IsEndedBy}
 use Rattle.ap_section.proofs.Shut.{moved-on, shut-view}
@@ -11,14 +11,14 @@ returns-then-is_open-clause-end g c = c.is_open.ensures.open c.if-is_open.true c
 pub search_on-requires : goal.search_on-requires
 search_on-requires g c = c.is_open.ensures.shut c.if-is_open.false c.args.sound.now c.requires
 
-pub returns-in_err-fork-in-Group-clause-moved : goal.returns-in_err-fork-in-Group-clause-moved
-returns-in_err-fork-in-Group-clause-moved g c = moved-on c.reaching_law.ensures c.args.sound.now (view_of c.args.self.now) (view_of c.search_on.new.self) (view_of c.fork.new.self) c.search_on.ensures.moved c.fork.ensures.moved
+pub returns-in_err-take_group-in-Group-clause-moved : goal.returns-in_err-take_group-in-Group-clause-moved
+returns-in_err-take_group-in-Group-clause-moved g c = moved-on c.reaching_law.ensures c.args.sound.now (view_of c.args.self.now) (view_of c.search_on.new.self) (view_of c.take_group.new.self) c.search_on.ensures.moved c.take_group.ensures.moved
 
 pub returns-then-branch-clause-moved : goal.returns-then-branch-clause-moved
-returns-then-branch-clause-moved g c = moved-on c.reaching_law.ensures c.args.sound.now (view_of c.args.self.now) (view_of c.search_on.new.self) (view_of c.fork.new.self) c.search_on.ensures.moved c.fork.ensures.moved
+returns-then-branch-clause-moved g c = moved-on c.reaching_law.ensures c.args.sound.now (view_of c.args.self.now) (view_of c.search_on.new.self) (view_of c.take_group.new.self) c.search_on.ensures.moved c.take_group.ensures.moved
 
 pub returns-else-branch-clause-moved : goal.returns-else-branch-clause-moved
-returns-else-branch-clause-moved g c = moved-on c.reaching_law.ensures c.args.sound.now (view_of c.args.self.now) (view_of c.search_on.new.self) (view_of c.fork.new.self) c.search_on.ensures.moved c.fork.ensures.moved
+returns-else-branch-clause-moved g c = moved-on c.reaching_law.ensures c.args.sound.now (view_of c.args.self.now) (view_of c.search_on.new.self) (view_of c.take_group.new.self) c.search_on.ensures.moved c.take_group.ensures.moved
 
 pub returns-in-Answer-clause-end : goal.returns-in-Answer-clause-end
 returns-in-Answer-clause-end g c =

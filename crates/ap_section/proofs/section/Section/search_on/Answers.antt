@@ -1,4 +1,4 @@
-use Rattle.std.proofs.Common.{◌≡◌, List, reverse}
+use Rattle.std.proofs.Common.{List, reverse}
 use Rattle.ap_tracked.specs.Tracked.{Tracked}
 use Rattle.ap_standing.specs.Holds.{Holds}
 use Rattle.ap_machine.specs.Ends.{Ends, AreStates}

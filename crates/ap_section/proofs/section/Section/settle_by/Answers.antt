@@ -1,6 +1,6 @@
-use Rattle.std.proofs.Common.{rules, ◌≡◌, ◌∙◌, ap, sym, subst}
+use Rattle.std.proofs.Common.{◌∙◌, sym, subst}
 use Rattle.ap_section.specs.Views.{view_of}
-use Rattle.ap_section.specs.Slots.{verdict_in, slots_in}
+use Rattle.ap_section.specs.Slots.{slots_in}
 use Rattle.ap_section.specs.Settles.{IsOpenIn}
 use Rattle.ap_section.proofs.Outcomes.{none-open, none-spent, open-otherwise}
 use Rattle.ap_section.proofs.section.Section.settle_by.Goals as goal

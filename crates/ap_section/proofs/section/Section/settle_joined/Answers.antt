@@ -1,8 +1,8 @@
-use Rattle.std.proofs.Common.{rules, ◌≡◌, ◌∙◌, ap, sym, subst, Err}
+use Rattle.std.proofs.Common.{rules, sym, subst}
 use Rattle.ap_tied.specs.Settling.{AreAnswersOf}
 use Rattle.ap_section.specs.Views.{view_of}
 use Rattle.ap_section.specs.Slots.{slots_in}
-use Rattle.ap_section.specs.Closes.{IsRejoined, IsOutcome}
+use Rattle.ap_section.specs.Closes.{IsRejoined}
 use Rattle.ap_section.proofs.Outcomes.{no-memory, none-open, open-joined, no-memory-by, back-by, back-unmet, was-joined}
 use Rattle.ap_section.proofs.section.Section.settle_joined.Goals as goal
 

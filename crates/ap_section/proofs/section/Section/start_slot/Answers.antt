@@ -1,8 +1,9 @@
 use Rattle.std.proofs.Common.{rules, ◌∙◌, ap}
-use Rattle.ap_frames.specs.Slots.{is_startable, is_running}
+use Rattle.ap_frames.specs.Slots.{is_startable, is_running, may_be_given_back}
 use Rattle.ap_frames.specs.declared.slots.Stand.TheVariants.{Running}
 use Rattle.ap_frames.specs.declared.slots.Run.TheVariants.{First}
-use Rattle.ap_section.proofs.Newest.{count-at, called, place-at, told-at, startable-row, runs-stood}
+use Rattle.ap_section.proofs.Newest.{count-at, called, place-at, told-at, startable-row}
+use Rattle.ap_section.proofs.Stood.{runs-stood, first-stood}
 use Rattle.ap_tie.specs.Sections.{nothing}
 use Rattle.ap_section.specs.Views.{view_of}
 use Rattle.ap_section.specs.Slots.{told_of}
@@ -32,6 +33,10 @@ returns-clause-place c = (called c.args.self.now c.len-newest.result c.index_mut
 pub returns-clause-runs : goal.returns-clause-runs
 returns-clause-runs c = let k = (called c.args.self.now c.len-newest.result c.index_mut.result.now c.set_running.new.self c.args.i (Running First) c.len-newest.ensures c.requires.at c.requires.place c.index_mut.ensures.value c.set_running.ensures) in
     ap (told_of is_running c.args.i) k.stands ∙ runs-stood First c.args.i nothing (view_of c.args.self.now) c.requires.place
+
+pub returns-clause-first : goal.returns-clause-first
+returns-clause-first c = let k = (called c.args.self.now c.len-newest.result c.index_mut.result.now c.set_running.new.self c.args.i (Running First) c.len-newest.ensures c.requires.at c.requires.place c.index_mut.ensures.value c.set_running.ensures) in
+    ap (told_of may_be_given_back c.args.i) k.stands ∙ first-stood c.args.i nothing (view_of c.args.self.now) c.requires.place
 
 pub returns-clause-ready : goal.returns-clause-ready
 returns-clause-ready c = λ code. (called c.args.self.now c.len-newest.result c.index_mut.result.now c.set_running.new.self c.args.i (Running First) c.len-newest.ensures c.requires.at c.requires.place c.index_mut.ensures.value c.set_running.ensures).ready code tt
