@@ -16,7 +16,7 @@ use Rattle.ap_laws.specs.Rejoining.{IsOnTheWay}
 use Rattle.ap_laws.specs.Tasks.{left}
 use Rattle.ap_laws.proofs.Conjunctions.{query}
 use Rattle.ap_core.specs.declared.events.Kind.TheVariants as kinds
-use Rattle.ap_core.specs.declared.tasks.Status.TheVariants.{NoBudget}
+use Rattle.ap_core.specs.declared.tasks.Status.TheVariants.{GoingOn, NoBudget}
 use Rattle.ap_core.specs.Tasks.{Task, task}
 use Rattle.ap_core.specs.Conditions.{is_exhausted, spent_by}
 use Rattle.ap_core.specs.Relation.{Rules, Core, has_spent, only_if, with_status, while_going, at_root}
@@ -30,6 +30,7 @@ use Rattle.ap_tie.specs.Sections.{Section}
 use Rattle.ap_tied.specs.Settling.{SettlingLaw, RestingLaw}
 use Rattle.ap_tied.specs.Ties.{IsSearched}
 use Rattle.ap_open.specs.Opened.{Outer, OpenTied, IsSolving, spent_in}
+use Rattle.ap_open.specs.Away.{Away, Level, OpenBeside, IsSolvingBeside}
 use Rattle.ap_open.specs.Solving.{IsUpToNames, IsCharged, BlockLaw}
 use Rattle.ap_open.proofs.Harmless.{harmless}
 use Rattle.ap_open.proofs.Opening.{after_more}
@@ -151,6 +152,29 @@ searched_first : (code : Compiled) (p : Rules) (o : Tracked) (outer : List Outer
 searched_first code p o [] s t h = h.0
 searched_first code p o (a ∷ outer) s t h = h.0
 
+searched_beside : (code : Compiled) (p : Rules) (o : Tracked) (levels : List Level) (s : Section) (aways : List Away) (t : Task) → OpenBeside code p o levels s aways t → IsSearched code p o
+searched_beside code p o [] s aways t h = h.0
+searched_beside code p o (a ∷ levels) s aways t h = h.0
+
+-- what is known of a query's search, whatever its sections are
+pub record HasGiven (code : Compiled) (p : Rules) (q : Query) (budget : ℕ) (given : List Trees) : Type 0 where
+  pub events : List Happening
+  pub core : Core
+  pub led : after_all events (beginning p (start q) budget) ≡ Some core
+  pub rules : core.rules ≡ p
+  pub going : core.status ≡ GoingOn
+  pub searched : IsSearched code p (tracked_start q)
+  pub emitted : AllZip SameUpToNames given core.emitted
+
+abbrev by_outer : (code : Compiled) (p : Rules) (q : Query) (budget : ℕ) (outer : List Outer) (s : Section) (given : List Trees) → IsSolving code p (tracked_start q) (start q) budget outer s given → HasGiven code p q budget given
+by_outer code p q budget outer s given h =
+    record { events = h.events; core = h.core; led = h.led; rules = h.rules; going = h.going; searched = searched_first code p (tracked_start q) outer s h.core.root h.opened; emitted = h.emitted }
+
+abbrev by_levels : (code : Compiled) (p : Rules) (q : Query) (budget : ℕ) (levels : List Level) (s : Section) (aways : List Away) (given : List Trees)
+    → IsSolvingBeside code p (tracked_start q) (start q) budget levels s aways given → HasGiven code p q budget given
+by_levels code p q budget levels s aways given h =
+    record { events = h.events; core = h.core; led = h.led; rules = h.rules; going = h.going; searched = searched_beside code p (tracked_start q) levels s aways h.core.root h.opened; emitted = h.emitted }
+
 spent_left : (t : Task) → spent_by t ≤ left (erased t)
 spent_left (task r c l) = omega arith
 
@@ -158,16 +182,12 @@ only_true : {A : Type 0} (b : Bool) (x : A) → b ≡ true → only_if b x ≡ S
 only_true true x h = refl
 only_true false x h = absurd (cc)
 
-module _ (line : Trees → List ℕ) (code : Compiled) (p : Rules) (q : Query) (budget : ℕ) (outer : List Outer) (s : Section) (given : List Trees) (same : IsUpToNames line) (is : IsQuery q)
-    (h : IsSolving code p (tracked_start q) (start q) budget outer s given) where
-  searched : IsSearched code p (tracked_start q)
-  searched = searched_first code p (tracked_start q) outer s h.core.root h.opened
-
+module _ (line : Trees → List ℕ) (code : Compiled) (p : Rules) (q : Query) (budget : ℕ) (given : List Trees) (same : IsUpToNames line) (is : IsQuery q) (h : HasGiven code p q budget given) where
   lines : map line h.core.emitted ≡ map line given
   lines = sym (same_lines line same given h.core.emitted h.emitted)
 
   reached : (events : List Happening) (c : Core) → after_all events (beginning p (start q) budget) ≡ Some c → AreAnswers p.program (start q) budget c c.emitted
-  reached events c led = (reached_by_events p searched.program (λ g e b. harmless p.program g b) (start q) (query q is).0 (query q is).1 budget events c led).0
+  reached events c led = (reached_by_events p h.searched.program (λ g e b. harmless p.program g b) (start q) (query q is).0 (query q is).1 budget events c led).0
 
   pub begins : Begins line p.program (start q) (map line given)
   begins = subst (Begins line p.program (start q)) lines ((reached h.events h.core h.led).0 line)
@@ -189,7 +209,7 @@ module _ (line : Trees → List ℕ) (code : Compiled) (p : Rules) (q : Query) (
 
   pub charged : (c : ℕ) → c ≤ spent_by h.core.root → IsCharged line p.program (start q) c (map line given)
   charged c few n lt =
-      let r = reached_by_events p searched.program (λ g e b. harmless p.program g b) (start q) (query q is).0 (query q is).1 budget h.events h.core h.led in
+      let r = reached_by_events p h.searched.program (λ g e b. harmless p.program g b) (start q) (query q is).0 (query q is).1 budget h.events h.core h.led in
       let below : n < left (erased h.core.root) = let k = spent_left h.core.root in omega arith in
       let w = on_the_way (meets p.program n (start q ∷ [])) h.core.emitted (r.1.1 n below) in
       (w.0, subst (IsPrefix (map line (search p.program n (start q ∷ [])).answers)) lines (prefix_map line (search p.program n (start q ∷ [])).answers h.core.emitted w.1))
@@ -235,10 +255,11 @@ module _ (line : Trees → List ℕ) (code : Compiled) (p : Rules) (q : Query) (
 
 pub block : RestingLaw → SettlingLaw → BlockLaw
 block resting settling = record {
-  ends = λ line code p q budget limit s given same is h lt done. ends line code p q budget [] s given same is h limit lt (ended resting code p (tracked_start q) s h.core.root done h.opened.1);
-  spends = λ line code p q budget limit s given same is h lt done. spends line code p q budget [] s given same is h limit lt (spent resting settling code p (tracked_start q) s h.core.root done h.opened.1);
-  stops = λ line code p q budget limit s given same is h e. stops line code p q budget [] s given same is h limit e;
-  goes_on = λ line code p q budget limit outer s given same is h le. goes_on line code p q budget outer s given same is h limit le;
-  charges = λ line code p q budget s given same is h. charged line code p q budget [] s given same is h (spent_in s) (let e = spent_tied code p (tracked_start q) s h.core.root h.opened.1 in omega arith);
-  charges_all = λ line code p q budget s given same is h done. charged_all line code p q budget [] s given same is h (spent resting settling code p (tracked_start q) s h.core.root done h.opened.1);
+  ends = λ line code p q budget limit s given same is h lt done. ends line code p q budget given same is (by_outer code p q budget [] s given h) limit lt (ended resting code p (tracked_start q) s h.core.root done h.opened.1);
+  spends = λ line code p q budget limit s given same is h lt done. spends line code p q budget given same is (by_outer code p q budget [] s given h) limit lt (spent resting settling code p (tracked_start q) s h.core.root done h.opened.1);
+  stops = λ line code p q budget limit s given same is h e. stops line code p q budget given same is (by_outer code p q budget [] s given h) limit e;
+  goes_on = λ line code p q budget limit outer s given same is h le. goes_on line code p q budget given same is (by_outer code p q budget outer s given h) limit le;
+  goes_on_beside = λ line code p q budget limit levels s aways given same is h le. goes_on line code p q budget given same is (by_levels code p q budget levels s aways given h) limit le;
+  charges = λ line code p q budget s given same is h. charged line code p q budget given same is (by_outer code p q budget [] s given h) (spent_in s) (let e = spent_tied code p (tracked_start q) s h.core.root h.opened.1 in omega arith);
+  charges_all = λ line code p q budget s given same is h done. charged_all line code p q budget given same is (by_outer code p q budget [] s given h) (spent resting settling code p (tracked_start q) s h.core.root done h.opened.1);
 }

@@ -12,3 +12,4 @@ pub mod Reading
 pub mod Elsewhere
 pub mod Outcomes
 pub mod Sharing
+pub mod InTurn

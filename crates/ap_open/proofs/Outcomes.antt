@@ -34,6 +34,14 @@ happened_more p (e ∷ es) fs t u h = go (at_end p e.0 e.1 t) h (happened_more p
     go None h rec = absurd (refused h)
     go (Some x) h rec = rec x u h
 
+-- one after the other
+pub carries_on : (code : Compiled) (levels levels' levels'' : List Level) (s s' s'' : Section) (aways aways' aways'' : List Away)
+    → Carries code levels s aways levels' s' aways' → Carries code levels' s' aways' levels'' s'' aways'' → Carries code levels s aways levels'' s'' aways''
+carries_on code levels levels' levels'' s s' s'' aways aways' aways'' f g p o t h =
+    let a = f p o t h in
+    let b = g p o a.1 a.3 in
+    (a.0 ++ b.0, b.1, happened_more p a.0 b.0 t a.1 a.2 ∙ b.2, b.3)
+
 searches : (code : Compiled) (p : Rules) (o : Tracked) (rest : ℕ) (levels levels' : List Level) (s s' : Section) (aways aways' : List Away) → Carries code levels s aways levels' s' aways'
     → IsSearch code p o rest levels s aways → IsSearch code p o rest levels' s' aways'
 searches code p o rest levels levels' s s' aways aways' f h =

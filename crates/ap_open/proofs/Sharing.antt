@@ -4,6 +4,7 @@ use Rattle.std.proofs.lemmas.Bool.Decides.{Decides-eqb}
 use Rattle.std.proofs.lemmas.Bool.{false≢true}
 use Rattle.std.proofs.lemmas.List.{map-append}
 use Rattle.ap_term.specs.Tree.{Tree}
+use Rattle.ap_term.proofs.Zips.{AllByRecursion-append}
 use Rattle.ap_core.specs.declared.events.Kind.{Kind}
 use Rattle.ap_core.specs.declared.events.Kind.TheVariants as kinds
 use Rattle.ap_core.specs.Tasks.{Task}
@@ -57,6 +58,12 @@ elsewhere_idle : (code : Compiled) (p : Rules) (i : ℕ) (t u : Task) (aways : L
 elsewhere_idle code p i t u [] h is = tt
 elsewhere_idle code p i t u (a ∷ aways) h ((g, n, goal, searched, runs), is) =
     (λ e. start_idle p i t u (whole a.key.rest (alone g n)) h (subst (λ j. RunsSlot j t (alone g n) 0 (whole a.key.rest (alone g n))) e runs).runs, elsewhere_idle code p i t u aways h is)
+
+away_last : (code : Compiled) (p : Rules) (t : Task) (aways : List Away) (a : Away) → AreAway code p aways t → RunsWhole code p t a → AreAway code p (aways ++ a ∷ []) t
+away_last code p t aways a h is = AllByRecursion-append (RunsWhole code p t) aways (a ∷ []) h (is, tt)
+
+elsewhere_last : (i : ℕ) (aways : List Away) (a : Away) → AreElsewhere i aways → (a.place ≡ i → ⊥) → AreElsewhere i (aways ++ a ∷ [])
+elsewhere_last i aways a h n = AllByRecursion-append (λ b. b.place ≡ i → ⊥) aways (a ∷ []) h (n, tt)
 
 away_all : (code : Compiled) (p : Rules) (t : Task) (before behind : List Away) (a : Away) → AreAway code p (before ++ a ∷ behind) t → RunsWhole code p t a × AreAway code p (before ++ behind) t
 away_all code p t [] behind a h = h
@@ -167,13 +174,13 @@ module _ (beginning : BeginningLaw) (calls : SlotCallsLaw) (stop_calls : StopCal
       (u, event, (h.0, tied), (g, n, is.goal g n goal, searched, subst (λ r. RunsSlot i u (alone g n) 0 (whole r (alone g n))) (sym is.rest) runs))
 
   leaves : (code : Compiled) (levels : List Level) (s : Section) (aways : List Away) (i : ℕ) (key : Key) → MayBegin i s → IsKeyOf code i s key
-      → Carries code levels s aways levels (stood i (Running runs.First) nothing s) (record { place = i; key = key } ∷ aways)
+      → Carries code levels s aways levels (stood i (Running runs.First) nothing s) (aways ++ record { place = i; key = key } ∷ [])
   leaves code levels s aways i key may is =
-      carries_by code levels s (stood i (Running runs.First) nothing s) aways (record { place = i; key = key } ∷ aways) (λ p o t h.
+      carries_by code levels s (stood i (Running runs.First) nothing s) aways (aways ++ record { place = i; key = key } ∷ []) (λ p o t h.
       let r = leave_one code p o t s i key may is (h.0, h.1) in
       let apart : AreElsewhere i aways = elsewhere_idle code p i t r.0 aways r.1 h.2 in
       let event : happened p (through i ((kinds.Start, []) ∷ [])) t ≡ Some r.0 = leads_by p kinds.Start (i ∷ []) t r.0 r.1 in
-      ((kinds.Start, i ∷ []) ∷ [], r.0, event, (r.2.0, r.2.1, (r.3, away_stays code p i ((kinds.Start, []) ∷ []) t r.0 aways apart event h.2))))
+      ((kinds.Start, i ∷ []) ∷ [], r.0, event, (r.2.0, r.2.1, away_last code p r.0 aways (record { place = i; key = key }) (away_stays code p i ((kinds.Start, []) ∷ []) t r.0 aways apart event h.2) r.3)))
 
   -- ---- what comes back
 
@@ -275,6 +282,42 @@ module _ (beginning : BeginningLaw) (calls : SlotCallsLaw) (stop_calls : StopCal
             ),
           )
 
+  stood_machine : (i : ℕ) (s : Section) → machine_in (stood i (Running runs.First) nothing s) ≡ machine_in s
+  stood_machine i (section m c b st) = refl
+
+  leaves_below : (code : Compiled) (levels after : List Level) (a : Level) (s : Section) (aways : List Away) (i : ℕ) (key : Key) → MayBegin i a.section → IsKeyOf code i a.section key
+      → Carries code (levels ++ a ∷ after) s aways
+      (levels ++ record { section = stood i (Running runs.First) nothing a.section; place = a.place; since = a.since; aways = a.aways ++ record { place = i; key = key } ∷ [] } ∷ after) s aways
+  leaves_below code levels after a s aways i key may is p o t h =
+      let P : Tracked → Task → Type 0 = TiedBeside code p s aways in
+      let b : Level = record { section = stood i (Running runs.First) nothing a.section; place = a.place; since = a.since; aways = a.aways ++ record { place = i; key = key } ∷ [] } in
+      let r = leads_beside code p (AreBeside code p P (a ∷ after)) (AreBeside code p P (b ∷ after)) levels one o t (from_rest code p P levels after a o t h) in
+      (r.0, r.1, r.2, to_rest code p P levels after b o r.1 r.3)
+    where
+      one : Leads p (AreBeside code p (TiedBeside code p s aways) (a ∷ after))
+          (AreBeside code p (TiedBeside code p s aways)
+          (record { section = stood i (Running runs.First) nothing a.section; place = a.place; since = a.since; aways = a.aways ++ record { place = i; key = key } ∷ [] } ∷ after))
+      one o t (searched, tied, failed, apart, away, n, z, runs, inner) =
+          let r = leave_one code p o t a.section i key may is (searched, tied) in
+          let event : happened p (through i ((kinds.Start, []) ∷ [])) t ≡ Some r.0 = leads_by p kinds.Start (i ∷ []) t r.0 r.1 in
+          let idle : AreElsewhere i a.aways = elsewhere_idle code p i t r.0 a.aways r.1 away in
+          let other : a.place ≡ i → ⊥ = λ e. start_idle p i t r.0 z r.1 (subst (λ j. RunsSlot j t n a.since z) e runs).runs in (
+            (kinds.Start, i ∷ []) ∷ [],
+            r.0,
+            event,
+            (
+              r.2.0,
+              r.2.1,
+              subst (λ m. HasFailed m.roots [] m) (sym (stood_machine i a.section)) failed,
+              elsewhere_last a.place a.aways (record { place = i; key = key }) apart (λ e. other (sym e)),
+              away_last code p r.0 a.aways (record { place = i; key = key }) (away_stays code p i ((kinds.Start, []) ∷ []) t r.0 a.aways idle event away) r.3,
+              n,
+              z,
+              others_all p i a.place ((kinds.Start, []) ∷ []) t r.0 z n a.since other event runs,
+              inner,
+            ),
+          )
+
   abandons : (code : Compiled) (levels after : List Level) (a : Level) (s : Section) (aways : List Away)
       → Carries code (levels ++ a ∷ after) s aways levels (stood a.place (stopped (Unit {0}) true (spent_in (first_of after s) - a.since)) nothing a.section) a.aways
   abandons code levels after a s aways p o t h =
@@ -311,6 +354,7 @@ module _ (beginning : BeginningLaw) (calls : SlotCallsLaw) (stop_calls : StopCal
     fails = λ code levels a s done. ends_by code levels s _ a kinds.Fail (λ p o t h. fail_one calls resting code p o t (outer_of a) s done h);
     spends = λ code levels a s is. ends_by code levels s _ a kinds.Spend (λ p o t h. spend_one calls resting settling code p o t (outer_of a) s is h);
     leaves = leaves;
+    leaves_below = leaves_below;
     comes_back = comes_back;
     comes_back_below = comes_back_below;
     abandons = abandons;

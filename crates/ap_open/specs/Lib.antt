@@ -5,3 +5,4 @@ pub mod Solving
 pub mod Reading
 pub mod Away
 pub mod Sharing
+pub mod InTurn

@@ -64,7 +64,11 @@ pub record SharingLaw : Type 0 where
       → Carries code (levels ++ a ∷ []) s [] levels (stood a.place (Ended ending.Spent (rest_in a.section)) nothing a.section) a.aways
   -- the goal of a slot that is ready goes away, and comes back
   pub leaves : (code : Compiled) (levels : List Level) (s : Section) (aways : List Away) (i : ℕ) (key : Key) → MayBegin i s → IsKeyOf code i s key
-      → Carries code levels s aways levels (stood i (Running runs.First) nothing s) (record { place = i; key = key } ∷ aways)
+      → Carries code levels s aways levels (stood i (Running runs.First) nothing s) (aways ++ record { place = i; key = key } ∷ [])
+  -- the same at a section that isn't the innermost one
+  pub leaves_below : (code : Compiled) (levels after : List Level) (a : Level) (s : Section) (aways : List Away) (i : ℕ) (key : Key) → MayBegin i a.section → IsKeyOf code i a.section key
+      → Carries code (levels ++ a ∷ after) s aways
+      (levels ++ record { section = stood i (Running runs.First) nothing a.section; place = a.place; since = a.since; aways = a.aways ++ record { place = i; key = key } ∷ [] } ∷ after) s aways
   pub comes_back : (code : Compiled) (levels : List Level) (s : Section) (before behind : List Away) (a : Away) (e : Outcome)
       → HasFailed (machine_in s).roots [] (machine_in s) → IsOutcomeOf code a.key e → MayReturn a.place e s
       → Carries code levels s (before ++ a ∷ behind) levels (returned a.place e s) (without a.place (before ++ behind))

@@ -16,6 +16,7 @@ use Rattle.ap_tie.specs.Sections.{Section, section, bottom}
 use Rattle.ap_tied.specs.Settling.{IsAnswerIn}
 use Rattle.ap_tied.specs.Ties.{IsSearched}
 use Rattle.ap_open.specs.Opened.{Outer, IsSolving, spent_in}
+use Rattle.ap_open.specs.Away.{Away, Level, IsSolvingBeside}
 use Rattle.ap_open.specs.Calling.{IsAnswering, IsDone, IsSpent}
 
 -- a section at its answer, when it goes on
@@ -48,6 +49,9 @@ pub record BlockLaw : Type 0 where
   -- what was given begins a block, however the search goes on
   pub goes_on : (line : Trees → List ℕ) (code : Compiled) (p : Rules) (q : Query) (budget limit : ℕ) (outer : List Outer) (s : Section) (given : List Trees) → IsUpToNames line → IsQuery q
       → IsSolving code p (tracked_start q) (start q) budget outer s given → length given ≤ limit → (rest : List (List ℕ)) × (end : End) × IsBlock line p.program (start q) budget limit (map line given ++ rest) end
+  -- the same where goals are away
+  pub goes_on_beside : (line : Trees → List ℕ) (code : Compiled) (p : Rules) (q : Query) (budget limit : ℕ) (levels : List Level) (s : Section) (aways : List Away) (given : List Trees) → IsUpToNames line → IsQuery q
+      → IsSolvingBeside code p (tracked_start q) (start q) budget levels s aways given → length given ≤ limit → (rest : List (List ℕ)) × (end : End) × IsBlock line p.program (start q) budget limit (map line given ++ rest) end
   -- what the query's own section has spent is charged for them
   pub charges : (line : Trees → List ℕ) (code : Compiled) (p : Rules) (q : Query) (budget : ℕ) (s : Section) (given : List Trees) → IsUpToNames line → IsQuery q
       → IsSolving code p (tracked_start q) (start q) budget [] s given → IsCharged line p.program (start q) (spent_in s) (map line given)

@@ -1,6 +1,7 @@
 //! Laws, each as the contract of a function that does nothing.
 
 ghost use Rattle.ap_open.specs.Calling.{CallingLaw};
+ghost use Rattle.ap_open.specs.InTurn.{InTurnLaw};
 ghost use Rattle.ap_open.specs.Moving.{MovingLaw};
 ghost use Rattle.ap_open.specs.Reading.{ReadingLaw};
 ghost use Rattle.ap_open.specs.Sharing.{OutcomeLaw, SharingLaw};
@@ -69,3 +70,8 @@ pub fn outcome_law()
     resting_law();
     settling_law();
 }
+
+/// Reads groups as their goals in turn: the program and the query stay what was read, and each query is safe.
+pub fn in_turn_law()
+    ensures { InTurnLaw }
+{}

@@ -10,5 +10,6 @@
 mod laws;
 
 pub use laws::{
-    block_law, calling_law, moving_law, outcome_law, reading_law, sharing_law, solving_law,
+    block_law, calling_law, in_turn_law, moving_law, outcome_law, reading_law, sharing_law,
+    solving_law,
 };
