@@ -5,5 +5,7 @@
 #![tactic(auto)]
 
 mod grouping;
+mod guards;
 
 pub use grouping::{Grouped, group_query};
+pub use guards::guard_law;
