@@ -1,5 +1,5 @@
 //! A seat with the tickets of the goals that it took and the notes of those that it has out.
-ghost use Rattle.std.specs.Prelude.{◌≡◌, ℕ, ◌<◌, Bool, List, [], ◌∷◌, ◌++◌, length, Option, Some, None, IfOk, MatchOption, MatchResult, is_some};
+ghost use Rattle.std.specs.Prelude.{◌≡◌, ℕ, ◌<◌, Bool, List, [], ◌∷◌, ◌++◌, length, Option, Some, None, IfOk, IfSome, MatchOption, MatchResult, is_some};
 ghost use Rattle.atomic_table.specs.Seated.{TableId};
 ghost use Rattle.ap_board.specs.declared.ticket.Ticket.{Ticket};
 ghost use Rattle.ap_board.specs.declared.view.View.{View};
@@ -59,7 +59,8 @@ impl<P: Fits<O> + Drop, O: Drop> Desk<P, O> {
 
     /// Gives the place of the goal that was found asked to stop, the oldest being 0.
     pub fn asked(&self) -> Option<usize>
-        ensures { result ≡ self.now.3 }
+        ensures place { result ≡ self.now.3 }
+        ensures within { IfSome result (λ i. i < length self.now.2) }
     {
         self.asked
     }
