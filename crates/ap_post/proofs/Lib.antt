@@ -1,0 +1,4 @@
+pub mod Noted
+pub mod Changes
+pub mod Dropped
+pub mod Opened

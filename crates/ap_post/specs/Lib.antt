@@ -1,0 +1,4 @@
+pub mod Arities
+pub mod Jobs
+pub mod Posted
+pub mod Posts

@@ -1,0 +1,59 @@
+//! What all workers share beside the board. No clause rests on it.
+
+use crossbeam_utils::atomic::AtomicCell;
+
+/// How many goals are wanted, and whether the query's search has ended.
+#[derive(Drop)]
+pub struct Common {
+    /// Workers that look for a goal, less the offers that nobody has taken.
+    demand: AtomicCell<i64>,
+    /// Workers for which nothing was offered yet.
+    fresh: AtomicCell<i64>,
+    done: AtomicCell<bool>,
+}
+
+impl Common {
+    /// No worker looks for a goal yet.
+    pub fn new(workers: u32) -> Common {
+        Common {
+            demand: AtomicCell::new(0),
+            fresh: AtomicCell::new(i64::from(workers.saturating_sub(1))),
+            done: AtomicCell::new(false),
+        }
+    }
+
+    /// Tells whether the query's search has ended.
+    pub fn is_done(&self) -> bool {
+        self.done.load()
+    }
+
+    /// Notes that the query's search has ended.
+    pub fn end(&self) {
+        self.done.store(true);
+    }
+
+    /// Tells whether someone looks for a goal.
+    pub fn wants(&self) -> bool {
+        self.demand.load() > 0
+    }
+
+    /// Tells whether nothing was offered yet for one of the others.
+    pub fn has_fresh(&self) -> bool {
+        self.fresh.load() > 0
+    }
+
+    /// Tells whether nothing was offered yet for one of the others, which is then answered for.
+    pub fn serves_fresh(&self) -> bool {
+        self.fresh.load() > 0 && self.fresh.fetch_sub(1) > 0
+    }
+
+    /// Notes that a worker begins to look for a goal, or that an offer was taken back.
+    pub fn rise(&self) {
+        self.demand.fetch_add(1);
+    }
+
+    /// Notes that a worker looks no more, or that a goal was offered.
+    pub fn fall(&self) {
+        self.demand.fetch_sub(1);
+    }
+}

@@ -1,0 +1,178 @@
+//! Goals of a worker's own that go out and come back.
+
+ghost use Rattle.std.specs.Prelude.{◌≡◌, ℕ, ◌<◌, ◌≤◌, true, [], length, slice_get, Some, IfSome, MatchBool, MatchOption};
+ghost use Rattle.ap_desk.specs.declared.note.Note.{Note};
+ghost use Rattle.ap_open.specs.Away.{IsOutcomeOf};
+ghost use Rattle.ap_post.specs.Jobs.{outcome_of, IsReadyEnding};
+ghost use Rattle.ap_post.specs.Posted.{Posted, posted_at};
+ghost use Rattle.ap_post.specs.Posts.{posted_in, SamePosted, SameBelow, SameJobs, IsLess, IsMore};
+
+use crate::job::Job;
+use crate::outcome::Outcome;
+use crate::post::Post;
+
+impl<'a, 'b> Post<'a, 'b> {
+    /// Offers a goal of a frame, and tells whether it is out; it isn't where no pad is free or memory is wanting.
+    pub fn offer(&mut self, job: Job<'a>, frame: u64) -> bool
+        requires { frame < self.old.next }
+        ensures told { MatchBool result (IsMore frame (posted_at job.entry.place job.entry) self.old self.new) (SamePosted self.old self.new) }
+        ensures jobs { SameJobs self.old self.new }
+        ensures next { self.new.next ≡ self.old.next }
+    {
+        let place = job.place;
+        let Ok(()) = self.desk.offer(self.board, job, frame, place) else {
+            return false;
+        };
+        let newest = self.desk.count_out() - 1;
+        // Where the stack has no room nobody finds the goal, and its owner takes it back.
+        let _pushed = self.goals.push(self.desk.note(newest).ticket);
+        self.common.fall();
+        true
+    }
+
+    // The last note of a frame's goals that some other worker is known to have taken, or isn't.
+    fn find_note(&self, frame: u64, gone: bool) -> Option<usize>
+        ensures { IfSome result (λ k. (n : Note) × (slice_get self.now.desk.4 k ≡ Some n) × (n.frame ≡ frame) × (n.gone ≡ gone)) }
+    {
+        let count = self.desk.count_out();
+        for back in 0..count {
+            let k = count - 1 - back;
+            let note = self.desk.note(k);
+            if note.frame == frame && note.gone == gone {
+                return Some(k);
+            }
+        }
+        None
+    }
+
+    // Takes a note's goal back, and gives its place. None where it was taken.
+    fn take_back(&mut self, k: usize) -> Option<usize>
+        requires { k < length self.old.desk.4 }
+        ensures told { (n : Note) → slice_get self.old.desk.4 k ≡ Some n → MatchOption result (SamePosted self.old self.new) (λ i. (a : Posted) × (a.away.place ≡ i) × IsLess n.frame a self.old self.new) }
+        ensures jobs { SameJobs self.old self.new }
+        ensures next { self.new.next ≡ self.old.next }
+    {
+        let place = self.desk.note(k).place;
+        let _job = self.desk.reclaim(self.board, k)?;
+        self.common.rise();
+        Some(place)
+    }
+
+    /// Takes back the goal of a frame that was offered last, of those that nobody has taken, and gives its place. None where all were
+    /// taken.
+    pub fn reclaim(&mut self, frame: u64) -> Option<usize>
+        ensures told { MatchOption result (SamePosted self.old self.new) (λ i. (a : Posted) × (a.away.place ≡ i) × IsLess frame a self.old self.new) }
+        ensures jobs { SameJobs self.old self.new }
+        ensures next { self.new.next ≡ self.old.next }
+    {
+        for _goal in 0..self.desk.count_out() {
+            let k = self.find_note(frame, false)?;
+            if let Some(place) = self.take_back(k) {
+                return Some(place);
+            }
+        }
+        None
+    }
+
+    // Collects the outcome of a note's goal, with the goal's place. None where its taker hasn't finished it.
+    fn collect_note(&mut self, k: usize) -> Option<(usize, Outcome)>
+        requires { k < length self.old.desk.4 }
+        ensures told { (n : Note) → slice_get self.old.desk.4 k ≡ Some n → MatchOption result (SamePosted self.old self.new × (length self.new.desk.4 ≡ length self.old.desk.4)) (λ r. (a : Posted) × (a.away.place ≡ r.0) × IsLess n.frame a self.old self.new × IsOutcomeOf a.code a.away.key (outcome_of r.1.ending) × IsReadyEnding a.code r.1.ending) }
+        ensures jobs { SameJobs self.old self.new }
+        ensures next { self.new.next ≡ self.old.next }
+    {
+        let place = self.desk.note(k).place;
+        let outcome = self.desk.collect(self.board, k)?;
+        Some((place, outcome))
+    }
+
+    /// Collects the outcome of a goal of a frame whose taker has finished it, with the goal's place. None where there is none.
+    pub fn collect(&mut self, frame: u64) -> Option<(usize, Outcome)>
+        ensures told { MatchOption result (SamePosted self.old self.new) (λ r. (a : Posted) × (a.away.place ≡ r.0) × IsLess frame a self.old self.new × IsOutcomeOf a.code a.away.key (outcome_of r.1.ending) × IsReadyEnding a.code r.1.ending) }
+        ensures jobs { SameJobs self.old self.new }
+        ensures next { self.new.next ≡ self.old.next }
+    {
+        for k in 0..self.desk.count_out() {
+            let note = self.desk.note(k);
+            if note.frame == frame && note.gone {
+                if let Some(collected) = self.collect_note(k) {
+                    return Some(collected);
+                }
+            }
+        }
+        None
+    }
+
+    /// Asks those who took goals of a frame to stop.
+    pub fn stop(&mut self, frame: u64)
+        ensures posted { SamePosted self.old self.new }
+        ensures jobs { SameJobs self.old self.new }
+        ensures next { self.new.next ≡ self.old.next }
+    {
+        for k in 0..self.desk.count_out() {
+            let note = self.desk.note(k);
+            if note.frame == frame && note.gone {
+                self.ask(k);
+            }
+        }
+    }
+
+    /// Tells whether no goal of a frame is out.
+    pub fn is_clear(&self, frame: u64) -> bool
+        ensures { result ≡ true → posted_in self.now frame ≡ [] }
+    {
+        for k in 0..self.desk.count_out() {
+            if self.desk.note(k).frame == frame {
+                return false;
+            }
+        }
+        true
+    }
+
+    // Asks the taker of a note's goal to stop, unless it was asked.
+    fn ask(&mut self, k: usize)
+        requires place { k < length self.old.desk.4 }
+        requires gone { (n : Note) → slice_get self.old.desk.4 k ≡ Some n → n.gone ≡ true }
+        ensures posted { SamePosted self.old self.new }
+        ensures jobs { SameJobs self.old self.new }
+        ensures next { self.new.next ≡ self.old.next }
+        ensures count { length self.new.desk.4 ≡ length self.old.desk.4 }
+    {
+        if self.desk.note(k).asked {
+            return;
+        }
+        let _at_work = self.desk.stop(self.board, k);
+    }
+
+    // Takes a note's goal back and drops it, or asks its taker to stop.
+    fn drop_note(&mut self, k: usize)
+        requires { k < length self.old.desk.4 }
+        ensures posted { (f : ℕ) (n : Note) → slice_get self.old.desk.4 k ≡ Some n → (n.frame ≡ f → ⊥) → posted_in self.new f ≡ posted_in self.old f }
+        ensures jobs { SameJobs self.old self.new }
+        ensures next { self.new.next ≡ self.old.next }
+        ensures count { k ≤ length self.new.desk.4 }
+    {
+        if self.desk.note(k).gone {
+            return self.ask(k);
+        }
+        match self.desk.reclaim(self.board, k) {
+            Some(_goal) => self.common.rise(),
+            None => self.ask(k),
+        }
+    }
+
+    /// Leaves the goals of all frames from a number on: each is taken back and dropped, or its taker is asked to stop.
+    pub fn leave(&mut self, from: u64)
+        ensures posted { SameBelow from self.old self.new }
+        ensures jobs { SameJobs self.old self.new }
+        ensures next { self.new.next ≡ self.old.next }
+    {
+        let count = self.desk.count_out();
+        for back in 0..count {
+            let k = count - 1 - back;
+            if self.desk.note(k).frame >= from {
+                self.drop_note(k);
+            }
+        }
+    }
+}
