@@ -1,0 +1,10 @@
+mod Begun
+mod Calls
+mod Moves
+mod Waiting
+mod Outs
+pub mod Elsewhere
+mod Offers
+mod Places
+mod Returns
+mod Endings

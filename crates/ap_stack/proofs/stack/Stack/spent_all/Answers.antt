@@ -1,0 +1,29 @@
+use Rattle.std.proofs.Common.{refl, ap, ◌∙◌}
+use Rattle.ap_frames.specs.declared.slots.Stand.TheVariants.{Ended}
+use Rattle.ap_frames.specs.declared.slots.Ending.TheVariants.{Spent}
+use Rattle.ap_tie.specs.Sections.{nothing}
+use Rattle.ap_tied.specs.SlotCalls.{stood}
+use Rattle.ap_section.specs.Views.{view_of}
+use Rattle.ap_stack.specs.declared.stack.Open.{Open}
+use Rattle.ap_stack.specs.declared.stack.Stack.{Stack}
+use Rattle.ap_stack.specs.Levels.{level_of, levels_of}
+use Rattle.ap_stack.specs.Stacks.{code_in, section_in}
+use Rattle.ap_stack.proofs.Waiting.{rest-is}
+use Rattle.ap_stack.proofs.Moves.{popped-open, ended}
+use Rattle.ap_stack.proofs.stack.Stack.spent_all.Goals as goal
+
+pub returns-clause-goes : goal.returns-clause-goes
+returns-clause-goes c =
+    let p = c.args.post.now in
+    let s = c.args.self.now in
+    let b = c.pop.new.self in
+    let d = c.in-Some.done in
+    let code = code_in s in
+    let e : Open = record { section = b.newest; place = d.place; since = d.since; frame = b.frame; turn = d.turn } in
+    let is = c.in-Some.ensures.outer in
+    let waits = (popped-open p s b.outer.items e is c.requires.good).1 in
+    let t : Stack = record b { newest = c.put_spent.new.self } in
+    let put = c.put_spent.ensures in
+    let stands = put.stands ∙ ap (λ n. stood d.place (Ended Spent n) nothing (view_of b.newest)) (c.rest-rest.ensures ∙ rest-is (view_of b.newest)) in
+    ended p s b.outer.items e is _ nothing t refl c.in-Some.ensures.same.0 c.in-Some.ensures.same.1 refl c.in-Some.ensures.section.1 c.requires.good c.requires.none (put.ready code waits.ready) put.at_frame stands
+    (c.sharing_law.ensures.spends code (levels_of p b.outer.items) (level_of p e) (section_in s) c.requires.spent)

@@ -1,0 +1,3 @@
+pub mod Levels
+pub mod Stacks
+pub mod Outcomes
