@@ -18,10 +18,15 @@ use Rattle.ap_instr.specs.StandsFor.{asked_query, StandsForQuery}
 use Rattle.ap_machine.specs.Started.{IsAsked}
 use Rattle.ap_tie.specs.Sections.{Section}
 use Rattle.ap_tied.specs.Ties.{IsSearched}
+use Rattle.ap_core.specs.Relation.{Rules}
+use Rattle.ap_open.specs.Away.{IsSolvingBeside}
 use Rattle.ap_open.specs.Opened.{IsSolving}
+use Rattle.ap_open.specs.Sharing.{OutcomeLaw}
 use Rattle.ap_open.specs.Solving.{SolvingLaw}
 use Rattle.ap_open.specs.Reading.{AreRead, IsSafeQuery, rules_beside, ReadingLaw}
 use Rattle.ap_section.specs.Ends.{Begins}
+use Rattle.ap_stack.specs.declared.stack.Stack.{Stack}
+use Rattle.ap_stack.specs.Stacks.{code_in, section_in}
 use Rattle.ap_worker.specs.declared.emission.End.{End}
 use Rattle.ap_worker.specs.Ends.{end_of}
 use Rattle.ap_worker.specs.Sought.{MayBeAsked}
@@ -63,3 +68,10 @@ module _ (law : ReadingLaw) (code : Compiled) (a : Program) (b : Query) (good : 
       let never = law.never_calls a p b q QUERY (turned p a q b read) may.calls in
       finishes_map o o' (λ end put. IsBlock line (joined a (asked_query b)) (start b) budget limit put (end_of end)) (λ end put. IsBlock line (joined p q) (start q) budget limit put (end_of end)) r
       (λ end put block. law.blocks line p a q b budget limit put (end_of end) fine asks good is read never block) h
+
+-- the search of the query by the sections of whoever leads
+pub leads-solving : OutcomeLaw → (code : Compiled) (r : Rules) (b : Query) (budget : ℕ) (s : Stack) (v : Section) → code_in s ≡ code → section_in s ≡ v → IsSolving code r (tracked_start b) (start b) budget [] v []
+    → IsSolvingBeside (code_in s) r (tracked_start b) (start b) budget [] (section_in s) [] []
+leads-solving law code r b budget s v is same h =
+    subst (λ k. IsSolvingBeside k r (tracked_start b) (start b) budget [] (section_in s) [] []) (sym is)
+    (subst (λ u. IsSolvingBeside code r (tracked_start b) (start b) budget [] u [] []) (sym same) (law.beside_is code r (tracked_start b) (start b) budget v [] h))

@@ -1,6 +1,7 @@
--- The search of a slot's goal, where it begins.
-use Rattle.std.proofs.Common.{◌≡◌, ℕ, suc, ◌+◌, ◌-◌, ◌<◌, ◌≤◌, ◌⊎◌, inl, inr, List, [], ◌∷◌, ◌++◌, length, Option, Some, None, slice_get, append-nil, refl, ap, sym, ◌∙◌, subst, arith}
-use Rattle.ap_term.specs.Tree.{Tree, Trees, var, int, atom, node, none, more, count_trees}
+-- The search of a goal that was taken, where it begins.
+use Rattle.std.proofs.Common.{◌≡◌, ℕ, suc, ◌+◌, ◌<◌, ◌⊎◌, inl, inr, List, [], ◌∷◌, ◌++◌, Some, None, append-nil, refl, ap, sym, ◌∙◌, subst, arith}
+use Rattle.std.specs.Prelude.{Option}
+use Rattle.ap_term.specs.Tree.{Tree, Trees, var, int, atom, node, none, more}
 use Rattle.ap_term.specs.Substitution.{instance, instance_all}
 use Rattle.ap_term.specs.UpToNames.{SameUpToNames}
 use Rattle.ap_term.specs.Vars.{Local, LocalAll}
@@ -10,25 +11,30 @@ use Rattle.ap_core.specs.Relation.{Rules}
 use Rattle.ap_tracked.specs.Tracked.{call, Tracked}
 use Rattle.ap_tracked.specs.Forks.{alone}
 use Rattle.ap_tracked.specs.Instances.{Inst}
-use Rattle.ap_resolution.specs.Instances.{SameSet, IsSetOf}
+use Rattle.ap_resolution.specs.Instances.{IsSetOf}
 use Rattle.ap_instr.specs.declared.compiled.Predicate.{Predicate}
 use Rattle.ap_instr.specs.Code.{Compiled}
 use Rattle.ap_instr.specs.Runs.{applied}
 use Rattle.ap_instr.specs.StandsFor.{IsOfClauses, IsOfBuiltin}
-use Rattle.ap_cells.specs.Trees.{tree_at, trees}
-use Rattle.ap_group.specs.Groups.{Pushed}
-use Rattle.ap_steps.specs.Standing.{tuple_under}
 use Rattle.ap_standing.specs.Machine.{Point, Machine}
 use Rattle.ap_standing.specs.Holds.{SetOf, IsApart, HoldsPoints, Holds}
 use Rattle.ap_standing.proofs.Named.{named-applied}
 use Rattle.ap_machine.specs.View.{Paused}
 use Rattle.ap_machine.specs.Started.{called, Started}
 use Rattle.ap_rejoin.proofs.Names.{instance-same}
-use Rattle.ap_tie.specs.Sections.{Section, section, bottom, parcall}
-use Rattle.ap_tied.specs.SlotCalls.{IsGoalAt}
 use Rattle.ap_tied.specs.Ties.{IsSearched}
-use Rattle.ap_open.specs.Calling.{IsGoalIn}
-use Rattle.ap_section.specs.Slots.{IsGoalOf, IsParcelOf}
+use Rattle.ap_open.specs.Away.{Key, IsGoalOf, IsSearch}
+use Rattle.ap_open.specs.Sharing.{OutcomeLaw}
+use Rattle.ap_section.specs.Ends.{Begins}
+use Rattle.ap_post.specs.declared.job.Job.{Job}
+use Rattle.ap_post.specs.declared.post.Post.{Post}
+use Rattle.ap_post.specs.Arities.{arity_of}
+use Rattle.ap_post.specs.Jobs.{key_of}
+use Rattle.ap_post.specs.Posts.{posted_in}
+use Rattle.ap_stack.specs.declared.stack.Stack.{Stack}
+use Rattle.ap_stack.specs.Levels.{aways_of, levels_of}
+use Rattle.ap_stack.specs.Stacks.{section_in, IsGood}
+use Rattle.ap_worker.specs.Workers.{IsTaken}
 
 -- ---- variables
 
@@ -97,18 +103,33 @@ kind-of : (code : Compiled) (r : Rules) (q : Predicate) → IsOfClauses code r.p
 kind-of code r q (inl h) = inl h.apart
 kind-of code r q (inr h) = inr h
 
--- A search of slot i's goal stands for that goal alone, whatever its variables are named.
-pub begun-holds : (code : Compiled) (s : Section) (i number rest : ℕ) (ts : Trees) (p : Paused) → IsGoalOf i s number → IsParcelOf i s ts → Started code ts number rest p → (code.query ≡ Some number → ⊥)
-    → (r : Rules) (o : Tracked) → IsSearched code r o → (g : Tree) (n : ℕ) → IsGoalIn code i s g n → Holds code p.machine (alone g n ∷ [])
-begun-holds code (section m c b bottom) i number rest ts p goal parcel started other r o searched g n is = absurd is
-begun-holds code (section m c b (parcall f q rd w qs st)) i number rest ts p goal parcel started other r o searched g n is =
-    let same : goal.0 ≡ is.goal = let e : Some goal.0 ≡ Some is.goal = sym goal.1 ∙ is.place in cc in
-    let same' : parcel.0 ≡ is.goal = let e : Some parcel.0 ≡ Some is.goal = sym parcel.1 ∙ is.place in cc in
-    let number-is : is.goal.predicate ≡ number = sym (ap (λ (z : Pushed). z.predicate) same) ∙ goal.2 in
-    let known : slice_get code.predicates number ≡ Some is.predicate = subst (λ k. slice_get code.predicates k ≡ Some is.predicate) number-is is.known in
-    let bound = bound-trees ts in
+-- A search of a key's goal stands for that goal alone, whatever its variables are named.
+pub key-holds : (code : Compiled) (key : Key) (p : Paused) → Started code key.tuple key.predicate key.rest p → (code.query ≡ Some key.predicate → ⊥)
+    → (r : Rules) (g : Tree) (n : ℕ) → IsGoalOf code key g n → IsSearched code r (alone g n) → Holds code p.machine (alone g n ∷ [])
+key-holds code key p started other r g n is searched =
+    let bound = bound-trees key.tuple in
     let at = started.calls (λ question. other question.0) in
-    let names : SameUpToNames ts (arguments g) =
-    parcel.2 ∙ subst (λ (z : Pushed). SameUpToNames (tuple_under (tree_at (trees f.cells)) z.arguments) (arguments g)) (sym same') is.same in
-    goal-alone code p.machine is.predicate.name bound.0 n ts g at.points is.named names is.below
-    (at.holds is.predicate bound.0 known (kind-of code r is.predicate (searched.code_stands.predicates number is.predicate known)) bound.1)
+    goal-alone code p.machine is.predicate.name bound.0 n key.tuple g at.points is.named is.same is.below
+    (at.holds is.predicate bound.0 is.known (kind-of code r is.predicate (searched.code_stands.predicates key.predicate is.predicate is.known)) bound.1)
+
+-- a job's predicate is of that arity
+pub known-arity : (found : Option Predicate) (n : ℕ) → arity_of found ≡ Some n → (q : Predicate) × (found ≡ Some q) × (q.arity ≡ n)
+known-arity None n e = absurd (none-is n e)
+  where
+    none-is : (n : ℕ) → None ≡ Some n → ⊥
+    none-is n e = cc
+known-arity (Some q) n e = (q, refl, (cc))
+
+-- a search that begins is one of its job
+pub begun-taken : OutcomeLaw → (p : Post) (s : Stack) (j : Job) → s.sound.now ≡ j.sound.now → s.outer.items ≡ [] → (j.sound.now.query ≡ Some j.predicate → ⊥)
+    → Begins j.sound.now j.tuple j.predicate j.rest (section_in s) → posted_in p s.frame ≡ [] → IsGood p s → IsTaken p s j
+begun-taken law p s j code outer other begins clear good = record {
+  good = good;
+  code = code;
+  search = λ r g n is searched.
+      let m = begins.0.machine in
+      let search = law.begun j.sound.now r g n m j.rest searched (key-holds j.sound.now (key_of j) begins.0 begins.1 other r g n is searched) in
+      subst (λ es. IsSearch j.sound.now r (alone g n) j.rest (levels_of p es) (section_in s) (aways_of (posted_in p s.frame))) (sym outer)
+      (subst (λ out. IsSearch j.sound.now r (alone g n) j.rest [] (section_in s) (aways_of out)) (sym clear)
+      (subst (λ v. IsSearch j.sound.now r (alone g n) j.rest [] v []) (sym begins.3) search));
+}

@@ -1,8 +1,12 @@
-pub mod Asks
-pub mod Begun
-pub mod Calls
-pub mod Emitted
-pub mod Finding
-pub mod Opening
-pub mod Spans
-pub mod Waiting
+mod Asks
+mod Begun
+mod Crosses
+mod Emitted
+mod Finding
+mod Helping
+mod Idle
+mod Leading
+mod Past
+mod Spans
+mod Staffed
+mod Taking

@@ -1,3 +1,4 @@
 pub mod Ends
+pub mod Leads
 pub mod Sought
-pub mod Stacks
+pub mod Workers

@@ -1,6 +1,6 @@
-//! The answers of a query, as a worker's searches find them.
+//! The answers of a query, as the searches of workers find them.
 
-ghost use Rattle.std.specs.Prelude.{◌≡◌, ℕ, List, [], ◌∷◌, OnOk, IfOk};
+ghost use Rattle.std.specs.Prelude.{◌≡◌, ℕ, List, [], ◌∷◌, OnOk, IfOk, false};
 ghost use Rattle.ap_outside.specs.Halting.{Finishes, Prints, SinkCount};
 ghost use Rattle.ap_term.specs.Goals.{Query};
 ghost use Rattle.ap_term.specs.Search.{start};
@@ -9,23 +9,22 @@ ghost use Rattle.ap_term.specs.Blocks.{IsBlock};
 ghost use Rattle.ap_core.specs.Relation.{Rules};
 ghost use Rattle.ap_graft.specs.Starts.{tracked_start};
 ghost use Rattle.ap_instr.specs.Code.{Compiled};
-ghost use Rattle.ap_open.specs.Opened.{IsSolving};
+ghost use Rattle.ap_open.specs.Away.{IsSolvingBeside};
 ghost use Rattle.ap_open.specs.Solving.{past_answer};
-ghost use Rattle.ap_section.specs.Views.{view_of};
-ghost use Rattle.ap_section.specs.Ready.{IsReady};
+ghost use Rattle.ap_post.specs.declared.post.Post.{Post as Posting};
+ghost use Rattle.ap_post.specs.Posts.{posted_in};
+ghost use Rattle.ap_stack.specs.Stacks.{code_in, section_in, IsGood, IsStep};
 ghost use Rattle.ap_worker.specs.Ends.{end_of};
-ghost use Rattle.ap_worker.specs.Stacks.{AreReady, IsLineAt, end_after};
+ghost use Rattle.ap_worker.specs.Leads.{IsLeading, IsLineAt, end_after};
 
 use crate::answers::Answers;
 use crate::emission::End;
+use crate::lead::Lead;
 use crate::parcels::terms_of;
-use crate::searching::Never;
-use crate::stack::{Ending, Stack, Step};
-use ap_codecheck::Sound;
-use ap_ledger::Share;
-use ap_open::{block_law, moving_law, solving_law};
-use ap_outside::{Halt, Sink, put_line};
-use ap_section::Section;
+use ap_open::{block_law, outcome_law, solving_law};
+use ap_outside::{Gate, Halt, Sink, put_line};
+use ap_stack::{Ending, Stack, Step};
+use crossbeam_utils::Backoff;
 use std::alloc::Global;
 
 // How answers end by how their search did.
@@ -41,18 +40,19 @@ fn ended(ending: Ending) -> End
 // Puts the line of the answer at which the query's search stands, and goes on behind it.
 fn put_answer<A: Answers, K: Sink>(
     alloc: Global,
-    section: &mut Section,
+    query: &mut Stack<'_>,
     width: usize,
     answers: &A,
     out: &mut K,
 ) -> Result<(), Halt>
     requires width { A.width answers.now ≡ width }
-    ensures lines { Prints (K.pieces out.old) (K.pieces out.new) (IsLineAt (A.line answers.now) (view_of section.old)) result }
+    ensures lines { Prints (K.pieces out.old) (K.pieces out.new) (IsLineAt (A.line answers.now) (section_in query.old)) result }
     ensures count { SinkCount (K.faults out.old) (K.faults out.new) result }
-    ensures past { OnOk result (view_of section.new ≡ past_answer (view_of section.old)) }
-    ensures ready { (code : Compiled) → IsReady code section.old → IsReady code section.new }
+    ensures past { OnOk result (section_in query.new ≡ past_answer (section_in query.old)) }
+    ensures same { (code_in query.new ≡ code_in query.old) × (query.new.outer ≡ query.old.outer) × (query.new.frame ≡ query.old.frame) × (query.new.first ≡ query.old.first) × (query.new.tends ≡ query.old.tends) }
+    ensures good { (p : Posting) → IsGood p query.old → query.old.tends ≡ false → IsGood p query.new }
 {
-    let Ok(parcel) = section.answer() else {
+    let Ok(parcel) = query.answer() else {
         return Err(Halt::NoMemory);
     };
     let Ok(tuple) = terms_of(alloc, &parcel) else {
@@ -66,48 +66,51 @@ fn put_answer<A: Answers, K: Sink>(
         return Err(Halt::NoMemory);
     };
     put_line(&line, out)?;
-    section.redo();
+    query.redo();
     Ok(())
 }
 
-/// Puts the lines of a query's answers as the searches find them, as many as the limit at most, and says how they end.
-pub(crate) fn put_found<A: Answers, K: Sink>(
+/// Puts the lines of a query's answers as its search finds them, as many as the limit at most, and says how they end. While the search
+/// waits its worker helps others, or backs off.
+pub(crate) fn put_found<G: Gate, A: Answers, K: Sink>(
     alloc: Global,
-    sound: &Sound,
-    stack: &mut Stack,
+    gate: &G,
+    lead: &mut Lead<'_, '_>,
     width: usize,
     limit: u64,
     answers: &A,
     out: &mut K,
 ) -> Result<End, Halt>
     requires width { A.width answers.now ≡ width }
-    requires alone { stack.old.outer.items ≡ [] }
-    requires ready { AreReady sound.now stack.old }
-    ensures lines { (p : Rules) (q : Query) (budget : ℕ) → IsQuery q → IsSolving sound.now p (tracked_start q) (start q) budget [] (view_of stack.old.newest) [] → Finishes (K.pieces out.old) (K.pieces out.new) (λ end put. IsBlock (A.line answers.now) p.program (start q) budget limit put (end_of end)) result }
+    requires leads { IsLeading lead.old }
+    requires alone { lead.old.query.outer.items ≡ [] }
+    requires none { posted_in lead.old.worker.post lead.old.query.frame ≡ [] }
+    ensures lines { (p : Rules) (q : Query) (budget : ℕ) → IsQuery q → IsSolvingBeside (code_in lead.old.query) p (tracked_start q) (start q) budget [] (section_in lead.old.query) [] [] → Finishes (K.pieces out.old) (K.pieces out.new) (λ end put. IsBlock (A.line answers.now) p.program (start q) budget limit put (end_of end)) result }
     ensures count { SinkCount (K.faults out.old) (K.faults out.new) result }
 {
-    moving_law();
     solving_law();
+    outcome_law();
     block_law();
     if limit == 0 {
         return Ok(End::Stopped);
     }
     let mut count = 0;
-    let mut share = Share::new();
+    let backoff = Backoff::new();
     for _step in 0..u64::MAX {
-        let Ok(step) = stack.step(alloc, sound, &mut Never, &mut share) else {
+        let Ok(step) = lead.step(alloc, gate) else {
             return Err(Halt::NoMemory);
         };
         match step {
-            Step::Went => {}
+            Step::Waits => backoff.snooze(),
             Step::Ended(ending) => return Ok(ended(ending)),
             Step::Answer => {
-                put_answer(alloc, &mut stack.newest, width, answers, out)?;
+                put_answer(alloc, &mut lead.query, width, answers, out)?;
                 count += 1;
                 if count == limit {
                     return Ok(End::Stopped);
                 }
             }
+            _ => backoff.reset(),
         }
     }
     Err(Halt::NoMemory)

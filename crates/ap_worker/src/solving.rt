@@ -1,35 +1,53 @@
-//! From a query to the lines of its answers, by searches with groups.
+//! From a query to the lines of its answers, by workers that run its goals side by side.
 
-ghost use Rattle.std.specs.Prelude.{◌≡◌, [], length, IfOk};
+ghost use Rattle.std.specs.Prelude.{◌≡◌, ℕ, [], All, length, IfOk};
 ghost use Rattle.ap_outside.specs.Halting.{Finishes, SinkCount};
 ghost use Rattle.ap_term.specs.Goals as goals;
 ghost use Rattle.ap_term.specs.Goals.{Query as Asked, joined};
 ghost use Rattle.ap_term.specs.Search.{start};
 ghost use Rattle.ap_term.specs.Blocks.{IsBlock};
 ghost use Rattle.ap_term.specs.WellFormed.{IsProgram, IsQuery};
+ghost use Rattle.ap_core.specs.Relation.{Rules};
 ghost use Rattle.ap_graft.specs.Starts.{tracked_start};
 ghost use Rattle.ap_instr.specs.StandsFor.{StandsForQuery};
 ghost use Rattle.ap_machine.specs.Started.{IsAsked};
 ghost use Rattle.ap_tied.specs.Ties.{IsSearched};
+ghost use Rattle.ap_board.specs.Seats.{IsNewSeat};
+ghost use Rattle.ap_open.specs.Away.{IsSolvingBeside};
 ghost use Rattle.ap_open.specs.Opened.{IsSolving};
-ghost use Rattle.ap_open.specs.Reading.{AreRead, IsSafeQuery, rules_beside};
 ghost use Rattle.ap_section.specs.Views.{view_of};
+ghost use Rattle.ap_section.specs.Ready.{IsReady};
+ghost use Rattle.ap_open.specs.Reading.{AreRead, IsSafeQuery, rules_beside};
+ghost use Rattle.ap_post.specs.Posts.{posted_in};
+ghost use Rattle.ap_stack.specs.Stacks.{code_in, section_in};
 ghost use Rattle.ap_worker.specs.Ends.{end_of};
-ghost use Rattle.ap_worker.specs.Stacks.{AreReady};
+ghost use Rattle.ap_worker.specs.Leads.{IsLeading};
+ghost use Rattle.ap_worker.specs.Workers.{IsStaffed, IsIdle};
 ghost use Rattle.ap_worker.specs.Sought.{MayBeAsked};
 
 use crate::answers::Answers;
+use crate::crew::Crew;
 use crate::emission::End;
 use crate::found::put_found;
-use crate::stack::Stack;
+use crate::lead::Lead;
+use crate::serving::serve_all;
+use crate::worker::Worker;
+use ap_board::{BoardSeat, open_board};
 use ap_codecheck::{CodeErr, Sound, check};
 use ap_codegen::compile;
 use ap_copy::new_variables;
-use ap_open::{reading_law, solving_law};
-use ap_outside::{Halt, Sink};
+use ap_open::{outcome_law, reading_law, solving_law};
+use ap_outside::{Gate, Halt, Sink};
+use ap_post::{Common, Job, JobBoard, Outcome, open_posts};
 use ap_section::Section;
+use ap_stack::Stack;
 use ap_term::{NoMemory, Program, Query};
 use std::alloc::Global;
+use std::sync::Wait;
+use std::thread::{Threads, join_mut};
+
+/// How many goals a worker may have out at a time.
+const PADS: u32 = 64;
 
 /// Sound code for a program beside a query, with its groups.
 fn sound_code(alloc: Global, program: &Program, query: &Query) -> Result<Sound, NoMemory>
@@ -43,12 +61,11 @@ fn sound_code(alloc: Global, program: &Program, query: &Query) -> Result<Sound, 
     }
 }
 
-/// The search of a query where it begins, and none above it.
-fn begun(alloc: Global, sound: &Sound, query: &Query, budget: u64) -> Result<Stack, NoMemory>
+/// The search of a query where it begins.
+fn begun(alloc: Global, sound: &Sound, query: &Query, budget: u64) -> Result<Section, NoMemory>
     requires { (p : goals.Program) × IsAsked sound.now p query.now }
-    ensures alone { IfOk result (λ stack. stack.outer.items ≡ []) }
-    ensures ready { IfOk result (λ stack. AreReady sound.now stack) }
-    ensures solves { IfOk result (λ stack. (p : goals.Program) → IsAsked sound.now p query.now → IsSearched sound.now (rules_beside p query.now) (tracked_start query.now) → IsSolving sound.now (rules_beside p query.now) (tracked_start query.now) (start query.now) budget [] (view_of stack.newest) []) }
+    ensures ready { IfOk result (λ section. IsReady sound.now section) }
+    ensures solves { IfOk result (λ section. (p : goals.Program) → IsAsked sound.now p query.now → IsSearched sound.now (rules_beside p query.now) (tracked_start query.now) → IsSolving sound.now (rules_beside p query.now) (tracked_start query.now) (start query.now) budget [] (view_of section) []) }
 {
     solving_law();
     let tuple = new_variables(alloc, query.names().len())?;
@@ -56,16 +73,136 @@ fn begun(alloc: Global, sound: &Sound, query: &Query, budget: u64) -> Result<Sta
         unreachable!()
     };
     let newest = Section::start(alloc, sound, &tuple, number, budget)?;
-    Ok(Stack {
-        outer: Vec::new(alloc),
-        newest,
-    })
+    Ok(newest)
+}
+
+/// The worker that leads, with the query's search.
+fn leading<'a, 'b>(
+    alloc: Global,
+    sound: &'a Sound,
+    section: Section,
+    mut worker: Worker<'a, 'b>,
+) -> Result<Lead<'a, 'b>, NoMemory>
+    requires idle { IsIdle worker }
+    requires ready { IsReady sound.now section }
+    ensures leads { IfOk result (λ lead. IsLeading lead) }
+    ensures alone { IfOk result (λ lead. (lead.query.outer.items ≡ []) × (posted_in lead.worker.post lead.query.frame ≡ [])) }
+    ensures query { IfOk result (λ lead. (code_in lead.query ≡ sound.now) × (section_in lead.query ≡ view_of section)) }
+{
+    let frame = worker.post.number()?;
+    let query = Stack::new(alloc, sound, section, frame);
+    Ok(Lead { worker, query })
+}
+
+/// Workers for all seats of a new board.
+fn workers_of<'a, 'b>(
+    alloc: Global,
+    board: &'b JobBoard<'a>,
+    seats: Vec<BoardSeat<Job<'a>, Outcome>>,
+    common: &'b Common,
+) -> Result<Vec<Worker<'a, 'b>>, NoMemory>
+    requires table { All (λ s. s.0 ≡ board.now.table.shared.table_id) seats.items }
+    requires new { All (λ s. IsNewSeat 64 s.1.number s.1) seats.items }
+    ensures idle { IfOk result (λ workers. All IsIdle workers.items) }
+{
+    let posts = open_posts(alloc, board, seats, common)?;
+    let mut workers = Vec::new(alloc);
+    for post in posts {
+        workers.push(Worker::new(alloc, post))?;
+    }
+    Ok(workers)
+}
+
+/// Puts what is found, and then tells the other workers that the search has ended.
+fn lead_on<G: Gate, A: Answers, K: Sink>(
+    alloc: Global,
+    gate: &G,
+    lead: &mut Lead<'_, '_>,
+    width: usize,
+    limit: u64,
+    answers: &A,
+    out: &mut K,
+) -> Result<End, Halt>
+    requires width { A.width answers.now ≡ width }
+    requires leads { IsLeading lead.old }
+    requires alone { lead.old.query.outer.items ≡ [] }
+    requires none { posted_in lead.old.worker.post lead.old.query.frame ≡ [] }
+    ensures lines { (p : Rules) (q : Asked) (budget : ℕ) → IsQuery q → IsSolvingBeside (code_in lead.old.query) p (tracked_start q) (start q) budget [] (section_in lead.old.query) [] [] → Finishes (K.pieces out.old) (K.pieces out.new) (λ end put. IsBlock (A.line answers.now) p.program (start q) budget limit put (end_of end)) result }
+    ensures count { SinkCount (K.faults out.old) (K.faults out.new) result }
+{
+    let found = put_found(alloc, gate, lead, width, limit, answers, out);
+    lead.worker.post.end();
+    found
+}
+
+/// Puts what is found, while the other workers serve. The calling thread leads, so that the search goes on where no thread can be made.
+fn search_beside<R: Threads + Wait + Sync, G: Gate, A: Answers, K: Sink>(
+    alloc: Global,
+    crew: &Crew<R, G>,
+    others: &mut Vec<Worker<'_, '_>>,
+    lead: &mut Lead<'_, '_>,
+    width: usize,
+    limit: u64,
+    answers: &A,
+    out: &mut K,
+) -> Result<End, Halt>
+    requires width { A.width answers.now ≡ width }
+    requires idle { All IsIdle others.old.items }
+    requires leads { IsLeading lead.old }
+    requires alone { lead.old.query.outer.items ≡ [] }
+    requires none { posted_in lead.old.worker.post lead.old.query.frame ≡ [] }
+    ensures lines { (p : Rules) (q : Asked) (budget : ℕ) → IsQuery q → IsSolvingBeside (code_in lead.old.query) p (tracked_start q) (start q) budget [] (section_in lead.old.query) [] [] → Finishes (K.pieces out.old) (K.pieces out.new) (λ end put. IsBlock (A.line answers.now) p.program (start q) budget limit put (end_of end)) result }
+    ensures count { SinkCount (K.faults out.old) (K.faults out.new) result }
+{
+    let rt = crew.rt;
+    let gate = crew.gate;
+    // Each closure borrows one of its own.
+    let there = alloc;
+    let (_, found) = join_mut(
+        rt,
+        &mut ||
+            requires { All IsIdle others.now.items }
+        { serve_all(rt, there, gate, others) },
+        &mut || -> Result<End, Halt>
+            requires { (A.width answers.now ≡ width) × IsLeading lead.now × (lead.now.query.outer.items ≡ []) × (posted_in lead.now.worker.post lead.now.query.frame ≡ []) }
+            ensures lines { (p : Rules) (q : Asked) (budget : ℕ) → IsQuery q → IsSolvingBeside (code_in lead.entry.now.query) p (tracked_start q) (start q) budget [] (section_in lead.entry.now.query) [] [] → Finishes (K.pieces out.entry.now) (K.pieces out.exit.now) (λ end put. IsBlock (A.line answers.entry.now) p.program (start q) budget limit put (end_of end)) result }
+            ensures count { SinkCount (K.faults out.entry.now) (K.faults out.exit.now) result }
+        { lead_on(alloc, gate, lead, width, limit, answers, out) },
+    );
+    found
+}
+
+/// Puts what is found, while the other workers serve, where there are any.
+fn search<R: Threads + Wait + Sync, G: Gate, A: Answers, K: Sink>(
+    alloc: Global,
+    crew: &Crew<R, G>,
+    others: &mut Vec<Worker<'_, '_>>,
+    lead: &mut Lead<'_, '_>,
+    width: usize,
+    limit: u64,
+    answers: &A,
+    out: &mut K,
+) -> Result<End, Halt>
+    requires width { A.width answers.now ≡ width }
+    requires idle { All IsIdle others.old.items }
+    requires leads { IsLeading lead.old }
+    requires alone { lead.old.query.outer.items ≡ [] }
+    requires none { posted_in lead.old.worker.post lead.old.query.frame ≡ [] }
+    ensures lines { (p : Rules) (q : Asked) (budget : ℕ) → IsQuery q → IsSolvingBeside (code_in lead.old.query) p (tracked_start q) (start q) budget [] (section_in lead.old.query) [] [] → Finishes (K.pieces out.old) (K.pieces out.new) (λ end put. IsBlock (A.line answers.now) p.program (start q) budget limit put (end_of end)) result }
+    ensures count { SinkCount (K.faults out.old) (K.faults out.new) result }
+{
+    if others.is_empty() {
+        return put_found(alloc, crew.gate, lead, width, limit, answers, out);
+    }
+    search_beside(alloc, crew, others, lead, width, limit, answers, out)
 }
 
 /// Searches a query beside a program by code, with its groups, and puts the lines of its answers as they are found, as many as
-/// the limit at most. They are a block of any query and program that these are without their groups.
-pub fn solve<A: Answers, K: Sink>(
+/// the limit at most. They are a block of any query and program that these are without their groups, however many workers there are
+/// and however they take turns.
+pub fn solve<R: Threads + Wait + Sync, G: Gate, A: Answers, K: Sink>(
     alloc: Global,
+    crew: &Crew<R, G>,
     program: &Program,
     query: &Query,
     budget: u64,
@@ -80,16 +217,39 @@ pub fn solve<A: Answers, K: Sink>(
     ensures count { SinkCount (K.faults out.old) (K.faults out.new) result }
 {
     reading_law();
+    outcome_law();
     let Ok(sound) = sound_code(alloc, program, query) else {
         return Err(Halt::NoMemory);
     };
     let _good = program.as_slice();
     let _asked = query.question();
-    let Ok(mut stack) = begun(alloc, &sound, query, budget) else {
+    let common = Common::new(crew.workers);
+    let Ok((board, seats)) = open_board(alloc, crew.workers, PADS) else {
+        return Err(Halt::NoMemory);
+    };
+    let Ok(mut workers) = workers_of(alloc, &board, seats, &common) else {
+        return Err(Halt::NoMemory);
+    };
+    let Some(first) = workers.pop() else {
+        return Err(Halt::NoMemory);
+    };
+    let Ok(section) = begun(alloc, &sound, query, budget) else {
+        return Err(Halt::NoMemory);
+    };
+    let Ok(mut lead) = leading(alloc, &sound, section, first) else {
         return Err(Halt::NoMemory);
     };
     let width = query.names().len();
-    let found = put_found(alloc, &sound, &mut stack, width, limit, answers, out);
-    stack.release(alloc);
+    let found = search(
+        alloc,
+        crew,
+        &mut workers,
+        &mut lead,
+        width,
+        limit,
+        answers,
+        out,
+    );
+    lead.release(alloc);
     found
 }

@@ -1,97 +1,122 @@
-use Rattle.std.proofs.Common.{◌≡◌, ◌+◌, ◌<◌, Err, refl, ap, sym, ◌∙◌, subst, arith, rules}
+use Rattle.std.proofs.Common.{◌≡◌, ◌+◌, ◌<◌, [], Err, refl, ap, sym, ◌∙◌, subst, arith, rules}
 use Rattle.ap_outside.specs.Pieces.{Puts}
 use Rattle.ap_term.specs.Search.{start}
 use Rattle.ap_term.specs.Blocks.{IsBlock}
-use Rattle.ap_section.specs.Views.{view_of}
+use Rattle.ap_post.specs.Posts.{posted_in}
+use Rattle.ap_stack.specs.Stacks.{code_in, section_in, IsStep}
+use Rattle.ap_worker.specs.declared.lead.Lead.{Lead}
 use Rattle.ap_worker.specs.Ends.{end_of}
-use Rattle.ap_worker.specs.declared.stack.Stack.{Stack}
-use Rattle.ap_worker.specs.declared.stack.Step.TheVariants.{Answer}
-use Rattle.ap_worker.specs.Stacks.{outers, AreOpen, AreReady, IsStep}
-use Rattle.ap_worker.proofs.Finding.{Finding, begin, broken-off, at-limit, at-ending, one-more, one-lost, stepped, alone, not-alone}
+use Rattle.ap_worker.specs.Leads.{IsLeading}
+use Rattle.ap_worker.proofs.Finding.{FindingBy, broken-off, at-limit, at-answer, at-ending, one-more, one-lost, stepped, alone, not-alone}
 use Rattle.ap_worker.proofs.found.put_found.Goals as goal
-use Rattle.ap_worker.proofs.found.put_found.Goals.{in-Went, in-Answer+in_ok-put_answer-in-Answer+else-count-limit}
+use Rattle.ap_worker.proofs.found.put_found.Goals.{in-Waits, in-Answer+in_ok-put_answer-in-Answer+else-count-limit, in_default-step}
 
 pub returns-in_default-clause-lines : goal.returns-in_default-clause-lines
 returns-in_default-clause-lines g c = λ p q budget good h.
     let i = c.loop-step.invariant in
-    broken-off (g.A.Answers.line c.args.answers.now) c.args.sound.now p q budget c.solving_law.ensures c.block_law.ensures (λ t u. g.met.A.Answers.names c.args.answers.now t u) good c.args.limit _ _ _ _ _ (i.found p q budget good h) (let s = i.short in omega arith)
+    broken-off (g.A.Answers.line c.args.answers.now) (code_in c.args.lead.now.query) p q budget c.solving_law.ensures c.outcome_law.ensures c.block_law.ensures (λ x y. g.met.A.Answers.names c.args.answers.now x y) good c.args.limit _ _ _ _ _ _ (i.found p q budget good h) (let s = i.short in omega arith)
 
 pub returns-in-Ended-clause-lines : goal.returns-in-Ended-clause-lines
 returns-in-Ended-clause-lines g c = λ p q budget good h.
     let i = c.loop-step.invariant in
     let line = g.A.Answers.line c.args.answers.now in
-    let code = c.args.sound.now in
+    let code = code_in c.args.lead.now.query in
     let t = c.step.new.self in
-    let d = subst (IsStep code t) c.in-Ended.is c.in-Ok.ensures.step in
+    let go = c.in-Ok.ensures.goes in
+    let d = subst (IsStep t.worker.post t.query) c.in-Ended.is c.in-Ok.ensures.step in
     subst (λ e. Puts (g.K.Sink.pieces c.args.out.now) (g.K.Sink.pieces c.loop-step.out) (λ put. IsBlock line p.program (start q) budget c.args.limit put (end_of e))) (sym c.ended.ensures)
-    (at-ending line code p q budget c.solving_law.ensures c.block_law.ensures (λ x y. g.met.A.Answers.names c.args.answers.now x y) good c.args.limit _ _ _ t c.in-Ended.ending d i.short
-    (stepped line code p q budget _ _ _ c.loop-step.stack t c.in-Ok.ensures.goes (i.found p q budget good h)))
+    (at-ending line code p q budget c.solving_law.ensures c.outcome_law.ensures c.block_law.ensures (λ x y. g.met.A.Answers.names c.args.answers.now x y) good c.args.limit _ _ _ t.worker.post t.query c.in-Ended.ending (go.code ∙ i.code) d i.short
+    (stepped line code p q budget _ _ _ c.outcome_law.ensures c.loop-step.lead t i.code go (i.found p q budget good h)))
 
 pub returns-in_err-put_answer-in-Answer-clause-lines : goal.returns-in_err-put_answer-in-Answer-clause-lines
 returns-in_err-put_answer-in-Answer-clause-lines g c = λ p q budget good h.
     let same : c.from_residual.result ≡ Err c.in_err-put_answer-in-Answer.field-0.0 = search rules in
     let i = c.loop-step.invariant in
     let line = g.A.Answers.line c.args.answers.now in
-    let code = c.args.sound.now in
+    let code = code_in c.args.lead.now.query in
     let t = c.step.new.self in
-    let d = subst (IsStep code t) c.in-Answer.is c.in-Ok.ensures.step in
-    one-lost line code p q budget c.solving_law.ensures c.block_law.ensures (λ x y. g.met.A.Answers.names c.args.answers.now x y) good c.args.limit _ _ _ (view_of t.newest)
-    (alone line code p q budget _ _ _ t d.0 (stepped line code p q budget _ _ _ c.loop-step.stack t c.in-Ok.ensures.goes (i.found p q budget good h))) i.short d.1 _
+    let go = c.in-Ok.ensures.goes in
+    let d = subst (IsStep t.worker.post t.query) c.in-Answer.is c.in-Ok.ensures.step in
+    let x = at-answer t go.leads d in
+    let m = alone line code p q budget _ _ _ t.worker.post t.query x.0 x.2 (stepped line code p q budget _ _ _ c.outcome_law.ensures c.loop-step.lead t i.code go (i.found p q budget good h)) in
+    one-lost line code p q budget c.solving_law.ensures c.outcome_law.ensures c.block_law.ensures (λ x y. g.met.A.Answers.names c.args.answers.now x y) good c.args.limit _ _ _ (section_in t.query) m i.short x.3 _
     c.put_answer.result _ c.in_err-put_answer-in-Answer.field-0.0 c.in_err-put_answer-in-Answer.was same c.put_answer.ensures.lines
 
 pub returns-then-count-limit-clause-lines : goal.returns-then-count-limit-clause-lines
 returns-then-count-limit-clause-lines g c = λ p q budget good h.
     let i = c.loop-step.invariant in
     let line = g.A.Answers.line c.args.answers.now in
-    let code = c.args.sound.now in
+    let code = code_in c.args.lead.now.query in
     let t = c.step.new.self in
-    let d = subst (IsStep code t) c.in-Answer.is c.in-Ok.ensures.step in
-    let m = alone line code p q budget _ _ _ t d.0 (stepped line code p q budget _ _ _ c.loop-step.stack t c.in-Ok.ensures.goes (i.found p q budget good h)) in
-    at-limit line code p q budget c.solving_law.ensures c.block_law.ensures (λ x y. g.met.A.Answers.names c.args.answers.now x y) good c.args.limit _ _ _ _
-    (one-more line code p q budget c.solving_law.ensures c.block_law.ensures (λ x y. g.met.A.Answers.names c.args.answers.now x y) good c.args.limit _ _ _ (view_of t.newest) m i.short d.1 _ c.in_ok-put_answer-in-Answer.ensures.lines)
+    let go = c.in-Ok.ensures.goes in
+    let d = subst (IsStep t.worker.post t.query) c.in-Answer.is c.in-Ok.ensures.step in
+    let x = at-answer t go.leads d in
+    let m = alone line code p q budget _ _ _ t.worker.post t.query x.0 x.2 (stepped line code p q budget _ _ _ c.outcome_law.ensures c.loop-step.lead t i.code go (i.found p q budget good h)) in
+    at-limit line code p q budget c.solving_law.ensures c.outcome_law.ensures c.block_law.ensures (λ x y. g.met.A.Answers.names c.args.answers.now x y) good c.args.limit _ _ _ _
+    (one-more line code p q budget c.solving_law.ensures c.outcome_law.ensures c.block_law.ensures (λ x y. g.met.A.Answers.names c.args.answers.now x y) good c.args.limit _ _ _ (section_in t.query) m i.short x.3 _ c.in_ok-put_answer-in-Answer.ensures.lines)
     c.if-count-limit.true
 
 pub loop-step-preserved : goal.loop-step-preserved
 loop-step-preserved g c =
     let i = c.loop-step.invariant in
     let line = g.A.Answers.line c.args.answers.now in
-    let code = c.args.sound.now in
+    let code = code_in c.args.lead.now.query in
     let t = c.step.new.self in
+    let go = c.in-Ok.ensures.goes in
     let first = g.K.Sink.pieces c.args.out.now in
     elim c.match-step-2.branch [
-      | in-Went w ↦ record {
-        stands = subst AreOpen (sym w.stack-is) c.in-Ok.ensures.open;
-        ready = subst (AreReady code) (sym w.stack-is) c.in-Ok.ensures.goes.ready;
+      | in-Waits w ↦ record {
+        leads = subst IsLeading (sym w.lead-is) go.leads;
+        code = subst (λ (l : Lead). code_in l.query ≡ code) (sym w.lead-is) (go.code ∙ i.code);
         short = subst (λ n. n < c.args.limit) (sym w.count-is) i.short;
         faults = ap g.K.Sink.faults w.out-is ∙ i.faults;
         found = λ p q budget good h.
-            subst (λ (s : Stack). Finding line code p q budget c.match-step-2.count first (g.K.Sink.pieces c.match-step-2.out) (outers s) (view_of s.newest)) (sym w.stack-is)
-            (subst (λ k. Finding line code p q budget c.match-step-2.count first (g.K.Sink.pieces k) (outers t) (view_of t.newest)) (sym w.out-is)
-            (subst (λ n. Finding line code p q budget n first (g.K.Sink.pieces c.loop-step.out) (outers t) (view_of t.newest)) (sym w.count-is)
-            (stepped line code p q budget _ _ _ c.loop-step.stack t c.in-Ok.ensures.goes (i.found p q budget good h))));
+            subst (λ (l : Lead). FindingBy line code p q budget c.match-step-2.count first (g.K.Sink.pieces c.match-step-2.out) l.worker.post l.query) (sym w.lead-is)
+            (subst (λ k. FindingBy line code p q budget c.match-step-2.count first (g.K.Sink.pieces k) t.worker.post t.query) (sym w.out-is)
+            (subst (λ n. FindingBy line code p q budget n first (g.K.Sink.pieces c.loop-step.out) t.worker.post t.query) (sym w.count-is)
+            (stepped line code p q budget _ _ _ c.outcome_law.ensures c.loop-step.lead t i.code go (i.found p q budget good h))));
       }
       | in-Answer+in_ok-put_answer-in-Answer+else-count-limit w ↦
-          let d = subst (IsStep code t) w.in-Answer.is c.in-Ok.ensures.step in
+          let d = subst (IsStep t.worker.post t.query) w.in-Answer.is c.in-Ok.ensures.step in
+          let x = at-answer t go.leads d in
           let e = w.in_ok-put_answer-in-Answer.ensures in
-          let s : Stack = record { outer = t.outer; newest = w.put_answer.new.section } in
-          let ready = c.in-Ok.ensures.goes.ready in
+          let s : Lead = record { worker = t.worker; query = w.put_answer.new.query } in
+          let before = x.0 in
+          let kept = e.same.1 in
+          let outer : s.query.outer.items ≡ [] = cc in
+          let none = subst (λ f. posted_in t.worker.post f ≡ []) (sym e.same.2) x.2 in
           let other = w.if-count-limit.false in
           record {
-            stands = subst AreOpen (sym w.stack-is) c.in-Ok.ensures.open;
-            ready = subst (AreReady code) (sym w.stack-is) (record { newest = e.ready code ready.newest; outer = ready.outer });
+            leads = subst IsLeading (sym w.lead-is) (record {
+              staffed = go.leads.staffed;
+              good = e.good t.worker.post go.leads.good x.1;
+              above = λ some. subst (λ f. f < t.worker.floor) (sym e.same.2) (go.leads.above some);
+            });
+            code = subst (λ (l : Lead). code_in l.query ≡ code) (sym w.lead-is) (e.same.0 ∙ go.code ∙ i.code);
             short = subst (λ n. n < c.args.limit) (sym w.count-is) (let l = i.short in omega arith);
             faults = ap g.K.Sink.faults w.out-is ∙ e.count ∙ i.faults;
             found = λ p q budget good h.
-                let m = alone line code p q budget _ _ _ t d.0 (stepped line code p q budget _ _ _ c.loop-step.stack t c.in-Ok.ensures.goes (i.found p q budget good h)) in
-                let more = one-more line code p q budget c.solving_law.ensures c.block_law.ensures (λ x y. g.met.A.Answers.names c.args.answers.now x y) good c.args.limit _ _ _ (view_of t.newest) m i.short d.1 _ e.lines in
-                subst (λ (z : Stack). Finding line code p q budget c.match-step-2.count first (g.K.Sink.pieces c.match-step-2.out) (outers z) (view_of z.newest)) (sym w.stack-is)
-                (subst (λ k. Finding line code p q budget c.match-step-2.count first (g.K.Sink.pieces k) (outers s) (view_of s.newest)) (sym w.out-is)
-                (subst (λ n. Finding line code p q budget n first (g.K.Sink.pieces w.put_answer.new.out) (outers s) (view_of s.newest)) (sym w.count-is)
-                (not-alone line code p q budget _ _ _ s _ d.0 e.past more)));
+                let m = alone line code p q budget _ _ _ t.worker.post t.query x.0 x.2 (stepped line code p q budget _ _ _ c.outcome_law.ensures c.loop-step.lead t i.code go (i.found p q budget good h)) in
+                let more = one-more line code p q budget c.solving_law.ensures c.outcome_law.ensures c.block_law.ensures (λ x y. g.met.A.Answers.names c.args.answers.now x y) good c.args.limit _ _ _ (section_in t.query) m i.short x.3 _ e.lines in
+                subst (λ (l : Lead). FindingBy line code p q budget c.match-step-2.count first (g.K.Sink.pieces c.match-step-2.out) l.worker.post l.query) (sym w.lead-is)
+                (subst (λ k. FindingBy line code p q budget c.match-step-2.count first (g.K.Sink.pieces k) s.worker.post s.query) (sym w.out-is)
+                (subst (λ n. FindingBy line code p q budget n first (g.K.Sink.pieces w.put_answer.new.out) s.worker.post s.query) (sym w.count-is)
+                (not-alone line code p q budget _ _ _ s.worker.post s.query _ outer none e.past more)));
           }
+      | in_default-step w ↦ record {
+        leads = subst IsLeading (sym w.lead-is) go.leads;
+        code = subst (λ (l : Lead). code_in l.query ≡ code) (sym w.lead-is) (go.code ∙ i.code);
+        short = subst (λ n. n < c.args.limit) (sym w.count-is) i.short;
+        faults = ap g.K.Sink.faults w.out-is ∙ i.faults;
+        found = λ p q budget good h.
+            subst (λ (l : Lead). FindingBy line code p q budget c.match-step-2.count first (g.K.Sink.pieces c.match-step-2.out) l.worker.post l.query) (sym w.lead-is)
+            (subst (λ k. FindingBy line code p q budget c.match-step-2.count first (g.K.Sink.pieces k) t.worker.post t.query) (sym w.out-is)
+            (subst (λ n. FindingBy line code p q budget n first (g.K.Sink.pieces c.loop-step.out) t.worker.post t.query) (sym w.count-is)
+            (stepped line code p q budget _ _ _ c.outcome_law.ensures c.loop-step.lead t i.code go (i.found p q budget good h))));
+      }
     ]
 
 pub returns-clause-lines : goal.returns-clause-lines
 returns-clause-lines g c = λ p q budget good h.
     let i = c.loop-step.invariant in
-    broken-off (g.A.Answers.line c.args.answers.now) c.args.sound.now p q budget c.solving_law.ensures c.block_law.ensures (λ t u. g.met.A.Answers.names c.args.answers.now t u) good c.args.limit _ _ _ _ _ (i.found p q budget good h) (let s = i.short in omega arith)
+    broken-off (g.A.Answers.line c.args.answers.now) (code_in c.args.lead.now.query) p q budget c.solving_law.ensures c.outcome_law.ensures c.block_law.ensures (λ x y. g.met.A.Answers.names c.args.answers.now x y) good c.args.limit _ _ _ _ _ _ (i.found p q budget good h) (let s = i.short in omega arith)

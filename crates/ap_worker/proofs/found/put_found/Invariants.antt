@@ -4,18 +4,18 @@ use Rattle.ap_term.specs.Search.{start}
 use Rattle.ap_term.specs.WellFormed.{IsQuery}
 use Rattle.ap_core.specs.Relation.{Rules}
 use Rattle.ap_graft.specs.Starts.{tracked_start}
-use Rattle.ap_open.specs.Opened.{IsSolving}
-use Rattle.ap_section.specs.Views.{view_of}
-use Rattle.ap_worker.specs.Stacks.{outers, AreOpen, AreReady}
-use Rattle.ap_worker.proofs.Finding.{Finding}
+use Rattle.ap_open.specs.Away.{IsSolvingBeside}
+use Rattle.ap_stack.specs.Stacks.{code_in, section_in}
+use Rattle.ap_worker.specs.Leads.{IsLeading}
+use Rattle.ap_worker.proofs.Finding.{FindingBy}
 use Rattle.ap_worker.proofs.found.put_found.Given as goal
 
 abbrev pub invariant-loop-step : goal.invariant-loop-step
 invariant-loop-step g l = record {
-  stands : AreOpen l.stack;
-  ready : AreReady l.sound l.stack;
+  leads : IsLeading l.lead;
+  code : code_in l.lead.query ≡ code_in l.fn.lead.query;
   short : l.count < l.limit;
   faults : g.K.Sink.faults l.out ≡ g.K.Sink.faults l.fn.out;
-  found : (p : Rules) (q : Query) (budget : ℕ) → IsQuery q → IsSolving l.sound p (tracked_start q) (start q) budget [] (view_of l.fn.stack.newest) []
-      → Finding (g.A.Answers.line l.answers) l.sound p q budget l.count (g.K.Sink.pieces l.fn.out) (g.K.Sink.pieces l.out) (outers l.stack) (view_of l.stack.newest);
+  found : (p : Rules) (q : Query) (budget : ℕ) → IsQuery q → IsSolvingBeside (code_in l.fn.lead.query) p (tracked_start q) (start q) budget [] (section_in l.fn.lead.query) [] []
+      → FindingBy (g.A.Answers.line l.answers) (code_in l.fn.lead.query) p q budget l.count (g.K.Sink.pieces l.fn.out) (g.K.Sink.pieces l.out) l.lead.worker.post l.lead.query;
 }

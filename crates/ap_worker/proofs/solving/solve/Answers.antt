@@ -1,5 +1,7 @@
 use Rattle.ap_open.specs.Reading.{rules_beside}
-use Rattle.ap_worker.proofs.Asks.{is-asked, is-searched, read-finishes}
+use Rattle.ap_section.specs.Views.{view_of}
+use Rattle.ap_worker.proofs.Asks.{is-asked, is-searched, leads-solving, read-finishes}
+use Rattle.ap_worker.proofs.Idle.{last-idle}
 use Rattle.ap_worker.proofs.solving.solve.Goals as goal
 
 pub returns-clause-lines : goal.returns-clause-lines
@@ -11,5 +13,13 @@ returns-clause-lines g c = λ p q fine asks read.
     let is = c.question-asked.ensures.kept in
     let solves = c.in-Ok-begun.ensures.solves a (is-asked code a b is c.in-Ok.ensures c.requires.asked)
     (is-searched c.reading_law.ensures code a b good is c.requires.asked c.in-Ok.ensures c.requires.safe) in
-    read-finishes c.reading_law.ensures code a b good is c.requires.asked c.in-Ok.ensures (g.A.Answers.line c.args.answers.now) c.args.budget c.args.limit _ _ c.put_found-found.result p q fine asks read
-    (c.put_found-found.ensures.lines (rules_beside a b) b c.args.budget is solves)
+    let same = c.in-Ok-leading.ensures.query in
+    let beside = leads-solving c.outcome_law.ensures code (rules_beside a b) b c.args.budget c.in-Ok-leading.lead.query (view_of c.in-Ok-begun.section) same.0 same.1 solves in
+    read-finishes c.reading_law.ensures code a b good is c.requires.asked c.in-Ok.ensures (g.A.Answers.line c.args.answers.now) c.args.budget c.args.limit _ _ c.search-found.result p q fine asks read
+    (c.search-found.ensures.lines (rules_beside a b) b c.args.budget is beside)
+
+pub leading-requires-clause-idle : goal.leading-requires-clause-idle
+leading-requires-clause-idle g c = (last-idle c.in-Ok-workers_of.workers.items c.pop.new.self.items c.in-Some.first c.in-Some.ensures.items c.in-Ok-workers_of.ensures.idle).1
+
+pub search-found-requires-clause-idle : goal.search-found-requires-clause-idle
+search-found-requires-clause-idle g c κs within = (last-idle c.in-Ok-workers_of.workers.items c.pop.new.self.items c.in-Some.first c.in-Some.ensures.items c.in-Ok-workers_of.ensures.idle).0

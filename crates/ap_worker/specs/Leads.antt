@@ -1,0 +1,49 @@
+-- The worker that searches the query.
+use Rattle.std.specs.Prelude.{◌≡◌, ◌≢◌, ℕ, ◌<◌, false, List, [], ◌∷◌}
+use Rattle.ap_term.specs.Tree.{Trees}
+use Rattle.ap_tied.specs.Settling.{IsAnswerIn}
+use Rattle.ap_tie.specs.Sections as seen
+use Rattle.ap_open.specs.Away.{Carries}
+use Rattle.ap_stack.specs.declared.stack.Step.{Step}
+use Rattle.ap_stack.specs.declared.stack.Step.TheVariants.{Answer, Ended}
+use Rattle.ap_stack.specs.declared.stack.Ending.{Ending}
+use Rattle.ap_stack.specs.declared.stack.Ending.TheVariants.{Failed, Spent}
+use Rattle.ap_stack.specs.Stacks.{code_in, levels_in, section_in, away_in, IsGood, IsStep}
+use Rattle.ap_worker.specs.declared.emission.End.{End}
+use Rattle.ap_worker.specs.declared.emission.End.TheVariants as end
+use Rattle.ap_worker.specs.declared.emission.End.TheVariants.{NoMore}
+use Rattle.ap_worker.specs.declared.lead.Lead.{Lead}
+use Rattle.ap_worker.specs.Workers.{IsStaffed}
+
+-- the frames of goals that were taken have numbers above those of the query's
+pub record IsLeading (l : Lead) : Type 0 where
+  pub staffed : IsStaffed l.worker
+  pub good : IsGood l.worker.post l.query
+  pub above : l.worker.taken.items ≢ [] → l.query.frame < l.worker.floor
+
+-- whatever the query's sections are tied to, events lead it to what they are tied to then
+pub record LeadGoes (l m : Lead) : Type 0 where
+  pub leads : IsLeading m
+  pub code : code_in m.query ≡ code_in l.query
+  pub carries : Carries (code_in l.query) (levels_in l.worker.post l.query) (section_in l.query) (away_in l.worker.post l.query) (levels_in m.worker.post m.query) (section_in m.query) (away_in m.worker.post m.query)
+
+-- the query's search stays, and what is out of it
+pub record LeadStays (l m : Lead) : Type 0 where
+  pub leads : IsLeading m
+  pub query : m.query ≡ l.query
+  pub levels : levels_in m.worker.post m.query ≡ levels_in l.worker.post l.query
+  pub away : away_in m.worker.post m.query ≡ away_in l.worker.post l.query
+
+abbrev pub IsStepOfQuery : Lead → Step → Type 0
+IsStepOfQuery l step = IsStep l.worker.post l.query step
+
+-- ---- what is put
+
+-- a section's answer was put as its line
+abbrev pub IsLineAt : (Trees → List ℕ) → seen.Section → List (List ℕ) → Type 0
+IsLineAt line s put = (t : Trees) × IsAnswerIn s t × (put ≡ line t ∷ [])
+
+-- how answers end by how their search did
+abbrev pub end_after : Ending → End
+end_after Failed = NoMore
+end_after Spent = end.Spent

@@ -1,0 +1,61 @@
+//! The worker that searches the query.
+
+ghost use Rattle.std.specs.Prelude.{IfOk};
+ghost use Rattle.ap_worker.specs.Leads.{IsLeading, LeadGoes, LeadStays, IsStepOfQuery};
+
+use crate::worker::Worker;
+use ap_open::sharing_law;
+use ap_outside::Gate;
+use ap_stack::{Stack, Step};
+use ap_term::NoMemory;
+use std::alloc::Global;
+
+/// A worker, and the query's search beside those of the goals that it took: it goes on where none of these is open.
+#[derive(Drop)]
+pub struct Lead<'a, 'b> {
+    pub(crate) worker: Worker<'a, 'b>,
+    pub(crate) query: Stack<'a>,
+}
+
+impl<'a, 'b> Lead<'a, 'b> {
+    /// Looks for a goal of another worker, as its own searches wait.
+    fn help<G: Gate>(&mut self, alloc: Global, gate: &G) -> Step
+        requires leads { IsLeading self.old }
+        ensures stays { LeadStays self.old self.new }
+        ensures step { IsStepOfQuery self.new result }
+    {
+        if self.worker.help(alloc, gate) {
+            Step::Went
+        } else {
+            Step::Waits
+        }
+    }
+
+    /// Makes a step: the search of the goal that was taken last goes on, or the query's, or it looks for another goal.
+    pub(crate) fn step<G: Gate>(&mut self, alloc: Global, gate: &G) -> Result<Step, NoMemory>
+        requires leads { IsLeading self.old }
+        ensures goes { LeadGoes self.old self.new }
+        ensures step { IfOk result (λ step. IsStepOfQuery self.new step) }
+    {
+        sharing_law();
+        if !self.worker.is_free() {
+            if self.worker.work(alloc, gate) {
+                return Ok(Step::Went);
+            }
+            return Ok(self.help(alloc, gate));
+        }
+        match self.query.step(alloc, &mut self.worker.post)? {
+            Step::Waits => Ok(self.help(alloc, gate)),
+            step => {
+                let _went = self.worker.pass(gate, step);
+                Ok(step)
+            }
+        }
+    }
+
+    /// Drops the searches one after another, however deep frames are nested in them.
+    pub(crate) fn release(self, alloc: Global) {
+        let Lead { query, .. } = self;
+        let _share = query.release(alloc);
+    }
+}
