@@ -11,6 +11,8 @@ use ap_outside::{OpenGate, StdFiles, StdSink, StdSource};
 use ap_top::{Status, run};
 use std::alloc::Global;
 use std::process::ExitCode;
+use std::sync::Wait;
+use std::thread::Threads;
 use std::{env, io};
 
 fn code_of(status: Status) -> ExitCode
@@ -19,12 +21,12 @@ fn code_of(status: Status) -> ExitCode
     ExitCode::from(status.number())
 }
 
-fn run_words(rt: &HostRuntime, words: &[&str]) -> Status {
+fn run_words<R: Threads + Wait + Sync>(rt: &HostRuntime, threads: &R, words: &[&str]) -> Status {
     let mut files = StdFiles::new(rt);
     let mut queries = StdSource::new(rt.stdin());
     let mut out = StdSink::new(rt.stdout());
     run(
-        rt,
+        threads,
         rt.alloc(),
         words,
         &mut files,
@@ -35,20 +37,24 @@ fn run_words(rt: &HostRuntime, words: &[&str]) -> Status {
 }
 
 // The command line, the program's name first.
-fn run_args(rt: &HostRuntime, alloc: Global) -> io::Result<Status> {
+fn run_args<R: Threads + Wait + Sync>(
+    rt: &HostRuntime,
+    threads: &R,
+    alloc: Global,
+) -> io::Result<Status> {
     let args: Vec<String> = env::args(rt)?.collect(alloc)?;
     let mut words = Vec::new(alloc);
     for arg in &args {
         words.push(arg.as_str())?;
     }
-    Ok(run_words(rt, &words))
+    Ok(run_words(rt, threads, &words))
 }
 
 fn main(rt: HostRuntime) -> ExitCode {
-    match run_args(&rt, rt.alloc()) {
+    match run_args(&rt, &rt, rt.alloc()) {
         Ok(status) => code_of(status),
         Err(error) if error.kind() == io::ErrorKind::OutOfMemory => code_of(Status::NoMemory),
         // A word that is no text: no command line has one.
-        Err(_) => code_of(run_words(&rt, &[])),
+        Err(_) => code_of(run_words(&rt, &rt, &[])),
     }
 }

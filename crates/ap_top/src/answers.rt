@@ -10,11 +10,13 @@ ghost use Rattle.ap_top.specs.Lines.{line_same};
 
 use ap_grouping::group_query;
 use ap_mel::Kind;
-use ap_outside::{Halt, Sink, put_line};
+use ap_outside::{Gate, Halt, Sink, put_line};
 use ap_term::{Args, Atoms, Fault, NoMemory, Program, Query};
-use ap_worker::{Answers, End, solve};
+use ap_worker::{Answers, Crew, End, solve};
 use ap_writer::answer_line;
 use std::alloc::Global;
+use std::sync::Wait;
+use std::thread::Threads;
 
 /// How far the search of a query goes, and which groups it has.
 #[derive(Clone, Copy, Debug, PartialEq, Eq)]
@@ -92,8 +94,9 @@ impl Answers for Lines<'_> {
 }
 
 /// Prints the block of a query, each answer as it is found. Whether its budget was spent.
-pub fn print_query<K: Sink>(
+pub fn print_query<R: Threads + Wait + Sync, G: Gate, K: Sink>(
     alloc: Global,
+    crew: &Crew<R, G>,
     program: &Program,
     query: &Query,
     bounds: Bounds,
@@ -117,6 +120,7 @@ pub fn print_query<K: Sink>(
     let _asked = query.question();
     let end = solve(
         alloc,
+        crew,
         &grouped.program,
         &grouped.query,
         budget,

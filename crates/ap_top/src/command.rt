@@ -24,13 +24,17 @@ use ap_clause::{Refusal, program};
 use ap_outside::{FileErr, Files, Gate, Got, Halt, PutErr, Sink, Source};
 use ap_term::{Atoms, Program};
 use ap_words::{Asked as What, HELP, Reading, Run, VERSION_LINE, read};
+use ap_worker::Crew;
 use std::alloc::Global;
+use std::sync::Wait;
+use std::thread::Threads;
 
 const USAGE: &[u8] = b"usage: andprolog run FILE | show FILE | code FILE | load SEED SIZE\n";
 
 // The source, over an accepted program.
-fn run_source<S: Source, K: Sink>(
+fn run_source<R: Threads + Wait + Sync, G: Gate, S: Source, K: Sink>(
     alloc: Global,
+    crew: &Crew<R, G>,
     program: &Program,
     command: &Run,
     atoms: &mut Atoms,
@@ -52,7 +56,7 @@ fn run_source<S: Source, K: Sink>(
     let mut text = Vec::new(alloc);
     match drain(&mut text, queries) {
         Err(DrainErr::Failed) => {
-            print_text(alloc, &text, false, program, bounds, atoms, out)?;
+            print_text(alloc, crew, &text, false, program, bounds, atoms, out)?;
             close(b"fault: source\n", Status::SourceFault, out)
         }
         Err(DrainErr::TooLong) => {
@@ -60,15 +64,16 @@ fn run_source<S: Source, K: Sink>(
         }
         Err(DrainErr::NoMemory) => Err(Halt::NoMemory),
         Ok(()) => {
-            let tally = print_text(alloc, &text, true, program, bounds, atoms, out)?;
+            let tally = print_text(alloc, crew, &text, true, program, bounds, atoms, out)?;
             Ok(tally.status())
         }
     }
 }
 
 // The bytes of a file.
-fn run_text<S: Source, K: Sink>(
+fn run_text<R: Threads + Wait + Sync, G: Gate, S: Source, K: Sink>(
     alloc: Global,
+    crew: &Crew<R, G>,
     text: &[u8],
     command: &Run,
     queries: &mut S,
@@ -84,7 +89,7 @@ fn run_text<S: Source, K: Sink>(
         return Err(Halt::NoMemory);
     };
     match program(alloc, text, &mut atoms) {
-        Ok(program) => run_source(alloc, &program, command, &mut atoms, queries, out),
+        Ok(program) => run_source(alloc, crew, &program, command, &mut atoms, queries, out),
         Err(Refusal::NoMemory) => Err(Halt::NoMemory),
         Err(refusal) => {
             print_refusal(alloc, &refusal, &atoms, out)?;
@@ -94,8 +99,9 @@ fn run_text<S: Source, K: Sink>(
 }
 
 // The file that was asked for.
-fn run_file<F: Files, S: Source, K: Sink>(
+fn run_file<R: Threads + Wait + Sync, G: Gate, F: Files, S: Source, K: Sink>(
     alloc: Global,
+    crew: &Crew<R, G>,
     command: &Run,
     files: &mut F,
     queries: &mut S,
@@ -114,13 +120,27 @@ fn run_file<F: Files, S: Source, K: Sink>(
         Err(FileErr::Failed) => close(b"fault: file\n", Status::FileFault, out),
         Err(FileErr::NoMemory) => Err(Halt::NoMemory),
         Ok(Got::TooLong) => close(b"refused: too long\n", Status::ProgramRefused, out),
-        Ok(Got::Whole) => run_text(alloc, &text, command, queries, out),
+        Ok(Got::Whole) => run_text(alloc, crew, &text, command, queries, out),
+    }
+}
+
+// As many workers as a command line asks for.
+fn crew_of<'a, R, G>(rt: &'a R, gate: &'a G, workers: u64) -> Crew<'a, R, G>
+    requires some { 1 ≤ workers }
+    requires few { workers ≤ 32 }
+{
+    Crew {
+        rt,
+        gate,
+        workers: workers as u32,
     }
 }
 
 // What a command line asks for.
-fn run_asked<F: Files, S: Source, K: Sink>(
+fn run_asked<R: Threads + Wait + Sync, G: Gate, F: Files, S: Source, K: Sink>(
+    rt: &R,
     alloc: Global,
+    gate: &G,
     asked: What,
     files: &mut F,
     queries: &mut S,
@@ -135,17 +155,28 @@ fn run_asked<F: Files, S: Source, K: Sink>(
     ensures end { (what : Asked) → asks (asked_of asked.entry) ≡ asks (runs what) → EndsSource (S.left queries.new) result }
 {
     match asked {
-        What::Run(command) => run_file(alloc, &command, files, queries, out),
+        What::Run(command) => {
+            let crew = crew_of(rt, gate, command.workers);
+            run_file(alloc, &crew, &command, files, queries, out)
+        }
         What::Show(command) => show_file(alloc, &command, files, out),
         What::Code(file) => code_file(alloc, file, files, out),
-        // One worker answers as any number of them does.
-        What::Load { seed, size, .. } => load(alloc, seed, size, out),
+        What::Load {
+            seed,
+            size,
+            workers,
+        } => {
+            let crew = crew_of(rt, gate, workers);
+            load(alloc, &crew, seed, size, out)
+        }
     }
 }
 
 // What a command line is read as.
-fn run_reading<F: Files, S: Source, K: Sink>(
+fn run_reading<R: Threads + Wait + Sync, G: Gate, F: Files, S: Source, K: Sink>(
+    rt: &R,
     alloc: Global,
+    gate: &G,
     reading: Reading,
     files: &mut F,
     queries: &mut S,
@@ -163,13 +194,15 @@ fn run_reading<F: Files, S: Source, K: Sink>(
         Reading::Usage => close(USAGE, Status::Usage, out),
         Reading::Help => tell(HELP, out),
         Reading::Version => tell(VERSION_LINE, out),
-        Reading::Asks(asked) => run_asked(alloc, asked, files, queries, out),
+        Reading::Asks(asked) => run_asked(rt, alloc, gate, asked, files, queries, out),
     }
 }
 
 // The command line.
-fn run_words<F: Files, S: Source, K: Sink>(
+fn run_words<R: Threads + Wait + Sync, G: Gate, F: Files, S: Source, K: Sink>(
+    rt: &R,
     alloc: Global,
+    gate: &G,
     words: &[&str],
     files: &mut F,
     queries: &mut S,
@@ -185,7 +218,7 @@ fn run_words<F: Files, S: Source, K: Sink>(
     let Ok(reading) = read(alloc, words) else {
         return Err(Halt::NoMemory);
     };
-    run_reading(alloc, reading, files, queries, out)
+    run_reading(rt, alloc, gate, reading, files, queries, out)
 }
 
 // Says that memory was wanting, where there is memory for that.
@@ -216,14 +249,14 @@ fn give_up<K: Sink>(out: &mut K) -> Status
 /// `load SEED SIZE` makes a program, asks it a question, and puts the summary of the block in three lines.
 ///
 /// `--help` and `--version` put their lines, and what is no command line the line of the usage.
-pub fn run<R, F: Files, S: Source, K: Sink, G: Gate>(
-    _rt: &R,
+pub fn run<R: Threads + Wait + Sync, F: Files, S: Source, K: Sink, G: Gate>(
+    rt: &R,
     alloc: Global,
     words: &[&str],
     files: &mut F,
     queries: &mut S,
     out: &mut K,
-    _gate: &G,
+    gate: &G,
 ) -> Status
     // Which lines go with which status, and what was put where the sink failed or memory was wanting.
     ensures lines { Puts (K.pieces out.old) (K.pieces out.new)
@@ -252,7 +285,7 @@ pub fn run<R, F: Files, S: Source, K: Sink, G: Gate>(
     // Where the words ask for a program's code, and nothing outside failed, its listing is put, or memory was wanting.
     ensures codes { CodesProgram (map (λ w. w.now) words.now) (F.entries files.old) → (Rises (F.faults files.old) (F.faults files.new) → ⊥) → (Rises (K.faults out.old) (K.faults out.new) → ⊥) → IsShowing result }
 {
-    match run_words(alloc, words, files, queries, out) {
+    match run_words(rt, alloc, gate, words, files, queries, out) {
         Ok(status) => status,
         Err(Halt::Sink) => Status::SinkFault,
         Err(Halt::NoMemory) => give_up(out),

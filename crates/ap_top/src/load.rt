@@ -13,9 +13,12 @@ use crate::status::Status;
 use crate::texts::print_text;
 use ap_clause::{Refusal, program};
 use ap_gen::{QUESTION, answers_line, seed_line, workload};
-use ap_outside::{Halt, Sink, SteadySink, put_lines};
+use ap_outside::{Gate, Halt, Sink, SteadySink, put_lines};
 use ap_term::{Atoms, Program};
+use ap_worker::Crew;
 use std::alloc::{AllocError, Global};
+use std::sync::Wait;
+use std::thread::Threads;
 
 // The summary of a block that has these answer lines and this last line.
 fn summary(
@@ -62,8 +65,9 @@ fn print_summed<K: Sink>(
 }
 
 // An accepted program. The block is kept in memory, which never fails as a sink.
-fn load_program<K: Sink>(
+fn load_program<R: Threads + Wait + Sync, G: Gate, K: Sink>(
     alloc: Global,
+    crew: &Crew<R, G>,
     seed: u32,
     size: u32,
     program: &Program,
@@ -75,7 +79,9 @@ fn load_program<K: Sink>(
     ensures sink { SinkCount (K.faults out.old) (K.faults out.new) result }
 {
     let mut block = SteadySink::new(alloc);
-    match print_text(alloc, QUESTION, true, program, BOUNDS, atoms, &mut block) {
+    match print_text(
+        alloc, crew, QUESTION, true, program, BOUNDS, atoms, &mut block,
+    ) {
         Err(Halt::Sink) => unreachable!(),
         Err(Halt::NoMemory) => Err(Halt::NoMemory),
         Ok(tally) => {
@@ -86,8 +92,9 @@ fn load_program<K: Sink>(
 }
 
 // The text of the program.
-fn load_text<K: Sink>(
+fn load_text<R: Threads + Wait + Sync, G: Gate, K: Sink>(
     alloc: Global,
+    crew: &Crew<R, G>,
     seed: u32,
     size: u32,
     text: &[u8],
@@ -101,7 +108,7 @@ fn load_text<K: Sink>(
         return Err(Halt::NoMemory);
     };
     match program(alloc, text, &mut atoms) {
-        Ok(program) => load_program(alloc, seed, size, &program, &mut atoms, out),
+        Ok(program) => load_program(alloc, crew, seed, size, &program, &mut atoms, out),
         Err(Refusal::NoMemory) => Err(Halt::NoMemory),
         Err(refusal) => {
             print_refusal(alloc, &refusal, &atoms, out)?;
@@ -112,12 +119,18 @@ fn load_text<K: Sink>(
 
 /// Runs the program of a seed and a size, and puts three lines: these two, how many answer lines there are with their
 /// bytes and the sum of these, and how the block ends.
-pub fn load<K: Sink>(alloc: Global, seed: u32, size: u32, out: &mut K) -> Result<Status, Halt>
+pub fn load<R: Threads + Wait + Sync, G: Gate, K: Sink>(
+    alloc: Global,
+    crew: &Crew<R, G>,
+    seed: u32,
+    size: u32,
+    out: &mut K,
+) -> Result<Status, Halt>
     ensures lines { Finishes (K.pieces out.old) (K.pieces out.new) (LoadEnds seed size) result }
     ensures sink { SinkCount (K.faults out.old) (K.faults out.new) result }
 {
     let Ok(text) = workload(alloc, seed, size) else {
         return Err(Halt::NoMemory);
     };
-    load_text(alloc, seed, size, &text, out)
+    load_text(alloc, crew, seed, size, &text, out)
 }

@@ -12,9 +12,12 @@ use crate::refusals::refusal_line;
 use crate::status::Tally;
 use ap_clause::{Refusal, query};
 use ap_lexer::Piece;
-use ap_outside::{Halt, Sink, put_line};
+use ap_outside::{Gate, Halt, Sink, put_line};
 use ap_term::{Atoms, Program};
+use ap_worker::Crew;
 use std::alloc::Global;
+use std::sync::Wait;
+use std::thread::Threads;
 
 /// Prints the line of a refusal.
 pub fn print_refusal<K: Sink>(
@@ -33,8 +36,9 @@ pub fn print_refusal<K: Sink>(
 }
 
 // Prints what a piece comes to. The table is cut back after it.
-fn print_piece<K: Sink>(
+fn print_piece<R: Threads + Wait + Sync, G: Gate, K: Sink>(
     alloc: Global,
+    crew: &Crew<R, G>,
     text: &[u8],
     piece: &Piece,
     program: &Program,
@@ -52,7 +56,7 @@ fn print_piece<K: Sink>(
     let mark = atoms.mark();
     match query(alloc, text, piece, program, atoms) {
         Ok(query) => {
-            let spent = print_query(alloc, program, &query, bounds, atoms, out)?;
+            let spent = print_query(alloc, crew, program, &query, bounds, atoms, out)?;
             atoms.cut_to(mark);
             Ok(Tally {
                 spent,
@@ -71,8 +75,9 @@ fn print_piece<K: Sink>(
 }
 
 /// Prints what each piece of a text comes to, in order.
-pub fn print_pieces<K: Sink>(
+pub fn print_pieces<R: Threads + Wait + Sync, G: Gate, K: Sink>(
     alloc: Global,
+    crew: &Crew<R, G>,
     text: &[u8],
     pieces: &[Piece],
     program: &Program,
@@ -91,7 +96,7 @@ pub fn print_pieces<K: Sink>(
         refused: false,
     };
     for piece in pieces {
-        let here = print_piece(alloc, text, piece, program, bounds, atoms, out)?;
+        let here = print_piece(alloc, crew, text, piece, program, bounds, atoms, out)?;
         tally = tally.and(here);
     }
     Ok(tally)

@@ -9,9 +9,12 @@ use crate::answers::Bounds;
 use crate::queries::print_pieces;
 use crate::status::Tally;
 use ap_lexer::{NoMemory, Piece, pieces};
-use ap_outside::{Halt, Sink};
+use ap_outside::{Gate, Halt, Sink};
 use ap_term::{Atoms, Program};
+use ap_worker::Crew;
 use std::alloc::Global;
+use std::sync::Wait;
+use std::thread::Threads;
 
 // The pieces of a text that are judged: all of a whole one, and of one that broke off those that had ended.
 fn judged(alloc: Global, text: &[u8], whole: bool) -> Result<Vec<Piece>, NoMemory>
@@ -26,8 +29,9 @@ fn judged(alloc: Global, text: &[u8], whole: bool) -> Result<Vec<Piece>, NoMemor
 }
 
 /// Prints what the pieces of a text come to that are judged.
-pub fn print_text<K: Sink>(
+pub fn print_text<R: Threads + Wait + Sync, G: Gate, K: Sink>(
     alloc: Global,
+    crew: &Crew<R, G>,
     text: &[u8],
     whole: bool,
     program: &Program,
@@ -43,5 +47,5 @@ pub fn print_text<K: Sink>(
     let Ok(pieces) = judged(alloc, text, whole) else {
         return Err(Halt::NoMemory);
     };
-    print_pieces(alloc, text, &pieces, program, bounds, atoms, out)
+    print_pieces(alloc, crew, text, &pieces, program, bounds, atoms, out)
 }

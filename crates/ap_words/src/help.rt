@@ -14,8 +14,8 @@ usage: andprolog run FILE [--workers N] [--budget N] [--answers N] [--annotator 
   load   makes a program from SEED (0 to 4294967295) and SIZE (1 to 10000), runs it, and prints a
          summary of its answers in three lines
 
-  --workers N        how many workers may run goals side by side: 1 to 32, otherwise 1; as yet one
-                     worker runs them all, so the number changes nothing
+  --workers N        how many workers may run goals side by side: 1 to 32, otherwise 1; the lines
+                     are those of sequential search with any number
   --budget N         the calls that a query may make: 1 to 1000000000000, otherwise 10000000
   --answers N        the answers that a query may print: 1 to 1000000000, otherwise 1000000
   --entry PATTERN    the calls that groups are made for, as 'p(g,f,a)': ground, a fresh variable,
