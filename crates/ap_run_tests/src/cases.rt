@@ -4,7 +4,9 @@ use ap_outside::{MemFiles, MemSink, MemSource, OpenGate, Refusal};
 use ap_top::{Status, run};
 use std::alloc::Global;
 use std::process::Abort;
+use std::sync::Wait;
 use std::test::Fail;
+use std::thread::Threads;
 
 /// A command line with what it finds outside, and what it answers.
 #[derive(Drop)]
@@ -21,7 +23,7 @@ pub(crate) struct Case<'a> {
     pub status: Status,
 }
 
-fn are_lines(pieces: &[Vec<u8>], text: &str) -> bool {
+pub(crate) fn are_lines(pieces: &[Vec<u8>], text: &str) -> bool {
     let mut lines = text.split_inclusive('\n');
     for piece in pieces {
         match lines.next() {
@@ -32,7 +34,11 @@ fn are_lines(pieces: &[Vec<u8>], text: &str) -> bool {
     lines.next().is_none()
 }
 
-pub(crate) fn is_met(rt: &impl Abort, alloc: Global, case: &Case) -> Result<bool, Fail> {
+pub(crate) fn is_met<R: Threads + Wait + Sync>(
+    rt: &R,
+    alloc: Global,
+    case: &Case,
+) -> Result<bool, Fail> {
     let mut files = MemFiles::new(alloc, &[("f.pl", case.file)])?;
     let mut queries = MemSource::new(alloc, case.source, case.failing)?;
     let mut out = MemSink::new(alloc, case.refusals)?;
@@ -57,7 +63,11 @@ pub(crate) type Command = (
     Status,
 );
 
-pub(crate) fn check_all(rt: &impl Abort, alloc: Global, commands: &[Command]) -> Result<(), Fail> {
+pub(crate) fn check_all<R: Abort + Threads + Wait + Sync>(
+    rt: &R,
+    alloc: Global,
+    commands: &[Command],
+) -> Result<(), Fail> {
     for (words, file, queries, put, status) in commands {
         let case = Case {
             words,

@@ -16,7 +16,7 @@ const PLAIN: &str = "q(X,Y) :- a(X), a(Y). a(1). a(2).";
 const MANY: &str =
     "p :- a & a & a & a & a & a & a & a & a & a & a & a & a & a & a & a & a & a & a & a & a & a & a & a & a & a & a & a & a & a & a & a. a.";
 
-static GROUPS: [Command; 13] = [
+pub(crate) static GROUPS: [Command; 13] = [
     // a group within a group's goal
     (
         &["andprolog", "run", "f.pl", "--budget", "10"],

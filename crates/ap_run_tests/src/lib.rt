@@ -19,4 +19,8 @@ mod listings;
 #[cfg(test)]
 mod loads;
 #[cfg(test)]
+mod meeting;
+#[cfg(test)]
 mod shown;
+#[cfg(test)]
+mod workers;

@@ -1,0 +1,83 @@
+//! Goals on several workers: they have the answers of one worker, in order, and some are under way at one time.
+
+use crate::cases::{Case, Command, are_lines, is_met};
+use crate::groups::GROUPS;
+use crate::meeting::Meeting;
+use ap_outside::{MemFiles, MemSink, MemSource};
+use ap_top::{Status, run};
+use std::alloc::Global;
+use std::process::Abort;
+use std::sync::Wait;
+use std::test::Fail;
+use std::thread::Threads;
+
+/// Whether each command line comes to the same with so many workers.
+fn check_on<R: Abort + Threads + Wait + Sync>(
+    rt: &R,
+    alloc: Global,
+    commands: &[Command],
+    workers: &str,
+) -> Result<(), Fail> {
+    for (words, file, queries, put, status) in commands {
+        let mut all = Vec::from_slice(alloc, words)?;
+        all.push("--workers")?;
+        all.push(workers)?;
+        let case = Case {
+            words: &all,
+            file: file.as_bytes(),
+            source: &[queries.as_bytes()],
+            failing: &[],
+            refusals: &[],
+            put,
+            status: *status,
+        };
+        assert!(rt; is_met(rt, alloc, &case)?, "{workers} workers: {file} {queries}");
+    }
+    Ok(())
+}
+
+#[test]
+fn workers_give_the_answers_of_one(rt: HostRuntime) -> Result<(), Fail> {
+    for workers in ["2", "4", "32"] {
+        check_on(&rt, rt.alloc(), &GROUPS, workers)?;
+    }
+    Ok(())
+}
+
+/// Whether the goals of a query, whose one answer has no variable, meet at the gate.
+fn meet<R: Threads + Wait + Sync>(
+    rt: &R,
+    alloc: Global,
+    file: &str,
+    query: &str,
+    workers: &str,
+    gate: &Meeting,
+) -> Result<bool, Fail> {
+    let mut files = MemFiles::new(alloc, &[("f.pl", file.as_bytes())])?;
+    let mut queries = MemSource::new(alloc, &[query.as_bytes()], &[])?;
+    let mut out = MemSink::new(alloc, &[])?;
+    let words = ["andprolog", "run", "f.pl", "--workers", workers];
+    let status = run(rt, alloc, &words, &mut files, &mut queries, &mut out, gate);
+    Ok(status == Status::Done && are_lines(out.pieces(), "true\nno more.\n") && gate.is_met())
+}
+
+// Each goal waits at the gate until both have begun.
+#[test]
+fn two_goals_are_under_way_at_one_time(rt: HostRuntime) -> Result<(), Fail> {
+    for _ in 0..100 {
+        let gate = Meeting::new(2, 0);
+        assert!(&rt; meet(&rt, rt.alloc(), "g :- a & b. a. b.", "?- g.", "2", &gate)?);
+    }
+    Ok(())
+}
+
+// The goal k runs a group of its own: a, b and c wait until all four have begun.
+#[test]
+fn goals_of_a_goal_are_under_way_beside_its_neighbour(rt: HostRuntime) -> Result<(), Fail> {
+    for _ in 0..100 {
+        let gate = Meeting::new(4, 2);
+        let file = "h :- a & k. k :- b & c. a. b. c.";
+        assert!(&rt; meet(&rt, rt.alloc(), file, "?- h.", "3", &gate)?);
+    }
+    Ok(())
+}
