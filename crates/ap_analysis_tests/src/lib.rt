@@ -7,4 +7,6 @@
 #[cfg(test)]
 mod programs;
 #[cfg(test)]
+mod sequences;
+#[cfg(test)]
 mod tests;

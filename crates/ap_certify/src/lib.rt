@@ -22,6 +22,3 @@ pub use faults::CertErr;
 pub use groups::is_written;
 pub use programs::certify;
 pub use without_groups::plain;
-
-#[cfg(test)]
-mod tests;

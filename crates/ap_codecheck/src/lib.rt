@@ -14,6 +14,3 @@ mod walk;
 
 pub use rule::{CodeErr, Rule};
 pub use sound::{Sound, check};
-
-#[cfg(test)]
-mod tests;

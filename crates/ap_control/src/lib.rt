@@ -19,6 +19,3 @@ pub use heads::{fails_at_once, first_possible, pass_over};
 pub use relations::solve;
 pub use runs::{run_to_transfer, used};
 pub use taking::{can_take, surely_unifies};
-
-#[cfg(test)]
-mod tests;

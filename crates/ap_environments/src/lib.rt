@@ -7,7 +7,5 @@
 
 mod environments;
 mod frames;
-#[cfg(test)]
-mod tests;
 
 pub use environments::{Choice, Environments, Fork};

@@ -4,4 +4,3 @@ pub mod Numbered
 pub mod Places
 pub mod Begun
 pub mod Failing
-pub mod At

@@ -23,8 +23,3 @@ pub use laws::{edge_law, redo_law, verdict_law};
 pub use records::{Kept, MOST_TUPLES};
 pub use slots::{Answer, Ending, Recording, Run, Slot, Stand};
 pub use verdict::Verdict;
-
-#[cfg(test)]
-mod opening_tests;
-#[cfg(test)]
-mod tests;

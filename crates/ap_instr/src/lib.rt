@@ -13,6 +13,3 @@ pub use builtins::Builtin;
 pub use compiled::{Code, Predicate};
 pub use instruction::{Instr, Slot};
 pub use text::listing;
-
-#[cfg(test)]
-mod tests;

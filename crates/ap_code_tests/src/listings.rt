@@ -1,5 +1,5 @@
 // Each instruction's line from the outside: the words and operands of the table of instructions.
-use crate::*;
+use ap_instr::{Builtin, Code, Instr, Predicate, Slot, listing};
 use ap_term::{Atom, Atoms, Op, Relation, fixed};
 use std::alloc::Global;
 use std::test::Fail;

@@ -2,9 +2,8 @@
 ghost use Rattle.std.specs.Prelude.{◌≡◌, ℕ, ◌<◌, ◌≤◌, length, IfOk};
 ghost use Rattle.ap_steps.specs.Moves.{held};
 
-use crate::runs::run_to_transfer;
-use crate::taking::surely_unifies;
 use ap_cells::{Cell, Cells, Top};
+use ap_control::{run_to_transfer, surely_unifies};
 use ap_instr::{Builtin, Code, Instr, Slot};
 use ap_match::push_new;
 use ap_needs::{Room, widths_of};

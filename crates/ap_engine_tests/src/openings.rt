@@ -3,7 +3,7 @@ ghost use Rattle.std.specs.Prelude.{◌≡◌, true, false, Some, None};
 ghost use Rattle.ap_frames.specs.Slots.{is_startable, is_running, is_recording};
 ghost use Rattle.ap_frames.specs.Rows.{row, IsPlace, slot_at, of_slot};
 
-use crate::*;
+use ap_frames::{Frame, Kept, Recording, Stand, Verdict};
 use std::alloc::Global;
 use std::test::Fail;
 

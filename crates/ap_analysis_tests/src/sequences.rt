@@ -1,6 +1,6 @@
 //! The program without groups, on a clause by hand.
 
-use crate::*;
+use ap_certify::{Scope, plain};
 use ap_term::{Args, Atom, Body, Check, Checks, Clause, Part, Program, Term, is_clause};
 use std::process::Abort;
 use std::test::Fail;

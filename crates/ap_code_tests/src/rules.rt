@@ -1,5 +1,5 @@
 // Broken codes, some for each rule, each with the place and the rule that is named; and sound ones.
-use crate::*;
+use ap_codecheck::{CodeErr, Rule, check};
 use ap_instr::{Builtin, Code, Instr, Predicate, Slot};
 use ap_term::{Atom, Relation, fixed};
 use std::alloc::Global;

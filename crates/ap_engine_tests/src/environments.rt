@@ -1,5 +1,5 @@
 // Returns, choice points and forks from the outside: one list of steps, with what is seen behind each.
-use crate::{Choice, Environments, Fork};
+use ap_environments::{Choice, Environments, Fork};
 use std::test::Fail;
 
 #[derive(Clone, Copy)]
@@ -110,34 +110,47 @@ fn seen(environments: &Environments) -> Seen {
     (clause, goals)
 }
 
+// The registers are set by each step that gives them back.
+fn is_popped(environments: &mut Environments, wanted: Option<u32>) -> bool {
+    let mut registers = [0; 2];
+    let came = environments.pop(&mut registers);
+    match came {
+        Some(place) => came == wanted && registers == [place, 7],
+        None => wanted.is_none(),
+    }
+}
+
+fn is_back(environments: &mut Environments) -> bool {
+    let mut registers = [0; 2];
+    environments.go_back(&mut registers);
+    match environments.newest() {
+        Some(newest) => registers == [newest.predicate, 8],
+        None => true,
+    }
+}
+
+/// Does a step, and says whether the registers and places that it gives back are those that were kept.
+fn is_done(environments: &mut Environments, step: Step) -> Result<bool, Fail> {
+    match step {
+        Push(place) => environments.push(place, &[place, 7])?,
+        Pop(place) => return Ok(is_popped(environments, place)),
+        Keep(predicate) => environments.keep(choice(predicate), &[predicate, 8])?,
+        KeepFork(goals) => environments.keep_fork(fork(goals))?,
+        GoBack => return Ok(is_back(environments)),
+        GoUp => go_up(environments),
+        Name(place) => environments.set_place(place, None),
+        Forget => environments.forget(),
+        ForgetFork => forget_fork(environments),
+    }
+    Ok(true)
+}
+
 #[test]
 fn steps_in_turn(rt: HostRuntime) -> Result<(), Fail> {
     let mut environments = Environments::new(rt.alloc());
-    let mut registers = [0; 2];
-    for (step, wanted) in ROWS {
-        match step {
-            Push(place) => environments.push(place, &[place, 7])?,
-            Pop(place) => {
-                let came = environments.pop(&mut registers);
-                assert_eq!(rt; came, place);
-                if let Some(place) = came {
-                    assert_eq!(rt; registers, [place, 7]);
-                }
-            }
-            Keep(predicate) => environments.keep(choice(predicate), &[predicate, 8])?,
-            KeepFork(goals) => environments.keep_fork(fork(goals))?,
-            GoBack => {
-                environments.go_back(&mut registers);
-                if let Some(newest) = environments.newest() {
-                    assert_eq!(rt; registers, [newest.predicate, 8]);
-                }
-            }
-            GoUp => go_up(&mut environments),
-            Name(place) => environments.set_place(place, None),
-            Forget => environments.forget(),
-            ForgetFork => forget_fork(&mut environments),
-        }
-        assert_eq!(rt; seen(&environments), wanted);
+    for (row, (step, wanted)) in ROWS.iter().enumerate() {
+        assert!(rt; is_done(&mut environments, *step)?, "{row}");
+        assert_eq!(rt; seen(&environments), *wanted, "{row}");
     }
     Ok(())
 }

@@ -1,6 +1,6 @@
 // Verdicts and redos from the outside: frames of up to four slots, with what was worked out by hand from the cases.
-use crate::Ending::{Failed, Raised, Spent, Stopped};
-use crate::*;
+use ap_frames::Ending::{Failed, Raised, Spent, Stopped};
+use ap_frames::{Answer, Ending, Frame, Recording, Round, Run, Slot, Stand, Verdict};
 use ap_term::Fault::Overflow;
 use std::test::Fail;
 

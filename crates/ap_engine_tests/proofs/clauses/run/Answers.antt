@@ -1,6 +1,6 @@
 use Rattle.std.proofs.Common.{◌≡◌, ◌+◌, ◌≤◌, length, drop, sym, ap, ◌∙◌, subst, arith}
 use Rattle.ap_needs.specs.Needs.{AllHaveTargets}
-use Rattle.ap_control.proofs.tests.run.Goals as goal
+use Rattle.ap_engine_tests.proofs.clauses.run.Goals as goal
 
 pub run_to_transfer-requires-clause-room : goal.run_to_transfer-requires-clause-room
 run_to_transfer-requires-clause-room c = omega (arith, c.in_ok-room.ensures.cells 0, c.in_ok-reserve.ensures.spare)

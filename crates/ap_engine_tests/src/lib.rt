@@ -1,0 +1,19 @@
+//! Floor: section. Tests of the machine, of what it stands on and of frames, on code and rows that were written by hand.
+// What it is for: what no clause says: that calls answer where memory is ample, and that searches give the answers, counts of calls
+// and groups, and frames the verdicts, that were worked out by hand.
+// What it stands on: `ap_control`, `ap_environments`, `ap_machine` and `ap_frames`, and `ap_codecheck` for sound code. Nothing is
+// built on it.
+#![tactic(auto)]
+
+#[cfg(test)]
+mod clauses;
+#[cfg(test)]
+mod environments;
+#[cfg(test)]
+mod groups;
+#[cfg(test)]
+mod openings;
+#[cfg(test)]
+mod searches;
+#[cfg(test)]
+mod verdicts;
