@@ -31,7 +31,10 @@ fn check_on<R: Abort + Threads + Wait + Sync>(
             put,
             status: *status,
         };
-        assert!(rt; is_met(rt, alloc, &case)?, "{workers} workers: {file} {queries}");
+        assert!(rt;
+            is_met(rt, alloc, &case)?,
+            "{workers} workers: {file} {queries}"
+        );
     }
     Ok(())
 }

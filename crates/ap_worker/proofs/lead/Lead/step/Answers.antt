@@ -13,19 +13,19 @@ pub help-requires-clause-leads : goal.help-requires-clause-leads
 help-requires-clause-leads g c κs within =
     let busy : c.is_free.result ≡ false = search rules in
     let stays : LeadStays c.args.self.now (record { worker = c.work.new.self; query = c.args.self.now.query }) =
-        worked-stays c.args.self.now _ (c.is_free.ensures.some busy) c.work.ensures.goes refl c.requires.leads in
+    worked-stays c.args.self.now _ (c.is_free.ensures.some busy) c.work.ensures.goes refl c.requires.leads in
     stays.leads
 
 pub returns-then-not-is_free-clause-goes : goal.returns-then-not-is_free-clause-goes
 returns-then-not-is_free-clause-goes g c =
     let busy : c.is_free.result ≡ false = search rules in
     let stays : LeadStays c.args.self.now (record { worker = c.work.new.self; query = c.args.self.now.query }) =
-        worked-stays c.args.self.now _ (c.is_free.ensures.some busy) c.work.ensures.goes refl c.requires.leads in
+    worked-stays c.args.self.now _ (c.is_free.ensures.some busy) c.work.ensures.goes refl c.requires.leads in
     stays-goes c.sharing_law.ensures c.args.self.now _ (stays-then c.args.self.now _ _ stays c.help.ensures.stays)
 
 pub returns-in-Waits-clause-goes : goal.returns-in-Waits-clause-goes
 returns-in-Waits-clause-goes g c =
     let free : c.is_free.result ≡ true = search rules in
     let gone : LeadGoes c.args.self.now (record { worker = record { post = c.step.new.post; taken = c.args.self.now.worker.taken; floor = c.args.self.now.worker.floor }; query = c.step.new.self }) =
-        query-goes c.args.self.now _ (c.is_free.ensures.free free) refl refl c.step.ensures.goes c.requires.leads in
+    query-goes c.args.self.now _ (c.is_free.ensures.free free) refl refl c.step.ensures.goes c.requires.leads in
     goes-then-stays c.args.self.now _ _ gone c.help-in-Waits.ensures.stays
