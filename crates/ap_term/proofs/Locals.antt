@@ -1,10 +1,10 @@
 -- Trees of which each variable has a property.
 use Rattle.std.proofs.Common.{◌≡◌, ℕ, Bool, true, false, ◌||◌, refl, sym, subst}
-use Rattle.std.proofs.lemmas.Bool.{false≢true}
+use Rattle.std.proofs.lemmas.Bool.{false≢true, or_left, or_right}
 use Rattle.ap_term.specs.Tree.{Tree, Trees, var, int, atom, node, none, more, append_trees}
 use Rattle.ap_term.specs.Vars.{occurs, occurs_all, Local, LocalAll}
 use Rattle.ap_term.specs.Substitution.{instance, instance_all}
-use Rattle.ap_term.proofs.Solutions.{same_var, same_test, or_left, or_right, instance_agree, instance_all_agree}
+use Rattle.ap_term.proofs.Solutions.{same_var, same_test, instance_agree, instance_all_agree}
 
 -- ---- each variable that occurs
 

@@ -18,6 +18,14 @@ pub count_trees-variables : (n : ℕ) → count_trees (variables n) ≡ n
 count_trees-variables zero = refl
 count_trees-variables (suc n) = count_trees-push (variables n) (var (suc n)) ∙ omega (arith, count_trees-variables n)
 
+-- ---- their first, and the others
+
+pub first-same : {t u : Tree} {ts us : Trees} → more t ts ≡ more u us → t ≡ u
+first-same h = cc
+
+pub rest-same : {t u : Tree} {ts us : Trees} → more t ts ≡ more u us → ts ≡ us
+rest-same h = cc
+
 -- ---- one after the other
 
 pub instance_all-append_trees : (f : ℕ → Tree) (ts us : Trees) → instance_all f (append_trees ts us) ≡ append_trees (instance_all f ts) (instance_all f us)
