@@ -1,14 +1,14 @@
 -- A slot left of a failed one is drained.
 use Rattle.std.proofs.Common.{◌≡◌, ℕ, zero, suc, ◌+◌, ◌-◌, ◌<◌, ◌≤◌, ◌⊎◌, inl, inr, Bool, true, false, not, ◌&&◌, if◌then◌else◌, List, [], ◌∷◌, ◌++◌, map, Option, Some, None, refl, ap, sym, ◌∙◌, subst, arith}
-use Rattle.std.proofs.lemmas.Bool.{false≢true, not-true, not-false}
+use Rattle.std.proofs.lemmas.Bool.{false≢true, not-true, not-false, and_parts}
 use Rattle.std.proofs.lemmas.List.{map-append}
+use Rattle.std.proofs.lemmas.Option.{none-some}
 use Rattle.ap_term.specs.Tree.{Tree}
 use Rattle.ap_term.specs.Goals.{Program}
 use Rattle.ap_laws.specs.Plain.{Plain, plain_ways}
 use Rattle.ap_laws.specs.Tasks as laws
 use Rattle.ap_laws.specs.Tasks.{left, edge_slots}
 use Rattle.ap_laws.specs.Events.{Drains, drain_here, drain_past, HasFailedSafely}
-use Rattle.ap_laws.proofs.Ways.{and_both}
 use Rattle.ap_core.specs.declared.tasks.Busy.TheVariants.{Running}
 use Rattle.ap_core.specs.Tasks.{Answer, Task, task, Slots, no_slot, slot, Progress, idle, stored, busy, held, redone, again, drained}
 use Rattle.ap_core.specs.Conditions.{is_exhausted, spent_by, is_failed, has_failed, has_answer, has_more, before_failed, is_settled, answered_left, place_behind, place_to_drain}
@@ -18,20 +18,17 @@ use Rattle.ap_core.specs.Heeding.{Heeds}
 use Rattle.ap_core.proofs.Fine.{IsGiven, Where, past, beyond, undrained, next_to, Fine, FineHeldTask, FineOpen, FineBegun}
 use Rattle.ap_core.proofs.Erasing.{erased-given, IsGiven-given, Fine-given, left-FineHeldTask, stands_somehow, HasFailedSafely-settled}
 
-nothing : {A : Type 0} {x : A} → None ≡ Some x → ⊥
-nothing h = absurd (cc)
-
 place_behind-positive : (o : Option ℕ) (b : Bool) (i : ℕ) → place_behind o b ≡ Some i → 0 < i
 place_behind-positive (Some j) b i h = let e : j + 1 ≡ i = cc in omega arith
 place_behind-positive None true i h = let e : 1 ≡ i = cc in omega arith
-place_behind-positive None false i h = absurd (nothing h)
+place_behind-positive None false i h = absurd (none-some _ h)
 
 place-positive : (loud : Tree → Bool) (w : Slots) (i : ℕ) → place_to_drain loud w ≡ Some i → 0 < i
-place-positive loud no_slot i h = absurd (nothing h)
+place-positive loud no_slot i h = absurd (none-some _ h)
 place-positive loud (slot g k x w) i h = go (has_failed x) h
   where
     go : (b : Bool) → (if b then None else place_behind (place_to_drain loud w) (loud g && has_more x)) ≡ Some i → 0 < i
-    go true h = absurd (nothing h)
+    go true h = absurd (none-some _ h)
     go false h = place_behind-positive (place_to_drain loud w) (loud g && has_more x) i h
 
 -- answered slots none of which is to be drained are settled
@@ -55,7 +52,7 @@ settled_below loud (slot g k x w) h e = go (has_failed x) h e (λ i j. settled_b
         → (if f then true else (is_settled loud g x && before_failed (is_settled loud) w)) ≡ true
     go true h e rec = refl
     go false h e rec =
-        let q = and_both (has_answer x) (before_failed answered_left w) h in
+        let q = and_parts (has_answer x) (before_failed answered_left w) h in
         let d = behind (place_to_drain loud w) (loud g && has_more x) e in
         both (has_answer x) (loud g && has_more x) (before_failed (is_settled loud) w) q.0 d.1 (rec q.1 d.0)
 
@@ -114,20 +111,20 @@ module _ (loud : Tree → Bool) where
 
     pub Drained-at : (n i : ℕ) (w : Slots) → c ≡ n + edge_slots (erased_slots w) → before_failed answered_left w ≡ true → place_to_drain loud w ≡ Some i → FineOpen loud (past n) r w
         → Drained n w (drained_at x (c - n) i w)
-    Drained-at n i no_slot e h q f = absurd (nothing q)
+    Drained-at n i no_slot e h q f = absurd (none-some _ q)
     Drained-at n i (slot g k (idle j) w) e h q f = absurd (false≢true h)
     Drained-at n i (slot g k (stored m) w) e h q f = absurd (false≢true h)
     Drained-at n i (slot g k (busy y t) w) e h q f = go (is_failed y) h q
       where
         go : (d : Bool) → (if d then true else false) ≡ true → (if d then None else place_behind (place_to_drain loud w) (loud g && false)) ≡ Some i → Drained n (slot g k (busy y t) w) (drained_at x (c - n) i (slot g k (busy y t) w))
-        go true h q = absurd (nothing q)
+        go true h q = absurd (none-some _ q)
         go false h q = absurd (false≢true h)
     Drained-at n i (slot g k (redone m y t j) w) e h q f = absurd f.0
     Drained-at n i (slot g k (again m a t o) w) e h q f = absurd f.0
     Drained-at n i (slot g k (drained m y t j o) w) e h q f = go (is_failed y) h q
       where
         go : (d : Bool) → (if d then true else false) ≡ true → (if d then None else place_behind (place_to_drain loud w) (loud g && false)) ≡ Some i → Drained n (slot g k (drained m y t j o) w) (drained_at x (c - n) i (slot g k (drained m y t j o) w))
-        go true h q = absurd (nothing q)
+        go true h q = absurd (none-some _ q)
         go false h q = absurd (false≢true h)
     Drained-at n i (slot g k (held m a t o) w) e h q f = go (place_to_drain loud w) (loud g) (is_exhausted t) refl refl q (λ j d. Drained-at (n + o) j w (omega arith) h d f.1)
       where
@@ -135,8 +132,8 @@ module _ (loud : Tree → Bool) where
             → Drained n (slot g k (held m a t o) w) (drained_at x (c - n) i (slot g k (held m a t o) w))
         go None true false d l q rec =
             let s : 1 ≡ i = cc in subst (λ z. Drained n (slot g k (held m a t o) w) (drained_at x (c - n) z (slot g k (held m a t o) w))) s (here n g k m a t o w e l f.0 f.1 (settled_below loud w h d))
-        go None true true d l q rec = absurd (nothing q)
-        go None false y d l q rec = absurd (nothing q)
+        go None true true d l q rec = absurd (none-some _ q)
+        go None false y d l q rec = absurd (none-some _ q)
         go (Some zero) l y d u q rec = let z : 0 < 0 = place-positive loud w 0 d in absurd (omega arith)
         go (Some (suc j)) l y d u q rec =
             let s : suc j + 1 ≡ i = cc in

@@ -1,8 +1,9 @@
 -- What the core's conditions and changes say of the erased tasks.
 use Rattle.std.proofs.Common.{◌≡◌, ℕ, zero, suc, ◌+◌, ◌-◌, ◌<◌, ◌≤◌, ◌⊎◌, inl, inr, nat_lt, Bool, true, false, not, ◌||◌, ◌&&◌, if◌then◌else◌, List, [], ◌∷◌, ◌++◌, map, Option, Some, None, refl, ap, ap₂, sym, ◌∙◌, subst, arith}
 use Rattle.std.specs.List.{AllByRecursion}
-use Rattle.std.proofs.lemmas.Bool.{false≢true, not-true, not-false}
+use Rattle.std.proofs.lemmas.Bool.{false≢true, not-true, not-false, and_parts, or_cases, or_parts}
 use Rattle.std.proofs.lemmas.List.{map-append}
+use Rattle.std.proofs.lemmas.Option.{none-some}
 use Rattle.ap_term.specs.declared.faults.Fault.{Fault}
 use Rattle.ap_term.specs.Tree.{Tree, Trees, none, more}
 use Rattle.ap_term.specs.Goals.{Program}
@@ -15,7 +16,6 @@ use Rattle.ap_laws.specs.Events as events
 use Rattle.ap_laws.specs.Events.{plains, freshes, joined_state, IsExhausted, IsFull, HasFailed, HasFailedSafely, HasFailedLater, HasNoAlternative, resets, NextRedo, next_held, next_again, over_held, over_again, Forgets, forget_here, forget_past_fresh, forget_past_stored, Turn, Spin, IsUntouched}
 use Rattle.ap_laws.specs.Rejoining.{IsSpent, IsSpentIn, IsSlotSpent, IsDrainSpent, IsRaised, IsSlotRaised}
 use Rattle.ap_laws.proofs.Invariant.{IsShut}
-use Rattle.ap_laws.proofs.Ways.{and_both}
 use Rattle.ap_core.specs.declared.tasks.Round.TheVariants.{First, Later, Closed}
 use Rattle.ap_core.specs.declared.tasks.Idle.TheVariants.{Ready, Waiting, GivenBack}
 use Rattle.ap_core.specs.declared.tasks.Busy.{Busy}
@@ -25,7 +25,7 @@ use Rattle.ap_core.specs.Conditions.{is_exhausted, spent_by, stopped_cost, left_
 use Rattle.ap_core.specs.Relation.{states, ready, plain_answer, with_answers, if_kept, put_away, all_put_away, given, restarted_with, kept, redo_from, readied, as_states, replay_of, replayed, each_slot}
 use Rattle.ap_core.specs.Erased.{erased, erased_alternatives, erased_alternative, erased_slots, erased_slot}
 use Rattle.ap_core.specs.Heeding.{Heeds}
-use Rattle.ap_core.proofs.Options.{either_true, neither_true, Star, here, onward, Star-one, Star-map, Star-then}
+use Rattle.ap_core.proofs.Options.{Star, here, onward, Star-one, Star-map, Star-then}
 use Rattle.ap_core.proofs.Fine.{IsGiven, Stands, AreWaiting, Where, past, beyond, undrained, next_to, Drains, Fine, FineFirst, FineBehind, FineAlternative, FineClosed, FineHeldTask, FineOpen, FineBegun, FineLater, FinePivot, FineShut, FineHeld}
 
 -- ---- states
@@ -244,9 +244,6 @@ spent_so b h = cc
 raised_so : (b : Busy) (e : Fault) → Some b ≡ Some (Raised e) → b ≡ Raised e
 raised_so b e h = cc
 
-nothing : {A : Type 0} {x : A} → None ≡ Some x → ⊥
-nothing h = absurd (cc)
-
 IsSpent-Stands : (r : ℕ) (b : Busy) (t : Task) → Stands r b t → b ≡ Spent → IsSpent r (erased t)
 IsSpent-Stands r b t h e = subst (λ x. Stands r x t) e h
 
@@ -279,10 +276,10 @@ HasNoAlternative-some_has_more (slot g k (idle i) w) e h = absurd h
 HasNoAlternative-some_has_more (slot g k (stored m) w) e h = absurd h
 HasNoAlternative-some_has_more (slot g k (busy b t) w) e h = absurd h
 HasNoAlternative-some_has_more (slot g k (held m a t c) w) e h =
-    let q = neither_true (not (is_exhausted t)) (some_has_more w) e in (IsExhausted-erased t (not-false (is_exhausted t) q.0), HasNoAlternative-some_has_more w q.1 h)
+    let q = or_parts (not (is_exhausted t)) (some_has_more w) e in (IsExhausted-erased t (not-false (is_exhausted t) q.0), HasNoAlternative-some_has_more w q.1 h)
 HasNoAlternative-some_has_more (slot g k (redone m b t i) w) e h = (h.0, HasNoAlternative-IsUntouched w h.1)
 HasNoAlternative-some_has_more (slot g k (again m a t c) w) e h =
-    let q = neither_true (not (is_exhausted t)) (some_has_more w) e in (IsExhausted-erased t (not-false (is_exhausted t) q.0), HasNoAlternative-some_has_more w q.1 h)
+    let q = or_parts (not (is_exhausted t)) (some_has_more w) e in (IsExhausted-erased t (not-false (is_exhausted t) q.0), HasNoAlternative-some_has_more w q.1 h)
 HasNoAlternative-some_has_more (slot g k (drained m b t i n) w) e h = absurd h
 
 pub erased-given : (r : ℕ) (t : Task) → erased (given r t) ≡ erased t
@@ -487,7 +484,7 @@ module _ (loud : Tree → Bool) where
   HasFailed-some_failed r no_slot h e = absurd (false≢true e)
   HasFailed-some_failed r (slot g k (idle i) w) h e = HasFailed-some_failed r w h.1 e
   HasFailed-some_failed r (slot g k (stored m) w) h e = HasFailed-some_failed r w h.1 e
-  HasFailed-some_failed r (slot g k (busy b t) w) h e = elim (either_true (is_failed b) (some_failed w) e) [ inl f ↦ inl (IsExhausted-Stands r b t h.0.0 f) | inr f ↦ inr (HasFailed-some_failed r w h.1 f) ]
+  HasFailed-some_failed r (slot g k (busy b t) w) h e = elim (or_cases (is_failed b) (some_failed w) e) [ inl f ↦ inl (IsExhausted-Stands r b t h.0.0 f) | inr f ↦ inr (HasFailed-some_failed r w h.1 f) ]
   HasFailed-some_failed r (slot g k (held m a t c) w) h e = HasFailed-some_failed r w h.1 e
   HasFailed-some_failed r (slot g k (redone m b t i) w) h e = absurd h.0
   HasFailed-some_failed r (slot g k (again m a t c) w) h e = absurd h.0
@@ -500,16 +497,16 @@ module _ (loud : Tree → Bool) where
   HasFailedLater-some_failed r (slot g k (busy b t) w) h e = absurd h
   HasFailedLater-some_failed r (slot g k (held m a t c) w) h e = HasFailedLater-some_failed r w h.1 e
   HasFailedLater-some_failed r (slot g k (redone m b t i) w) h e =
-      elim (either_true (is_failed b) (some_failed w) e) [ inl f ↦ inl (IsExhausted-Stands (i + r) b t h.0 f) | inr f ↦ absurd (some_failed-AreWaiting w h.2 f) ]
+      elim (or_cases (is_failed b) (some_failed w) e) [ inl f ↦ inl (IsExhausted-Stands (i + r) b t h.0 f) | inr f ↦ absurd (some_failed-AreWaiting w h.2 f) ]
   HasFailedLater-some_failed r (slot g k (again m a t c) w) h e = HasFailed-some_failed r w h.1 e
   HasFailedLater-some_failed r (slot g k (drained m b t i n) w) h e = absurd h
 
   -- ---- the leftmost slot without an answer
 
   pub IsSlotSpent-right : (r : ℕ) (w : Slots) → FineOpen loud undrained r w → leftmost w ≡ Some Spent → IsSlotSpent r (erased_slots w)
-  IsSlotSpent-right r no_slot h e = absurd (nothing e)
-  IsSlotSpent-right r (slot g k (idle i) w) h e = absurd (nothing e)
-  IsSlotSpent-right r (slot g k (stored m) w) h e = absurd (nothing e)
+  IsSlotSpent-right r no_slot h e = absurd (none-some _ e)
+  IsSlotSpent-right r (slot g k (idle i) w) h e = absurd (none-some _ e)
+  IsSlotSpent-right r (slot g k (stored m) w) h e = absurd (none-some _ e)
   IsSlotSpent-right r (slot g k (busy b t) w) h e = IsSpent-Stands r b t h.0.0 (spent_so b e)
   IsSlotSpent-right r (slot g k (held m a t c) w) h e = IsSlotSpent-right r w h.1 e
   IsSlotSpent-right r (slot g k (redone m b t i) w) h e = absurd h.0
@@ -528,9 +525,9 @@ module _ (loud : Tree → Bool) where
 
   -- of a first round: a slot that was given all of the rest r, or a drained one, which was given what n leaves of it
   pub IsSlotSpent-FineOpen : (n r : ℕ) (w : Slots) → FineOpen loud (past n) r w → leftmost w ≡ Some Spent → IsSlotSpent r (erased_slots w) ⊎ ((n ≤ r) × IsDrainSpent (r - n) (erased_slots w))
-  IsSlotSpent-FineOpen n r no_slot h e = absurd (nothing e)
-  IsSlotSpent-FineOpen n r (slot g k (idle i) w) h e = absurd (nothing e)
-  IsSlotSpent-FineOpen n r (slot g k (stored m) w) h e = absurd (nothing e)
+  IsSlotSpent-FineOpen n r no_slot h e = absurd (none-some _ e)
+  IsSlotSpent-FineOpen n r (slot g k (idle i) w) h e = absurd (none-some _ e)
+  IsSlotSpent-FineOpen n r (slot g k (stored m) w) h e = absurd (none-some _ e)
   IsSlotSpent-FineOpen n r (slot g k (busy b t) w) h e = inl (IsSpent-Stands r b t h.0.0 (spent_so b e))
   IsSlotSpent-FineOpen n r (slot g k (held m a t c) w) h e =
       elim (IsSlotSpent-FineOpen (n + c) r w h.1 e) [ inl q ↦ inl q | inr q ↦ inr (omega (arith, q.0), (r - (n + c), omega (arith, q.0), q.1)) ]
@@ -540,9 +537,9 @@ module _ (loud : Tree → Bool) where
       inr (omega (arith, h.0.0.0), (r - (n + x), omega (arith, h.0.0.0), IsSpent-Stands (i + (r - (n + x))) b t h.0.0.1 (spent_so b e)))
 
   pub IsSlotRaised-FineOpen : (z : Where) (r : ℕ) (w : Slots) (f : Fault) → FineOpen loud z r w → leftmost w ≡ Some (Raised f) → IsSlotRaised f (erased_slots w)
-  IsSlotRaised-FineOpen z r no_slot f h e = absurd (nothing e)
-  IsSlotRaised-FineOpen z r (slot g k (idle i) w) f h e = absurd (nothing e)
-  IsSlotRaised-FineOpen z r (slot g k (stored m) w) f h e = absurd (nothing e)
+  IsSlotRaised-FineOpen z r no_slot f h e = absurd (none-some _ e)
+  IsSlotRaised-FineOpen z r (slot g k (idle i) w) f h e = absurd (none-some _ e)
+  IsSlotRaised-FineOpen z r (slot g k (stored m) w) f h e = absurd (none-some _ e)
   IsSlotRaised-FineOpen z r (slot g k (busy b t) w) f h e = IsRaised-Stands r b t f h.0.0 (raised_so b f e)
   IsSlotRaised-FineOpen z r (slot g k (held m a t c) w) f h e = IsSlotRaised-FineOpen (next_to z (held m a t c)) r w f h.1 e
   IsSlotRaised-FineOpen z r (slot g k (redone m b t i) w) f h e = absurd h.0
@@ -614,24 +611,24 @@ module _ (loud : Tree → Bool) where
     pub HasFailedSafely-quiet : (z : Where) (r : ℕ) (w : Slots) → FineOpen loud z r w → before_failed (is_quiet loud) w ≡ true → HasFailedSafely (plain_ways p) b (erased_slots w)
     HasFailedSafely-quiet z r no_slot h e = absurd (false≢true e)
     HasFailedSafely-quiet z r (slot g k (idle i) w) h e =
-        let q = and_both (not (loud g)) (before_failed (is_quiet loud) w) e in (harmless g q.0, HasFailedSafely-quiet (next_to z (idle i)) r w h.1 q.1)
+        let q = and_parts (not (loud g)) (before_failed (is_quiet loud) w) e in (harmless g q.0, HasFailedSafely-quiet (next_to z (idle i)) r w h.1 q.1)
     HasFailedSafely-quiet z r (slot g k (stored m) w) h e =
-        let q = and_both (not (loud g)) (before_failed (is_quiet loud) w) e in (harmless g q.0, HasFailedSafely-quiet (next_to z (stored m)) r w h.1 q.1)
+        let q = and_parts (not (loud g)) (before_failed (is_quiet loud) w) e in (harmless g q.0, HasFailedSafely-quiet (next_to z (stored m)) r w h.1 q.1)
     HasFailedSafely-quiet z r (slot g k (busy x t) w) h e = go (is_failed x) refl e (λ f. HasFailedSafely-quiet (next_to z (busy x t)) r w h.1 f)
       where
         go : (f : Bool) → is_failed x ≡ f → (if f then true else (not (loud g) && before_failed (is_quiet loud) w)) ≡ true
             → (before_failed (is_quiet loud) w ≡ true → HasFailedSafely (plain_ways p) b (erased_slots w)) → HasFailedSafely (plain_ways p) b (erased_slots (slot g k (busy x t) w))
         go true f e rec = inl (IsExhausted-Stands r x t h.0.0 f)
-        go false f e rec = let q = and_both (not (loud g)) (before_failed (is_quiet loud) w) e in inr (harmless g q.0, rec q.1)
+        go false f e rec = let q = and_parts (not (loud g)) (before_failed (is_quiet loud) w) e in inr (harmless g q.0, rec q.1)
     HasFailedSafely-quiet z r (slot g k (held m a t c) w) h e =
-        let q = and_both (not (loud g)) (before_failed (is_quiet loud) w) e in (inr (harmless g q.0), HasFailedSafely-quiet (next_to z (held m a t c)) r w h.1 q.1)
+        let q = and_parts (not (loud g)) (before_failed (is_quiet loud) w) e in (inr (harmless g q.0), HasFailedSafely-quiet (next_to z (held m a t c)) r w h.1 q.1)
     HasFailedSafely-quiet z r (slot g k (redone m x t i) w) h e = absurd h.0
     HasFailedSafely-quiet z r (slot g k (again m a t c) w) h e = absurd h.0
     HasFailedSafely-quiet z r (slot g k (drained m x t i n) w) h e = go (is_failed x) refl e
       where
         go : (f : Bool) → is_failed x ≡ f → (if f then true else (not (loud g) && before_failed (is_quiet loud) w)) ≡ true → IsExhausted (erased t)
         go true f e = let q = stands_somehow z r x t i n h.0.0 in IsExhausted-Stands q.0 x t q.1 f
-        go false f e = let q = and_both (not (loud g)) (before_failed (is_quiet loud) w) e in absurd (false≢true (sym (not-true (loud g) q.0) ∙ h.0.2))
+        go false f e = let q = and_parts (not (loud g)) (before_failed (is_quiet loud) w) e in absurd (false≢true (sym (not-true (loud g) q.0) ∙ h.0.2))
 
     settled_held : (g : Tree) (t : Task) → not (loud g && not (is_exhausted t)) ≡ true → IsExhausted (erased t) ⊎ IsHarmless (plain_ways p) g b
     settled_held g t e = go (loud g) (is_exhausted t) refl refl e
@@ -651,7 +648,7 @@ module _ (loud : Tree → Bool) where
         go true f e = inl (IsExhausted-Stands r x t h.0.0 f)
         go false f e = absurd (false≢true e)
     HasFailedSafely-settled z r (slot g k (held m a t c) w) h e =
-        let q = and_both (not (loud g && not (is_exhausted t))) (before_failed (is_settled loud) w) e in
+        let q = and_parts (not (loud g && not (is_exhausted t))) (before_failed (is_settled loud) w) e in
         (settled_held g t q.0, HasFailedSafely-settled (next_to z (held m a t c)) r w h.1 q.1)
     HasFailedSafely-settled z r (slot g k (redone m x t i) w) h e = absurd h.0
     HasFailedSafely-settled z r (slot g k (again m a t c) w) h e = absurd h.0
@@ -706,7 +703,7 @@ module _ (loud : Tree → Bool) where
             )
         go false q rec = (
           laws.redone g (map plain_answer m ++ plain_answer a ∷ []) (erased t) (left (erased t)) (resets (erased_slots w)),
-          next_held (HasNoAlternative-some_has_more w q h) (more_left t (elim (either_true (not (is_exhausted t)) (some_has_more w) e) [ inl y ↦ y | inr y ↦ absurd (false≢true (sym q ∙ y)) ])),
+          next_held (HasNoAlternative-some_has_more w q h) (more_left t (elim (or_cases (not (is_exhausted t)) (some_has_more w) e) [ inl y ↦ y | inr y ↦ absurd (false≢true (sym q ∙ y)) ])),
           put_away_behind r g k m a t w f.0,
         )
     Redoes-redo_from r (slot g k (again m a t c) w) e h f = go (some_has_more w) refl (λ q. Redoes-redo_from r w q h f.1)
@@ -722,7 +719,7 @@ module _ (loud : Tree → Bool) where
             )
         go false q rec = (
           laws.redone g (map plain_answer m ++ plain_answer a ∷ []) (erased t) (left (erased t)) (resets (erased_slots w)),
-          next_again (HasNoAlternative-some_has_more w q h) (more_left t (elim (either_true (not (is_exhausted t)) (some_has_more w) e) [ inl y ↦ y | inr y ↦ absurd (false≢true (sym q ∙ y)) ])),
+          next_again (HasNoAlternative-some_has_more w q h) (more_left t (elim (or_cases (not (is_exhausted t)) (some_has_more w) e) [ inl y ↦ y | inr y ↦ absurd (false≢true (sym q ∙ y)) ])),
           put_away_behind r g k m a t w f.0,
         )
 

@@ -1,5 +1,6 @@
 -- The place of a variable in the last arguments, and what a fitted tuple gives for it.
 use Rattle.std.proofs.Common.{◌≡◌, ◌≤◌, ◌≢◌, ◌==◌, ℕ, zero, suc, ◌+◌, ◌-◌, min, Bool, true, false, if◌then◌else◌, List, [], ◌∷◌, length, drop, Option, Some, None, refl, ap, sym, ◌∙◌, arith}
+use Rattle.ap_term.proofs.TreeLists.{count_trees-push}
 use Rattle.ap_term.specs.declared.terms.Term.{Term}
 use Rattle.ap_term.specs.Tree.{Tree, Trees, var, int, atom, node, none, more, push_tree, count_trees}
 use Rattle.ap_term.specs.TermView.{tree_of, trees_of}
@@ -25,10 +26,6 @@ found_all-push x (more q ps) (more u ts) p t h = ap (or_else (found x q u)) (fou
 pub found_all-none : (x : ℕ) (ps : Trees) → found_all x ps none ≡ None
 found_all-none x none = refl
 found_all-none x (more p ps) = refl
-
-pub count_trees-push : (ts : Trees) (t : Tree) → count_trees (push_tree ts t) ≡ count_trees ts + 1
-count_trees-push none t = refl
-count_trees-push (more u ts) t = ap (λ n. n + 1) (count_trees-push ts t)
 
 -- a value, or else another
 abbrev pub default : Option Tree → Tree → Tree

@@ -1,6 +1,6 @@
 -- The events of slots are events of the erased slots, along any path.
 use Rattle.std.proofs.Common.{◌≡◌, ℕ, zero, suc, ◌+◌, ◌-◌, ◌<◌, ◌≤◌, ◌⊎◌, inl, inr, nat_lt, Bool, true, false, not, is_none, ◌&&◌, if◌then◌else◌, List, [], ◌∷◌, ◌++◌, map, Option, Some, None, refl, ap, sym, ◌∙◌, subst, arith}
-use Rattle.std.proofs.lemmas.Bool.{false≢true, not-true, ltb-false}
+use Rattle.std.proofs.lemmas.Bool.{false≢true, not-true, ltb-false, and_parts}
 use Rattle.std.proofs.lemmas.List.{map-append}
 use Rattle.ap_term.specs.declared.faults.Fault.{Fault}
 use Rattle.ap_term.specs.Tree.{Tree, Trees, none, more}
@@ -16,7 +16,6 @@ use Rattle.ap_laws.specs.Events.{Step, Turn, Spin, Forgets, forget_here, forget_
 use Rattle.ap_laws.specs.Graft.{alone}
 use Rattle.ap_laws.specs.Rejoining.{IsSpent, IsRaised}
 use Rattle.ap_laws.proofs.Invariant.{TaskInvariant, Strong, Pivot}
-use Rattle.ap_laws.proofs.Ways.{and_both}
 use Rattle.ap_core.specs.declared.tasks.Round.{Round}
 use Rattle.ap_core.specs.declared.tasks.Round.TheVariants.{First, Later, Closed}
 use Rattle.ap_core.specs.declared.tasks.Idle.{Idle}
@@ -110,7 +109,7 @@ raised_later r c w v n e (later_else q) h = raised_unfailed r c w v n e q h
 pub IsSpent-has_spent : (loud : Tree → Bool) (b : ℕ) (t : Task) → has_spent loud t ≡ true → IsGiven b t → Fine loud t → IsSpent b (erased t)
 IsSpent-has_spent loud b (task r c exhausted) h k f = absurd (false≢true h)
 IsSpent-has_spent loud b (task r c (alternative (state s) l)) h k f =
-    let q = and_both (has_goals s) (not (nat_lt 0 r)) h in
+    let q = and_parts (has_goals s) (not (nat_lt 0 r)) h in
     (omega (arith, ltb-false 0 r (not-true (nat_lt 0 r) q.1)), λ e. some_goal s.goals f.0 (some_left s q.0) (sym (goals_left-plain_by s.fault (plain_goals s.goals) s.tuple s.next s.steps) ∙ e))
 IsSpent-has_spent loud b (task r c (alternative (frame s First w) l)) h k f =
     elim (spent_first loud r (left_edge r 0 w) w (verdict loud First r w) (first_means loud r (left_edge r 0 w) w) (is_over-spends (verdict loud First r w) h)) [
@@ -401,13 +400,13 @@ module _ (p : Rules) (good : IsProgram p.program) (heeds : Heeds p.loud p.progra
     fails : Restands failing
     unfolding Restands
     fails x z t n h s f =
-        let q = Some-only_if (is_running x && is_exhausted t) Failed z h in subst (λ y. Stands n y t) q.1 (and_both (is_running x) (is_exhausted t) q.0).1
+        let q = Some-only_if (is_running x && is_exhausted t) Failed z h in subst (λ y. Stands n y t) q.1 (and_parts (is_running x) (is_exhausted t) q.0).1
 
     spent : Restands (spending p.loud)
     unfolding Restands
     spent x z t n h s f =
         let q = Some-only_if (is_running x && has_spent p.loud t) Spent z h in
-        let e = and_both (is_running x) (has_spent p.loud t) q.0 in
+        let e = and_parts (is_running x) (has_spent p.loud t) q.0 in
         subst (λ y. Stands n y t) q.1 (IsSpent-has_spent p.loud n t e.1 (IsGiven-running n x t e.0 s) f)
 
     raises_so : Restands (raising p.loud)

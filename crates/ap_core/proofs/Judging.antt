@@ -1,13 +1,12 @@
 -- What each verdict says of a frame's slots.
 use Rattle.std.proofs.Common.{◌≡◌, ℕ, ◌-◌, ◌<◌, ◌≤◌, ◌⊎◌, nat_lt, Bool, true, false, ◌||◌, if◌then◌else◌, Option, Some, None, refl}
-use Rattle.std.proofs.lemmas.Bool.{ltb-true, ltb-false}
+use Rattle.std.proofs.lemmas.Bool.{ltb-true, ltb-false, or_cases}
 use Rattle.ap_term.specs.declared.faults.Fault.{Fault}
 use Rattle.ap_term.specs.Tree.{Tree}
 use Rattle.ap_core.specs.declared.tasks.Busy.{Busy}
 use Rattle.ap_core.specs.declared.tasks.Busy.TheVariants.{Running, Stopping, Failed, Spent, Stopped, Raised}
 use Rattle.ap_core.specs.Tasks.{Slots}
 use Rattle.ap_core.specs.Conditions.{some_failed, all_answered, leftmost, before_failed, is_quiet, is_settled, answered_left, place_to_drain, Verdict, wait, joins, breaks, drains, raises, spends, charged, by_leftmost, unfailed, by_place, first_verdict, later_verdict}
-use Rattle.ap_core.proofs.Options.{either_true}
 
 charged-by : (P : Verdict → Type 0) (r c : ℕ) (v : Verdict) → (c ≤ r → P v) → (r < c → P spends) → P (charged r c v)
 charged-by P r c v h k = go (nat_lt r c) refl
@@ -60,7 +59,7 @@ first_means loud r c w = go (before_failed (is_quiet loud) w || before_failed (i
 
     go : (b : Bool) → (before_failed (is_quiet loud) w || before_failed (is_settled loud) w) ≡ b
         → FirstMeans loud r c w (if b then charged r c (breaks c) else (if before_failed answered_left w then by_place r c (place_to_drain loud w) (unfailed r c w) else unfailed r c w))
-    go true e = charged-by (FirstMeans loud r c w) r c (breaks c) (λ h. first_breaks (either_true (before_failed (is_quiet loud) w) (before_failed (is_settled loud) w) e) h) (λ h. first_above h)
+    go true e = charged-by (FirstMeans loud r c w) r c (breaks c) (λ h. first_breaks (or_cases (before_failed (is_quiet loud) w) (before_failed (is_settled loud) w) e) h) (λ h. first_above h)
     go false e = else_by (before_failed answered_left w) refl
 
 -- in a later one

@@ -1,5 +1,6 @@
 -- An event of a slot's task is one of the task outside of it.
 use Rattle.std.proofs.Common.{◌≡◌, ℕ, zero, suc, Bool, true, false, if◌then◌else◌, List, [], ◌∷◌, Option, Some, None, refl, ap, sym, ◌∙◌, subst}
+use Rattle.std.proofs.lemmas.Option.{none-some}
 use Rattle.ap_term.specs.Tree.{Tree}
 use Rattle.ap_term.specs.Search.{State}
 use Rattle.ap_core.specs.declared.events.Kind.{Kind}
@@ -12,26 +13,23 @@ use Rattle.ap_core.specs.Relation.{Rules, Recorded, recorded, mapped, own, own_s
 use Rattle.ap_core.specs.Lifting.{running_of, running_in, running_task, at_end, LiftLaw}
 use Rattle.ap_core.proofs.Options.{Some-if}
 
-nothing : {A : Type 0} {x : A} → None ≡ Some x → ⊥
-nothing h = absurd (cc)
-
 -- an event that tasks have is, at a slot, one of the slot's task
 at-own : (p : Rules) (k : Kind) (r b : ℕ) (g : Tree) (o : Bool) (x : Progress) (z y : Task) → own p k z ≡ Some y → at_slot p k r b g o x ≡ recorded o (own_slot p k x)
 at-own p kinds.Infer r b g o x z y h = refl
 at-own p kinds.Fork r b g o x z y h = refl
-at-own p kinds.Start r b g o x z y h = absurd (nothing h)
-at-own p kinds.Answer r b g o x z y h = absurd (nothing h)
-at-own p kinds.Fail r b g o x z y h = absurd (nothing h)
-at-own p kinds.Spend r b g o x z y h = absurd (nothing h)
-at-own p kinds.Stop r b g o x z y h = absurd (nothing h)
-at-own p kinds.Stopped r b g o x z y h = absurd (nothing h)
+at-own p kinds.Start r b g o x z y h = absurd (none-some _ h)
+at-own p kinds.Answer r b g o x z y h = absurd (none-some _ h)
+at-own p kinds.Fail r b g o x z y h = absurd (none-some _ h)
+at-own p kinds.Spend r b g o x z y h = absurd (none-some _ h)
+at-own p kinds.Stop r b g o x z y h = absurd (none-some _ h)
+at-own p kinds.Stopped r b g o x z y h = absurd (none-some _ h)
 at-own p kinds.Join r b g o x z y h = refl
 at-own p kinds.Break r b g o x z y h = refl
 at-own p kinds.Redo r b g o x z y h = refl
 at-own p kinds.Restart r b g o x z y h = refl
-at-own p kinds.Raise r b g o x z y h = absurd (nothing h)
+at-own p kinds.Raise r b g o x z y h = absurd (none-some _ h)
 at-own p kinds.Drain r b g o x z y h = refl
-at-own p kinds.Forget r b g o x z y h = absurd (nothing h)
+at-own p kinds.Forget r b g o x z y h = absurd (none-some _ h)
 at-own p kinds.Replay r b g o x z y h = refl
 
 -- with a task in it
@@ -46,7 +44,7 @@ filled (drained m x t i e) u = drained m x u i e
 
 running-if : (b : Bool) (t z : Task) → (if b then Some t else None) ≡ Some z → (b ≡ true) × (t ≡ z)
 running-if true t z h = (refl, cc)
-running-if false t z h = absurd (nothing h)
+running-if false t z h = absurd (none-some _ h)
 
 pub chosen : {A : Type 0} (b : Bool) (o : Option A) → b ≡ true → (if b then o else None) ≡ o
 chosen true o h = refl
@@ -54,10 +52,10 @@ chosen false o h = absurd (cc)
 
 pub in_filled : (p : Rules) (k : Kind) (path : List ℕ) (r b : ℕ) (g : Tree) (o : Bool) (x : Progress) (z y : Task) → running_of x ≡ Some z → at_end p k path z ≡ Some y
     → (in_slot p k path r b g o x ≡ Some (o, filled x y)) × (running_of (filled x y) ≡ Some y)
-in_filled p k path r b g o (idle i) z y h e = absurd (nothing h)
-in_filled p k path r b g o (stored m) z y h e = absurd (nothing h)
-in_filled p k path r b g o (held m a t c) z y h e = absurd (nothing h)
-in_filled p k path r b g o (again m a t c) z y h e = absurd (nothing h)
+in_filled p k path r b g o (idle i) z y h e = absurd (none-some _ h)
+in_filled p k path r b g o (stored m) z y h e = absurd (none-some _ h)
+in_filled p k path r b g o (held m a t c) z y h e = absurd (none-some _ h)
+in_filled p k path r b g o (again m a t c) z y h e = absurd (none-some _ h)
 in_filled p k path r b g o (busy x t) z y h e = go path e
   where
     q : (is_running x ≡ true) × (t ≡ z)
@@ -108,16 +106,16 @@ in_filled p k path r b g o (drained m x t i n) z y h e = go path e
 
 in_place : (p : Rules) (k : Kind) (path : List ℕ) (r b i : ℕ) (w : Slots) (z y : Task) → running_in i w ≡ Some z → at_end p k path z ≡ Some y
     → (v : Slots) × (in_slots p k i path r b w ≡ Some v) × (running_in i v ≡ Some y)
-in_place p k path r b i no_slot z y h e = absurd (nothing h)
-in_place p k path r b zero (slot g o x w) z y h e = absurd (nothing h)
+in_place p k path r b i no_slot z y h e = absurd (none-some _ h)
+in_place p k path r b zero (slot g o x w) z y h e = absurd (none-some _ h)
 in_place p k path r b (suc zero) (slot g o x w) z y h e =
     let q = in_filled p k path r b g o x z y h e in (slot g o (filled x y) w, ap (mapped (λ d. slot g d.0 d.1 w)) q.0, q.1)
 in_place p k path r b (suc (suc i)) (slot g o x w) z y h e =
     let q = in_place p k path r b (suc i) w z y h e in (slot g o x q.0, ap (mapped (slot g o x)) q.1, q.2)
 
 pub lifted : LiftLaw
-lifted p k path i (task r c exhausted) z y h e = absurd (nothing h)
-lifted p k path i (task r c (alternative (state s) l)) z y h e = absurd (nothing h)
+lifted p k path i (task r c exhausted) z y h e = absurd (none-some _ h)
+lifted p k path i (task r c (alternative (state s) l)) z y h e = absurd (none-some _ h)
 lifted p k path i (task r c (alternative (frame s rd w) l)) z y h e = (task r c (alternative (frame s rd q.0) l), steps, chosen (is_open rd) (running_in i q.0) d.0 ∙ q.2)
   where
     d : (is_open rd ≡ true) × (running_in i w ≡ Some z)

@@ -1,15 +1,7 @@
 -- Tests, options and lists of steps.
 use Rattle.std.proofs.Common.{◌≡◌, ◌⊎◌, inl, inr, Bool, true, false, ◌&&◌, ◌||◌, if◌then◌else◌, Option, Some, None, refl}
-use Rattle.std.proofs.lemmas.Bool.{false≢true}
+use Rattle.std.proofs.lemmas.Bool.{false≢true, or_cases, or_parts}
 use Rattle.ap_core.specs.Relation.{only_if, mapped}
-
-pub either_true : (a b : Bool) → (a || b) ≡ true → (a ≡ true) ⊎ (b ≡ true)
-either_true true b h = inl refl
-either_true false b h = inr h
-
-pub neither_true : (a b : Bool) → (a || b) ≡ false → (a ≡ false) × (b ≡ false)
-neither_true true b h = absurd (false≢true (cc))
-neither_true false b h = (refl, h)
 
 pub Some-only_if : {A : Type 0} (b : Bool) (x y : A) → only_if b x ≡ Some y → (b ≡ true) × (x ≡ y)
 Some-only_if true x y h = (refl, cc)

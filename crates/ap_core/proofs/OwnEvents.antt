@@ -1,7 +1,7 @@
 -- The events of a task are events of the erased task, and keep what is fine.
 use Rattle.std.proofs.Common.{◌≡◌, ℕ, zero, suc, ◌+◌, ◌-◌, ◌<◌, ◌≤◌, ◌⊎◌, inl, inr, nat_lt, Bool, true, false, not, ◌&&◌, is_none, if◌then◌else◌, List, [], ◌∷◌, ◌++◌, map, Option, Some, None, refl, ap, sym, ◌∙◌, subst, arith}
 use Rattle.std.specs.List.{list_all}
-use Rattle.std.proofs.lemmas.Bool.{false≢true, not-true, not-false, ltb-true, ltb-false}
+use Rattle.std.proofs.lemmas.Bool.{false≢true, not-true, not-false, ltb-true, ltb-false, and_parts}
 use Rattle.ap_term.specs.declared.clauses.Check.{Check}
 use Rattle.ap_term.specs.declared.faults.Fault.{Fault}
 use Rattle.ap_term.specs.Tree.{Tree, Trees, none, more, append_trees}
@@ -16,7 +16,6 @@ use Rattle.ap_laws.specs.Tasks.{edge_slots, slot_goals}
 use Rattle.ap_laws.specs.Events as events
 use Rattle.ap_laws.specs.Events.{Step, plains, freshes, joined_state, IsExhausted, IsFull}
 use Rattle.ap_laws.proofs.Invariant.{TaskInvariant, IsForkOf, IsShut}
-use Rattle.ap_laws.proofs.Ways.{and_both}
 use Rattle.ap_laws.proofs.Views.{HasFullGroups-children}
 use Rattle.ap_laws.proofs.Plain.{Renames-plain_ways, Locals-plain_ways}
 use Rattle.ap_laws.proofs.Events.{Effect-Step}
@@ -71,7 +70,7 @@ module _ (p : Rules) (good : IsProgram p.program) (heeds : Heeds p.loud p.progra
   infer (task r c (alternative (frame s rd w) l)) u h f = absurd (cc)
   infer (task r c (alternative (state s) l)) u h f =
       let q = Some-only_if (has_goals s && nat_lt 0 r) (task (r - 1) (c + 1) (states (children p.program s) l)) u h in
-      let k = and_both (has_goals s) (nat_lt 0 r) q.0 in
+      let k = and_parts (has_goals s) (nat_lt 0 r) q.0 in
       let lt : 0 < r = ltb-true 0 r k.1 in
       made_along (task r c (alternative (state s) l)) (task (r - 1) (c + 1) (states (children p.program s) l)) u q.1 (record {
         steps =
@@ -95,7 +94,7 @@ module _ (p : Rules) (good : IsProgram p.program) (heeds : Heeds p.loud p.progra
       go (call g ∷ ps) e gs h = absurd (cc)
       go (group cs hs ∷ ps) e gs h =
           let q = Some-only_if (list_all check_holds cs && are_apart hs) hs gs h in
-          let k = and_both (list_all check_holds cs) (are_apart hs) q.0 in
+          let k = and_parts (list_all check_holds cs) (are_apart hs) q.0 in
           made_along (task r c (alternative (state s) l)) (task r c (alternative (frame s First (ready hs)) l)) (task r c (alternative (frame s First (ready gs)) l)) (ap (λ xs. task r c (alternative (frame s First (ready xs)) l)) q.1) (record {
             steps =
                 Star-one (Step A) (erased (task r c (alternative (state s) l))) (erased (task r c (alternative (frame s First (ready hs)) l)))
@@ -323,7 +322,7 @@ module _ (p : Rules) (good : IsProgram p.program) (heeds : Heeds p.loud p.progra
   restart (task r c (alternative (state s) l)) u h f = absurd (cc)
   restart (task r c (alternative (frame s rd w) l)) u h f =
       let q = Some-only_if (is_open rd && some_is_again w) (task r c (alternative (frame s rd (each_slot readied w)) l)) u h in
-      let k = and_both (is_open rd) (some_is_again w) q.0 in
+      let k = and_parts (is_open rd) (some_is_again w) q.0 in
       made_along (task r c (alternative (frame s rd w) l)) (task r c (alternative (frame s rd (each_slot readied w)) l)) u q.1 (go rd k.0 k.1 f)
     where
       same : laws.task c (laws.frame (plain_of s) laws.later (erased_slots w) (erased_alternatives l)) ≡ laws.task c (laws.frame (plain_of s) laws.later (erased_slots (each_slot readied w)) (erased_alternatives l))
@@ -344,7 +343,7 @@ module _ (p : Rules) (good : IsProgram p.program) (heeds : Heeds p.loud p.progra
   replay (task r c (alternative (state s) l)) u h f = absurd (cc)
   replay (task r c (alternative (frame s rd w) l)) u h f =
       let q = Some-only_if (is_open rd && some_is_again w) (task r c (alternative (frame s rd (each_slot replayed w)) l)) u h in
-      let k = and_both (is_open rd) (some_is_again w) q.0 in
+      let k = and_parts (is_open rd) (some_is_again w) q.0 in
       made_along (task r c (alternative (frame s rd w) l)) (task r c (alternative (frame s rd (each_slot replayed w)) l)) u q.1 (go rd k.0 k.1 f)
     where
       go : (rd : Round) → is_open rd ≡ true → some_is_again w ≡ true → Fine p.loud (task r c (alternative (frame s rd w) l))

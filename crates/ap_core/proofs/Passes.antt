@@ -5,6 +5,7 @@ use Rattle.std.proofs.lemmas.Bool.{false≢true, eqb-true, eq-eqb, and_parts, an
 use Rattle.std.proofs.lemmas.List.{drop_more}
 use Rattle.std.proofs.lemmas.List.Elements.{All-head, All-tail, All-more}
 use Rattle.std.proofs.lemmas.List.Folds.{list_any-append}
+use Rattle.std.proofs.Math.Bool.{or_assoc}
 use Rattle.ap_term.specs.declared.clauses.Part as code
 use Rattle.ap_term.specs.GoalView.{part_of}
 use Rattle.ap_term.specs.Tree.{Tree, Trees, none, more, append_trees}
@@ -23,13 +24,9 @@ pub unnamed : (qs : List Predicate) → list_any (same_predicate None) qs ≡ fa
 unnamed [] = refl
 unnamed (q ∷ qs) = unnamed qs
 
-or_assoc : (a b c : Bool) → (a || (b || c)) ≡ ((a || b) || c)
-or_assoc true b c = refl
-or_assoc false b c = refl
-
 some_calls-append : (qs : List Predicate) (ts us : Trees) → some_calls qs (append_trees ts us) ≡ (some_calls qs ts || some_calls qs us)
 some_calls-append qs none us = refl
-some_calls-append qs (more t ts) us = ap (λ b. calls_one qs t || b) (some_calls-append qs ts us) ∙ or_assoc (calls_one qs t) (some_calls qs ts) (some_calls qs us)
+some_calls-append qs (more t ts) us = ap (λ b. calls_one qs t || b) (some_calls-append qs ts us) ∙ sym (or_assoc (calls_one qs t) (some_calls qs ts) (some_calls qs us))
 
 some_calls-part : (qs : List Predicate) (x : Part) (xs : List Part) → some_calls qs (plain_goals (x ∷ xs)) ≡ (calls_in qs x || some_calls qs (plain_goals xs))
 some_calls-part qs (call t) xs = refl

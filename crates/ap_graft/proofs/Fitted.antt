@@ -1,13 +1,14 @@
 -- An answer that is fitted in for a goal, by maps.
 use Rattle.std.proofs.Common.{◌≡◌, ℕ, ◌+◌, ◌-◌, ◌<◌, ◌≤◌, Bool, true, false, cond, nat_lt, if◌then◌else◌, refl, ap, sym, ◌∙◌, subst, arith}
 use Rattle.std.proofs.lemmas.Bool.{lt-ltb, le-ltb, ltb-true, ltb-false}
+use Rattle.ap_term.specs.Tuples.{arguments}
 use Rattle.ap_term.specs.Tree.{Tree, Trees, var}
 use Rattle.ap_term.specs.Vars.{occurs_all, LocalAll}
 use Rattle.ap_term.specs.Substitution.{instance, instance_all}
 use Rattle.ap_term.proofs.Copies.{instance_twice, instance_all_twice}
 use Rattle.ap_term.proofs.Solutions.{instance_agree, instance_all_agree}
 use Rattle.ap_term.proofs.Locals.{Local-occurs, LocalAll-occurs_all}
-use Rattle.ap_laws.specs.Graft.{arguments, lifted, lifted_var, fitted, IsOwn}
+use Rattle.ap_laws.specs.Graft.{lifted, lifted_var, fitted, IsOwn}
 use Rattle.ap_laws.proofs.Graft.{LocalAll-at, fitted-value}
 use Rattle.ap_laws.proofs.Unifiers.{instance_all-at}
 

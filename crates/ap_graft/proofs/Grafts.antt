@@ -3,6 +3,7 @@ use Rattle.std.proofs.Common.{◌≡◌, ℕ, ◌+◌, ◌-◌, ◌<◌, ◌≤�
 use Rattle.std.specs.List.{AllByRecursion, AllZip, flat_map}
 use Rattle.std.proofs.lemmas.List.{map-append, append_assoc}
 use Rattle.std.proofs.lemmas.List.Elements.{All-head, All-tail}
+use Rattle.ap_term.specs.Tuples.{arguments}
 use Rattle.ap_term.specs.Tree.{Tree, Trees, var, atom, none, more}
 use Rattle.ap_term.specs.Vars.{occurs_all, Local, LocalAll}
 use Rattle.ap_term.specs.Substitution.{instance, instance_all, Subst, value, shift}
@@ -17,7 +18,7 @@ use Rattle.ap_term.proofs.Copies.{instance_var, instance_all_var, instance_twice
 use Rattle.ap_term.proofs.Zips.{AllZip-append}
 use Rattle.ap_term.proofs.Locals.{Local-weaken, LocalAll-weaken, Local-instance, instance-Local, instance_all-LocalAll}
 use Rattle.ap_laws.specs.Renaming.{OptionZip, OptionAll, Renamed, RenamedSubst, Linked, LocalSubst}
-use Rattle.ap_laws.specs.Graft.{arguments, lifted, lifted_var, lowered, fitted, IsOwn}
+use Rattle.ap_laws.specs.Graft.{lifted, lifted_var, lowered, fitted, IsOwn}
 use Rattle.ap_laws.proofs.Renamed.{Renamed-weaken, Renamed-mgu}
 use Rattle.ap_laws.proofs.Local.{Local-mgu}
 use Rattle.ap_laws.proofs.Builtins.{Renamed-builtin, Local-builtin, Renamed-fault_of}

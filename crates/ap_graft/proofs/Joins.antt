@@ -12,7 +12,7 @@ use Rattle.ap_term.specs.Search.{State}
 use Rattle.ap_term.proofs.Copies.{instance_var}
 use Rattle.ap_term.proofs.Locals.{instance-Local, Local-each}
 use Rattle.ap_laws.specs.Plain.{state, plain_by, plain_of}
-use Rattle.ap_laws.specs.Graft.{arguments, lifted_var, fitted, graft_by, graft_state}
+use Rattle.ap_laws.specs.Graft.{lifted_var, fitted, graft_by, graft_state}
 use Rattle.ap_laws.proofs.Graft.{fitted-value}
 use Rattle.ap_tracked.specs.Tracked.{Goal, call, fork, moved, calls as goal_calls, opened, Tracked, untracked, untracked_goal}
 use Rattle.ap_tracked.specs.Kept.{IsKept}
@@ -24,6 +24,7 @@ use Rattle.ap_tracked.proofs.Untracked.{untracked_opened, all_moved}
 use Rattle.ap_graft.proofs.Variables.{below_from, of_from, goals_local}
 use Rattle.ap_graft.proofs.Grafts.{kept_graft, first-put}
 use Rattle.std.proofs.lemmas.List.{map-append}
+use Rattle.ap_term.specs.Tuples.{arguments}
 
 -- ---- an answer put in, without groups
 

@@ -1,6 +1,7 @@
 -- Joined states as sets of instances.
 use Rattle.std.proofs.Common.{◌≡◌, ℕ, ◌<◌, ◌≤◌, List, [], ◌∷◌, ◌++◌, map, refl, ap, sym, ◌∙◌, subst, arith}
 use Rattle.std.specs.Prelude.{◌↔◌}
+use Rattle.ap_term.specs.Tuples.{arguments}
 use Rattle.ap_term.specs.Tree.{Tree, Trees, var, int, atom, node, none, more}
 use Rattle.ap_term.specs.Substitution.{instance, instance_all}
 use Rattle.ap_term.specs.Independence.{IsApart, AreApart}
@@ -10,7 +11,7 @@ use Rattle.ap_term.proofs.Copies.{instance_all_twice}
 use Rattle.ap_term.specs.Vars.{Local, LocalAll}
 use Rattle.ap_term.proofs.Locals.{LocalAll-weaken}
 use Rattle.ap_laws.specs.Plain.{state}
-use Rattle.ap_laws.specs.Graft.{arguments, lifted, fitted, IsOf}
+use Rattle.ap_laws.specs.Graft.{lifted, fitted, IsOf}
 use Rattle.ap_laws.proofs.Plain.{LocalAll-arguments}
 use Rattle.ap_tracked.specs.Tracked.{Goal, call, moved, opened, Tracked}
 use Rattle.ap_tracked.specs.Kept.{IsKept}

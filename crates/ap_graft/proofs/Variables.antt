@@ -3,6 +3,7 @@ use Rattle.std.proofs.Common.{◌≡◌, ℕ, ◌+◌, ◌<◌, ◌≤◌, inl, 
 use Rattle.std.specs.List.{AllByRecursion, AllZip, flat_map, list_all}
 use Rattle.std.proofs.lemmas.Bool.{false≢true, and_parts, leb-true}
 use Rattle.std.proofs.lemmas.List.Elements.{All-head, All-tail}
+use Rattle.ap_term.specs.Tuples.{arguments}
 use Rattle.ap_term.specs.Tree.{Tree, Trees, var, atom, none, more, count_trees, append_trees}
 use Rattle.ap_term.specs.Vars.{occurs_all, Local, LocalAll}
 use Rattle.ap_term.specs.Substitution.{instance, instance_all, Subst, value, shift}
@@ -21,7 +22,7 @@ use Rattle.ap_laws.specs.Plain.{plain_by, plain_of}
 use Rattle.ap_tracked.specs.Marks.{check_marks, group_mark, marked}
 use Rattle.ap_term.specs.declared.clauses.Check.{Check}
 use Rattle.ap_term.specs.declared.clauses.Check.TheVariants.{Ground, Indep}
-use Rattle.ap_laws.specs.Graft.{arguments, IsOwn, IsOf}
+use Rattle.ap_laws.specs.Graft.{IsOwn, IsOf}
 use Rattle.ap_laws.proofs.Local.{Local-value, Local-mgu}
 use Rattle.ap_laws.proofs.Builtins.{Local-builtin}
 use Rattle.ap_laws.proofs.Ways.{Local-head}

@@ -1,11 +1,12 @@
 -- The answers of a group's goals, put in one after the other.
 use Rattle.std.specs.Prelude.{◌≡◌, ℕ, List, [], ◌∷◌, None}
+use Rattle.ap_term.specs.Tuples.{arguments}
 use Rattle.ap_term.specs.Tree.{Tree, Trees, none, more}
 use Rattle.ap_term.specs.Substitution.{instance_all}
 use Rattle.ap_term.specs.Goals.{Program}
 use Rattle.ap_term.specs.Search.{State}
 use Rattle.ap_laws.specs.Plain.{Plain}
-use Rattle.ap_laws.specs.Graft.{arguments, graft_state}
+use Rattle.ap_laws.specs.Graft.{graft_state}
 use Rattle.ap_tracked.specs.Tracked.{Tracked}
 use Rattle.ap_tracked.specs.Forks.{alone}
 use Rattle.ap_tracked.specs.Kept.{IsKept}

@@ -1,11 +1,12 @@
 -- States that have only variables of a kind, and whose groups have goals.
 use Rattle.std.specs.Prelude.{◌≡◌, ℕ, ◌<◌, ◌≤◌, List, [], Option, Some, None}
 use Rattle.std.specs.List.{AllByRecursion}
+use Rattle.ap_term.specs.Tuples.{arguments}
 use Rattle.ap_term.specs.Tree.{Tree, none, more}
 use Rattle.ap_term.specs.Substitution.{instance_all}
 use Rattle.ap_term.specs.declared.faults.Fault.{Fault}
 use Rattle.ap_term.specs.Vars.{Local, LocalAll}
-use Rattle.ap_laws.specs.Graft.{arguments, IsOwn}
+use Rattle.ap_laws.specs.Graft.{IsOwn}
 use Rattle.ap_tracked.specs.Tracked.{Goal, call, fork, Tracked}
 
 -- of a group: what stands for each variable of its clause; and the group has a goal

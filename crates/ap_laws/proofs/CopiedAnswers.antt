@@ -1,15 +1,16 @@
 -- A goal's answer under other names, put in the goal's place.
 use Rattle.std.proofs.Common.{◌≡◌, ℕ, ◌+◌, ◌-◌, ◌<◌, ◌≤◌, ◌⊎◌, inl, inr, Bool, true, false, ◌||◌, cond, if◌then◌else◌, [], refl, ap, sym, ◌∙◌, subst, arith}
-use Rattle.std.proofs.lemmas.Bool.{false≢true}
+use Rattle.std.proofs.lemmas.Bool.{false≢true, or_left, or_right}
+use Rattle.ap_term.specs.Tuples.{arguments}
 use Rattle.ap_term.specs.Tree.{Tree, Trees, var, int, atom, node, none, more}
 use Rattle.ap_term.specs.Vars.{occurs, occurs_all, LocalAll}
 use Rattle.ap_term.specs.Substitution.{instance, instance_all, value}
 use Rattle.ap_term.proofs.Copies.{instance_all_twice}
-use Rattle.ap_term.proofs.Solutions.{same_var, same_test, or_left, or_right}
+use Rattle.ap_term.proofs.Solutions.{same_var, same_test}
 use Rattle.ap_term.proofs.Locals.{LocalAll-occurs_all, LocalAll-each, LocalAll-instance_all}
 use Rattle.ap_laws.specs.Renaming.{Renamed, RenamedAll, Linked}
 use Rattle.ap_laws.specs.Plain.{state}
-use Rattle.ap_laws.specs.Graft.{arguments, fit_all, lifted, lifted_var, lowered, fitted, IsOwn, IsOf}
+use Rattle.ap_laws.specs.Graft.{fit_all, lifted, lifted_var, lowered, fitted, IsOwn, IsOf}
 use Rattle.ap_laws.specs.Laws.{CopiedAnswerLaw}
 use Rattle.ap_laws.proofs.Ways.{IsOneToOne-Linked, Renamed-both, RenamedAll-both, RenamedParts-both}
 use Rattle.ap_laws.proofs.Names.{RenamedAll-is, LocalAll-RenamedAll}

@@ -1,6 +1,7 @@
 -- A goal without answers leaves a conjunction none.
 use Rattle.std.proofs.Common.{◌≡◌, ℕ, ◌+◌, ◌-◌, ◌<◌, ◌≤◌, Bool, true, false, cond, List, [], ◌∷◌, refl, ap, sym, ◌∙◌, subst, arith}
-use Rattle.std.proofs.lemmas.Bool.{false≢true}
+use Rattle.std.proofs.lemmas.Bool.{false≢true, false_from_ne_true}
+use Rattle.ap_term.specs.Tuples.{arguments}
 use Rattle.ap_term.specs.Tree.{Tree, Trees, var, int, atom, node, more}
 use Rattle.ap_term.specs.Vars.{occurs, occurs_all, Local, LocalAll}
 use Rattle.ap_term.specs.Substitution.{instance, instance_all}
@@ -8,7 +9,7 @@ use Rattle.ap_term.proofs.Copies.{instance_var}
 use Rattle.ap_term.proofs.Locals.{Local-each, Local-occurs, Local-instance, LocalAll-instance_all, instance-Local, LocalAll-append_trees}
 use Rattle.ap_laws.specs.Plain.{Plain, state, faulted, Ways, Renames, Locals, IsPlainBelow}
 use Rattle.ap_laws.specs.Trace.{Action, called, cut, answered, trace, followed, AllAnswers, NoAnswers}
-use Rattle.ap_laws.specs.Graft.{arguments, alone, lifted, lifted_var, fitted, graft, IsOwn, IsOf}
+use Rattle.ap_laws.specs.Graft.{alone, lifted, lifted_var, fitted, graft, IsOwn, IsOf}
 use Rattle.ap_laws.proofs.Graft.{LocalAll-at, Linked-lifted, fitted-value, trace-graft, IsOf-alone, graft-alone}
 use Rattle.ap_laws.proofs.Traces.{AllAnswers-append}
 
@@ -56,13 +57,9 @@ AllAnswers-weaken P Q e (called ∷ es) h = AllAnswers-weaken P Q e es h
 AllAnswers-weaken P Q e (cut ∷ es) h = AllAnswers-weaken P Q e es h
 AllAnswers-weaken P Q e (answered a l ∷ es) h = (e a l h.0, AllAnswers-weaken P Q e es h.1)
 
-pub false_of : (b : Bool) → (b ≡ true → ⊥) → b ≡ false
-false_of true h = absurd (h refl)
-false_of false h = refl
-
 pub Local-apart : (p g : Tree) → Local (λ x. occurs x g ≡ false) p → Local (λ x. occurs x p ≡ false) g
 Local-apart p g h =
-    Local-each (λ x. occurs x p ≡ false) g (λ x o. false_of (occurs x p) (λ k. false≢true (sym (Local-occurs (λ y. occurs y g ≡ false) p h x k) ∙ o)))
+    Local-each (λ x. occurs x p ≡ false) g (λ x o. false_from_ne_true (occurs x p) (λ k. false≢true (sym (Local-occurs (λ y. occurs y g ≡ false) p h x k) ∙ o)))
 
 pub occurs_all-arguments : (x : ℕ) (g : Tree) → occurs x g ≡ false → occurs_all x (arguments g) ≡ false
 occurs_all-arguments x (var y) e = simp e

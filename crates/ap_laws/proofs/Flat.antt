@@ -1,5 +1,6 @@
 -- What a task has left, read as plain states, and that its base leads there.
 use Rattle.std.proofs.Common.{◌≡◌, ℕ, ◌+◌, ◌-◌, ◌<◌, ◌≤◌, ◌⊎◌, inl, inr, true, List, [], ◌∷◌, ◌++◌, refl, ap, sym, ◌∙◌, subst, arith, append-nil}
+use Rattle.ap_term.specs.Tuples.{arguments}
 use Rattle.ap_term.specs.Tree.{Tree, Trees, more, append_trees}
 use Rattle.ap_term.specs.Vars.{occurs_all, LocalAll}
 use Rattle.ap_term.specs.Substitution.{instance, instance_all}
@@ -7,7 +8,7 @@ use Rattle.ap_term.specs.Independence.{AreApart}
 use Rattle.ap_term.proofs.Copies.{instance_all_twice}
 use Rattle.ap_term.proofs.Locals.{LocalAll-occurs_all, LocalAll-instance_all, LocalAll-append_trees}
 use Rattle.ap_laws.specs.Plain.{Plain, state, faulted, Ways, next_of, Renames, Locals, IsPlainBelow}
-use Rattle.ap_laws.specs.Graft.{arguments, alone, lifted, lifted_var, fitted, graft, grafts, IsOwn, IsOf, AreOf}
+use Rattle.ap_laws.specs.Graft.{alone, lifted, lifted_var, fitted, graft, grafts, IsOwn, IsOf, AreOf}
 use Rattle.ap_term.proofs.Zips.{AllByRecursion-append}
 use Rattle.ap_laws.proofs.Plain.{LocalAll-arguments}
 use Rattle.ap_laws.specs.Gives.{Gives, Rejoins}

@@ -2,6 +2,7 @@
 use Rattle.std.proofs.Common.{◌≡◌, ℕ, suc, ◌+◌, ◌-◌, ◌<◌, ◌≤◌, Bool, true, false, List, [], ◌∷◌, ◌++◌, refl, ap, ap₂, sym, ◌∙◌, subst, arith, append-nil, append_assoc, le_trans}
 use Rattle.std.proofs.lemmas.Bool.{false≢true}
 use Rattle.std.proofs.lemmas.Grind.{flat_map-append}
+use Rattle.ap_term.specs.Tuples.{arguments}
 use Rattle.ap_term.specs.Tree.{Tree, Trees, none, more, append_trees}
 use Rattle.ap_term.specs.Vars.{occurs, occurs_all, Local, LocalAll}
 use Rattle.ap_term.specs.Substitution.{instance_all}
@@ -10,7 +11,7 @@ use Rattle.ap_term.proofs.Locals.{Local-each, Local-weaken}
 use Rattle.ap_term.proofs.TreeLists.{instance_all-append_trees}
 use Rattle.ap_laws.specs.Plain.{Plain, state, faulted, Ways, IsAnswer, IsEnded, steps_of, plain_children, Renames, Locals, IsPlainBelow}
 use Rattle.ap_laws.specs.Trace.{Action, called, cut, answered, trace, trace_to, traces, answers_in, calls_in, followed, AllAnswers, NoAnswers}
-use Rattle.ap_laws.specs.Graft.{arguments, alone, fitted, graft, grafts, IsOf, AreOf, IsDead, AreHarmless}
+use Rattle.ap_laws.specs.Graft.{alone, fitted, graft, grafts, IsOf, AreOf, IsDead, AreHarmless}
 use Rattle.ap_laws.specs.Gives.{Thins, thins_none, thins_keep, thins_drop, GivesAt, Gives}
 use Rattle.ap_laws.proofs.Graft.{followed-append, flat_map-grafts, trace-graft, IsOf-alone}
 use Rattle.ap_laws.proofs.Traces.{AllAnswers-append, AllAnswers-and, AllAnswers-IsOf, answers_in-append, calls_in-append, trace-more}

@@ -2,6 +2,7 @@
 use Rattle.std.proofs.Common.{◌≡◌, ℕ, zero, suc, ◌+◌, ◌-◌, ◌<◌, ◌≤◌, ◌⊎◌, inl, inr, Bool, true, false, cond, ltb, ◌==◌, ◌||◌, List, [], ◌∷◌, ◌++◌, refl, ap, ap₂, sym, ◌∙◌, subst, arith, append-nil, append_assoc}
 use Rattle.std.specs.List.{flat_map}
 use Rattle.std.proofs.lemmas.Bool.{false≢true, lt-ltb, le-ltb, ltb-true, ltb-false}
+use Rattle.ap_term.specs.Tuples.{arguments}
 use Rattle.ap_term.specs.declared.faults.Fault.{Fault}
 use Rattle.ap_term.specs.Tree.{Tree, Trees, var, int, atom, node, none, more, append_trees}
 use Rattle.ap_term.specs.Vars.{occurs, occurs_all, Local, LocalAll}
@@ -13,7 +14,7 @@ use Rattle.ap_term.proofs.TreeLists.{instance_all-append_trees, append_trees-ass
 use Rattle.ap_laws.specs.Renaming.{Renamed, RenamedAll, RenamedSubst, Linked, LocalSubst}
 use Rattle.ap_laws.specs.Plain.{Plain, state, faulted, PlainWay, way, fault_way, Ways, plain_child, plain_children_by, plain_children, RenamedPlainWay, RenamedPlainWays, Renames, LocalPlainWays, Locals}
 use Rattle.ap_laws.specs.Trace.{Action, called, cut, answered, trace, followed}
-use Rattle.ap_laws.specs.Graft.{arguments, alone, fit, fit_all, lifted, lifted_var, lowered, fitted, graft, grafts, IsOwn, IsOf, AreOf}
+use Rattle.ap_laws.specs.Graft.{alone, fit, fit_all, lifted, lifted_var, lowered, fitted, graft, grafts, IsOwn, IsOf, AreOf}
 use Rattle.ap_laws.proofs.Renamed.{Renamed-value}
 use Rattle.ap_laws.proofs.Local.{Local-value, value-other}
 use Rattle.ap_laws.proofs.Ways.{IsOneToOne-Linked, Renamed-both}

@@ -51,7 +51,8 @@ mutual
   LocalAll-RenamedAll R P e (more t ts) (more u us) h = (Local-Renamed R P e t u h.0, LocalAll-RenamedAll R P e ts us h.1)
   LocalAll-RenamedAll R P e _ _ h = absurd h
 
-AllByRecursion-has : (P : ℕ → Type 0) (xs : List ℕ) → AllByRecursion P xs → (x : ℕ) → has xs x ≡ true → P x
+-- what holds of each number of a list holds of one that it has
+pub AllByRecursion-has : (P : ℕ → Type 0) (xs : List ℕ) → AllByRecursion P xs → (x : ℕ) → has xs x ≡ true → P x
 AllByRecursion-has P [] h x o = absurd (false≢true o)
 AllByRecursion-has P (y ∷ xs) h x o = go (nat_eq y x) refl o (AllByRecursion-has P xs h.1 x)
   where

@@ -1,16 +1,17 @@
 -- Plain states: lists of goals, and the ways on of a program's plain form.
 use Rattle.std.proofs.Common.{◌≡◌, ℕ, ◌+◌, true, false, List, [], ◌∷◌, Option, Some, None, refl}
+use Rattle.std.proofs.lemmas.Bool.{or_left}
+use Rattle.ap_term.specs.Tuples.{arguments}
 use Rattle.ap_term.specs.Tree.{Tree, Trees, var, int, atom, node, none, more, append_trees}
 use Rattle.ap_term.specs.Vars.{occurs, occurs_all, Local, LocalAll}
 use Rattle.ap_term.specs.Goals.{Part, call, group, Program, plain_goals}
 use Rattle.ap_term.specs.WellFormed.{IsProgram}
 use Rattle.ap_term.specs.declared.faults.Fault.{Fault}
 use Rattle.ap_term.specs.Search.{Way, ways}
-use Rattle.ap_term.proofs.Solutions.{same_test, or_left}
+use Rattle.ap_term.proofs.Solutions.{same_test}
 use Rattle.ap_term.proofs.Locals.{LocalAll-each, LocalAll-append_trees}
 use Rattle.ap_laws.specs.Renaming.{RenamedAll, RenamedParts, Linked, RenamedWay, LocalParts, LocalWay}
 use Rattle.ap_laws.specs.Plain.{way_by, plain_way, plain_ways, Renames, Locals, RenamedPlainWay, LocalPlainWay}
-use Rattle.ap_laws.specs.Graft.{arguments}
 use Rattle.ap_term.proofs.Zips.{AllZip-map, AllByRecursion-map}
 use Rattle.ap_laws.proofs.Ways.{Renamed-ways, Local-ways}
 

@@ -2,7 +2,7 @@
 use Rattle.std.proofs.Common.{◌≡◌, inl, inr, ℕ, zero, suc, ◌+◌, ◌&&◌, true, false, List, [], ◌∷◌, map, Option, Some, None, refl, ap, sym, ◌∙◌, subst}
 use Rattle.std.specs.Prelude.{nat_le}
 use Rattle.std.specs.List.{flat_map, list_all, AllByRecursion}
-use Rattle.std.proofs.lemmas.Bool.{false≢true, false_from_ne_true}
+use Rattle.std.proofs.lemmas.Bool.{false≢true, false_from_ne_true, and_parts}
 use Rattle.std.proofs.lemmas.List.Elements.{All-head, All-tail}
 use Rattle.ap_term.specs.Tree.{Tree, Trees, var, int, atom, node, none, more, append_trees, count_trees}
 use Rattle.ap_term.specs.Substitution.{instance, instance_all, Subst, value, shift}
@@ -21,7 +21,6 @@ use Rattle.ap_laws.specs.Plain.{Plain, state, faulted, PlainWay, way, fault_way,
 use Rattle.ap_laws.specs.Trace.{trace, AllAnswers}
 use Rattle.ap_laws.specs.Graft.{alone}
 use Rattle.ap_laws.specs.SearchLaws.{QuietLaw}
-use Rattle.ap_laws.proofs.Ways.{and_both}
 use Rattle.ap_laws.proofs.Traces.{AllAnswers-flat_map}
 use Rattle.ap_term.proofs.Zips.{AllByRecursion-append, AllByRecursion-map}
 
@@ -76,17 +75,17 @@ fault_of-quiet g h = refl
 
 EachGoal-all_callable : (ts : Trees) → all_callable ts ≡ true → EachGoal (λ h. callable h ≡ true) ts
 EachGoal-all_callable none h = tt
-EachGoal-all_callable (more t ts) h = let r = and_both (callable t) (all_callable ts) h in (r.0, EachGoal-all_callable ts r.1)
+EachGoal-all_callable (more t ts) h = let r = and_parts (callable t) (all_callable ts) h in (r.0, EachGoal-all_callable ts r.1)
 
 EachGoal-well_formed : (n : ℕ) (ps : List Part) → list_all (well_formed_part n) ps ≡ true → EachGoal (λ h. callable h ≡ true) (plain_goals ps)
 EachGoal-well_formed n [] h = tt
 EachGoal-well_formed n (call t ∷ ps) h =
-    let r = and_both (callable t && numbered n t) (list_all (well_formed_part n) ps) h in ((and_both (callable t) (numbered n t) r.0).0, EachGoal-well_formed n ps r.1)
+    let r = and_parts (callable t && numbered n t) (list_all (well_formed_part n) ps) h in ((and_parts (callable t) (numbered n t) r.0).0, EachGoal-well_formed n ps r.1)
 EachGoal-well_formed n (group cs ts ∷ ps) h =
-    let r = and_both (well_formed_part n (group cs ts)) (list_all (well_formed_part n) ps) h in
-    let q = and_both (list_all (numbered_check n) cs) (nat_le 1 (count_trees ts) && (all_callable ts && numbered_all n ts)) r.0 in
-    let x = and_both (nat_le 1 (count_trees ts)) (all_callable ts && numbered_all n ts) q.1 in
-    EachGoal-append (λ h. callable h ≡ true) ts (plain_goals ps) (EachGoal-all_callable ts (and_both (all_callable ts) (numbered_all n ts) x.1).0) (EachGoal-well_formed n ps r.1)
+    let r = and_parts (well_formed_part n (group cs ts)) (list_all (well_formed_part n) ps) h in
+    let q = and_parts (list_all (numbered_check n) cs) (nat_le 1 (count_trees ts) && (all_callable ts && numbered_all n ts)) r.0 in
+    let x = and_parts (nat_le 1 (count_trees ts)) (all_callable ts && numbered_all n ts) q.1 in
+    EachGoal-append (λ h. callable h ≡ true) ts (plain_goals ps) (EachGoal-all_callable ts (and_parts (all_callable ts) (numbered_all n ts) x.1).0) (EachGoal-well_formed n ps r.1)
 
 module _ (p : Program) (good : IsProgram p) where
   abbrev Fits : Tree → Type 0
@@ -109,7 +108,7 @@ module _ (p : Program) (good : IsProgram p) where
   WayFits-clause n g c h ok m (Some s) e = ((refl, subst (EachGoal Fits) (sym (plain_goals-instance (shift n) c.body)) (EachGoal-instance Fits Fits (shift n) (Fits-instance (shift n)) (plain_goals c.body) fit)), tt)
     where
       head : callable c.head ≡ true
-      head = (and_both (callable c.head) (numbered c.vars c.head) ok.head).0
+      head = (and_parts (callable c.head) (numbered c.vars c.head) ok.head).0
 
       same : predicate_of g ≡ predicate_of c.head
       same =

@@ -1,6 +1,7 @@
 -- Traces of plain states that are the same up to names.
 use Rattle.std.proofs.Common.{◌≡◌, ℕ, zero, suc, ◌+◌, List, [], ◌∷◌, Option, Some, None, refl, ap}
 use Rattle.std.specs.List.{AllZip}
+use Rattle.ap_term.specs.Tuples.{arguments}
 use Rattle.ap_term.specs.declared.faults.Fault.{Fault}
 use Rattle.ap_term.specs.Search.{State}
 use Rattle.ap_term.specs.Tree.{Tree, Trees, var, int, atom, node, none, more, append_trees}
@@ -9,7 +10,6 @@ use Rattle.ap_laws.specs.Renaming.{Renamed, RenamedAll, Linked}
 use Rattle.ap_term.specs.Goals.{plain_goals}
 use Rattle.ap_laws.specs.Plain.{Plain, state, faulted, PlainWay, way, fault_way, Ways, plain_child, plain_children_by, RenamedPlainWay, RenamedPlainWays, Renames, SamePlain, SamePlainBy, plain_ways, plain_by, plain_of}
 use Rattle.ap_laws.specs.Trace.{trace, SameAction}
-use Rattle.ap_laws.specs.Graft.{arguments}
 use Rattle.ap_laws.specs.SearchLaws.{TraceRenamingLaw}
 use Rattle.ap_term.proofs.Zips.{AllZip-flat_map}
 use Rattle.ap_laws.proofs.Renamed.{Renamed-weaken, RenamedAll-weaken, Renamed-value, RenamedAll-instance_all}

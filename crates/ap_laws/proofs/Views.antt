@@ -1,7 +1,7 @@
 -- The answers to a depth and what a budget finds are views of the trace of a state's plain form.
 use Rattle.std.proofs.Common.{◌≡◌, ℕ, zero, suc, ◌+◌, ◌-◌, ◌≤◌, true, false, List, [], ◌∷◌, ◌++◌, map, Option, Some, None, refl, ap, ap₂, sym, ◌∙◌, arith}
 use Rattle.std.specs.List.{flat_map, AllByRecursion, list_all}
-use Rattle.std.proofs.lemmas.Bool.{false≢true}
+use Rattle.std.proofs.lemmas.Bool.{false≢true, and_parts}
 use Rattle.std.proofs.lemmas.Grind.{flat_map-append}
 use Rattle.std.proofs.lemmas.List.{map-append}
 use Rattle.std.proofs.lemmas.List.Elements.{All-head, All-tail}
@@ -19,7 +19,6 @@ use Rattle.ap_term.proofs.GoalLists.{plain_goals-append, plain_goals-instance, p
 use Rattle.ap_laws.specs.Plain.{Plain, state, faulted, Ways, outcome, steps_of, plain_by, plain_of, as_state, AreGroups, HasFullGroups, way_by, plain_way, plain_ways, plain_child, plain_children_by, plain_children}
 use Rattle.ap_laws.specs.Trace.{Action, called, trace, trace_to, traces, answers_in, found_before, found_upto}
 use Rattle.ap_term.proofs.Zips.{AllByRecursion-append}
-use Rattle.ap_laws.proofs.Ways.{and_both}
 use Rattle.ap_laws.proofs.Graft.{state-eq}
 use Rattle.ap_laws.proofs.Traces.{answers_in-append, trace-more}
 
@@ -110,12 +109,12 @@ AreGroups-opened (group cs (more t ts) ∷ ps) h = AreGroups-append (calls ts) p
 
 pub AreGroups-well_formed : (n : ℕ) (ps : List Part) → list_all (well_formed_part n) ps ≡ true → AreGroups ps
 AreGroups-well_formed n [] h = tt
-AreGroups-well_formed n (call t ∷ ps) h = AreGroups-well_formed n ps (and_both _ (list_all (well_formed_part n) ps) h).1
+AreGroups-well_formed n (call t ∷ ps) h = AreGroups-well_formed n ps (and_parts _ (list_all (well_formed_part n) ps) h).1
 AreGroups-well_formed n (group cs none ∷ ps) h =
-    let r = and_both (well_formed_part n (group cs none)) (list_all (well_formed_part n) ps) h in
-    let q = and_both (list_all (numbered_check n) cs) _ r.0 in
+    let r = and_parts (well_formed_part n (group cs none)) (list_all (well_formed_part n) ps) h in
+    let q = and_parts (list_all (numbered_check n) cs) _ r.0 in
     absurd (false≢true q.1)
-AreGroups-well_formed n (group cs (more t ts) ∷ ps) h = AreGroups-well_formed n ps (and_both (well_formed_part n (group cs (more t ts))) (list_all (well_formed_part n) ps) h).1
+AreGroups-well_formed n (group cs (more t ts) ∷ ps) h = AreGroups-well_formed n ps (and_parts (well_formed_part n (group cs (more t ts))) (list_all (well_formed_part n) ps) h).1
 
 abbrev HasGroups : Way → Type 0
 HasGroups w = AreGroups w.body

@@ -1,7 +1,7 @@
 -- The ways on from related goals, and the children of related states.
 use Rattle.std.proofs.Common.{◌≡◌, ℕ, ◌+◌, ◌-◌, ◌<◌, ◌≤◌, Bool, true, false, ◌&&◌, nat_eq, nat_le, nat_lt, if◌then◌else◌, List, [], ◌∷◌, ◌++◌, map, Option, Some, None, refl, ap, sym, ◌∙◌, arith}
 use Rattle.std.specs.List.{flat_map, AllZip, AllByRecursion, list_all}
-use Rattle.std.proofs.lemmas.Bool.{false≢true, leb-true, lt-ltb, le-ltb}
+use Rattle.std.proofs.lemmas.Bool.{false≢true, leb-true, lt-ltb, le-ltb, and_parts}
 use Rattle.std.proofs.lemmas.List.Elements.{All-head, All-tail}
 use Rattle.ap_term.specs.declared.clauses.Check.{Check}
 use Rattle.ap_term.specs.declared.clauses.Check.TheVariants.{Ground, Indep}
@@ -24,12 +24,8 @@ use Rattle.ap_term.proofs.Solutions.{same_var, same_test}
 
 -- ---- the variables of a clause
 
-pub and_both : (a b : Bool) → (a && b) ≡ true → (a ≡ true) × (b ≡ true)
-and_both true b h = (refl, h)
-and_both false b h = absurd (false≢true h)
-
 at_most : (n x : ℕ) → in_range n x ≡ true → x ≤ n
-at_most n x h = leb-true x n (and_both (nat_le 1 x) (nat_le x n) h).1
+at_most n x h = leb-true x n (and_parts (nat_le 1 x) (nat_le x n) h).1
 
 mutual
   Local-numbered : (n : ℕ) (t : Tree) → numbered n t ≡ true → Local (λ x. x ≤ n) t
@@ -40,27 +36,27 @@ mutual
 
   LocalAll-numbered_all : (n : ℕ) (ts : Trees) → numbered_all n ts ≡ true → LocalAll (λ x. x ≤ n) ts
   LocalAll-numbered_all n none h = tt
-  LocalAll-numbered_all n (more t ts) h = let r = and_both (numbered n t) (numbered_all n ts) h in (Local-numbered n t r.0, LocalAll-numbered_all n ts r.1)
+  LocalAll-numbered_all n (more t ts) h = let r = and_parts (numbered n t) (numbered_all n ts) h in (Local-numbered n t r.0, LocalAll-numbered_all n ts r.1)
 
 LocalChecks-numbered_check : (n : ℕ) (cs : List Check) → list_all (numbered_check n) cs ≡ true → AllByRecursion (LocalCheck (λ x. x ≤ n)) cs
 LocalChecks-numbered_check n [] h = tt
 LocalChecks-numbered_check n (Ground x ∷ cs) h =
-    let r = and_both (in_range n x) (list_all (numbered_check n) cs) h in (at_most n x r.0, LocalChecks-numbered_check n cs r.1)
+    let r = and_parts (in_range n x) (list_all (numbered_check n) cs) h in (at_most n x r.0, LocalChecks-numbered_check n cs r.1)
 LocalChecks-numbered_check n (Indep x y ∷ cs) h =
-    let r = and_both (in_range n x && in_range n y) (list_all (numbered_check n) cs) h in
-    let q = and_both (in_range n x) (in_range n y) r.0 in
+    let r = and_parts (in_range n x && in_range n y) (list_all (numbered_check n) cs) h in
+    let q = and_parts (in_range n x) (in_range n y) r.0 in
     ((at_most n x q.0, at_most n y q.1), LocalChecks-numbered_check n cs r.1)
 
 LocalPart-well_formed : (n : ℕ) (p : Part) → well_formed_part n p ≡ true → LocalPart (λ x. x ≤ n) p
-LocalPart-well_formed n (call t) h = Local-numbered n t (and_both (callable t) (numbered n t) h).1
+LocalPart-well_formed n (call t) h = Local-numbered n t (and_parts (callable t) (numbered n t) h).1
 LocalPart-well_formed n (group cs ts) h =
-    let r = and_both (list_all (numbered_check n) cs) _ h in
-    let q = and_both _ (all_callable ts && numbered_all n ts) r.1 in
-    (LocalChecks-numbered_check n cs r.0, LocalAll-numbered_all n ts (and_both (all_callable ts) (numbered_all n ts) q.1).1)
+    let r = and_parts (list_all (numbered_check n) cs) _ h in
+    let q = and_parts _ (all_callable ts && numbered_all n ts) r.1 in
+    (LocalChecks-numbered_check n cs r.0, LocalAll-numbered_all n ts (and_parts (all_callable ts) (numbered_all n ts) q.1).1)
 
 LocalParts-well_formed : (n : ℕ) (ps : List Part) → list_all (well_formed_part n) ps ≡ true → LocalParts (λ x. x ≤ n) ps
 LocalParts-well_formed n [] h = tt
-LocalParts-well_formed n (p ∷ ps) h = let r = and_both (well_formed_part n p) (list_all (well_formed_part n) ps) h in (LocalPart-well_formed n p r.0, LocalParts-well_formed n ps r.1)
+LocalParts-well_formed n (p ∷ ps) h = let r = and_parts (well_formed_part n p) (list_all (well_formed_part n) ps) h in (LocalPart-well_formed n p r.0, LocalParts-well_formed n ps r.1)
 
 LocalCheck-weaken : (P Q : ℕ → Type 0) → ((x : ℕ) → P x → Q x) → (c : Check) → LocalCheck P c → LocalCheck Q c
 LocalCheck-weaken P Q e (Ground x) h = e x h
@@ -74,7 +70,7 @@ pub LocalParts-weaken : (P Q : ℕ → Type 0) → ((x : ℕ) → P x → Q x) �
 LocalParts-weaken P Q e ps h = AllByRecursion-weaken (LocalPart P) (LocalPart Q) (LocalPart-weaken P Q e) ps h
 
 pub Local-head : (c : Clause) → IsClause c → Local (λ x. x ≤ c.vars) c.head
-Local-head c h = Local-numbered c.vars c.head (and_both (callable c.head) (numbered c.vars c.head) h.head).1
+Local-head c h = Local-numbered c.vars c.head (and_parts (callable c.head) (numbered c.vars c.head) h.head).1
 
 pub LocalParts-body : (c : Clause) → IsClause c → LocalParts (λ x. x ≤ c.vars) c.body
 LocalParts-body c h = LocalParts-well_formed c.vars c.body h.body

@@ -1,6 +1,7 @@
 -- What built-in goals make of a state.
 use Rattle.std.proofs.Common.{◌≡◌, ℕ, ℤ, pos, Bool, true, false, nat_eq, List, [], ◌∷◌, Option, Some, None, refl, ap, ap₂, sym, ◌∙◌, subst}
-use Rattle.std.proofs.lemmas.Bool.{false≢true}
+use Rattle.std.proofs.lemmas.Bool.{false≢true, or_left}
+use Rattle.ap_tracked.specs.Sets.{IsSetOf, IsGeneralGoal, Behind, Equated, Valued}
 use Rattle.ap_term.specs.declared.fixed.TheConstants.{UNIFY, IS}
 use Rattle.ap_term.specs.Tree.{Tree, Trees, int, node, none, more}
 use Rattle.ap_term.specs.Vars.{occurs}
@@ -12,12 +13,11 @@ use Rattle.ap_term.specs.Builtins.{builtin, unified_value}
 use Rattle.ap_tracked.specs.Tracked.{Goal, call, opened, Tracked, child_if, call_children, children_by, children}
 use Rattle.ap_tracked.specs.Marks.{marked}
 use Rattle.ap_tracked.specs.Instances.{Inst}
-use Rattle.ap_term.proofs.Solutions.{same_var, same_test, or_left}
+use Rattle.ap_term.proofs.Solutions.{same_var, same_test}
 use Rattle.ap_laws.specs.Renaming.{OptionZip, Renamed, RenamedSubst}
 use Rattle.ap_laws.specs.Laws.{Inverse}
 use Rattle.ap_laws.proofs.Renamed.{IsOneToOne}
 use Rattle.ap_laws.proofs.Builtins.{Renamed-eval, Renamed-builtin}
-use Rattle.ap_resolution.specs.Instances.{IsSetOf, IsGeneralGoal, Behind, Equated, Valued}
 use Rattle.ap_resolution.specs.Laws.{BuiltinLaw}
 use Rattle.ap_resolution.proofs.Unified.{Meets, goals-are, IsSetOf-same, by_unifier, unified_child}
 use Rattle.ap_resolution.proofs.Variants.{numbers, instances, Renamed-part}

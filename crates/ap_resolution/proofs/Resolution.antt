@@ -2,6 +2,7 @@
 use Rattle.std.proofs.Common.{◌≡◌, ℕ, ◌+◌, ◌-◌, ◌<◌, Bool, true, false, if◌then◌else◌, List, ◌∷◌, ◌++◌, map, refl, ap, sym, ◌∙◌, subst, arith}
 use Rattle.std.specs.Prelude.{nat_lt}
 use Rattle.std.proofs.lemmas.Bool.Decides.{Decides-ltb}
+use Rattle.ap_tracked.specs.Sets.{Resolved}
 use Rattle.ap_term.specs.Tree.{Tree, Trees, var, atom, more, append_trees}
 use Rattle.ap_term.specs.Substitution.{instance, instance_all, shift}
 use Rattle.ap_term.specs.Goals.{Clause}
@@ -17,7 +18,6 @@ use Rattle.ap_tracked.specs.Instances.{Inst}
 use Rattle.ap_tracked.proofs.Marks.{marks}
 use Rattle.ap_graft.specs.Variables.{LocalGoals}
 use Rattle.ap_graft.proofs.Variables.{marked-over}
-use Rattle.ap_resolution.specs.Instances.{Resolved}
 use Rattle.ap_resolution.specs.Laws.{ResolutionLaw}
 use Rattle.ap_resolution.proofs.Agreeing.{marked-agree}
 use Rattle.ap_resolution.proofs.Unified.{Meets, goals-are, IsSetOf-same, unified_child}

@@ -1,5 +1,6 @@
 -- The child of a state by a unification.
 use Rattle.std.proofs.Common.{◌≡◌, ℕ, ◌+◌, List, [], ◌∷◌, ◌++◌, map, Option, Some, None, refl, ap, sym, ◌∙◌}
+use Rattle.ap_tracked.specs.Sets.{SameSet, IsSetOf}
 use Rattle.ap_term.specs.Tree.{Tree, Trees, more}
 use Rattle.ap_term.specs.Substitution.{instance, instance_all, Subst, value}
 use Rattle.ap_term.specs.Unification.{mgu}
@@ -11,7 +12,6 @@ use Rattle.ap_tracked.specs.Tracked.{Goal, call, moved, Tracked, child_if}
 use Rattle.ap_tracked.specs.Marks.{marked}
 use Rattle.ap_tracked.specs.Instances.{Inst}
 use Rattle.ap_tracked.proofs.Marks.{marks}
-use Rattle.ap_resolution.specs.Instances.{SameSet, IsSetOf}
 
 -- instances of the goals ps under a unifier of two trees
 abbrev pub Meets : Tracked → Tree → Tree → List Goal → Trees → Trees → Type 0

@@ -1,14 +1,13 @@
 -- Goals and tuples of which each is an instance of the other are the same up to names.
-use Rattle.std.proofs.Common.{◌≡◌, ℕ, Bool, true, false, ◌||◌, nat_eq, List, [], ◌∷◌, refl, ap, sym, ◌∙◌, subst}
-use Rattle.std.specs.List.{AllByRecursion}
-use Rattle.std.proofs.lemmas.Bool.{false≢true}
+use Rattle.std.proofs.Common.{◌≡◌, ℕ, true, [], refl, ap, sym, ◌∙◌, subst}
+use Rattle.ap_laws.proofs.Names.{AllByRecursion-has}
 use Rattle.ap_term.specs.Tree.{Tree, Trees, var, int, atom, node}
 use Rattle.ap_term.specs.Vars.{has, add_all_vars, occurs, occurs_all}
 use Rattle.ap_term.specs.Substitution.{instance, instance_all}
 use Rattle.ap_term.specs.UpToNames.{SameUpToNames, renumbered}
 use Rattle.ap_term.specs.Laws.{KeepsApart}
 use Rattle.ap_term.proofs.Copies.{instance_var, instance_all_var, instance_all_twice}
-use Rattle.ap_term.proofs.Solutions.{same_var, instance_agree, instance_all_agree}
+use Rattle.ap_term.proofs.Solutions.{instance_agree, instance_all_agree}
 use Rattle.ap_term.proofs.Renamings.{renumbered-renamed}
 use Rattle.ap_term.proofs.Locals.{Local-each, LocalAll-each}
 use Rattle.ap_laws.specs.Renaming.{Renamed}
@@ -37,14 +36,6 @@ is_variable f (int z) y e = cc
 is_variable f (atom a) y e = cc
 is_variable f (node a ts) y e = cc
 
-each-has : (P : ℕ → Type 0) (xs : List ℕ) → AllByRecursion P xs → (x : ℕ) → has xs x ≡ true → P x
-each-has P [] h x o = absurd (false≢true o)
-each-has P (y ∷ xs) h x o = go (nat_eq y x) refl o (each-has P xs h.1 x)
-  where
-    go : (b : Bool) → nat_eq y x ≡ b → (b || has xs x) ≡ true → (has xs x ≡ true → P x) → P x
-    go true e p ih = subst P (same_var y x e) h.0
-    go false e p ih = ih p
-
 module _ (f g : ℕ → Tree) (ts us : Trees) (there : us ≡ instance_all f ts) (back : ts ≡ instance_all g us) where
   comes_back : (x : ℕ) → occurs_all x ts ≡ true → instance g (f x) ≡ var x
   comes_back x o =
@@ -70,7 +61,7 @@ module _ (f g : ℕ → Tree) (ts us : Trees) (there : us ≡ instance_all f ts)
       ap renumbered (instance_all_agree f (λ y. var (numbers f y)) t (λ x o. renames x (inside x o))) ∙ renumbered-renamed (numbers f) t apart
     where
       returned : (x : ℕ) → has (add_all_vars t []) x ≡ true → numbers g (numbers f x) ≡ x
-      returned = each-has (λ x. numbers g (numbers f x) ≡ x) (add_all_vars t [])
+      returned = AllByRecursion-has (λ x. numbers g (numbers f x) ≡ x) (add_all_vars t [])
           (AllByRecursion-add_all_vars (λ x. numbers g (numbers f x) ≡ x) t [] (LocalAll-each (λ x. numbers g (numbers f x) ≡ x) t (λ x o. inverse x (inside x o))) tt)
 
       apart : KeepsApart (numbers f) (add_all_vars t [])

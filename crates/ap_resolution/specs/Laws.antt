@@ -1,5 +1,6 @@
 -- The laws that the crate's functions stand for.
 use Rattle.std.specs.Prelude.{◌≡◌, ℤ, List, [], ◌∷◌, Some, None}
+use Rattle.ap_tracked.specs.Sets.{IsSetOf, IsGeneralGoal, IsGeneralTuple, Resolved, Behind, Equated, Valued}
 use Rattle.ap_term.specs.declared.fixed.TheConstants.{UNIFY, IS}
 use Rattle.ap_term.specs.Tree.{Tree, Trees, node, none, more}
 use Rattle.ap_term.specs.Goals.{Clause, Program}
@@ -11,7 +12,6 @@ use Rattle.ap_tracked.specs.Tracked.{Goal, call, Tracked, clause_children, child
 use Rattle.ap_tracked.specs.Marks.{marked}
 use Rattle.ap_tracked.specs.Instances.{Inst}
 use Rattle.ap_graft.specs.Variables.{IsTrackedBelow}
-use Rattle.ap_resolution.specs.Instances.{IsSetOf, IsGeneralGoal, IsGeneralTuple, Resolved, Behind, Equated, Valued}
 
 -- a clause's child of a state has just the instances that come by an instance of the clause; there is no child where
 -- there is none

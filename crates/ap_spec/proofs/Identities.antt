@@ -1,29 +1,18 @@
 -- Identical terms, argument by argument.
 use Rattle.std.proofs.Common.{◌≡◌, ◌≢◌, ◌==◌, ℕ, Bool, true, false, ◌&&◌, List, [], ◌∷◌, length, refl, ap, ap₂, sym, ◌∙◌, suc}
+use Rattle.std.proofs.Math.Bool.{and-false, and-true, and_assoc}
 use Rattle.ap_term.specs.declared.terms.Term.{Term}
 use Rattle.ap_term.specs.Tree.{Tree, Trees, node, none, more, push_tree}
 use Rattle.ap_term.specs.TermView.{tree_of, trees_of}
 use Rattle.ap_term.specs.Identical.{identical, identical_all}
 use Rattle.ap_term.proofs.TermLists.{size_all-push, item_smaller}
 
-and_false : (b : Bool) → (b && false) ≡ false
-and_false true = refl
-and_false false = refl
-
-and_true : (b : Bool) → (b && true) ≡ b
-and_true true = refl
-and_true false = refl
-
-and_assoc : (a b c : Bool) → (a && (b && c)) ≡ ((a && b) && c)
-and_assoc true b c = refl
-and_assoc false b c = refl
-
 pub identical_all-lengths : (ts us : List Term) → length ts ≢ length us → identical_all (trees_of ts) (trees_of us) ≡ false
 identical_all-lengths [] [] h = absurd (h refl)
 identical_all-lengths [] (u ∷ us) h = refl
 identical_all-lengths (t ∷ ts) [] h = refl
 identical_all-lengths (t ∷ ts) (u ∷ us) h =
-    ap (λ b. identical (tree_of t) (tree_of u) && b) (identical_all-lengths ts us (λ e. h (ap suc e))) ∙ and_false (identical (tree_of t) (tree_of u))
+    ap (λ b. identical (tree_of t) (tree_of u) && b) (identical_all-lengths ts us (λ e. h (ap suc e))) ∙ and-false (identical (tree_of t) (tree_of u))
 
 pub identical-push_none : (ts : Trees) (t : Tree) → identical_all (push_tree ts t) none ≡ false
 identical-push_none none t = refl
@@ -34,11 +23,11 @@ identical-none_push none t = refl
 identical-none_push (more u ts) t = refl
 
 pub identical_all-push : (ts us : Trees) (t u : Tree) → identical_all (push_tree ts t) (push_tree us u) ≡ (identical_all ts us && identical t u)
-identical_all-push none none t u = and_true (identical t u)
-identical_all-push none (more v us) t u = ap (λ b. identical t v && b) (identical-none_push us u) ∙ and_false (identical t v)
-identical_all-push (more w ts) none t u = ap (λ b. identical w u && b) (identical-push_none ts t) ∙ and_false (identical w u)
+identical_all-push none none t u = and-true (identical t u)
+identical_all-push none (more v us) t u = ap (λ b. identical t v && b) (identical-none_push us u) ∙ and-false (identical t v)
+identical_all-push (more w ts) none t u = ap (λ b. identical w u && b) (identical-push_none ts t) ∙ and-false (identical w u)
 identical_all-push (more w ts) (more v us) t u =
-    ap (λ b. identical w v && b) (identical_all-push ts us t u) ∙ and_assoc (identical w v) (identical_all ts us) (identical t u)
+    ap (λ b. identical w v && b) (identical_all-push ts us t u) ∙ sym (and_assoc (identical w v) (identical_all ts us) (identical t u))
 
 -- two compounds of one name, by their last arguments
 pub identical-last : (a b : ℕ) (ts us front back : Trees) (t u : Tree) (whole : Bool) → (a == b) ≡ true → ts ≡ push_tree front t → us ≡ push_tree back u

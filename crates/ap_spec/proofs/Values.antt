@@ -1,7 +1,7 @@
 -- Values of 64 bits.
 use Rattle.std.proofs.Common.{◌≡◌, ◌≤◌, List, [], ◌∷◌, length, ℕ, ◌^◌, ◌<◌, Bool, true, false, if◌then◌else◌, Option, Some, None, ℤ, pos, negsuc, w64, refl, ap, ap₂, get_or, sym, ◌∙◌, arith, rules}
 use Rattle.std.specs.Option.{SomeIff}
-use Rattle.std.specs.Prelude.{Result, Ok, Err, ok_or, FitsSigned, int_rem, int_lt, ◌+ℤ◌}
+use Rattle.std.specs.Prelude.{Ok, Err, ok_or, FitsSigned, int_rem, int_lt, ◌+ℤ◌}
 use Rattle.std.proofs.lemmas.Bool.Decides.{nat_tests}
 use Rattle.std.proofs.lemmas.Bool.{false≢true}
 use Rattle.std.proofs.lemmas.Int.{to_z-of_z, ints}

@@ -1,16 +1,17 @@
 -- Children of a state by some clauses of a program.
 use Rattle.std.proofs.Common.{◌≡◌, ℕ, ◌==◌, ◌&&◌, Bool, true, false, cond, List, [], ◌∷◌, ◌++◌, None, refl, ap, ap₂, sym, ◌∙◌, subst, arith}
 use Rattle.std.specs.List.{AllByRecursion, flat_map}
-use Rattle.std.proofs.lemmas.Bool.{false≢true}
+use Rattle.std.proofs.lemmas.Bool.{false≢true, and_parts}
 use Rattle.std.proofs.lemmas.Bool.Decides.{Decides-eqb}
 use Rattle.std.proofs.lemmas.List.{append-nil}
 use Rattle.std.proofs.lemmas.List.Elements.{All-head, All-tail}
+use Rattle.ap_tracked.specs.Sets.{IsSetOf, Resolved}
+use Rattle.ap_term.proofs.TreeLists.{count_trees-instance_all}
 use Rattle.ap_term.specs.Tree.{Tree, Trees, var, int, atom, node, none, more, count_trees}
 use Rattle.ap_term.specs.Substitution.{instance, instance_all}
 use Rattle.ap_term.specs.Goals.{Clause, Program}
 use Rattle.ap_term.specs.WellFormed.{callable, numbered, IsClause, IsProgram}
 use Rattle.ap_term.specs.Builtins.{builtin}
-use Rattle.ap_laws.proofs.Ways.{and_both}
 use Rattle.ap_tracked.specs.Tracked.{Goal, call, opened, Tracked, clause_children, call_children, children_by, children}
 use Rattle.ap_tracked.specs.Marks.{marked}
 use Rattle.ap_tracked.specs.Instances.{Inst}
@@ -19,12 +20,11 @@ use Rattle.ap_graft.proofs.Variables.{over-children}
 use Rattle.ap_instr.specs.declared.compiled.Predicate.{Predicate}
 use Rattle.ap_instr.specs.Runs.{applied}
 use Rattle.ap_instr.specs.StandsFor.{is_head_of, clauses_of}
-use Rattle.ap_resolution.specs.Instances.{IsSetOf, Resolved}
 use Rattle.ap_resolution.proofs.Resolution.{resolution}
 use Rattle.ap_resolution.proofs.Variants.{instances}
 use Rattle.ap_steps.specs.Standing.{IsHead}
 use Rattle.ap_standing.specs.Holds.{AreNamed, IsPlain}
-use Rattle.ap_standing.proofs.Named.{named-children, count_instance}
+use Rattle.ap_standing.proofs.Named.{named-children}
 
 module _ (s : Tracked) (g : Tree) (rest : List Goal) (first : s.goals ≡ call g ∷ rest) (ordinary : builtin g ≡ None) where
   pub children-clauses : (p : Program) → children p s ≡ flat_map (clause_children s g rest) p
@@ -70,18 +70,18 @@ is_head_of-instance q h (atom a) (more t ts) c e n = absurd (let z : ⊥ = cc in
 is_head_of-instance q h (node a us) none c e n = absurd (let z : ⊥ = cc in z)
 is_head_of-instance q h (node a us) (more t ts) c e n =
     let f : instance_all h us ≡ more t ts = cc in
-    both_tests a q.name (count_trees us) q.arity (cc) (sym (count_instance h us) ∙ ap count_trees f ∙ n)
+    both_tests a q.name (count_trees us) q.arity (cc) (sym (count_trees-instance_all h us) ∙ ap count_trees f ∙ n)
 
 -- a head of the predicate
 pub is_head : (q : Predicate) (t : Tree) → callable t ≡ true → is_head_of q t ≡ true → IsHead t q.name q.arity
 is_head q (var x) c e = absurd (false≢true e)
 is_head q (int z) c e = absurd (false≢true e)
 is_head q (atom a) c e =
-    let k = and_both (a == q.name) (q.arity == 0) e in
+    let k = and_parts (a == q.name) (q.arity == 0) e in
     ((Decides-eqb a q.name).0 k.0, (Decides-eqb q.arity 0).0 k.1)
 is_head q (node a none) c e = absurd (false≢true c)
 is_head q (node a (more t ts)) c e =
-    let k = and_both (a == q.name) (count_trees (more t ts) == q.arity) e in
+    let k = and_parts (a == q.name) (count_trees (more t ts) == q.arity) e in
     ((Decides-eqb a q.name).0 k.0, sym ((Decides-eqb (count_trees (more t ts)) q.arity).0 k.1))
 
 -- a state whose first goal is a call of the predicate
@@ -95,7 +95,7 @@ module _ (q : Predicate) (s : Tracked) (g : Tree) (rest : List Goal) (first : s.
       false≢true (sym other ∙ is_head_of-instance q r.0 c.head k.0 (callable-head c good) k.2 k.1))
     where
       callable-head : (c : Clause) → IsClause c → callable c.head ≡ true
-      callable-head c good = (and_both (callable c.head) (numbered c.vars c.head) good.head).0
+      callable-head c good = (and_parts (callable c.head) (numbered c.vars c.head) good.head).0
 
   pub children-own : (p : Program) → IsProgram p → children p s ≡ children (clauses_of q p) s
   children-own [] good = refl
@@ -113,5 +113,5 @@ heads-of q [] good = tt
 heads-of q (c ∷ cs) good = go (is_head_of q c.head) refl (heads-of q cs (All-tail IsClause c cs good))
   where
     go : (b : Bool) → is_head_of q c.head ≡ b → AreHeads q (clauses_of q cs) → AreHeads q (cond b (c ∷ clauses_of q cs) (clauses_of q cs))
-    go true e ih = (is_head q c.head (and_both (callable c.head) (numbered c.vars c.head) (All-head IsClause c cs good).head).0 e, ih)
+    go true e ih = (is_head q c.head (and_parts (callable c.head) (numbered c.vars c.head) (All-head IsClause c cs good).head).0 e, ih)
     go false e ih = ih

@@ -5,7 +5,7 @@ use Rattle.ap_term.specs.Tree.{Tree, Trees, none, more}
 use Rattle.ap_term.specs.Vars.{occurs}
 use Rattle.ap_term.specs.Substitution.{instance}
 use Rattle.ap_term.specs.Goals.{Program}
-use Rattle.ap_laws.specs.Graft.{arguments}
+use Rattle.ap_term.specs.Tuples.{arguments}
 use Rattle.ap_tracked.specs.Tracked.{Goal, call, fork, Tracked, IsOneOf, children}
 
 -- a group as its clause has it, and the instances of the clause's variables

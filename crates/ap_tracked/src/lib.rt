@@ -1,7 +1,7 @@
 //! Floor: model. States of the search that keep their groups' texts: groups as marks among goals, and what a certificate
 //! is worth at each state that a search comes to.
 //!
-//! Stands on `ap_term` and `ap_laws`. Each function here has an empty body; its contract is a law. The crates above use one
+//! Stands on `ap_term`. Each function here has an empty body; its contract is a law. The crates above use one
 //! contract: what the search of a safe state comes to is safe, and its checks go on saying what they say in the clause.
 #![tactic(auto)]
 
