@@ -1,7 +1,8 @@
 -- The state after a variable and a term were unified covers.
-use Rattle.std.proofs.Common.{◌≡◌, ℕ, ◌⊎◌, inl, inr, Bool, true, false, not, ◌||◌, ◌&&◌, nat_eq, cond, List, [], ◌∷◌, refl, ap, ap₂, sym, ◌∙◌, subst}
-use Rattle.std.proofs.lemmas.Bool.{false≢true}
+use Rattle.std.proofs.Common.{◌≡◌, ℕ, ◌⊎◌, inl, inr, Bool, true, false, not, ◌||◌, ◌&&◌, nat_eq, cond, List, refl, ap, sym, ◌∙◌, subst}
+use Rattle.std.proofs.lemmas.Bool.{false≢true, or_left, or_right}
 use Rattle.std.specs.List.{filter}
+use Rattle.ap_term.proofs.Facts.{same_bool}
 use Rattle.ap_term.specs.Tree.{Tree, Trees, var, int, atom, node, none, more}
 use Rattle.ap_term.specs.Substitution.{instance}
 use Rattle.ap_term.specs.Vars.{occurs, occurs_all}
@@ -22,9 +23,9 @@ use Rattle.ap_absunify.proofs.Unifier.{stays, none_new, swapped, one_left, not_t
 use Rattle.ap_absunify.proofs.Vars.{or_cases, or_false, or_none, and_both, and_made, decide, refuted, any_var, any_var_all, occurs_instance, any_some, any_at, occurs_same}
 use Rattle.ap_sharing.proofs.Closures.{In-closure, closure-union}
 use Rattle.ap_sharing.proofs.Covers.{Member-same, Member-nonground, Member-norm, met-has}
-use Rattle.ap_sharing.proofs.Elements.{same_test, same_bool, clash, has-union, has-just, meets-at, meets-none, both_left, without_parts}
+use Rattle.ap_sharing.proofs.Elements.{same_test, clash, has-union, has-just, meets-at, meets-none, both_left, without_parts}
 use Rattle.ap_sharing.proofs.Lists.{In-weaken, In-filter, In-join_left, In-join_right, Is-same, In-pairs}
-use Rattle.ap_term.proofs.Solutions.{same_var, or_left, or_right}
+use Rattle.ap_term.proofs.Solutions.{same_var}
 
 -- whether a variable of c that gets w stands in the instance of y
 abbrev pub touch : (ℕ → Tree) → (ℕ → Tree) → ℕ → Tree → ℕ → Bool

@@ -1,12 +1,13 @@
 -- Where the unions of one set of each side are more than a Share holds, all sets come to `any`. They needn't be built
 -- for that: each of their variables is one of a set of a side, and each of these is one of theirs.
-use Rattle.std.proofs.Common.{◌≡◌, ℕ, zero, suc, ◌≤◌, ◌<◌, ◌⊎◌, inl, inr, Bool, true, false, not, ◌||◌, ◌&&◌, nat_lt, cond, if◌then◌else◌, Option, Some, None, List, [], ◌∷◌, length, refl, ap, ap₂, sym, ◌∙◌, subst, arith}
+use Rattle.std.proofs.Common.{◌≡◌, ℕ, ◌<◌, ◌⊎◌, inl, inr, Bool, true, false, not, ◌||◌, ◌&&◌, cond, if◌then◌else◌, Some, None, List, [], ◌∷◌, length, refl, ap, ap₂, sym, ◌∙◌, arith}
 use Rattle.std.proofs.lemmas.Bool.{false≢true, or_left, or_right, or_cases, ltb-true, lt-ltb, false_from_ne_true}
 use Rattle.std.specs.List.{filter}
+use Rattle.ap_term.proofs.Facts.{same_bool}
 use Rattle.ap_sharing.specs.VarSet.{has, empty, union, meets, within}
 use Rattle.ap_sharing.specs.Sets.{In, join_sets, all_of, pairs, closure, too_many}
 use Rattle.ap_sharing.specs.Share.{Share, IsNormal, met, limited, norm}
-use Rattle.ap_sharing.proofs.Elements.{same_set, same_bool, clash, has-empty, has-union, meets-at, meets-none, within-at}
+use Rattle.ap_sharing.proofs.Elements.{same_set, clash, has-empty, has-union, meets-at, meets-none, within-at}
 use Rattle.ap_sharing.proofs.Lists.{Elem, listed-Elem, In-some, In-elem, In-filter, In-join_left, In-join_right, In-join_cases, length-join, Elem-pairs, pairs-back}
 use Rattle.ap_sharing.proofs.Closures.{In-closure, least}
 use Rattle.ap_absunify.specs.AfterUnify.{meeting, side, is_wide, widened_by, unify_share}

@@ -1,8 +1,7 @@
 -- Substitutions that are equal, or instances of one another, are covered alike.
-use Rattle.std.proofs.Common.{◌≡◌, ℕ, ℤ, ◌⊎◌, inl, inr, Bool, true, false, not, ◌||◌, ◌&&◌, ◌==◌, nat_eq, cond, if◌then◌else◌, List, [], ◌∷◌, ◌++◌, Option, Some, None, refl, ap, ap₂, sym, ◌∙◌, subst}
-use Rattle.std.proofs.lemmas.Bool.{false≢true}
-use Rattle.std.proofs.lemmas.Bool.Decides.{Decides-eqb, Decides-int_eq}
+use Rattle.std.proofs.Common.{◌≡◌, ℕ, true, ap, sym, ◌∙◌, subst}
 use Rattle.std.specs.Ordering.{int_eq}
+use Rattle.ap_term.proofs.Facts.{same_bool}
 use Rattle.ap_term.specs.Tree.{Tree, var}
 use Rattle.ap_term.specs.Substitution.{instance}
 use Rattle.ap_term.specs.Vars.{occurs}
@@ -15,7 +14,7 @@ use Rattle.ap_absunify.specs.State.{Covers}
 use Rattle.ap_absunify.proofs.Unifier.{instance_is_var}
 use Rattle.ap_absunify.proofs.Vars.{occurs_instance, any_at, fixed}
 use Rattle.ap_sharing.proofs.Covers.{Member-same}
-use Rattle.ap_sharing.proofs.Elements.{same_test, same_bool}
+use Rattle.ap_sharing.proofs.Elements.{same_test}
 use Rattle.ap_term.proofs.Copies.{instance_twice}
 
 pub Covers-same : (s : State) (f g : ℕ → Tree) → ((x : ℕ) → f x ≡ g x) → Covers s f → Covers s g

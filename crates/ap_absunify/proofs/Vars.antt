@@ -1,11 +1,11 @@
 -- Variables of trees and of their instances.
 pub use Rattle.std.proofs.lemmas.Bool.{or_cases, or_from as or_false, or_parts as or_none, and_parts as and_both, and_from as and_made, cases_Bool as decide, false_from_ne_true as refuted}
-use Rattle.std.proofs.Common.{◌≡◌, ℕ, ◌⊎◌, inl, inr, Bool, true, false, ◌||◌, ◌&&◌, nat_eq, refl, ap, ap₂, sym, ◌∙◌}
-use Rattle.std.proofs.lemmas.Bool.{false≢true}
+use Rattle.std.proofs.Common.{◌≡◌, ℕ, inl, inr, Bool, true, false, ◌||◌, nat_eq, refl, ap, ap₂, sym, ◌∙◌}
+use Rattle.std.proofs.lemmas.Bool.{false≢true, or_left, or_right}
 use Rattle.ap_term.specs.Tree.{Tree, Trees, var, int, atom, node, none, more}
 use Rattle.ap_term.specs.Substitution.{instance, instance_all}
 use Rattle.ap_term.specs.Vars.{occurs, occurs_all}
-use Rattle.ap_term.proofs.Solutions.{same_var, or_left, or_right}
+use Rattle.ap_term.proofs.Solutions.{same_var}
 use Rattle.ap_sharing.proofs.Elements.{same_test}
 
 -- whether a variable of the tree passes

@@ -1,8 +1,9 @@
 -- What is known at a place of a body, and that it covers what is called and what comes back from there.
-use Rattle.std.proofs.Common.{◌≡◌, ℕ, suc, ◌+◌, ◌<◌, ◌≤◌, ◌⊎◌, inl, inr, Bool, true, false, ◌&&◌, ◌==◌, cond, if◌then◌else◌, is_some, IsTrue, nat_eq, nat_le, [], Option, Some, None, refl, ap, sym, ◌∙◌, subst, arith}
+use Rattle.std.proofs.Common.{◌≡◌, ℕ, suc, ◌<◌, ◌≤◌, ◌⊎◌, inl, inr, Bool, true, false, ◌&&◌, ◌==◌, cond, if◌then◌else◌, is_some, IsTrue, nat_eq, nat_le, [], Option, Some, None, refl, ap, sym, ◌∙◌, subst, arith}
 use Rattle.std.specs.List.{All}
 use Rattle.std.proofs.lemmas.Bool.{false≢true, leb-true, leb-false}
 use Rattle.std.proofs.lemmas.List.Elements.{All-head}
+use Rattle.ap_term.proofs.TreeLists.{count_trees-instance_all}
 use Rattle.ap_term.specs.Tree.{Tree, Trees, var, int, atom, node, none, more, count_trees}
 use Rattle.ap_term.specs.Vars.{occurs, occurs_all}
 use Rattle.ap_term.specs.WellFormed.{callable}
@@ -37,10 +38,6 @@ use Rattle.ap_certify.proofs.Tame.{Tame, tame_keeps, below}
 
 -- ---- goals and their instances
 
-pub count_instance : (f : ℕ → Tree) (ts : Trees) → count_trees (instance_all f ts) ≡ count_trees ts
-count_instance f none = refl
-count_instance f (more t ts) = ap (λ n. n + 1) (count_instance f ts)
-
 pub argument_instance : (f : ℕ → Tree) (i : ℕ) (ts : Trees) (j : ℕ) → instance f (argument i ts j) ≡ argument i (instance_all f ts) j
 argument_instance f i none j = refl
 argument_instance f i (more t ts) j = go (nat_eq j i) (argument_instance f (suc i) ts j)
@@ -60,19 +57,19 @@ pub callable_instance : (f : ℕ → Tree) (g : Tree) → IsTrue (callable g) �
 callable_instance f (var x) h = absurd (false≢true h)
 callable_instance f (int z) h = absurd (false≢true h)
 callable_instance f (atom a) h = h
-callable_instance f (node a ts) h = ap (λ n. nat_le 1 n && nat_le n 255) (count_instance f ts) ∙ h
+callable_instance f (node a ts) h = ap (λ n. nat_le 1 n && nat_le n 255) (count_trees-instance_all f ts) ∙ h
 
 pub predicate_instance : (f : ℕ → Tree) (g : Tree) → IsTrue (callable g) → predicate_of (instance f g) ≡ predicate_of g
 predicate_instance f (var x) h = absurd (false≢true h)
 predicate_instance f (int z) h = absurd (false≢true h)
 predicate_instance f (atom a) h = refl
-predicate_instance f (node a ts) h = ap (λ n. Some (record { name = a; arity = n })) (count_instance f ts)
+predicate_instance f (node a ts) h = ap (λ n. Some (record { name = a; arity = n })) (count_trees-instance_all f ts)
 
 pub builtin_instance : (f : ℕ → Tree) (g : Tree) → IsTrue (callable g) → is_builtin (instance f g) ≡ is_builtin g
 builtin_instance f (var x) h = absurd (false≢true h)
 builtin_instance f (int z) h = absurd (false≢true h)
 builtin_instance f (atom a) h = refl
-builtin_instance f (node a ts) h = ap (λ n. (n == 2) && is_some (relation_named a)) (count_instance f ts)
+builtin_instance f (node a ts) h = ap (λ n. (n == 2) && is_some (relation_named a)) (count_trees-instance_all f ts)
 
 pub occurs_arguments : (r : ℕ) (g : Tree) → IsTrue (callable g) → occurs r g ≡ occurs_all r (arguments g)
 occurs_arguments r (var x) h = absurd (false≢true h)
@@ -157,7 +154,7 @@ called t (Unknown (Reachable sh fr)) g f cg h c e =
     subst (λ b. All (IsHeld t) (if b then [] else to_call (predicate_of g) (any_pattern (count_trees (arguments g))))) (not_builtin f g cg e) h in
     subst (λ o. Covers (call_at t o) (argument 1 (arguments (instance f g)))) (sym (predicate_instance f g cg))
     (held_call t (predicate_of g) p.here (any_pattern (count_trees (arguments g))) (argument 1 (arguments (instance f g))) p.is held
-    (any-covers (count_trees (arguments g)) (arguments (instance f g)) (ap count_trees (arguments_instance f g cg) ∙ count_instance f (arguments g))))
+    (any-covers (count_trees (arguments g)) (arguments (instance f g)) (ap count_trees (arguments_instance f g cg) ∙ count_trees-instance_all f (arguments g))))
 
 -- ---- answers
 

@@ -2,6 +2,8 @@
 use Rattle.std.proofs.Common.{◌≡◌, ℕ, ◌+◌, ◌<◌, inl, inr, Bool, true, false, ◌&&◌, nat_le, if◌then◌else◌, IsTrue, List, [], ◌∷◌, None, refl, ap, sym, ◌∙◌, subst, arith}
 use Rattle.std.specs.List.{All, list_all}
 use Rattle.std.proofs.lemmas.Bool.{false≢true, and_parts, and_from, le-leb}
+use Rattle.ap_term.proofs.TreeLists.{count_trees-instance_all}
+use Rattle.ap_term.proofs.Facts.{same_bool}
 use Rattle.ap_term.specs.declared.clauses.Check.{Check}
 use Rattle.ap_term.specs.Tree.{Tree, Trees, var, atom, none, more, count_trees}
 use Rattle.ap_term.specs.Vars.{occurs}
@@ -13,7 +15,6 @@ use Rattle.ap_term.specs.Goals.{Part, call, group, calls, Clause, Program}
 use Rattle.ap_term.proofs.Copies.{instance_var, instance_twice}
 use Rattle.ap_term.proofs.Solutions.{instance_agree}
 use Rattle.ap_sharing.specs.VarSet.{has}
-use Rattle.ap_sharing.proofs.Elements.{same_bool}
 use Rattle.ap_absunify.specs.MostGeneral.{MostGeneral}
 use Rattle.ap_absunify.specs.declared.states.State.{State}
 use Rattle.ap_absunify.specs.declared.states.State.TheVariants.{Unreachable, Reachable}
@@ -39,7 +40,7 @@ use Rattle.ap_certify.specs.declared.sights.Sight.{Sight}
 use Rattle.ap_certify.specs.declared.sights.Sight.TheVariants.{Known, Unknown}
 use Rattle.ap_certify.specs.Sights.{pattern_in, after, after_all, after_parts, entry_as, entry}
 use Rattle.ap_certify.specs.Held.{IsGoalHeld, AreHeldAtFork, AreHeldInTurn, GivesMissing, IsBodyHeld}
-use Rattle.ap_certify.proofs.Seen.{Sees, sees_same, IsCalled, called, held_success, Bounded, goal_bounded, Of_f, next_bounded, returned, answered-sees, argument_instance, arguments_instance, callable_instance, predicate_instance, count_instance, predicate, any-covers}
+use Rattle.ap_certify.proofs.Seen.{Sees, sees_same, IsCalled, called, held_success, Bounded, goal_bounded, Of_f, next_bounded, returned, answered-sees, argument_instance, arguments_instance, callable_instance, predicate_instance, predicate, any-covers}
 
 -- ---- bodies whose goals can be called
 
@@ -158,7 +159,7 @@ end_covers (Unknown Unreachable) head f ch c = c
 end_covers (Unknown (Reachable sh fr)) head f ch c =
     Covers-same (any_pattern (count_trees (arguments head))) (argument 1 (arguments (instance f head))) (λ j. instance f (argument 1 (arguments head) j))
     (λ j. ap (λ ts. argument 1 ts j) (arguments_instance f head ch) ∙ sym (argument_instance f 1 (arguments head) j))
-    (any-covers (count_trees (arguments head)) (arguments (instance f head)) (ap count_trees (arguments_instance f head ch) ∙ count_instance f (arguments head)))
+    (any-covers (count_trees (arguments head)) (arguments (instance f head)) (ap count_trees (arguments_instance f head ch) ∙ count_trees-instance_all f (arguments head)))
 
 composed : (s : Sight) (f k v : ℕ → Tree) → Sees s (λ x. instance v (instance k (f x))) → Sees s (λ x. instance (λ y. instance v (k y)) (f x))
 composed s f k v c = sees_same s (λ x. instance v (instance k (f x))) (λ x. instance (λ y. instance v (k y)) (f x)) (λ x. instance_twice k v (f x)) c

@@ -60,32 +60,29 @@ numeral = decimal_by_steps IsNumeral
 
 -- ---- what follows
 
-not_left : (a b : Bool) → not (a || b) ≡ true → not a ≡ true
-not_left true b h = h
-not_left false b h = refl
-
-not_right : (a b : Bool) → not (a || b) ≡ true → not b ≡ true
-not_right true b h = absurd (false≢true h)
-not_right false b h = h
+-- neither of two tests
+pub not_parts : (a b : Bool) → not (a || b) ≡ true → (not a ≡ true) × (not b ≡ true)
+not_parts true b h = absurd (false≢true h)
+not_parts false b h = (refl, h)
 
 apart-word : (rest : List ℕ) → is_apart rest ≡ true → stops is_word rest ≡ true
 apart-word [] h = refl
-apart-word (b ∷ rest) h = not_left (is_word b) (is_symbol b || b == 39) h
+apart-word (b ∷ rest) h = (not_parts (is_word b) (is_symbol b || b == 39) h).0
 
 apart-symbol : (rest : List ℕ) → is_apart rest ≡ true → stops is_symbol rest ≡ true
 apart-symbol [] h = refl
-apart-symbol (b ∷ rest) h = not_left (is_symbol b) (b == 39) (not_right (is_word b) (is_symbol b || b == 39) h)
+apart-symbol (b ∷ rest) h = (not_parts (is_symbol b) (b == 39) (not_parts (is_word b) (is_symbol b || b == 39) h).1).0
 
 apart-quote : (rest : List ℕ) → is_apart rest ≡ true → stops (λ b. b == 39) rest ≡ true
 apart-quote [] h = refl
-apart-quote (b ∷ rest) h = not_right (is_symbol b) (b == 39) (not_right (is_word b) (is_symbol b || b == 39) h)
+apart-quote (b ∷ rest) h = (not_parts (is_symbol b) (b == 39) (not_parts (is_word b) (is_symbol b || b == 39) h).1).1
 
 no_word_digit : (b : ℕ) → not (is_word b) ≡ true → not (is_ascii_digit b) ≡ true
 no_word_digit b h = grind (arith, nat_tests)
 
 apart-digit : (rest : List ℕ) → is_apart rest ≡ true → stops is_ascii_digit rest ≡ true
 apart-digit [] h = refl
-apart-digit (b ∷ rest) h = no_word_digit b (not_left (is_word b) (is_symbol b || b == 39) h)
+apart-digit (b ∷ rest) h = no_word_digit b (not_parts (is_word b) (is_symbol b || b == 39) h).0
 
 -- ---- one token
 

@@ -6,6 +6,7 @@ use Rattle.std.proofs.lemmas.Bool.{false≢true, and_parts, and_from, eqb-true, 
 use Rattle.std.proofs.lemmas.List.{take-append-drop}
 use Rattle.std.proofs.lemmas.Slice.Eq.{bytes_eq-Decides}
 use Rattle.std.proofs.lemmas.Option.{same_Some}
+use Rattle.ap_term.proofs.Facts.{same_bool}
 use Rattle.ap_lexer.specs.Lexeme.{Text}
 use Rattle.ap_term.specs.declared.fixed.TheConstants.{NECK, QUERY, COMMA, SEMICOLON, PARALLEL, CONDITION, COUNT}
 use Rattle.ap_term.specs.AtomTable.{fixed_names, IsAtomTable}
@@ -32,11 +33,6 @@ use Rattle.ap_clause.proofs.Proper.{IsProper, variable_in_range, numbered-proper
 
 -- ---- tests
 
-same_test : (b c : Bool) → (b ≡ true → c ≡ true) → (c ≡ true → b ≡ true) → b ≡ c
-same_test true c f g = sym (f refl)
-same_test false true f g = g refl
-same_test false false f g = refl
-
 -- ---- names of a table
 
 pub fixed_at : (ns : List Text) (k : ℕ) (name : Text) → IsAtomTable ns → ((others : List Text) → slice_get (fixed_names ++ others) k ≡ Some name) → slice_get ns k ≡ Some name
@@ -52,7 +48,7 @@ place_found (x ∷ xs) f h = of (bytes_eq x f) refl (place_found xs f) h
 
 -- a name is a fixed one just where its place is that one's
 name-is : (ns : List Text) (f name : Text) (k : ℕ) → IsAtomTable ns → k < COUNT → slice_get ns k ≡ Some name → bytes_eq f name ≡ (place_of ns f == k)
-name-is ns f name k h below at = same_test (bytes_eq f name) (place_of ns f == k) there back
+name-is ns f name k h below at = same_bool (bytes_eq f name) (place_of ns f == k) there back
   where
     there : bytes_eq f name ≡ true → (place_of ns f == k) ≡ true
     there e = eq-eqb (place_of ns f) k (ap (place_of ns) ((bytes_eq-Decides f name).0 e) ∙ sym (placed ns k name h at []))

@@ -1,7 +1,7 @@
 -- The list of the full condition has exactly its checks.
 use Rattle.std.proofs.Common.{◌≡◌, ℕ, zero, suc, ◌<◌, ◌≤◌, ◌⊎◌, inl, inr, Bool, true, false, not, ◌||◌, ◌&&◌, nat_eq, nat_lt, nat_le, if◌then◌else◌, IsTrue, List, [], ◌∷◌, ◌++◌, map, refl, ap, sym, ◌∙◌, subst, arith}
 use Rattle.std.specs.List.{filter, flat_map}
-use Rattle.std.proofs.lemmas.Bool.{false≢true, and_parts, leb-true, ltb-true, lt-ltb, eqb-false, not-true}
+use Rattle.std.proofs.lemmas.Bool.{false≢true, and_parts, leb-true, ltb-true, lt-ltb, eqb-false, not-true, or_right}
 use Rattle.ap_term.specs.declared.clauses.Check.{Check}
 use Rattle.ap_term.specs.declared.clauses.Check.TheVariants.{Ground, Indep}
 use Rattle.ap_term.specs.Tree.{Tree, Trees, var, int, atom, node, none, more}
@@ -73,38 +73,34 @@ in_numbers (suc n) x a b = go (nat_eq x (suc n)) refl (λ k. in_numbers n x a k)
     go false e ih = in_left x (numbers n) (suc n ∷ []) (ih (smaller x n b (eqb-false x (suc n) e)))
 
 mutual
-  numbered-in : (n : ℕ) (t : Tree) → IsTrue (numbered n t) → (x : ℕ) → occurs x t ≡ true → in_range n x ≡ true
+  pub numbered-in : (n : ℕ) (t : Tree) → IsTrue (numbered n t) → (x : ℕ) → occurs x t ≡ true → in_range n x ≡ true
   numbered-in n (var y) h x o = ap (in_range n) (same_var x y o) ∙ h
   numbered-in n (int z) h x o = absurd (false≢true o)
   numbered-in n (atom a) h x o = absurd (false≢true o)
   numbered-in n (node a ts) h x o = numbered_all-in n ts h x o
 
-  numbered_all-in : (n : ℕ) (ts : Trees) → IsTrue (numbered_all n ts) → (x : ℕ) → occurs_all x ts ≡ true → in_range n x ≡ true
+  pub numbered_all-in : (n : ℕ) (ts : Trees) → IsTrue (numbered_all n ts) → (x : ℕ) → occurs_all x ts ≡ true → in_range n x ≡ true
   numbered_all-in n none h x o = absurd (false≢true o)
   numbered_all-in n (more t ts) h x o =
       let r = and_parts (numbered n t) (numbered_all n ts) h in
       elim (or_cases (occurs x t) (occurs_all x ts) o) [ inl i ↦ numbered-in n t r.0 x i | inr i ↦ numbered_all-in n ts r.1 x i ]
 
-right : (a : Bool) {b : Bool} → b ≡ true → (a || b) ≡ true
-right true h = refl
-right false h = h
-
-shared_occurs : (x : ℕ) (ts : Trees) → shared x ts ≡ true → occurs_all x ts ≡ true
+pub shared_occurs : (x : ℕ) (ts : Trees) → shared x ts ≡ true → occurs_all x ts ≡ true
 shared_occurs x none h = absurd (false≢true h)
 shared_occurs x (more t ts) h =
     elim (or_cases (occurs x t && occurs_all x ts) (shared x ts) h) [
-      | inl k ↦ right (occurs x t) (and_both (occurs x t) (occurs_all x ts) k).1
-      | inr k ↦ right (occurs x t) (shared_occurs x ts k)
+      | inl k ↦ or_right (occurs x t) _ (and_both (occurs x t) (occurs_all x ts) k).1
+      | inr k ↦ or_right (occurs x t) _ (shared_occurs x ts k)
     ]
 
-two_occur : (x y : ℕ) (ts : Trees) → of_two_goals x y ts ≡ true → (occurs_all x ts ≡ true) × (occurs_all y ts ≡ true)
+pub two_occur : (x y : ℕ) (ts : Trees) → of_two_goals x y ts ≡ true → (occurs_all x ts ≡ true) × (occurs_all y ts ≡ true)
 two_occur x y none h = absurd (false≢true h)
 two_occur x y (more t ts) h =
     elim (or_cases (occurs x t && occurs_all y ts) ((occurs y t && occurs_all x ts) || of_two_goals x y ts) h) [
-      | inl k ↦ (let r = and_both (occurs x t) (occurs_all y ts) k in (ap (λ b. b || occurs_all x ts) r.0, right (occurs y t) r.1))
+      | inl k ↦ (let r = and_both (occurs x t) (occurs_all y ts) k in (ap (λ b. b || occurs_all x ts) r.0, or_right (occurs y t) _ r.1))
       | inr k ↦ elim (or_cases (occurs y t && occurs_all x ts) (of_two_goals x y ts) k) [
-        | inl l ↦ (let r = and_both (occurs y t) (occurs_all x ts) l in (right (occurs x t) r.1, ap (λ b. b || occurs_all y ts) r.0))
-        | inr l ↦ (let r = two_occur x y ts l in (right (occurs x t) r.0, right (occurs y t) r.1))
+        | inl l ↦ (let r = and_both (occurs y t) (occurs_all x ts) l in (or_right (occurs x t) _ r.1, ap (λ b. b || occurs_all y ts) r.0))
+        | inr l ↦ (let r = two_occur x y ts l in (or_right (occurs x t) _ r.0, or_right (occurs y t) _ r.1))
       ]
     ]
 

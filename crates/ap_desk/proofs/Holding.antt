@@ -2,6 +2,7 @@
 use Rattle.std.proofs.Common.{◌≡◌, ◌≢◌, ◌⊎◌, ⊎_elim, inl, inr, ℕ, ◌+◌, ◌*◌, ◌/◌, ◌==◌, ◌||◌, ◌<◌, Bool, true, false, List, [], ◌∷◌, ◌++◌, length, slice_get, Some, None, refl, sym, ap, ◌∙◌, subst, eq-eqb, arith}
 use Rattle.std.specs.Prelude.{Option}
 use Rattle.std.proofs.lemmas.Option.{none-some}
+use Rattle.std.proofs.Math.Bool.{or-true}
 use mathlib.Core.Logic.{dite}
 use native.Mathlib.Decide.{ℕ_discrete}
 use Rattle.ap_board.specs.declared.ticket.Ticket.{Ticket}
@@ -17,10 +18,6 @@ use Rattle.ap_board.proofs.Keeps.{role_logged, on_other}
 use Rattle.ap_desk.specs.Held.{Holding, AreHeld, WasAsked, IsFound, IsCauseAt, KeptBelow}
 use Rattle.ap_desk.specs.Offered.{taken_of}
 use Rattle.ap_desk.proofs.Rows.{at_below, at_longer, at_last, there_or_last, same_at}
-
-or_true : (b : Bool) → (b || true) ≡ true
-or_true true = refl
-or_true false = refl
 
 module _ {P : Type 0} where
   abbrev IsHas : Role P → Type 0
@@ -97,7 +94,7 @@ module _ {P O : Type 0} where
     t,
     h.0,
     at,
-    role_logged v t.pad (n / 8) (Look n) ∙ ap (λ s. noted s n) h.2 ∙ ap (λ c. has t.round h.0 (h.1 || c)) (eq-eqb n n refl) ∙ ap (λ c. has t.round h.0 c) (or_true h.1),
+    role_logged v t.pad (n / 8) (Look n) ∙ ap (λ s. noted s n) h.2 ∙ ap (λ c. has t.round h.0 (h.1 || c)) (eq-eqb n n refl) ∙ ap (λ c. has t.round h.0 c) (or-true h.1),
   )
 
   -- a goal that was taken is on another pad than one on which none was

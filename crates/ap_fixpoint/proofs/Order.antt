@@ -4,10 +4,11 @@ use Rattle.std.proofs.lemmas.Bool.{false≢true, or_left, or_right, or_cases, an
 use Rattle.std.specs.List.{filter}
 use Rattle.std.proofs.lemmas.List.Kept.{IsStrictlySortedBy-filter}
 use Rattle.std.specs.Ordering.{nat_cmp}
+use Rattle.ap_term.proofs.Facts.{same_bool}
 use Rattle.ap_sharing.specs.VarSet.{has, empty, union, both, within}
 use Rattle.ap_sharing.specs.Sets.{Is, IsAscending, listed, join_sets, sets_of, all_of, too_many}
 use Rattle.ap_sharing.specs.Share.{Share, IsNormal, nonground, is_member, dropped, limited, widen, norm}
-use Rattle.ap_sharing.proofs.Elements.{same_bool, same_set, has-union, has-both, within-at, within-made, both_left}
+use Rattle.ap_sharing.proofs.Elements.{same_set, has-union, has-both, within-at, within-made, both_left}
 use Rattle.ap_sharing.proofs.Lists.{Elem-listed, listed-Elem, In-filter, In-weaken, listed-join, listed-filter, In-all_of, one_list, ascending-join, ascending-none}
 use Rattle.ap_sharing.proofs.Covers.{normal-norm, norm-normal}
 use Rattle.ap_absunify.specs.declared.states.State.{State}

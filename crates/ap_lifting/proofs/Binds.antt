@@ -1,6 +1,6 @@
 -- The unifier of a call of a lifted predicate: the head's variables, which are new, stand for the call's arguments.
 use Rattle.std.proofs.Common.{◌≡◌, ℕ, zero, suc, ◌+◌, ◌<◌, ◌≤◌, Bool, true, false, ◌||◌, ◌==◌, if◌then◌else◌, nat_eq, refl, ap, sym, ◌∙◌, subst, arith}
-use Rattle.std.proofs.lemmas.Bool.{false≢true}
+use Rattle.std.proofs.lemmas.Bool.{false≢true, or_left, or_right, and_parts}
 use Rattle.std.proofs.lemmas.Bool.Decides.{nat_tests}
 use Rattle.std.specs.Prelude.{[], ◌∷◌, Some}
 use Rattle.ap_term.specs.Tree.{Tree, Trees, var, int, atom, node, none, more, push_tree}
@@ -10,12 +10,12 @@ use Rattle.ap_term.specs.Unifier.{IsMostGeneral}
 use Rattle.ap_term.specs.Search.{variables}
 use Rattle.ap_term.specs.WellFormed.{in_range, numbered, numbered_all}
 use Rattle.ap_term.proofs.Copies.{instance_var, instance_all_var, instance_twice, instance_all_twice}
-use Rattle.ap_term.proofs.Solutions.{same_var, same_test, or_left, or_right}
+use Rattle.ap_term.proofs.Solutions.{same_var, same_test}
 use Rattle.ap_term.proofs.Locals.{instance-Local, instance_all-LocalAll}
 use Rattle.ap_laws.specs.Renaming.{LocalSubst}
 use Rattle.ap_laws.proofs.Unifiers.{instance-at}
 use Rattle.ap_lifting.specs.Lifted.{applied}
-use Rattle.ap_lifting.proofs.Kept.{and_first, and_second, applied-variables}
+use Rattle.ap_lifting.proofs.Kept.{applied-variables}
 
 -- ---- a clause's variables
 
@@ -35,7 +35,7 @@ mutual
   pub LocalAll-numbered : (n : ℕ) (ts : Trees) → numbered_all n ts ≡ true → LocalAll (InRange n) ts
   LocalAll-numbered n none h = tt
   LocalAll-numbered n (more t ts) h =
-      (Local-numbered n t (and_first (numbered n t) (numbered_all n ts) h), LocalAll-numbered n ts (and_second (numbered n t) (numbered_all n ts) h))
+      (Local-numbered n t (and_parts (numbered n t) (numbered_all n ts) h).0, LocalAll-numbered n ts (and_parts (numbered n t) (numbered_all n ts) h).1)
 
 occurs_all-push : (x : ℕ) (ts : Trees) (t : Tree) → (occurs_all x ts || occurs x t) ≡ true → occurs_all x (push_tree ts t) ≡ true
 occurs_all-push x none t h = or_left (occurs x t) false h

@@ -3,6 +3,8 @@ use Rattle.std.proofs.Common.{◌≡◌, ℕ, zero, suc, ◌+◌, ◌<◌, ◌�
 use Rattle.std.specs.Prelude.{IsTrue, ◌↔◌}
 use Rattle.std.specs.List.{list_all}
 use Rattle.std.proofs.lemmas.Bool.Decides.{nat_tests}
+use Rattle.std.proofs.lemmas.Bool.{and_from, and_parts}
+use Rattle.ap_term.proofs.TreeLists.{count_trees-instance_all, count_trees-push, count_trees-variables, append_trees-assoc}
 use Rattle.ap_term.specs.declared.clauses.Check.{Check}
 use Rattle.ap_term.specs.Tree.{Tree, Trees, var, node, none, more, push_tree, count_trees, append_trees}
 use Rattle.ap_term.specs.Substitution.{instance_all}
@@ -16,26 +18,7 @@ use Rattle.ap_lifting.specs.Body.{Body, goal, conjunction, disjunction, parallel
 use Rattle.ap_lifting.specs.Rule.{Rule, IsRule, well_formed_if}
 use Rattle.ap_lifting.specs.Lifted.{Lifted, applied, stays, number_inside, check_of, checks_of, raised_unless, lifted, lifted_goal, lifted_clause, lifted_if}
 
-pub and_first : (a b : Bool) → (a && b) ≡ true → a ≡ true
-and_first true b h = refl
-and_first false b h = h
-
-pub and_second : (a b : Bool) → (a && b) ≡ true → b ≡ true
-and_second true b h = h
-and_second false b h = cc
-
-pub and_both : (a b : Bool) → a ≡ true → b ≡ true → (a && b) ≡ true
-and_both a b h k = ap (λ c. c && b) h ∙ k
-
 -- ---- the call of a lifted predicate
-
-pub count_trees-push : (ts : Trees) (t : Tree) → count_trees (push_tree ts t) ≡ count_trees ts + 1
-count_trees-push none t = refl
-count_trees-push (more u ts) t = omega (arith, count_trees-push ts t)
-
-pub count_trees-variables : (n : ℕ) → count_trees (variables n) ≡ n
-count_trees-variables zero = refl
-count_trees-variables (suc n) = omega (arith, count_trees-push (variables n) (var (suc n)), count_trees-variables n)
 
 applied-push : (a : ℕ) (ts : Trees) (t : Tree) → applied a (push_tree ts t) ≡ node a (push_tree ts t)
 applied-push a none t = refl
@@ -46,10 +29,10 @@ applied-variables a zero h = absurd (omega arith)
 applied-variables a (suc n) h = applied-push a (variables n) (var (suc n))
 
 numbered_all-push : (n : ℕ) (ts : Trees) (t : Tree) → numbered_all n ts ≡ true → numbered n t ≡ true → numbered_all n (push_tree ts t) ≡ true
-numbered_all-push n none t h k = and_both (numbered n t) true k refl
+numbered_all-push n none t h k = and_from (numbered n t) true k refl
 numbered_all-push n (more u ts) t h k =
-    and_both (numbered n u) (numbered_all n (push_tree ts t)) (and_first (numbered n u) (numbered_all n ts) h)
-    (numbered_all-push n ts t (and_second (numbered n u) (numbered_all n ts) h) k)
+    and_from (numbered n u) (numbered_all n (push_tree ts t)) (and_parts (numbered n u) (numbered_all n ts) h).0
+    (numbered_all-push n ts t (and_parts (numbered n u) (numbered_all n ts) h).1 k)
 
 pub numbered_all-variables : (n m : ℕ) → m ≤ n → numbered_all n (variables m) ≡ true
 numbered_all-variables n zero h = refl
@@ -64,28 +47,24 @@ numbered-applied : (n a : ℕ) (ts : Trees) → numbered_all n ts ≡ true → n
 numbered-applied n a none h = refl
 numbered-applied n a (more t ts) h = h
 
-pub count_trees-instance_all : (s : ℕ → Tree) (ts : Trees) → count_trees (instance_all s ts) ≡ count_trees ts
-count_trees-instance_all s none = refl
-count_trees-instance_all s (more t ts) = ap (λ n. n + 1) (count_trees-instance_all s ts)
-
 -- ---- parts
 
 list_all-append : {A : Type 0} (p : A → Bool) (xs ys : List A) → list_all p xs ≡ true → list_all p ys ≡ true → list_all p (xs ++ ys) ≡ true
 list_all-append p [] ys h k = k
 list_all-append p (x ∷ xs) ys h k =
-    and_both (p x) (list_all p (xs ++ ys)) (and_first (p x) (list_all p xs) h) (list_all-append p xs ys (and_second (p x) (list_all p xs) h) k)
+    and_from (p x) (list_all p (xs ++ ys)) (and_parts (p x) (list_all p xs) h).0 (list_all-append p xs ys (and_parts (p x) (list_all p xs) h).1 k)
 
 all_callable-append : (ts us : Trees) → all_callable ts ≡ true → all_callable us ≡ true → all_callable (append_trees ts us) ≡ true
 all_callable-append none us h k = k
 all_callable-append (more t ts) us h k =
-    and_both (callable t) (all_callable (append_trees ts us)) (and_first (callable t) (all_callable ts) h)
-    (all_callable-append ts us (and_second (callable t) (all_callable ts) h) k)
+    and_from (callable t) (all_callable (append_trees ts us)) (and_parts (callable t) (all_callable ts) h).0
+    (all_callable-append ts us (and_parts (callable t) (all_callable ts) h).1 k)
 
 numbered_all-append : (n : ℕ) (ts us : Trees) → numbered_all n ts ≡ true → numbered_all n us ≡ true → numbered_all n (append_trees ts us) ≡ true
 numbered_all-append n none us h k = k
 numbered_all-append n (more t ts) us h k =
-    and_both (numbered n t) (numbered_all n (append_trees ts us)) (and_first (numbered n t) (numbered_all n ts) h)
-    (numbered_all-append n ts us (and_second (numbered n t) (numbered_all n ts) h) k)
+    and_from (numbered n t) (numbered_all n (append_trees ts us)) (and_parts (numbered n t) (numbered_all n ts) h).0
+    (numbered_all-append n ts us (and_parts (numbered n t) (numbered_all n ts) h).1 k)
 
 -- some goal, each can be called, and its variables are those from 1 to n
 pub record AreGoals (n : ℕ) (ts : Trees) : Type 0 where
@@ -97,18 +76,18 @@ pub record AreGoals (n : ℕ) (ts : Trees) : Type 0 where
 pub goals_called : (n : ℕ) (ps : List Part) → list_all (well_formed_part n) ps ≡ true → (all_callable (plain_goals ps) ≡ true) × (numbered_all n (plain_goals ps) ≡ true)
 goals_called n [] h = (refl, refl)
 goals_called n (call t ∷ ps) h =
-    let here = and_first (callable t && numbered n t) (list_all (well_formed_part n) ps) h in
-    let rest = goals_called n ps (and_second (callable t && numbered n t) (list_all (well_formed_part n) ps) h) in (
-      and_both (callable t) (all_callable (plain_goals ps)) (and_first (callable t) (numbered n t) here) rest.0,
-      and_both (numbered n t) (numbered_all n (plain_goals ps)) (and_second (callable t) (numbered n t) here) rest.1,
+    let here = (and_parts (callable t && numbered n t) (list_all (well_formed_part n) ps) h).0 in
+    let rest = goals_called n ps (and_parts (callable t && numbered n t) (list_all (well_formed_part n) ps) h).1 in (
+      and_from (callable t) (all_callable (plain_goals ps)) (and_parts (callable t) (numbered n t) here).0 rest.0,
+      and_from (numbered n t) (numbered_all n (plain_goals ps)) (and_parts (callable t) (numbered n t) here).1 rest.1,
     )
 goals_called n (group cs ts ∷ ps) h =
-    let here = and_first (well_formed_part n (group cs ts)) (list_all (well_formed_part n) ps) h in
-    let rest = goals_called n ps (and_second (well_formed_part n (group cs ts)) (list_all (well_formed_part n) ps) h) in
-    let inner = and_second (list_all (numbered_check n) cs) (nat_le 1 (count_trees ts) && (all_callable ts && numbered_all n ts)) here in
-    let both = and_second (nat_le 1 (count_trees ts)) (all_callable ts && numbered_all n ts) inner in (
-      all_callable-append ts (plain_goals ps) (and_first (all_callable ts) (numbered_all n ts) both) rest.0,
-      numbered_all-append n ts (plain_goals ps) (and_second (all_callable ts) (numbered_all n ts) both) rest.1,
+    let here = (and_parts (well_formed_part n (group cs ts)) (list_all (well_formed_part n) ps) h).0 in
+    let rest = goals_called n ps (and_parts (well_formed_part n (group cs ts)) (list_all (well_formed_part n) ps) h).1 in
+    let inner = (and_parts (list_all (numbered_check n) cs) (nat_le 1 (count_trees ts) && (all_callable ts && numbered_all n ts)) here).1 in
+    let both = (and_parts (nat_le 1 (count_trees ts)) (all_callable ts && numbered_all n ts) inner).1 in (
+      all_callable-append ts (plain_goals ps) (and_parts (all_callable ts) (numbered_all n ts) both).0 rest.0,
+      numbered_all-append n ts (plain_goals ps) (and_parts (all_callable ts) (numbered_all n ts) both).1 rest.1,
     )
 
 -- the same of some goals
@@ -124,30 +103,30 @@ AreGoals-append n ts us h k = record {
 
 group_kept : (n : ℕ) (cs : List Check) (ts : Trees) → list_all (numbered_check n) cs ≡ true → AreGoals n ts → list_all (well_formed_part n) (group cs ts ∷ []) ≡ true
 group_kept n cs ts h k =
-    and_both (well_formed_part n (group cs ts)) true
-    (and_both (list_all (numbered_check n) cs) (nat_le 1 (count_trees ts) && (all_callable ts && numbered_all n ts)) h
-    (and_both (nat_le 1 (count_trees ts)) (all_callable ts && numbered_all n ts) (let some = k.some in grind (arith, nat_tests)) (and_both (all_callable ts) (numbered_all n ts) k.callable k.numbered)))
+    and_from (well_formed_part n (group cs ts)) true
+    (and_from (list_all (numbered_check n) cs) (nat_le 1 (count_trees ts) && (all_callable ts && numbered_all n ts)) h
+    (and_from (nat_le 1 (count_trees ts)) (all_callable ts && numbered_all n ts) (let some = k.some in grind (arith, nat_tests)) (and_from (all_callable ts) (numbered_all n ts) k.callable k.numbered)))
     refl
 
 check_kept : (n : ℕ) (c : Condition) → numbered_condition n c ≡ true → list_all (numbered_check n) (check_of c) ≡ true
 check_kept n True h = refl
-check_kept n (Ground x) h = and_both (in_range n x) true h refl
+check_kept n (Ground x) h = and_from (in_range n x) true h refl
 check_kept n (Indep x y) h =
-    let first = and_first (in_range n x) (in_range n y) h in
-    let second = and_second (in_range n x) (in_range n y) h in
-    and_both (in_range n (min x y) && in_range n (max x y)) true (and_both (in_range n (min x y)) (in_range n (max x y)) (grind (arith, nat_tests)) (grind (arith, nat_tests))) refl
+    let first = (and_parts (in_range n x) (in_range n y) h).0 in
+    let second = (and_parts (in_range n x) (in_range n y) h).1 in
+    and_from (in_range n (min x y) && in_range n (max x y)) true (and_from (in_range n (min x y)) (in_range n (max x y)) (grind (arith, nat_tests)) (grind (arith, nat_tests))) refl
 
 pub checks_kept : (n : ℕ) (cs : List Condition) → list_all (numbered_condition n) cs ≡ true → list_all (numbered_check n) (checks_of cs) ≡ true
 checks_kept n [] h = refl
 checks_kept n (c ∷ cs) h =
-    list_all-append (numbered_check n) (check_of c) (checks_of cs) (check_kept n c (and_first (numbered_condition n c) (list_all (numbered_condition n) cs) h))
-    (checks_kept n cs (and_second (numbered_condition n c) (list_all (numbered_condition n) cs) h))
+    list_all-append (numbered_check n) (check_of c) (checks_of cs) (check_kept n c (and_parts (numbered_condition n c) (list_all (numbered_condition n) cs) h).0)
+    (checks_kept n cs (and_parts (numbered_condition n c) (list_all (numbered_condition n) cs) h).1)
 
 module _ (names : ℕ → ℕ) (vars line : ℕ) where
   pub call_kept : vars ≤ 255 → (n : ℕ) → list_all (well_formed_part vars) (call (lifted_goal names vars line n) ∷ []) ≡ true
   call_kept few n =
-      and_both (callable (lifted_goal names vars line n) && numbered vars (lifted_goal names vars line n)) true
-      (and_both (callable (lifted_goal names vars line n)) (numbered vars (lifted_goal names vars line n))
+      and_from (callable (lifted_goal names vars line n) && numbered vars (lifted_goal names vars line n)) true
+      (and_from (callable (lifted_goal names vars line n)) (numbered vars (lifted_goal names vars line n))
       (callable-applied (names n) (variables vars) (omega (arith, count_trees-variables vars)))
       (numbered-applied vars (names n) (variables vars) (numbered_all-variables vars vars (omega arith))))
       refl
@@ -155,7 +134,7 @@ module _ (names : ℕ → ℕ) (vars line : ℕ) where
   pub clause_kept : vars ≤ 255 → (n : ℕ) (ps : List Part) → list_all (well_formed_part vars) ps ≡ true → IsClause (lifted_clause names vars line n ps)
   clause_kept few n ps h = record {
     few = few;
-    head = and_first (callable (lifted_goal names vars line n) && numbered vars (lifted_goal names vars line n)) true (call_kept few n);
+    head = (and_parts (callable (lifted_goal names vars line n) && numbered vars (lifted_goal names vars line n)) true (call_kept few n)).0;
     body = h;
   }
 
@@ -171,12 +150,12 @@ module _ (names : ℕ → ℕ) (vars line : ℕ) where
   -- the parts of a lifted body are well formed
   pub parts_kept : vars ≤ 255 → (b : Body) (cs : List Check) (n : ℕ) → well_formed vars b ≡ true → list_all (numbered_check vars) cs ≡ true
       → list_all (well_formed_part vars) (lifted names vars line b cs n).parts ≡ true
-  parts_kept few (goal t) cs n h k = and_both (callable t && numbered vars t) true h refl
+  parts_kept few (goal t) cs n h k = and_from (callable t && numbered vars t) true h refl
   parts_kept few (conjunction a b) cs n h k =
       let x = lifted names vars line a [] n in
       list_all-append (well_formed_part vars) x.parts (lifted names vars line b [] x.next).parts
-      (parts_kept few a [] n (and_first (well_formed vars a) (well_formed vars b) h) refl)
-      (parts_kept few b [] x.next (and_second (well_formed vars a) (well_formed vars b) h) refl)
+      (parts_kept few a [] n (and_parts (well_formed vars a) (well_formed vars b) h).0 refl)
+      (parts_kept few b [] x.next (and_parts (well_formed vars a) (well_formed vars b) h).1 refl)
   parts_kept few (disjunction a b) cs n h k = call_kept few n
   parts_kept few (parallel a b) cs n h k =
       let x = lifted names vars line a [] (number_inside (stays false a) n) in
@@ -186,13 +165,13 @@ module _ (names : ℕ → ℕ) (vars line : ℕ) where
       let qs = (raised_unless names vars line (stays true b) m y).parts in
       group_kept vars cs (append_trees (plain_goals ps) (plain_goals qs)) k
       (AreGoals-append vars (plain_goals ps) (plain_goals qs)
-      (goals_are vars ps (unless_kept few (stays false a) n x (parts_kept few a [] (number_inside (stays false a) n) (and_first (well_formed vars a) (well_formed vars b) h) refl))
+      (goals_are vars ps (unless_kept few (stays false a) n x (parts_kept few a [] (number_inside (stays false a) n) (and_parts (well_formed vars a) (well_formed vars b) h).0 refl))
       (some_unless (stays false a) n x (some_lifted names vars line a [] (number_inside (stays false a) n))))
-      (goals_are vars qs (unless_kept few (stays true b) m y (parts_kept few b [] (number_inside (stays true b) m) (and_second (well_formed vars a) (well_formed vars b) h) refl))
+      (goals_are vars qs (unless_kept few (stays true b) m y (parts_kept few b [] (number_inside (stays true b) m) (and_parts (well_formed vars a) (well_formed vars b) h).1 refl))
       (some_unless (stays true b) m y (some_lifted names vars line b [] (number_inside (stays true b) m)))))
   parts_kept few (conditional ds b) cs n h k =
-      parts_kept few b (checks_of ds) n (and_second (list_all (numbered_condition vars) ds) (well_formed vars b) h)
-      (checks_kept vars ds (and_first (list_all (numbered_condition vars) ds) (well_formed vars b) h))
+      parts_kept few b (checks_of ds) n (and_parts (list_all (numbered_condition vars) ds) (well_formed vars b) h).1
+      (checks_kept vars ds (and_parts (list_all (numbered_condition vars) ds) (well_formed vars b) h).0)
 
 pub if_kept : (names : ℕ → ℕ) (vars line : ℕ) → vars ≤ 255 → (b : Option Body) (n : ℕ) → well_formed_if vars b ≡ true → list_all (well_formed_part vars) (lifted_if names vars line b n).parts ≡ true
 if_kept names vars line few None n h = refl
@@ -219,12 +198,8 @@ pub push_tree-append : (ts : Trees) (t : Tree) → push_tree ts t ≡ append_tre
 push_tree-append none t = refl
 push_tree-append (more u ts) t = ap (more u) (push_tree-append ts t)
 
-pub append-append : (ts us vs : Trees) → append_trees (append_trees ts us) vs ≡ append_trees ts (append_trees us vs)
-append-append none us vs = refl
-append-append (more t ts) us vs = ap (more t) (append-append ts us vs)
-
 -- what the proofs of the code that lifts cite
-pub ruleset lifting = (push_tree-append, append-append, checks_kept)
+pub ruleset lifting = (push_tree-append, append_trees-assoc, checks_kept)
 
 -- ---- the test of a goal
 

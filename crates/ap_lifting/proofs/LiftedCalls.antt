@@ -2,7 +2,7 @@
 use Rattle.std.proofs.Common.{◌≡◌, ℕ, ◌+◌, ◌<◌, ◌≤◌, Bool, true, false, ◌==◌, ◌&&◌, if◌then◌else◌, nat_eq, nat_le, length, option_and_then, List, [], ◌∷◌, ◌++◌, map, Option, Some, None, refl, ap, sym, ◌∙◌, subst, arith}
 use Rattle.std.specs.List.{AllZip, AllByRecursion, flat_map}
 use Rattle.std.proofs.lemmas.List.{map-append}
-use Rattle.std.proofs.lemmas.Bool.{false≢true}
+use Rattle.std.proofs.lemmas.Bool.{false≢true, and_parts}
 use Rattle.std.proofs.lemmas.Bool.Decides.{nat_tests}
 use Rattle.std.proofs.lemmas.List.Elements.{All-head, All-tail}
 use Rattle.ap_term.specs.declared.fixed.TheConstants.{COUNT}
@@ -18,7 +18,7 @@ use Rattle.ap_term.proofs.Solvable.{mgu-general}
 use Rattle.ap_term.proofs.Solutions.{same_var, same_test}
 use Rattle.ap_term.specs.Vars.{occurs, add_vars, Local, LocalAll}
 use Rattle.ap_term.proofs.Locals.{Local-instance, LocalAll-weaken, Local-weaken}
-use Rattle.ap_term.proofs.TreeLists.{instance_all-append_trees}
+use Rattle.ap_term.proofs.TreeLists.{instance_all-append_trees, count_trees-instance_all}
 use Rattle.ap_term.proofs.GoalLists.{plain_goals-append, plain_goals-instance, plain_goals-calls}
 use Rattle.ap_laws.specs.Renaming.{OptionAll, SameState, LocalSubst, LocalPart, LocalParts}
 use Rattle.ap_laws.specs.Plain.{state, PlainWay, way, plain_of, as_state, plain_way, plain_child, plain_children_by, IsPlainBelow, SamePlain}
@@ -31,7 +31,7 @@ use Rattle.ap_laws.proofs.Views.{plain_by-None}
 use Rattle.ap_laws.proofs.TraceNames.{trace_renaming}
 use Rattle.ap_lifting.specs.Lifted.{applied, lifted_goal, lifted_clause}
 use Rattle.ap_lifting.specs.LiftingLaws.{is_named, clauses_named, entered, LiftedCallLaw}
-use Rattle.ap_lifting.proofs.Kept.{and_first, and_second, count_trees-instance_all, goals_called}
+use Rattle.ap_lifting.proofs.Kept.{goals_called}
 use Rattle.ap_lifting.proofs.Binds.{InRange, Local-numbered, LocalAll-numbered, occurs-applied, binds, old-stays, new-becomes, LocalSubst-binds, binds-unifier}
 
 -- ---- one clause of a lifted predicate
@@ -129,7 +129,7 @@ selected n a t h [] good = refl
 selected n a t h (c ∷ p) good = go (is_named a c.head) refl (selected n a t h p (All-tail IsClause c p good))
   where
     calls_for : callable c.head ≡ true
-    calls_for = and_first (callable c.head) (numbered c.vars c.head) (All-head IsClause c p good).head
+    calls_for = (and_parts (callable c.head) (numbered c.vars c.head) (All-head IsClause c p good).head).0
 
     go : (v : Bool) → is_named a c.head ≡ v → flat_map (clause_way n t) p ≡ flat_map (clause_way n t) (clauses_named a p)
         → clause_way n t c ++ flat_map (clause_way n t) p ≡ flat_map (clause_way n t) (if v then c ∷ clauses_named a p else clauses_named a p)
@@ -182,7 +182,7 @@ module _ (p : Program) (good : IsProgram p) (names : ℕ → ℕ) (vars line i :
       ∙ plain_children_by-append G T n k (map plain_way (clause_way n t c)) (map plain_way (flat_map (clause_way n t) cs))))
       (AllZip-append SamePlain (plain_children_by G T n k (map plain_way (clause_way n t c))) (plain_children_by G T n k (map plain_way (flat_map (clause_way n t) cs)))
       (entered vars f G T n k ps ∷ []) (map (entered vars f G T n k) bodies)
-      (branch p good h vars f G T n k (Local-numbered vars h (and_second (callable h) (numbered vars h) kept.0.head)) (occurs-applied (names i) vars) below ps
+      (branch p good h vars f G T n k (Local-numbered vars h (and_parts (callable h) (numbered vars h) kept.0.head).1) (occurs-applied (names i) vars) below ps
       (LocalAll-numbered vars (plain_goals ps) (goals_called vars ps kept.0.body).1) (LocalParts-body c kept.0))
       (branches bodies kept.1))
 

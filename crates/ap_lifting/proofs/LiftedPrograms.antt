@@ -2,7 +2,7 @@
 use Rattle.ap_lifting.specs.Rule.{well_formed_if}
 use Rattle.std.proofs.Common.{◌≡◌, ℕ, ◌+◌, ◌<◌, ◌≤◌, ◌⊎◌, inl, inr, Bool, true, false, if◌then◌else◌, List, [], ◌∷◌, ◌++◌, refl, ap, sym, ◌∙◌, subst, append-nil, arith, Option, Some, None}
 use Rattle.std.specs.List.{AllByRecursion, list_all}
-use Rattle.std.proofs.lemmas.Bool.{false≢true}
+use Rattle.std.proofs.lemmas.Bool.{false≢true, and_parts}
 use Rattle.ap_term.specs.declared.fixed.TheConstants.{COUNT}
 use Rattle.ap_term.specs.declared.clauses.Check.{Check}
 use Rattle.ap_term.specs.Tree.{Tree, Trees, var, int, atom, node, none, more, append_trees}
@@ -18,7 +18,6 @@ use Rattle.ap_lifting.specs.Body.{Body, goal, conjunction, disjunction, parallel
 use Rattle.ap_lifting.specs.Lifted.{Lifted, stays, number_inside, raised_unless, lifted, lifted_goal, lifted_clause, checks_of, lifted_if}
 use Rattle.ap_lifting.specs.LiftingLaws.{is_named, clauses_named, Avoids, AvoidsIf}
 use Rattle.ap_lifting.specs.Shown.{Operand, Shows, ShowsIf}
-use Rattle.ap_lifting.proofs.Kept.{and_first, and_second}
 use Rattle.ap_lifting.proofs.Measured.{lifted_measures}
 use Rattle.ap_lifting.proofs.LiftedCalls.{is_named-applied}
 
@@ -180,7 +179,7 @@ module _ (names : ℕ → ℕ) (count : ℕ) (apart : (i j : ℕ) → i < count 
       -- what a body was lifted to stands for it
       pub shows : (b : Body) (cs : List Check) (n : ℕ) → well_formed vars b ≡ true → ((i : ℕ) → i < count → Avoids (names i) b) → (lifted names vars line b cs n).next ≤ count
           → Has n (lifted names vars line b cs n).next (lifted names vars line b cs n).clauses → Shows names count p b (plain_goals (lifted names vars line b cs n).parts)
-      shows (goal t) cs n good free m h = (refl, record { callable = and_first (callable t) (numbered vars t) good; other = free })
+      shows (goal t) cs n good free m h = (refl, record { callable = (and_parts (callable t) (numbered vars t) good).0; other = free })
       shows (conjunction a b) cs n good free m h =
           let x = lifted names vars line a [] n in
           let y = lifted names vars line b [] x.next in
@@ -189,9 +188,9 @@ module _ (names : ℕ → ℕ) (count : ℕ) (apart : (i j : ℕ) → i < count 
             plain_goals x.parts,
             plain_goals y.parts,
             plain_goals-append x.parts y.parts,
-            shows a [] n (and_first (well_formed vars a) (well_formed vars b) good) (λ i l. (free i l).0) (omega arith)
+            shows a [] n (and_parts (well_formed vars a) (well_formed vars b) good).0 (λ i l. (free i l).0) (omega arith)
                 (has_first n x.next y.next x.clauses y.clauses m q (numbers names vars line b [] x.next) h),
-            shows b [] x.next (and_second (well_formed vars a) (well_formed vars b) good) (λ i l. (free i l).1) m
+            shows b [] x.next (and_parts (well_formed vars a) (well_formed vars b) good).1 (λ i l. (free i l).1) m
                 (has_second n x.next y.next x.clauses y.clauses m p (numbers names vars line a [] n) h),
           )
       shows (disjunction a b) cs n good free m h =
@@ -218,11 +217,11 @@ module _ (names : ℕ → ℕ) (count : ℕ) (apart : (i j : ℕ) → i < count 
                 (in_turn_numbers names vars line (n + 1) x.next y.next x.clauses y.clauses p q (numbers names vars line a [] (n + 1)) (numbers names vars line b [] x.next))));
             in_first =
                 as_itself a (plain_goals x.parts)
-                (shows a [] (n + 1) (and_first (well_formed vars a) (well_formed vars b) good) (λ i l. (free i l).0) (omega arith)
+                (shows a [] (n + 1) (and_parts (well_formed vars a) (well_formed vars b) good).0 (λ i l. (free i l).0) (omega arith)
                 (has_first (n + 1) x.next y.next x.clauses y.clauses m q (numbers names vars line b [] x.next) rest));
             in_second =
                 as_itself b (plain_goals y.parts)
-                (shows b [] x.next (and_second (well_formed vars a) (well_formed vars b) good) (λ i l. (free i l).1) m
+                (shows b [] x.next (and_parts (well_formed vars a) (well_formed vars b) good).1 (λ i l. (free i l).1) m
                 (has_second (n + 1) x.next y.next x.clauses y.clauses m p (numbers names vars line a [] (n + 1)) rest));
           }
       shows (parallel a b) cs n good free m h =
@@ -240,15 +239,15 @@ module _ (names : ℕ → ℕ) (count : ℕ) (apart : (i j : ℕ) → i < count 
             plain_goals v.parts,
             append_trees-none (append_trees (plain_goals u.parts) (plain_goals v.parts)),
             operand_shows s a n x (rises names vars line a [] (number_inside s n)) enough (numbers names vars line a [] (number_inside s n)) (has_first n u.next v.next u.clauses v.clauses m low last.1 h)
-                (λ k. shows a [] (number_inside s n) (and_first (well_formed vars a) (well_formed vars b) good) (λ i l. (free i l).0) (inside_count s n x enough) k),
+                (λ k. shows a [] (number_inside s n) (and_parts (well_formed vars a) (well_formed vars b) good).0 (λ i l. (free i l).0) (inside_count s n x enough) k),
             operand_shows r b u.next y (rises names vars line b [] (number_inside r u.next)) m (numbers names vars line b [] (number_inside r u.next)) (has_second n u.next v.next u.clauses v.clauses m first.0 first.1 h)
-                (λ k. shows b [] (number_inside r u.next) (and_second (well_formed vars a) (well_formed vars b) good) (λ i l. (free i l).1) (inside_count r u.next y m) k),
+                (λ k. shows b [] (number_inside r u.next) (and_parts (well_formed vars a) (well_formed vars b) good).1 (λ i l. (free i l).1) (inside_count r u.next y m) k),
           )
         where
           inside_count : (s : Bool) (n : ℕ) (x : Lifted) → (raised_unless names vars line s n x).next ≤ count → x.next ≤ count
           inside_count true n x l = l
           inside_count false n x l = l
-      shows (conditional ds b) cs n good free m h = shows b (checks_of ds) n (and_second (list_all (numbered_condition vars) ds) (well_formed vars b) good) free m h
+      shows (conditional ds b) cs n good free m h = shows b (checks_of ds) n (and_parts (list_all (numbered_condition vars) ds) (well_formed vars b) good).1 free m h
 
       pub shows_if : (b : Option Body) (n : ℕ) → well_formed_if vars b ≡ true → ((i : ℕ) → i < count → AvoidsIf (names i) b) → (lifted_if names vars line b n).next ≤ count
           → Has n (lifted_if names vars line b n).next (lifted_if names vars line b n).clauses → ShowsIf names count p b (plain_goals (lifted_if names vars line b n).parts)

@@ -1,7 +1,7 @@
 -- Lifting keeps a program's meaning.
 use Rattle.std.proofs.Common.{◌≡◌, ℕ, ◌+◌, ◌<◌, ◌≤◌, Bool, true, false, List, [], ◌∷◌, ◌++◌, refl, ap, sym, ◌∙◌, subst, append-nil, arith, Option, Some, None}
 use Rattle.std.specs.List.{AllZip, AllByRecursion, flat_map, list_all, All}
-use Rattle.std.proofs.lemmas.Bool.{false≢true}
+use Rattle.std.proofs.lemmas.Bool.{false≢true, and_parts}
 use Rattle.std.proofs.lemmas.List.Elements.{All-nil, All-cons, All-append}
 use Rattle.ap_term.specs.declared.fixed.TheConstants.{COUNT}
 use Rattle.ap_term.specs.declared.clauses.Check.{Check}
@@ -17,7 +17,7 @@ use Rattle.ap_lifting.specs.Lifted.{Lifted, stays, number_inside, raised_unless,
 use Rattle.ap_lifting.specs.LiftingLaws.{is_named, clauses_named, AreFresh, AvoidsIf}
 use Rattle.ap_lifting.specs.Shown.{IsOrdinary}
 use Rattle.ap_lifting.specs.Sizes.{predicates_in}
-use Rattle.ap_lifting.proofs.Kept.{and_first, and_second, parts_kept, clause_kept, if_kept}
+use Rattle.ap_lifting.proofs.Kept.{parts_kept, clause_kept, if_kept}
 use Rattle.ap_lifting.proofs.Filled.{next-lifted_rule}
 use Rattle.ap_lifting.proofs.LiftedCalls.{selected}
 use Rattle.ap_lifting.proofs.LiftedPrograms.{clauses_named-append, none_named, another_name, InNumbers, wider, Has, has_first, has_second, numbers_if, shows_if}
@@ -34,13 +34,13 @@ module _ (names : ℕ → ℕ) (vars line : ℕ) (few : vars ≤ 255) where
   lifted_kept (goal t) cs n h = All-nil IsClause
   lifted_kept (conjunction a b) cs n h =
       let x = lifted names vars line a [] n in
-      All-append IsClause x.clauses (lifted names vars line b [] x.next).clauses (lifted_kept a [] n (and_first (well_formed vars a) (well_formed vars b) h))
-      (lifted_kept b [] x.next (and_second (well_formed vars a) (well_formed vars b) h))
+      All-append IsClause x.clauses (lifted names vars line b [] x.next).clauses (lifted_kept a [] n (and_parts (well_formed vars a) (well_formed vars b) h).0)
+      (lifted_kept b [] x.next (and_parts (well_formed vars a) (well_formed vars b) h).1)
   lifted_kept (disjunction a b) cs n h =
       let x = lifted names vars line a [] (n + 1) in
       let y = lifted names vars line b [] x.next in
-      let ha = and_first (well_formed vars a) (well_formed vars b) h in
-      let hb = and_second (well_formed vars a) (well_formed vars b) h in
+      let ha = (and_parts (well_formed vars a) (well_formed vars b) h).0 in
+      let hb = (and_parts (well_formed vars a) (well_formed vars b) h).1 in
       All-cons IsClause (lifted_clause names vars line n x.parts) (lifted_clause names vars line n y.parts ∷ (x.clauses ++ y.clauses))
       (clause_kept names vars line few n x.parts (parts_kept names vars line few a [] (n + 1) ha refl))
       (All-cons IsClause (lifted_clause names vars line n y.parts) (x.clauses ++ y.clauses) (clause_kept names vars line few n y.parts (parts_kept names vars line few b [] x.next hb refl))
@@ -51,12 +51,12 @@ module _ (names : ℕ → ℕ) (vars line : ℕ) (few : vars ≤ 255) where
       let u = raised_unless names vars line s n x in
       let r = stays true b in
       let y = lifted names vars line b [] (number_inside r u.next) in
-      let ha = and_first (well_formed vars a) (well_formed vars b) h in
-      let hb = and_second (well_formed vars a) (well_formed vars b) h in
+      let ha = (and_parts (well_formed vars a) (well_formed vars b) h).0 in
+      let hb = (and_parts (well_formed vars a) (well_formed vars b) h).1 in
       All-append IsClause u.clauses (raised_unless names vars line r u.next y).clauses
       (unless_program s n x (parts_kept names vars line few a [] (number_inside s n) ha refl) (lifted_kept a [] (number_inside s n) ha))
       (unless_program r u.next y (parts_kept names vars line few b [] (number_inside r u.next) hb refl) (lifted_kept b [] (number_inside r u.next) hb))
-  lifted_kept (conditional ds b) cs n h = lifted_kept b (checks_of ds) n (and_second (list_all (numbered_condition vars) ds) (well_formed vars b) h)
+  lifted_kept (conditional ds b) cs n h = lifted_kept b (checks_of ds) n (and_parts (list_all (numbered_condition vars) ds) (well_formed vars b) h).1
 
 pub lifted_kept_if : (names : ℕ → ℕ) (vars line : ℕ) → vars ≤ 255 → (b : Option Body) (n : ℕ) → well_formed_if vars b ≡ true → All IsClause (lifted_if names vars line b n).clauses
 lifted_kept_if names vars line few None n h = All-nil IsClause

@@ -1,7 +1,7 @@
 -- A program that a pass leaves as it is has what its table doesn't give.
 use Rattle.std.proofs.Common.{◌≡◌, ℕ, ◌≤◌, inl, inr, Bool, true, false, ◌&&◌, ◌||◌, not, nat_le, if◌then◌else◌, IsTrue, List, [], ◌∷◌, Some, Result, Ok, Err, IfOk, length, refl, ap, sym, ◌∙◌, subst, arith}
 use Rattle.std.specs.List.{list_all, filter}
-use Rattle.std.proofs.lemmas.Bool.{false≢true, and_parts, leb-true}
+use Rattle.std.proofs.lemmas.Bool.{false≢true, and_parts, leb-true, not_from_false}
 use Rattle.std.proofs.lemmas.List.Elements.{All-nil, All-cons, All-head, All-tail}
 use Rattle.ap_term.specs.declared.clauses.Check.{Check}
 use Rattle.ap_term.specs.declared.clauses.Check.TheVariants.{Ground, Indep}
@@ -59,9 +59,6 @@ in_filtered p (d ∷ cs) c h (inr i) = go (p d) (in_filtered p cs c h i)
 none_in : (c : Check) (cs : List Check) → cs ≡ [] → IsIn c cs → ⊥
 none_in c cs e i = let P : List Check → Type 0 = λ xs. IsIn c xs in subst P e i
 
-not_false : (b : Bool) → b ≡ false → not b ≡ true
-not_false b e = ap not e
-
 -- ---- at each group
 
 group_given : (s : State) (cs : List Check) (gs : Trees) → IsTrue (numbered_all 255 gs) → missing s cs gs ≡ [] → IsGroupGiven s cs gs
@@ -71,8 +68,8 @@ group_given s cs gs w e c f unwritten = go (gives s c) refl
     go true h = h
     go false h =
         absurd (none_in c (missing s cs gs) e
-        (in_filtered (λ d. not (is_written d cs)) (left s (full_condition gs)) c (not_false (is_written c cs) unwritten)
-        (in_filtered (λ d. not (gives s d)) (full_condition gs) c (not_false (gives s c) h) (full-listed gs c w f))))
+        (in_filtered (λ d. not (is_written d cs)) (left s (full_condition gs)) c (not_from_false (is_written c cs) unwritten)
+        (in_filtered (λ d. not (gives s d)) (full_condition gs) c (not_from_false (gives s c) h) (full-listed gs c w f))))
 
 group_numbered : (cs : List Check) (gs : Trees) → goals_formed (group cs gs) ≡ true → IsTrue (numbered_all 255 gs)
 group_numbered cs gs h = (and_parts (all_callable gs) (numbered_all 255 gs) h).1

@@ -1,7 +1,8 @@
 -- The state after a call covers.
 use Rattle.std.proofs.Common.{◌≡◌, ℕ, suc, ◌≤◌, ◌⊎◌, inl, inr, Bool, true, false, not, ◌||◌, ◌&&◌, nat_eq, cond, List, [], ◌∷◌, refl, ap, sym, ◌∙◌, subst, arith}
-use Rattle.std.proofs.lemmas.Bool.{false≢true}
+use Rattle.std.proofs.lemmas.Bool.{false≢true, or_left, or_right}
 use Rattle.std.specs.List.{filter}
+use Rattle.ap_term.proofs.Facts.{same_bool}
 use Rattle.ap_term.specs.Tree.{Tree, Trees, var, int, atom, node, none, more}
 use Rattle.ap_term.specs.Substitution.{instance}
 use Rattle.ap_term.specs.Vars.{occurs, occurs_all}
@@ -22,10 +23,10 @@ use Rattle.ap_absunify.proofs.TermSets.{has-var_set}
 use Rattle.ap_absunify.proofs.Vars.{or_cases, or_none, and_both, and_made, decide, refuted, any_var, any_var_all, occurs_instance, any_some, any_at, occurs_agree}
 use Rattle.ap_patterns.proofs.CallPatterns.{Is-places}
 use Rattle.ap_sharing.proofs.Covers.{Member-same, Member-nonground, Member-norm, met-has, Member-ground}
-use Rattle.ap_sharing.proofs.Elements.{same_test, same_bool, clash, has-empty, has-union, same_set, meets-at, meets-none, within-made, both_left, without_made, without_parts}
+use Rattle.ap_sharing.proofs.Elements.{same_test, clash, has-empty, has-union, same_set, meets-at, meets-none, within-made, both_left, without_made, without_parts}
 use Rattle.ap_sharing.proofs.Lists.{In-weaken, In-filter, In-join_left, In-join_right, In-all_of, Is-same}
 use Rattle.ap_term.proofs.Copies.{instance_twice}
-use Rattle.ap_term.proofs.Solutions.{same_var, or_left, or_right}
+use Rattle.ap_term.proofs.Solutions.{same_var}
 
 -- an argument that passes has a place
 pub at_place : (p : ℕ → Bool) (i : ℕ) (ts : Trees) → any_var_all p ts ≡ true → (j : ℕ) × (any_var p (argument i ts j) ≡ true) × (i ≤ j)

@@ -1,5 +1,7 @@
 -- Call patterns cover.
 use Rattle.std.proofs.Common.{◌≡◌, ℕ, suc, ◌<◌, ◌⊎◌, inl, inr, Bool, true, false, ◌||◌, nat_eq, cond, List, [], map, refl, ap, sym, ◌∙◌, arith}
+use Rattle.std.proofs.lemmas.Bool.{or_left}
+use Rattle.ap_term.proofs.Facts.{same_bool}
 use Rattle.ap_term.specs.Tree.{Tree, Trees, none, more}
 use Rattle.ap_term.specs.Substitution.{instance}
 use Rattle.ap_term.specs.Vars.{occurs}
@@ -16,9 +18,9 @@ use Rattle.ap_patterns.specs.Places.{arguments, argument, argument_sets, places,
 use Rattle.ap_absunify.proofs.AfterUnify.{from_tree, into_tree, free_tree}
 use Rattle.ap_absunify.proofs.Vars.{or_cases, or_false, decide, refuted}
 use Rattle.ap_sharing.proofs.Covers.{Member-norm}
-use Rattle.ap_sharing.proofs.Elements.{same_bool, clash, has-empty, has-union, has-just, meets-at, meets-none, both_left}
+use Rattle.ap_sharing.proofs.Elements.{clash, has-empty, has-union, has-just, meets-at, meets-none, both_left}
 use Rattle.ap_sharing.proofs.Lists.{In-map, In-join_right}
-use Rattle.ap_term.proofs.Solutions.{same_var, or_left}
+use Rattle.ap_term.proofs.Solutions.{same_var}
 
 pub In-sets_of : (P : ℕ → Type 0) (ss : List ℕ) → In P ss → In P (sets_of ss)
 In-sets_of P ss h = In-join_right P [] ss h

@@ -1,6 +1,7 @@
 -- Entering a clause covers.
 use Rattle.std.proofs.Common.{◌≡◌, ℕ, zero, suc, ◌+◌, ◌-◌, ◌<◌, ◌≤◌, ◌⊎◌, inl, inr, Bool, true, false, ◌||◌, nat_eq, cond, List, map, if◌then◌else◌, nat_le, IsTrue, refl, ap, ap₂, sym, ◌∙◌, subst, arith}
-use Rattle.std.proofs.lemmas.Bool.{false≢true}
+use Rattle.std.proofs.lemmas.Bool.{false≢true, or_left, or_right}
+use Rattle.ap_term.proofs.Facts.{same_bool}
 use Rattle.ap_term.specs.Tree.{Tree, Trees, var, int, atom, node, none, more, count_trees}
 use Rattle.ap_term.specs.Substitution.{instance, instance_all}
 use Rattle.ap_term.specs.Vars.{occurs, occurs_all}
@@ -23,9 +24,9 @@ use Rattle.ap_absunify.proofs.Vars.{or_cases, and_both, decide, refuted}
 use Rattle.ap_patterns.proofs.AfterCall.{of_argument}
 use Rattle.ap_patterns.proofs.CallPatterns.{In-sets_of}
 use Rattle.ap_sharing.proofs.Covers.{Member-norm}
-use Rattle.ap_sharing.proofs.Elements.{same_test, same_bool, clash, has-empty, has-union, has-just, both_left}
+use Rattle.ap_sharing.proofs.Elements.{same_test, clash, has-empty, has-union, has-just, both_left}
 use Rattle.ap_sharing.proofs.Lists.{In-map, In-put, In-stays}
-use Rattle.ap_term.proofs.Solutions.{same_var, or_left, or_right, instance_all_agree}
+use Rattle.ap_term.proofs.Solutions.{same_var, instance_all_agree}
 use Rattle.ap_term.specs.WellFormed.{callable, numbered, numbered_all}
 use borrow.Author.Tests.{leb-true}
 

@@ -1,5 +1,6 @@
 -- The pattern of an entry covers each query that is as its marks say.
 use Rattle.std.proofs.Common.{◌≡◌, ◌≢◌, ℕ, zero, suc, ◌+◌, ◌-◌, ◌<◌, ◌≤◌, ◌⊎◌, inl, inr, Bool, true, false, nat_eq, cond, List, [], ◌∷◌, length, Some, refl, ap, sym, ◌∙◌, subst, arith}
+use Rattle.std.proofs.lemmas.Bool.{or_left, or_right}
 use Rattle.ap_term.specs.Tree.{Trees, var}
 use Rattle.ap_term.specs.Vars.{occurs}
 use Rattle.ap_sharing.specs.VarSet.{has, empty, just}
@@ -7,7 +8,7 @@ use Rattle.ap_sharing.specs.Sets.{In, Is, sets_of}
 use Rattle.ap_sharing.specs.Share.{Member, nonground, norm}
 use Rattle.ap_sharing.proofs.Elements.{same_test, clash, has-empty, has-union, has-just, both_left}
 use Rattle.ap_sharing.proofs.Covers.{Member-norm}
-use Rattle.ap_term.proofs.Solutions.{same_var, or_left, or_right}
+use Rattle.ap_term.proofs.Solutions.{same_var}
 use Rattle.ap_absunify.proofs.Vars.{or_cases, refuted}
 use Rattle.ap_absunify.specs.State.{Covers}
 use Rattle.ap_patterns.specs.declared.entries.Mark.{Mark}

@@ -2,7 +2,7 @@
 use Rattle.std.proofs.Common.{◌≡◌, ℕ, zero, suc, ◌&&◌, ◌||◌, Bool, true, false, nat_eq, if◌then◌else◌, List, [], ◌∷◌, ◌++◌, codes, length, length-append, refl, ap, sym, subst, ◌∙◌, arith}
 use Rattle.std.specs.Prelude.{nat_le}
 use Rattle.std.specs.List.{AllByRecursion, list_all, list_any, IsDistinct}
-use Rattle.std.proofs.lemmas.Bool.{false≢true}
+use Rattle.std.proofs.lemmas.Bool.{false≢true, and_parts}
 use Rattle.std.proofs.lemmas.Bool.Decides.{nat_tests}
 use Rattle.std.proofs.lemmas.Cmp.{nat_eq_equiv}
 use Rattle.std.proofs.lemmas.Map.Keys.{IsDistinct-push}
@@ -18,10 +18,6 @@ use Rattle.ap_writer.proofs.Numbering.{any-has}
 use Rattle.ap_cge.specs.Printed.{Piece, word, term as a_term, is_enclosed, goal_pieces, check_pieces, behind, parted, condition_pieces, list_of, part_pieces, body_pieces, add_pieces_vars}
 use Rattle.ap_readback.specs.Readback.{line_vars}
 use Rattle.ap_readback.proofs.Pieces.{line-vars}
-
-two-both : (a b : Bool) → (a && b) ≡ true → (a ≡ true) × (b ≡ true)
-two-both true b e = (refl, e)
-two-both false b e = absurd (false≢true e)
 
 -- ---- the numbers from 1 on
 
@@ -110,7 +106,7 @@ module _ (n : ℕ) where
 
     add_all-in : (ts : Trees) (xs : List ℕ) → numbered_all n ts ≡ true → AreIn xs → AreIn (add_all_vars ts xs)
     add_all-in none xs k h = h
-    add_all-in (more t ts) xs k h = let both = two-both (numbered n t) (numbered_all n ts) k in add_all-in ts (add_vars t xs) both.1 (add-in t xs both.0 h)
+    add_all-in (more t ts) xs k h = let both = and_parts (numbered n t) (numbered_all n ts) k in add_all-in ts (add_vars t xs) both.1 (add-in t xs both.0 h)
 
   abbrev PieceIn : Piece → Type 0
   PieceIn (word bytes) = Unit {0}
@@ -138,11 +134,11 @@ module _ (n : ℕ) where
 
   checks-in : (cs : List Check) → list_all (numbered_check n) cs ≡ true → AllByRecursion (λ c. PiecesIn (check_pieces c)) cs
   checks-in [] h = tt
-  checks-in (c ∷ cs) h = let both = two-both (numbered_check n c) (list_all (numbered_check n) cs) h in (one c both.0, checks-in cs both.1)
+  checks-in (c ∷ cs) h = let both = and_parts (numbered_check n c) (list_all (numbered_check n) cs) h in (one c both.0, checks-in cs both.1)
     where
       one : (d : Check) → numbered_check n d ≡ true → PiecesIn (check_pieces d)
       one (Ground x) k = (tt, (k, (tt, tt)))
-      one (Indep x y) k = let both = two-both (in_range n x) (in_range n y) k in (tt, (both.0, (tt, (both.1, (tt, tt)))))
+      one (Indep x y) k = let both = and_parts (in_range n x) (in_range n y) k in (tt, (both.0, (tt, (both.1, (tt, tt)))))
 
   condition-in : (cs : List Check) → list_all (numbered_check n) cs ≡ true → PiecesIn (condition_pieces cs)
   condition-in [] h = tt
@@ -159,19 +155,19 @@ module _ (n : ℕ) where
 
     goals-in : (ts : Trees) → numbered_all n ts ≡ true → AllByRecursion (λ t. PiecesIn (goal_pieces names t)) (list_of ts)
     goals-in none h = tt
-    goals-in (more t ts) h = let both = two-both (numbered n t) (numbered_all n ts) h in (goal-in t both.0, goals-in ts both.1)
+    goals-in (more t ts) h = let both = and_parts (numbered n t) (numbered_all n ts) h in (goal-in t both.0, goals-in ts both.1)
 
     part-in : (p : Part) → well_formed_part n p ≡ true → PiecesIn (part_pieces names p)
-    part-in (call t) h = goal-in t (two-both (callable t) (numbered n t) h).1
+    part-in (call t) h = goal-in t (and_parts (callable t) (numbered n t) h).1
     part-in (group cs ts) h =
-        let first = two-both (list_all (numbered_check n) cs) (nat_le 1 (count_trees ts) && (all_callable ts && numbered_all n ts)) h in
-        let second = two-both (nat_le 1 (count_trees ts)) (all_callable ts && numbered_all n ts) first.1 in
+        let first = and_parts (list_all (numbered_check n) cs) (nat_le 1 (count_trees ts) && (all_callable ts && numbered_all n ts)) h in
+        let second = and_parts (nat_le 1 (count_trees ts)) (all_callable ts && numbered_all n ts) first.1 in
         append-in (condition_pieces cs) (parted (codes " & ") (goal_pieces names) (list_of ts)) (condition-in cs first.0)
-        (parted-in (codes " & ") (goal_pieces names) (list_of ts) (goals-in ts (two-both (all_callable ts) (numbered_all n ts) second.1).1))
+        (parted-in (codes " & ") (goal_pieces names) (list_of ts) (goals-in ts (and_parts (all_callable ts) (numbered_all n ts) second.1).1))
 
     parts-in : (ps : List Part) → list_all (well_formed_part n) ps ≡ true → AllByRecursion (λ p. PiecesIn (part_pieces names p)) ps
     parts-in [] h = tt
-    parts-in (p ∷ ps) h = let both = two-both (well_formed_part n p) (list_all (well_formed_part n) ps) h in (part-in p both.0, parts-in ps both.1)
+    parts-in (p ∷ ps) h = let both = and_parts (well_formed_part n p) (list_all (well_formed_part n) ps) h in (part-in p both.0, parts-in ps both.1)
 
     body-in : (ps : List Part) → list_all (well_formed_part n) ps ≡ true → PiecesIn (body_pieces names ps)
     body-in [] h = tt
@@ -194,7 +190,7 @@ unfolding IsDistinct
 vars-counted names c h all =
     let found : List ℕ = line_vars names c in
     let pieces : List Piece = goal_pieces names c.head ++ body_pieces names c.body in
-    let inside : PiecesIn c.vars pieces = append-in c.vars (goal_pieces names c.head) (body_pieces names c.body) (goal-in c.vars names c.head (two-both (callable c.head) (numbered c.vars c.head) h.head).1) (body-in c.vars names c.body h.body) in
+    let inside : PiecesIn c.vars pieces = append-in c.vars (goal_pieces names c.head) (body_pieces names c.body) (goal-in c.vars names c.head (and_parts (callable c.head) (numbered c.vars c.head) h.head).1) (body-in c.vars names c.body h.body) in
     let are : AreIn c.vars found = subst (AreIn c.vars) (sym (line-vars names c)) (pieces-in c.vars pieces [] inside tt) in
     let distinct : IsDistinct nat_eq found = subst (IsDistinct nat_eq) (sym (line-vars names c)) (pieces-distinct pieces [] tt) in
     length-from_same_keys nat_eq_equiv found (up_to c.vars) distinct (up-to-distinct c.vars) (λ q. any-has found q ∙ same found q are all ∙ sym (up-to-has c.vars q)) ∙ up-to-length c.vars

@@ -2,7 +2,7 @@
 use Rattle.std.proofs.Common.{◌≡◌, ℕ, ◌+◌, ◌<◌, ◌==◌, ◌||◌, not, Bool, true, false, List, [], ◌∷◌, ◌++◌, length, drop, codes, Some, None, refl, sym, ap, subst, ◌∙◌, append_assoc, arith}
 use Rattle.std.specs.Prelude.{nat_lt}
 use Rattle.std.specs.Str.{IsUtf8}
-use Rattle.std.proofs.lemmas.Bool.{false≢true}
+use Rattle.std.proofs.lemmas.Bool.{false≢true, or_parts}
 use Rattle.std.proofs.lemmas.Bool.Decides.{nat_tests}
 use Rattle.ap_lexer.specs.declared.kind.TokenKind.TheVariants as token
 use Rattle.ap_lexer.specs.declared.kind.LexemeKind.TheVariants as kind
@@ -21,7 +21,7 @@ use Rattle.ap_cge.specs.Again.{is_apart, one_token}
 use Rattle.ap_cge.specs.Printed.{is_operator, is_enclosed}
 use Rattle.ap_cge.specs.TermTokens.{term_tokens}
 use Rattle.ap_cge.proofs.Lexing.{stops, symbols_again}
-use Rattle.ap_cge.proofs.Tokens.{Front, one_front, joined_front}
+use Rattle.ap_cge.proofs.Tokens.{Front, one_front, joined_front, not_parts}
 use Rattle.ap_cge.proofs.Terms.{AreBytes, bytes-behind, Reads, joined, sign_then, behind_close, comma, open_args, term_reads, compound_reads, atom_reads}
 use Rattle.ap_readback.specs.Phrase.{Sign, Neck, Comma, Par, Cond, Phrase, Simple, InParens, Enclosed, Joined, sign_text, sign_touches, sign_tokens, IsPhrase, phrase_text, phrase_tokens}
 
@@ -80,15 +80,11 @@ sign-apart Cond rest = refl
 abbrev pub Ends : (Text → Bool) → Type 0
 Ends test = (rest : Text) → test rest ≡ true → (stops is_word rest ≡ true) × (stops (λ b. b == 39) rest ≡ true)
 
-or-right : (a b : Bool) → (a || b) ≡ false → b ≡ false
-or-right true b h = absurd (false≢true (sym h))
-or-right false b h = h
-
 module _ (names : List Text) (are_text : (a : ℕ) → IsUtf8 (text.name_at names a)) (test : Text → Bool) (ends : Ends test) where
   goal-reads : (t : term.Tree) → IsWritable names t → callable t ≡ true → is_enclosed names t ≡ false → Reads test (text.text names t) (term_tokens names t)
   goal-reads (var x) h c e = absurd (false≢true c)
   goal-reads (int z) h c e = absurd (false≢true c)
-  goal-reads (atom a) h c e = atom_reads names are_text test a (or-right (is_operator (text.name_at names a)) (is_symbols (text.name_at names a)) e) ends
+  goal-reads (atom a) h c e = atom_reads names are_text test a (or_parts (is_operator (text.name_at names a)) (is_symbols (text.name_at names a)) e).1 ends
   goal-reads (node a ts) h c e = compound_reads names are_text test a ts h
 
 enclosed-reads : (test : Text → Bool) (a : Text) (f : Bool → List Spelled) → Reads is_apart a f → Reads test (codes "(" ++ (a ++ codes ")")) (λ t. one_token token.Open (codes "(") true ++ (f true ++ one_token token.Close (codes ")") t))
@@ -104,14 +100,10 @@ joined-reads test s a b f g h k = record {
       (sign-front s b g rest (k.front rest e (bytes-behind (sign_text s) (b ++ rest) later)));
 }
 
-apart-first : (a b : Bool) → not (a || b) ≡ true → (not a ≡ true) × (not b ≡ true)
-apart-first true b h = absurd (false≢true h)
-apart-first false b h = (refl, h)
-
 -- what stands apart ends each goal
 apart-ends : Ends is_apart
 apart-ends [] h = (refl, refl)
-apart-ends (b ∷ rest) h = let two = apart-first (is_word b) (is_symbol b || b == 39) h in (two.0, (apart-first (is_symbol b) (b == 39) two.1).1)
+apart-ends (b ∷ rest) h = let two = not_parts (is_word b) (is_symbol b || b == 39) h in (two.0, (not_parts (is_symbol b) (b == 39) two.1).1)
 
 module _ (names : List Text) (are_text : (a : ℕ) → IsUtf8 (text.name_at names a)) where
   pub phrase-reads : (test : Text → Bool) → Ends test → (p : Phrase) → IsPhrase names p → Reads test (phrase_text names p) (phrase_tokens names p)

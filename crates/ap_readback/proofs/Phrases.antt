@@ -1,6 +1,6 @@
 -- The tokens of a printed phrase spell a tree, and it means the phrase.
 use Rattle.std.proofs.Common.{◌≡◌, ℕ, ◌+◌, ◌<◌, ◌≤◌, ◌==◌, ◌&&◌, ◌||◌, Bool, true, false, if◌then◌else◌, List, [], ◌∷◌, ◌++◌, length, length-append, drop, codes, bytes_eq, Option, Some, refl, sym, ap, subst, ◌∙◌, append_assoc, arith}
-use Rattle.std.proofs.lemmas.Bool.{false≢true}
+use Rattle.std.proofs.lemmas.Bool.{false≢true, or_left, or_parts, and_parts}
 use Rattle.std.proofs.lemmas.Slice.Eq.{bytes_eq-Decides}
 use Rattle.ap_lexer.specs.declared.kind.TokenKind.{TokenKind}
 use Rattle.ap_lexer.specs.declared.kind.TokenKind.TheVariants as token
@@ -18,6 +18,7 @@ use Rattle.ap_reader.specs.declared.word.Word.{Word}
 use Rattle.ap_reader.specs.declared.word.Word.TheVariants as w
 use Rattle.ap_reader.specs.Operator.{Row, table, priority_of, priority_in, same, is_prefix, left_max, right_max}
 use Rattle.std.specs.List.{list_any}
+use Rattle.std.proofs.Math.Bool.{and-false}
 use Rattle.ap_writer.specs.Quoted.{is_symbols}
 use Rattle.ap_cge.specs.Printed.{is_operator, is_enclosed}
 use Rattle.ap_reader.specs.Grammar.{Group, Infix, spelled, priority, infix_rank}
@@ -33,7 +34,7 @@ use Rattle.ap_readback.proofs.Unplaced.{variables-append, leaves_there, get-drop
 use Rattle.ap_readback.proofs.Variables.{AreSmall, names_of, small-vars}
 use Rattle.ap_readback.proofs.Atoms.{functor-token}
 use Rattle.ap_readback.proofs.Trees.{Stands, AreParsed, compound-own, cell-own}
-use Rattle.ap_readback.proofs.Terms.{atom-stands, nil-anywhere, and-left, and-right, term-parsed, terms-parsed}
+use Rattle.ap_readback.proofs.Terms.{atom-stands, nil-anywhere, term-parsed, terms-parsed}
 
 -- ---- goals stand anywhere
 
@@ -50,10 +51,6 @@ node-anywhere name seen after d (e ∷ []) x (Cons y Nil) f h = λ touches befor
     go true p touches before at rest =
         subst (λ n. Stands 0 seen ((told_cell d e).own touches) (Node n (Cons x (Cons y Nil))) before at rest) (sym ((bytes_eq-Decides name (codes ".")).0 p)) (cell-own seen h.0 h.2.0 d e x y h.1 h.2.1 touches before at rest)
     go false p touches before at rest = compound-own name seen after d (e ∷ []) x (Cons y Nil) (functor-token name f) h touches before at rest
-
-or_left : (a b : Bool) → a ≡ true → (a || b) ≡ true
-or_left true b h = refl
-or_left false b h = absurd (false≢true h)
 
 atom-anywhere : (name : Text) (seen : List Text) → (priority_of false name == 0 && priority_of true name == 0) ≡ true
     → (touches : Bool) (before : Option TokenKind) (at : ℕ) (rest : List Spelled) → next_is is_open (first_kind rest) ≡ false
@@ -79,21 +76,17 @@ no-operator : (name : Text) → is_operator name ≡ false → (priority_of fals
 unfolding is_operator priority_of
 no-operator name h = let e : priority_in false table name ≡ 0 = no-operator-in false name table h in let f : priority_in true table name ≡ 0 = no-operator-in true name table h in rw (e, f) refl
 
-or-both : (a b : Bool) → (a || b) ≡ false → (a ≡ false) × (b ≡ false)
-or-both true b h = absurd (false≢true (sym h))
-or-both false b h = (refl, h)
-
 module _ (names : List Text) (later : List ℕ) where
   goal-stands : (t : term.Tree) (found : List ℕ) → IsWritable names t → has_functors names t ≡ true → callable t ≡ true → is_enclosed names t ≡ false → AreSmall found → IsPrefix (add_vars t found) later
       → (touches : Bool) (before : Option TokenKind) (at : ℕ) (rest : List Spelled) → next_is is_open (first_kind rest) ≡ false → Stands 0 (names_of found) (term_tokens names t touches) (written names later t) before at rest
   goal-stands (var x) found h f c r s p touches before at rest no_open = absurd (false≢true c)
   goal-stands (int z) found h f c r s p touches before at rest no_open = absurd (false≢true c)
-  goal-stands (atom a) found h f c r s p touches before at rest no_open = atom-anywhere (text.name_at names a) (names_of found) (no-operator (text.name_at names a) (or-both (is_operator (text.name_at names a)) (is_symbols (text.name_at names a)) r).0) touches before at rest no_open
+  goal-stands (atom a) found h f c r s p touches before at rest no_open = atom-anywhere (text.name_at names a) (names_of found) (no-operator (text.name_at names a) (or_parts (is_operator (text.name_at names a)) (is_symbols (text.name_at names a)) r).0) touches before at rest no_open
   goal-stands (node a none) found h f c r s p touches before at rest no_open = absurd (false≢true f)
   goal-stands (node a (more t ts)) found h f c r s p touches before at rest no_open =
       node-anywhere (text.name_at names a) (names_of found) (names_of (add_all_vars (more t ts) found)) (told names t) (all_told names ts) (written names later t) (all_written names later ts)
-      (and-left (is_functor (text.name_at names a)) (has_functors names t && have_functors names ts) f)
-      (terms-parsed names later (more t ts) found h.1 (and-right (is_functor (text.name_at names a)) (has_functors names t && have_functors names ts) f) s p)
+      (and_parts (is_functor (text.name_at names a)) (has_functors names t && have_functors names ts) f).0
+      (terms-parsed names later (more t ts) found h.1 (and_parts (is_functor (text.name_at names a)) (has_functors names t && have_functors names ts) f).1 s p)
       touches before at rest
 
 -- ---- signs
@@ -115,13 +108,9 @@ record SignStands (s : Sign) : Type 0 where
   leaf : (seen : List Text) → leaf_by kind seen bytes ≡ Atom (sign_name s)
   seen : (names : List Text) → seen_by kind names bytes ≡ names
 
-and_false : (a : Bool) → (a && false) ≡ false
-and_false true = refl
-and_false false = refl
-
 operator-word : (i p at : ℕ) (name : Text) (last : TokenKind) (after : Option TokenKind) → priority_of false name ≡ i → priority_of true name ≡ p
     → (i == 0 && p == 0) ≡ false → bytes_eq name (codes "-") ≡ false → starts (Some last) ≡ false → named_of at (Some last) name after false ≡ w.Operator at i p
-operator-word i p at name last after e f some other quiet = rw (and_false (next_is is_open after), e, f, some, quiet, other) refl
+operator-word i p at name last after e f some other quiet = rw (and-false (next_is is_open after), e, f, some, quiet, other) refl
 
 sign-stands : (s : Sign) → SignStands s
 unfolding priority_of

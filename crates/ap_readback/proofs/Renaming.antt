@@ -1,7 +1,7 @@
 -- A line's numbering, twice.
 use Rattle.std.proofs.Common.{◌≡◌, ℕ, ◌+◌, ◌<◌, ◌≤◌, ◌^◌, ◌&&◌, ◌||◌, Bool, true, false, nat_eq, if◌then◌else◌, List, [], ◌∷◌, ◌++◌, map, length, refl, ap, subst, ◌∙◌, arith}
 use Rattle.std.specs.Prelude.{nat_le}
-use Rattle.std.proofs.lemmas.Bool.{false≢true}
+use Rattle.std.proofs.lemmas.Bool.{false≢true, or_right}
 use Rattle.ap_lexer.specs.Lexeme.{Text}
 use Rattle.ap_term.specs.Tree.{Tree, Trees, var, int, atom, node, none, more, count_trees}
 use Rattle.ap_term.specs.Vars.{has, add_vars, occurs, occurs_all}
@@ -60,15 +60,11 @@ module _ (found : List ℕ) where
     instances-again later none e h = refl
     instances-again later (more t ts) e h =
         ap (λ u. more u (instance_all (numbered_by later) (instance_all (numbered_by found) ts))) (instance-again later t e (λ x o. h x (or-left (occurs x t) (occurs_all x ts) o)))
-        ∙ ap (more (instance (numbered_by found) t)) (instances-again later ts e (λ x o. h x (or-right (occurs x t) (occurs_all x ts) o)))
+        ∙ ap (more (instance (numbered_by found) t)) (instances-again later ts e (λ x o. h x (or_right (occurs x t) (occurs_all x ts) o)))
       where
         or-left : (a b : Bool) → a ≡ true → (a || b) ≡ true
         or-left true b k = refl
         or-left false b k = absurd (false≢true k)
-
-        or-right : (a b : Bool) → b ≡ true → (a || b) ≡ true
-        or-right true b k = refl
-        or-right false b k = k
 
   -- ---- what a renamed term keeps
 

@@ -2,7 +2,7 @@
 use Rattle.std.proofs.Common.{◌≡◌, ℕ, ◌+◌, ◌<◌, ◌≤◌, ◌==◌, ◌&&◌, ◌||◌, not, Bool, true, false, if◌then◌else◌, List, [], ◌∷◌, ◌++◌, map, length, Option, Some, None, refl, ap, subst, ◌∙◌, arith}
 use Rattle.std.specs.Prelude.{◌^◌, nat_eq, nat_le}
 use Rattle.std.specs.List.{AllByRecursion, list_all}
-use Rattle.std.proofs.lemmas.Bool.{false≢true}
+use Rattle.std.proofs.lemmas.Bool.{false≢true, and_parts}
 use Rattle.ap_lexer.specs.Lexeme.{Text}
 use Rattle.ap_term.specs.declared.clauses.Check.{Check}
 use Rattle.ap_term.specs.declared.clauses.Check.TheVariants.{Ground, Indep}
@@ -28,10 +28,6 @@ use Rattle.ap_readback.proofs.Renaming.{instance-again, writable-again}
 use Rattle.ap_readback.proofs.Pieces.{check_term, joined_list, goal_phrase, check_phrase, goals_phrase, conditional_phrase, part_phrase, with_body, clause_phrase, for-check}
 use Rattle.ap_readback.proofs.Bodies.{joined_tree, trees_of_list, term-in, value_of, joined-value, list-value, par_body, AllSingle, single-body, par-body, only_parts, lifted-par}
 
-two-both : (a b : Bool) → (a && b) ≡ true → (a ≡ true) × (b ≡ true)
-two-both true b e = (refl, e)
-two-both false b e = absurd (false≢true e)
-
 same_number : (x y : ℕ) → nat_eq x y ≡ true → y ≡ x
 same_number x y h = grind (arith)
 
@@ -44,7 +40,7 @@ mutual
 
   occurs-range_all : (n x : ℕ) (ts : Trees) → numbered_all n ts ≡ true → occurs_all x ts ≡ true → in_range n x ≡ true
   occurs-range_all n x none h o = absurd (false≢true o)
-  occurs-range_all n x (more t ts) h o = go (occurs x t) refl o (λ e. occurs-range n x t (two-both (numbered n t) (numbered_all n ts) h).0 e) (λ e. occurs-range_all n x ts (two-both (numbered n t) (numbered_all n ts) h).1 e)
+  occurs-range_all n x (more t ts) h o = go (occurs x t) refl o (λ e. occurs-range n x t (and_parts (numbered n t) (numbered_all n ts) h).0 e) (λ e. occurs-range_all n x ts (and_parts (numbered n t) (numbered_all n ts) h).1 e)
     where
       go : (b : Bool) → occurs x t ≡ b → (b || occurs_all x ts) ≡ true → (occurs x t ≡ true → in_range n x ≡ true) → (occurs_all x ts ≡ true → in_range n x ≡ true) → in_range n x ≡ true
       go true e o first rest = first e
@@ -68,18 +64,18 @@ module _ (names added : List Text) (is_table : IsAtomTable names) (found later :
 
   goals-value : (ts : Trees) → AreGoals names ts → numbered_all n ts ≡ true → AllByRecursion (λ t. value_of names added is_table later (goal_phrase names found t) ≡ renew t) (list_of ts)
   goals-value none h k = tt
-  goals-value (more t ts) h k = let both = two-both (numbered n t) (numbered_all n ts) k in (goal-value t h.0.writable both.0, goals-value ts h.1 both.1)
+  goals-value (more t ts) h k = let both = and_parts (numbered n t) (numbered_all n ts) k in (goal-value t h.0.writable both.0, goals-value ts h.1 both.1)
 
   -- ---- checks
 
   check-numbered : (c : Check) → numbered_check n c ≡ true → numbered n (check_term c) ≡ true
   check-numbered (Ground x) h = ap (λ b. b && true) h
-  check-numbered (Indep x y) h = let both = two-both (in_range n x) (in_range n y) h in ap (λ b. b && (in_range n y && true)) both.0 ∙ ap (λ b. b && true) both.1
+  check-numbered (Indep x y) h = let both = and_parts (in_range n x) (in_range n y) h in ap (λ b. b && (in_range n y && true)) both.0 ∙ ap (λ b. b && true) both.1
 
   checks-value : (cs : List Check) → list_all (numbered_check n) cs ≡ true → AllByRecursion (λ c. value_of names added is_table later (check_phrase names found c) ≡ renew (check_term c)) cs
   checks-value [] h = tt
   checks-value (c ∷ cs) h =
-      let both = two-both (numbered_check n c) (list_all (numbered_check n) cs) h in
+      let both = and_parts (numbered_check n c) (list_all (numbered_check n) cs) h in
       (renewed (check_term c) (for-check names found is_table few c).rules.0 (check-numbered c both.0), checks-value cs both.1)
 
   abbrev condition_of : Check → Condition
@@ -122,18 +118,18 @@ module _ (names added : List Text) (is_table : IsAtomTable names) (found later :
       (list-value names added is_table later Comma (check_phrase names found) (λ e. renew (check_term e)) c (d ∷ cs) (checks-value (c ∷ d ∷ cs) h)) k
 
   part-value : (p : Part) → IsPart names p → well_formed_part n p ≡ true → value_of names added is_table later (part_phrase names found p) ≡ part_tree p
-  part-value (call t) h c = goal-value t h.writable (two-both (callable t) (numbered n t) c).1
+  part-value (call t) h c = goal-value t h.writable (and_parts (callable t) (numbered n t) c).1
   part-value (group cs none) h c = absurd (omega (arith, h.0))
   part-value (group cs (more t ts)) h c =
-      let first = two-both (list_all (numbered_check n) cs) (nat_le 1 (count_trees (more t ts)) && (all_callable (more t ts) && numbered_all n (more t ts))) c in
-      let second = two-both (nat_le 1 (count_trees (more t ts))) (all_callable (more t ts) && numbered_all n (more t ts)) first.1 in
-      let third = two-both (all_callable (more t ts)) (numbered_all n (more t ts)) second.1 in
+      let first = and_parts (list_all (numbered_check n) cs) (nat_le 1 (count_trees (more t ts)) && (all_callable (more t ts) && numbered_all n (more t ts))) c in
+      let second = and_parts (nat_le 1 (count_trees (more t ts))) (all_callable (more t ts) && numbered_all n (more t ts)) first.1 in
+      let third = and_parts (all_callable (more t ts)) (numbered_all n (more t ts)) second.1 in
       conditional-value cs (goals_phrase names found t (list_of ts)) (joined_tree PARALLEL (renew t) (map renew (list_of ts))) first.0
       (list-value names added is_table later Par (goal_phrase names found) renew t (list_of ts) (goals-value (more t ts) h.1 third.1))
 
   parts-value : (ps : List Part) → AllByRecursion (IsPart names) ps → list_all (well_formed_part n) ps ≡ true → AllByRecursion (λ p. value_of names added is_table later (part_phrase names found p) ≡ part_tree p) ps
   parts-value [] h c = tt
-  parts-value (p ∷ ps) h c = let both = two-both (well_formed_part n p) (list_all (well_formed_part n) ps) c in (part-value p h.0 both.0, parts-value ps h.1 both.1)
+  parts-value (p ∷ ps) h c = let both = and_parts (well_formed_part n p) (list_all (well_formed_part n) ps) c in (part-value p h.0 both.0, parts-value ps h.1 both.1)
 
   -- ---- their bodies
 
@@ -228,7 +224,7 @@ module _ (names added : List Text) (is_table : IsAtomTable names) (found later :
   clause-value c h e = go c.body h.parts (subst (λ m. list_all (well_formed_part m) c.body ≡ true) e h.clause.body)
     where
       head : value_of names added is_table later (goal_phrase names found c.head) ≡ renew c.head
-      head = goal-value c.head h.head (subst (λ m. numbered m c.head ≡ true) e (two-both (callable c.head) (numbered c.vars c.head) h.clause.head).1)
+      head = goal-value c.head h.head (subst (λ m. numbered m c.head ≡ true) e (and_parts (callable c.head) (numbered c.vars c.head) h.clause.head).1)
 
       go : (ps : List Part) → AllByRecursion (IsPart names) ps → list_all (well_formed_part n) ps ≡ true
           → clause_halves (value_of names added is_table later (with_body names found (goal_phrase names found c.head) ps)) ≡ (renew c.head, body_if ps)

@@ -2,9 +2,10 @@
 use Rattle.std.proofs.Common.{◌≡◌, ℕ, suc, ℤ, pos, negsuc, ◌+◌, ◌<◌, ◌≤◌, ◌^◌, ◌==◌, ◌&&◌, ◌||◌, Bool, true, false, cond, if◌then◌else◌, List, [], ◌∷◌, codes, bytes_eq, Option, Some, None, refl, sym, ap, subst, ◌∙◌, le-leb, arith}
 use Rattle.std.specs.Prelude.{nat_lt}
 use Rattle.std.specs.Fmt.{decimal}
-use Rattle.std.proofs.lemmas.Bool.{false≢true}
+use Rattle.std.proofs.lemmas.Bool.{false≢true, and_parts}
 use Rattle.std.proofs.lemmas.Bool.Decides.{nat_tests}
 use Rattle.std.proofs.lemmas.Slice.Eq.{bytes_eq-Decides}
+use Rattle.std.proofs.Math.Bool.{or-true}
 use Rattle.ap_lexer.specs.declared.kind.TokenKind.{TokenKind}
 use Rattle.ap_lexer.specs.declared.kind.TokenKind.TheVariants as token
 use Rattle.ap_lexer.specs.Lexeme.{Text, number}
@@ -97,10 +98,6 @@ stops-open None h = refl
 stops-open (Some token.Open) h = absurd (false≢true h)
 stops-open (Some kind) h = refl
 
-or_true : (a : Bool) → (a || true) ≡ true
-or_true true = refl
-or_true false = refl
-
 pub nil-anywhere : (seen : List Text) (touches : Bool) (before : Option TokenKind) (at : ℕ) (after : List Spelled) → Stands 0 seen (name_tokens (codes "[]") touches) (Atom (codes "[]")) before at after
 nil-anywhere seen touches before at after = record {
   tree = Empty;
@@ -138,18 +135,10 @@ atom-parsed name seen = go (bytes_eq name (codes "[]")) refl
     go false e =
         parsed-alone seen seen (name_tokens name) (Atom name)
         (λ touches before at after begins ends.
-        atom-stands name touches seen before at after e (stops-open (first_kind after) ends) (rw (begins, ends) (or_true (priority_of false name == 0 && priority_of true name == 0))))
+        atom-stands name touches seen before at after e (stops-open (first_kind after) ends) (rw (begins, ends) (or-true (priority_of false name == 0 && priority_of true name == 0))))
         (λ touches. atom-seen name touches seen e)
 
 -- ---- terms
-
-pub and-left : (a b : Bool) → (a && b) ≡ true → a ≡ true
-and-left true b h = refl
-and-left false b h = absurd (false≢true h)
-
-pub and-right : (a b : Bool) → (a && b) ≡ true → b ≡ true
-and-right true b h = h
-and-right false b h = absurd (false≢true h)
 
 module _ (names : List Text) (later : List ℕ) where
   abbrev Parsed : term.Tree → List ℕ → Type 0
@@ -183,8 +172,8 @@ module _ (names : List Text) (later : List ℕ) where
     term-parsed (node a none) found h f s p = absurd (false≢true f)
     term-parsed (node a (more t ts)) found h f s p =
         node-parsed (text.name_at names a) (names_of found) (names_of (add_all_vars (more t ts) found)) (told names t) (all_told names ts) (written names later t) (all_written names later ts)
-        (and-left (is_functor (text.name_at names a)) (has_functors names t && have_functors names ts) f)
-        (terms-parsed (more t ts) found h.1 (and-right (is_functor (text.name_at names a)) (has_functors names t && have_functors names ts) f) s p)
+        (and_parts (is_functor (text.name_at names a)) (has_functors names t && have_functors names ts) f).0
+        (terms-parsed (more t ts) found h.1 (and_parts (is_functor (text.name_at names a)) (has_functors names t && have_functors names ts) f).1 s p)
 
     pub terms-parsed : (ts : Trees) (found : List ℕ) → AreWritable names ts → have_functors names ts ≡ true → AreSmall found → IsPrefix (add_all_vars ts found) later
         → AreParsed (names_of found) (names_of (add_all_vars ts found)) (all_told names ts) (all_written names later ts)
@@ -192,6 +181,6 @@ module _ (names : List Text) (later : List ℕ) where
     terms-parsed (more t ts) found h f s p =
         let before = prefix-trans (add_vars t found) (add_all_vars ts (add_vars t found)) later (add_all_vars-prefix ts (add_vars t found)) p in (
           names_of (add_vars t found),
-          term-parsed t found h.0 (and-left (has_functors names t) (have_functors names ts) f) s before,
-          terms-parsed ts (add_vars t found) h.1 (and-right (has_functors names t) (have_functors names ts) f) (small-vars names t found h.0 s) p,
+          term-parsed t found h.0 (and_parts (has_functors names t) (have_functors names ts) f).0 s before,
+          terms-parsed ts (add_vars t found) h.1 (and_parts (has_functors names t) (have_functors names ts) f).1 (small-vars names t found h.0 s) p,
         )

@@ -1,8 +1,9 @@
 -- The closure is the least list that has the sets and is closed under union.
 use Rattle.std.proofs.Common.{◌≡◌, ℕ, ◌⊎◌, inl, inr, Bool, ◌||◌, List, [], ◌∷◌, refl, ap, ap₂, sym, ◌∙◌, subst, true}
+use Rattle.ap_term.proofs.Facts.{same_bool}
 use Rattle.ap_sharing.specs.VarSet.{union}
 use Rattle.ap_sharing.specs.Sets.{In, Is, IsAscending, insert_set, with_each, grown, grown_all, closure, listed}
-use Rattle.ap_sharing.proofs.Elements.{union_twice, union_comm, union_assoc, same_bool}
+use Rattle.ap_sharing.proofs.Elements.{union_twice, union_comm, union_assoc}
 use Rattle.ap_sharing.proofs.Lists.{Elem, In-some, In-elem, In-map, Elem-map, In-put, In-stays, In-insert_cases, In-join_left, In-join_right, In-join_cases, ascending-insert, ascending-join, ascending-none, Is-union, one_list, Elem-listed, listed-Elem}
 
 -- how a set came into the list that s made grow

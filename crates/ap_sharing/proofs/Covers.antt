@@ -5,6 +5,7 @@ use Rattle.std.specs.List.{filter, list_any}
 use Rattle.std.specs.Ordering.{nat_cmp}
 use Rattle.std.specs.Cmp.Lexicographic.{pointwise, bytes_decides}
 use Rattle.std.proofs.lemmas.List.Kept.{IsStrictlySortedBy-filter}
+use Rattle.ap_term.proofs.Facts.{same_bool}
 use Rattle.ap_term.specs.Tree.{Tree, atom}
 use Rattle.ap_term.specs.Vars.{occurs}
 use Rattle.ap_term.specs.Substitution.{instance}
@@ -13,7 +14,7 @@ use Rattle.ap_sharing.specs.VarSet.{has, empty, union, both, without, meets, wit
 use Rattle.ap_sharing.specs.Sets.{In, Is, IsAscending, listed, join_sets, sets_of, all_of, too_many}
 use Rattle.ap_sharing.specs.Share.{Share, Member, IsNormal, same_share, nonground, met, may_share, dropped, widen, limited, norm, ground_share, unite_shares, project_share}
 use Rattle.ap_sharing.specs.Covering.{CoversShare, only, Grounds}
-use Rattle.ap_sharing.proofs.Elements.{same_test, same_bool, clash, has-union, has-both, meets-at, meets-none, within-at, without_made, has-empty}
+use Rattle.ap_sharing.proofs.Elements.{same_test, clash, has-union, has-both, meets-at, meets-none, within-at, without_made, has-empty}
 use Rattle.ap_sharing.proofs.Lists.{Elem, In-elem, listed-filter, Is-same, In-weaken, In-filter, In-map, In-all_of, In-join_left, In-join_right, ascending-none}
 use Rattle.ap_sharing.proofs.Trees.{occurs-back, occurs-there}
 

@@ -4,15 +4,11 @@ use Rattle.std.proofs.lemmas.Bool.{false≢true, eqb-true, eq-eqb, and_parts}
 use Rattle.std.proofs.lemmas.Nat.Bits.{bit_at_or, bit_at_and, bit_at_xor, bit_at-lt, bit_at-zero, bit_at-pow_same, bit_at-pow_other, same_from_bits}
 use Rattle.std.specs.Int.{bit_at}
 use Rattle.std.specs.Prelude.{bit_and}
+use Rattle.ap_term.proofs.Facts.{same_bool}
 use Rattle.ap_sharing.specs.VarSet.{has, empty, just, union, both, without, meets, within}
 
 pub same_test : (x : ℕ) → nat_eq x x ≡ true
 same_test x = eq-eqb x x refl
-
-pub same_bool : (a b : Bool) → (a ≡ true → b ≡ true) → (b ≡ true → a ≡ true) → a ≡ b
-same_bool true b h k = sym (h refl)
-same_bool false true h k = k refl
-same_bool false false h k = refl
 
 -- a test has one answer
 pub clash : (b : Bool) → b ≡ true → b ≡ false → ⊥

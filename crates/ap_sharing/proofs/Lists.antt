@@ -5,9 +5,10 @@ use Rattle.std.specs.List.{filter, flat_map, list_any, AllByRecursion}
 use Rattle.std.specs.List.Sorted.{IsStrictlySortedBy}
 use Rattle.std.specs.declared.cmp.Ordering.TheVariants.{Less, Equal, Greater}
 use Rattle.std.specs.Ordering.{nat_cmp, match_ordering, is_eq}
+use Rattle.ap_term.proofs.Facts.{same_bool}
 use Rattle.ap_sharing.specs.VarSet.{has, union}
 use Rattle.ap_sharing.specs.Sets.{In, Is, IsAscending, listed, insert_set, join_sets, all_of, with_each, pairs, grown, grown_all, too_many}
-use Rattle.ap_sharing.proofs.Elements.{same_test, clash, has-union, same_bool}
+use Rattle.ap_sharing.proofs.Elements.{same_test, clash, has-union}
 
 -- ---- membership
 

@@ -1,7 +1,7 @@
 -- What an annotator keeps, and what it makes.
-use Rattle.std.proofs.Common.{◌≡◌, ℕ, ◌+◌, ◌<◌, ◌≤◌, inl, inr, Bool, true, false, ◌&&◌, ◌||◌, not, nat_le, if◌then◌else◌, IsTrue, List, [], ◌∷◌, ◌++◌, length, take, drop, get_or, refl, ap, sym, ◌∙◌, subst, arith}
+use Rattle.std.proofs.Common.{◌≡◌, ℕ, ◌+◌, ◌<◌, ◌≤◌, inl, inr, Bool, true, false, ◌&&◌, not, nat_le, if◌then◌else◌, List, [], ◌∷◌, ◌++◌, length, take, drop, get_or, refl, ap, sym, ◌∙◌, subst, arith}
 use Rattle.std.specs.List.{list_all, list_any, filter, flat_map, All}
-use Rattle.std.proofs.lemmas.Bool.{false≢true, and_parts, and_from, le-leb, or_right, not-true, or_cases}
+use Rattle.std.proofs.lemmas.Bool.{false≢true, and_parts, and_from, le-leb, not-true}
 use Rattle.std.proofs.lemmas.List.{take-append-drop, take_more}
 use Rattle.std.proofs.lemmas.List.Folds.{list_all-append}
 use Rattle.std.proofs.lemmas.List.Elements.{All-nil, All-cons}
@@ -18,7 +18,7 @@ use Rattle.ap_patterns.specs.Given.{Patterns, is_builtin, is_analysed, after_par
 use Rattle.ap_conditions.specs.FullCondition.{full_condition}
 use Rattle.ap_conditions.specs.Simplified.{gives, left}
 use Rattle.ap_conditions.specs.Laws.{IsIn}
-use Rattle.ap_conditions.proofs.Listed.{listed-full}
+use Rattle.ap_conditions.proofs.Listed.{listed-full, shared_occurs, two_occur, numbered_all-in}
 use Rattle.ap_cge.specs.Stripped.{stripped_part, stripped_clause, stripped}
 use Rattle.ap_certify.specs.Written.{is_written}
 use Rattle.ap_udg.specs.declared.runs.Rule.{Rule}
@@ -31,42 +31,10 @@ use Rattle.ap_udg.proofs.LongestRuns.{count-goals, first-formed, last-formed}
 
 -- ---- the checks of a condition are of the goals' variables
 
-mutual
-  numbered_in : (n : ℕ) (t : Tree) → IsTrue (numbered n t) → (x : ℕ) → occurs x t ≡ true → in_range n x ≡ true
-  numbered_in n (var y) h x o = ap (in_range n) (same_var x y o) ∙ h
-  numbered_in n (int z) h x o = absurd (false≢true o)
-  numbered_in n (atom a) h x o = absurd (false≢true o)
-  numbered_in n (node a ts) h x o = numbered_all_in n ts h x o
-
-  numbered_all_in : (n : ℕ) (ts : Trees) → IsTrue (numbered_all n ts) → (x : ℕ) → occurs_all x ts ≡ true → in_range n x ≡ true
-  numbered_all_in n none h x o = absurd (false≢true o)
-  numbered_all_in n (more t ts) h x o =
-      let r = and_parts (numbered n t) (numbered_all n ts) h in
-      elim (or_cases (occurs x t) (occurs_all x ts) o) [ inl i ↦ numbered_in n t r.0 x i | inr i ↦ numbered_all_in n ts r.1 x i ]
-
-shared_occurs : (x : ℕ) (ts : Trees) → shared x ts ≡ true → occurs_all x ts ≡ true
-shared_occurs x none h = absurd (false≢true h)
-shared_occurs x (more t ts) h =
-    elim (or_cases (occurs x t && occurs_all x ts) (shared x ts) h) [
-      | inl k ↦ or_right (occurs x t) (occurs_all x ts) (and_parts (occurs x t) (occurs_all x ts) k).1
-      | inr k ↦ or_right (occurs x t) (occurs_all x ts) (shared_occurs x ts k)
-    ]
-
-two_occur : (x y : ℕ) (ts : Trees) → of_two_goals x y ts ≡ true → (occurs_all x ts ≡ true) × (occurs_all y ts ≡ true)
-two_occur x y none h = absurd (false≢true h)
-two_occur x y (more t ts) h =
-    elim (or_cases (occurs x t && occurs_all y ts) ((occurs y t && occurs_all x ts) || of_two_goals x y ts) h) [
-      | inl k ↦ (let r = and_parts (occurs x t) (occurs_all y ts) k in (ap (λ b. b || occurs_all x ts) r.0, or_right (occurs y t) (occurs_all y ts) r.1))
-      | inr k ↦ elim (or_cases (occurs y t && occurs_all x ts) (of_two_goals x y ts) k) [
-        | inl l ↦ (let r = and_parts (occurs y t) (occurs_all x ts) l in (or_right (occurs x t) (occurs_all x ts) r.1, ap (λ b. b || occurs_all y ts) r.0))
-        | inr l ↦ (let r = two_occur x y ts l in (or_right (occurs x t) (occurs_all x ts) r.0, or_right (occurs y t) (occurs_all y ts) r.1))
-      ]
-    ]
-
 pub check_in : (n : ℕ) (gs : Trees) (c : Check) → numbered_all n gs ≡ true → IsInFullCondition gs c → numbered_check n c ≡ true
-check_in n gs c h (of_shared x s) = numbered_all_in n gs h x (shared_occurs x gs s)
+check_in n gs c h (of_shared x s) = numbered_all-in n gs h x (shared_occurs x gs s)
 check_in n gs c h (of_others x y l sx sy o) =
-    let r = two_occur x y gs o in and_from (in_range n x) (in_range n y) (numbered_all_in n gs h x r.0) (numbered_all_in n gs h y r.1)
+    let r = two_occur x y gs o in and_from (in_range n x) (in_range n y) (numbered_all-in n gs h x r.0) (numbered_all-in n gs h y r.1)
 
 all_from : (p : Check → Bool) (cs : List Check) → ((c : Check) → IsIn c cs → p c ≡ true) → list_all p cs ≡ true
 all_from p [] h = refl

@@ -2,12 +2,13 @@
 use Rattle.std.proofs.Common.{◌≡◌, ◌∙◌, Bool, true, false, ◌&&◌, not, List, [], ◌∷◌, Option, Some, None, ap, ap₂, sym, subst, refl, if◌then◌else◌}
 use Rattle.std.specs.Prelude.{option_map, option_and_then, bytes_eq, codes}
 use Rattle.std.specs.List.{list_all}
+use Rattle.std.proofs.lemmas.Bool.{and_parts, not-true}
+use Rattle.std.proofs.Math.Bool.{and-false}
 use Rattle.ap_words.specs.Numbers.{is_plain}
 use Rattle.ap_words.specs.Table.{Text, Words, words_of, run_words, show_words, code_words, load_words}
 use Rattle.ap_words.specs.Values.{Values}
 use Rattle.ap_words.specs.Plain.{IsPlainLine, Stand, checked, flag, flag_step, gives, is_once, is_option, line_by, of, option_in, paired, places_among, plain_step, values_by, written}
 use Rattle.ap_words.proofs.Options.{option_found, option_is}
-use Rattle.ap_words.proofs.Tests.{and-false, both, unset}
 
 -- ---- what is written plainly is read
 
@@ -35,7 +36,7 @@ module _ (options : List Text) (v : Text × Text) (vs : Values) (plain : is_plai
 
 pub complete : (options : List Text) (vs : Values) → list_all (λ v. is_plain v.1) vs ≡ true → paired options (written options vs) (places_among options vs, None) ≡ Some vs
 complete options [] plain = refl
-complete options (v ∷ vs) plain = let tests = both _ _ plain in one_more options v vs tests.0 (complete options vs tests.1) (is_option options v.0) refl
+complete options (v ∷ vs) plain = let tests = and_parts _ _ plain in one_more options v vs tests.0 (complete options vs tests.1) (is_option options v.0) refl
 
 -- ---- what is read is written plainly
 
@@ -100,8 +101,8 @@ module _ (options : List Text) where
       placed [] on plain e rest = cc
       placed (p ∷ ps) on plain e rest =
           let m = more p w vs (paired options ws (ps, None)) e in
-          let tests = both (not (is_option options p)) (apart options ps) on in
-          subst (λ us. Gives options (p ∷ ps) us (w ∷ ws)) (sym m.2) (at_place p w ps m.0 ws (unset (is_option options p) tests.0) plain (rest ps m.0 tests.1 m.1))
+          let tests = and_parts (not (is_option options p)) (apart options ps) on in
+          subst (λ us. Gives options (p ∷ ps) us (w ∷ ws)) (sym m.2) (at_place p w ps m.0 ws (not-true (is_option options p) tests.0) plain (rest ps m.0 tests.1 m.1))
 
       go : (b : Bool) → is_plain w ≡ b → (if b then gives w (paired options ws) (plain_step (places, None)) else option_and_then (paired options ws) (flag_step options (places, None) w)) ≡ Some vs
           → ((qs : List Text) (us : Values) → apart options qs ≡ true → paired options ws (qs, None) ≡ Some us → Gives options qs us ws)

@@ -2,9 +2,10 @@
 use Rattle.std.proofs.Common.{◌≡◌, ◌∙◌, Bool, true, false, ◌||◌, List, [], ◌∷◌, Some, ap, sym, refl, if◌then◌else◌}
 use Rattle.std.specs.Str.{bytes_eq}
 use Rattle.std.proofs.lemmas.Slice.Eq.{bytes_eq-Decides}
+use Rattle.std.proofs.lemmas.Bool.{or_right}
 use Rattle.ap_words.specs.Table.{Text}
 use Rattle.ap_words.specs.Plain.{flag, is_option, option_in}
-use Rattle.ap_words.proofs.Tests.{no_two, or-true}
+use Rattle.ap_words.proofs.Tests.{no_two}
 
 -- a word that is an option is written as its name is
 pub option_is : (options : List Text) (word name : Text) → option_in options word ≡ Some name → (word ≡ flag name) × (is_option options name ≡ true)
@@ -16,7 +17,7 @@ option_is (o ∷ os) word name e = go (bytes_eq word (flag o)) refl e (option_is
     go true h e rest =
         let same : o ≡ name = cc in
         ((bytes_eq-Decides word (flag o)).0 h ∙ ap flag same, ap (λ b. b || is_option os name) ((bytes_eq-Decides o name).1 same))
-    go false h e rest = let r = rest e in (r.0, or-true (bytes_eq o name) _ r.1)
+    go false h e rest = let r = rest e in (r.0, or_right (bytes_eq o name) _ r.1)
 
 -- an option, as it is written, is that option
 pub option_found : (options : List Text) (name : Text) → is_option options name ≡ true → option_in options (flag name) ≡ Some name

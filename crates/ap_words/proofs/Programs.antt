@@ -8,11 +8,11 @@ use Rattle.clap.specs.declared.error.kind.ErrorKind.{ErrorKind}
 use Rattle.clap.specs.declared.error.kind.ErrorKind.TheVariants as kind
 use Rattle.clap.proofs.OnLiterals.{clap_on_literals}
 use Rattle.std.specs.declared.alloc.AllocError.{AllocError}
+use Rattle.std.proofs.lemmas.Bool.{and_parts, not-true}
 use Rattle.ap_words.specs.Table.{Text}
 use Rattle.ap_words.specs.Clap.{program}
 use Rattle.ap_words.specs.Reading.{IsClaps, reading_of, refused}
 use Rattle.ap_words.specs.declared.reading.Reading.{Reading as Kept}
-use Rattle.ap_words.proofs.Tests.{both, unset}
 
 pub simple : is_simple program ≡ true
 unfolding clap_on_literals
@@ -25,8 +25,8 @@ free = refl
 pub own : (c : Command) → app_of c ≡ program → ((out-Command c).has_globals ≡ false) × ((out-Command c).subcommand_required ≡ true)
 own c is =
     let plain = ap (λ (a : App). a.top.is_plain) is in
-    let outside = both _ _ (both _ _ plain).1 in
-    (unset _ (both _ _ outside.1).0, ap (λ (a : App). a.top.subcommand_required) is)
+    let outside = and_parts _ _ (and_parts _ _ plain).1 in
+    (not-true _ (and_parts _ _ outside.1).0, ap (λ (a : App). a.top.subcommand_required) is)
 
 pub refused_claps : (line : List Text) (k : ErrorKind) (r : Result Kept AllocError) → (k ≡ kind.OutOfMemory) ⊎ IsAmong k (fault_of program line) → IfOk r (λ x. reading_of x ≡ refused k)
     → OnOk r (k ≡ kind.OutOfMemory → ⊥) → IfOk r (λ x. IsClaps line (reading_of x))

@@ -5,21 +5,20 @@ use Rattle.std.specs.Char.{is_ascii_digit}
 use Rattle.std.specs.List.{list_all}
 use Rattle.std.specs.Str.Parse.{digits_value}
 use Rattle.std.proofs.lemmas.Str.Parse.{IsNumeralModel, numerals_by_value}
-use Rattle.std.proofs.lemmas.Bool.{false≢true}
+use Rattle.std.proofs.lemmas.Bool.{false≢true, and_parts}
 use Rattle.ap_words.specs.Numbers.{is_numeral, number}
 use Rattle.ap_words.specs.Table.{Text}
 use Rattle.ap_words.specs.Values.{Values, given}
 use Rattle.ap_words.specs.Asked.{Asked, Show, annotator_or, asked_by, codes_of, load_by, loads, number_at, number_or, run, run_by, runs, show_by, shows, text_at, workers_by}
 use Rattle.ap_words.specs.declared.asked.Annotator.{Annotator}
 use Rattle.ap_words.specs.Reading.{InRange, asks}
-use Rattle.ap_words.proofs.Tests.{both}
 
 pub digits : IsNumeralModel (λ ds. list_all is_ascii_digit ds ≡ true) (digits_value 10)
 digits = numerals_by_value (λ ds. list_all is_ascii_digit ds ≡ true) (search rules)
 
 pub numeral_digits : (word : List ℕ) → is_numeral word ≡ true → (list_all is_ascii_digit word ≡ true) × (0 < length word)
 numeral_digits [] h = absurd (false≢true h)
-numeral_digits (d ∷ ds) h = let behind = both (not (length (d ∷ ds) == 0)) _ h in ((both (list_all is_ascii_digit (d ∷ ds)) _ behind.1).0, omega arith)
+numeral_digits (d ∷ ds) h = let behind = and_parts (not (length (d ∷ ds) == 0)) _ h in ((and_parts (list_all is_ascii_digit (d ∷ ds)) _ behind.1).0, omega arith)
 
 le_of : (a b : ℕ) → nat_le a b ≡ true → a ≤ b
 le_of a b h = search (rules, h)

@@ -14,9 +14,6 @@ use Rattle.ap_term.specs.Arithmetic.{fits}
 use Rattle.ap_writer.specs.Quoted.{is_word, is_symbol, is_name, is_symbols, is_bare, escaped, name_text}
 use Rattle.ap_writer.proofs.Marks.{Mark, Variable, Integer, Name, Call, OpenList, CloseList, Comma, Bar, Close, spelling, spelled}
 
-no_two : (b : Bool) → b ≡ true → b ≡ false → ⊥
-no_two b h k = false≢true (sym k ∙ h)
-
 -- ---- runs of bytes
 
 -- what is taken from the front of a text, and what follows it

@@ -1,6 +1,6 @@
 -- The term that marks stand for: they are taken in one by one, with a stack of what has begun.
 use Rattle.std.proofs.Common.{◌≡◌, ℕ, zero, suc, ◌+◌, ◌<◌, ◌||◌, Bool, true, false, if◌then◌else◌, List, [], ◌∷◌, ◌++◌, codes, length, bytes_eq, refl, ap, sym, subst, ◌∙◌, arith}
-use Rattle.std.proofs.lemmas.Bool.{false≢true}
+use Rattle.std.proofs.lemmas.Bool.{both_ways}
 use Rattle.std.proofs.lemmas.Slice.Eq.{bytes_eq-Decides}
 use Rattle.ap_term.specs.AtomTable.{is_held, IsWithoutRepeats}
 use Rattle.ap_term.specs.Tree.{Tree, Trees, var, int, atom, node, none, more, push_tree}
@@ -13,9 +13,6 @@ use Rattle.ap_writer.proofs.Marks.{Mark, Variable, Integer, Name, Call, OpenList
 abbrev pub place_of : List (List ℕ) → List ℕ → ℕ
 place_of [] n = 0
 place_of (x ∷ names) n = if bytes_eq n x then 0 else place_of names n + 1
-
-no_two : (b : Bool) → b ≡ true → b ≡ false → ⊥
-no_two b h k = false≢true (sym k ∙ h)
 
 held-at : (names : List (List ℕ)) (a : ℕ) → a < length names → is_held names (name_at names a) ≡ true
 held-at [] a lt = absurd (omega arith)
@@ -33,7 +30,7 @@ place-at (x ∷ names) (suc a) d lt = go (bytes_eq (name_at names a) x) refl (pl
   where
     go : (b : Bool) → bytes_eq (name_at names a) x ≡ b → place_of names (name_at names a) ≡ a → is_held names (name_at names a) ≡ true
         → (if b then 0 else place_of names (name_at names a) + 1) ≡ suc a
-    go true e ih held = absurd (no_two (is_held names x) (subst (λ y. is_held names y ≡ true) ((bytes_eq-Decides (name_at names a) x).0 e) held) d.0)
+    go true e ih held = absurd (both_ways (is_held names x) d.0 (subst (λ y. is_held names y ≡ true) ((bytes_eq-Decides (name_at names a) x).0 e) held))
     go false e ih held = omega (arith, ih)
 
 -- ---- the stack

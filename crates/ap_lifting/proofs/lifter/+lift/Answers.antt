@@ -1,12 +1,13 @@
 use Rattle.std.proofs.Common.{◌≡◌, ◌+◌, ◌*◌, ◌<◌, ◌≤◌, ◌++◌, ◌∷◌, [], List, None, length, slice_index, subst, ap, sym, ◌∙◌, refl, arith}
 use Rattle.std.specs.Prelude.{IsTrue, ◌&&◌}
 use Rattle.std.specs.List.{list_all}
+use Rattle.std.proofs.lemmas.Bool.{and_parts}
 use Rattle.ap_term.specs.Goals.{Part}
 use Rattle.ap_term.specs.WellFormed.{well_formed_part}
 use Rattle.ap_lifting.specs.Body.{conditional, well_formed, numbered_condition}
 use Rattle.ap_lifting.specs.BodyView.{body_of}
 use Rattle.ap_lifting.specs.Lifted.{lifted}
-use Rattle.ap_lifting.proofs.Kept.{and_first, and_second, parts_kept}
+use Rattle.ap_lifting.proofs.Kept.{parts_kept}
 use Rattle.ap_lifting.specs.Sizes.{predicates}
 use Rattle.ap_lifting.proofs.Weights.{weight}
 use Rattle.ap_lifting.proofs.Places.{on_ok, raises, raises_two}
@@ -55,10 +56,10 @@ add_parts-add_parts-requires-in-Conditional t c =
       (
         c.requires.few,
         (
-          subst (λ b. IsTrue (well_formed n b)) (sym same) (and_second (list_all (numbered_condition n) cs) (well_formed n (body_of inner)) both),
+          subst (λ b. IsTrue (well_formed n b)) (sym same) (and_parts (list_all (numbered_condition n) cs) (well_formed n (body_of inner)) both).1,
           (
             c.in_ok-checks-in-Conditional.ensures.numbered n
-                (subst (λ ds. IsTrue (list_all (numbered_condition n) ds)) (sym c.deref.ensures.value) (and_first (list_all (numbered_condition n) cs) (well_formed n (body_of inner)) both)),
+                (subst (λ ds. IsTrue (list_all (numbered_condition n) ds)) (sym c.deref.ensures.value) (and_parts (list_all (numbered_condition n) cs) (well_formed n (body_of inner)) both).0),
             subst (λ k. c.args.out.now.next + k ≤ length c.args.origin.now.names.now) (sym as_many) c.requires.named,
           ),
         ),

@@ -1,8 +1,8 @@
 use Rattle.std.proofs.Common.{◌∙◌, ◌+◌, ◌||◌, drop, map, ap, ap₂, sym}
 use Rattle.std.proofs.lemmas.List.{at_drop_more}
+use Rattle.std.proofs.Math.Bool.{or-false}
 use Rattle.clap.specs.Words.{app_of, with_rule}
 use Rattle.ap_words.specs.Clap.{place_rule, with_rules}
-use Rattle.ap_words.proofs.Tests.{or-false}
 use Rattle.ap_words.proofs.command.with_places.Goals as goal
 
 pub loop-name-preserved : goal.loop-name-preserved
