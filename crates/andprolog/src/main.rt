@@ -11,6 +11,7 @@ use ap_outside::{OpenGate, StdFiles, StdSink, StdSource};
 use ap_top::{Status, run};
 use std::alloc::Global;
 use std::process::ExitCode;
+use std::random::RandomSource;
 use std::sync::Wait;
 use std::thread::Threads;
 use std::{env, io};
@@ -21,7 +22,11 @@ fn code_of(status: Status) -> ExitCode
     ExitCode::from(status.number())
 }
 
-fn run_words<R: Threads + Wait + Sync>(rt: &HostRuntime, threads: &R, words: &[&str]) -> Status {
+fn run_words<R: Threads + Wait + RandomSource + Sync>(
+    rt: &HostRuntime,
+    threads: &R,
+    words: &[&str],
+) -> Status {
     let mut files = StdFiles::new(rt);
     let mut queries = StdSource::new(rt.stdin());
     let mut out = StdSink::new(rt.stdout());
@@ -37,7 +42,7 @@ fn run_words<R: Threads + Wait + Sync>(rt: &HostRuntime, threads: &R, words: &[&
 }
 
 // The command line, the program's name first.
-fn run_args<R: Threads + Wait + Sync>(
+fn run_args<R: Threads + Wait + RandomSource + Sync>(
     rt: &HostRuntime,
     threads: &R,
     alloc: Global,

@@ -4,6 +4,7 @@ use ap_outside::{MemFiles, MemSink, MemSource, OpenGate, Refusal};
 use ap_top::{Status, run};
 use std::alloc::Global;
 use std::process::Abort;
+use std::random::RandomSource;
 use std::sync::Wait;
 use std::test::Fail;
 use std::thread::Threads;
@@ -34,7 +35,7 @@ pub(crate) fn are_lines(pieces: &[Vec<u8>], text: &str) -> bool {
     lines.next().is_none()
 }
 
-pub(crate) fn is_met<R: Threads + Wait + Sync>(
+pub(crate) fn is_met<R: Threads + Wait + RandomSource + Sync>(
     rt: &R,
     alloc: Global,
     case: &Case,
@@ -63,7 +64,7 @@ pub(crate) type Command = (
     Status,
 );
 
-pub(crate) fn check_all<R: Abort + Threads + Wait + Sync>(
+pub(crate) fn check_all<R: Abort + Threads + Wait + RandomSource + Sync>(
     rt: &R,
     alloc: Global,
     commands: &[Command],

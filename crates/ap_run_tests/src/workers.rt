@@ -7,12 +7,13 @@ use ap_outside::{MemFiles, MemSink, MemSource};
 use ap_top::{Status, run};
 use std::alloc::Global;
 use std::process::Abort;
+use std::random::RandomSource;
 use std::sync::Wait;
 use std::test::Fail;
 use std::thread::Threads;
 
 /// Whether each command line comes to the same with so many workers.
-fn check_on<R: Abort + Threads + Wait + Sync>(
+fn check_on<R: Abort + Threads + Wait + RandomSource + Sync>(
     rt: &R,
     alloc: Global,
     commands: &[Command],
@@ -48,7 +49,7 @@ fn workers_give_the_answers_of_one(rt: HostRuntime) -> Result<(), Fail> {
 }
 
 /// Whether the goals of a query, whose one answer has no variable, meet at the gate.
-fn meet<R: Threads + Wait + Sync>(
+fn meet<R: Threads + Wait + RandomSource + Sync>(
     rt: &R,
     alloc: Global,
     file: &str,

@@ -2,6 +2,7 @@
 use Rattle.std.proofs.Common.{◌≡◌, ℕ, ◌+◌, ◌<◌, ◌||◌, Bool, true, false, List, [], ◌∷◌, ◌++◌, take, drop, get_or, length, refl, arith, append_assoc, append-nil, sym, ◌∙◌, ap, subst, ◌⊎◌, inl, inr}
 use Rattle.std.proofs.lemmas.Grind.{common_steps}
 use Rattle.std.proofs.lemmas.List.{take-append-drop}
+use Rattle.std.proofs.Math.Bool.{or_assoc, or-false}
 use Rattle.ap_outside.specs.Pieces.{PrefixOf, FrontOf}
 use Rattle.ap_outside.specs.Halting.{AnyOf}
 use Rattle.ap_lexer.specs.Lexeme.{Text}
@@ -17,19 +18,11 @@ use Rattle.ap_top.specs.Status.{tally, both}
 use Rattle.ap_top.specs.declared.status.Tally.{Tally}
 use Rattle.ap_clause.proofs.SomeResult.{some_query}
 
-or_assoc : (a b c : Bool) → ((a || b) || c) ≡ (a || (b || c))
-or_assoc true b c = refl
-or_assoc false b c = refl
-
-or_false : (a : Bool) → (a || false) ≡ a
-or_false true = refl
-or_false false = refl
-
 both_assoc : (a b c : Tally) → both (both a b) c ≡ both a (both b c)
 both_assoc a b c = ap (λ s. tally s ((a.refused || b.refused) || c.refused)) (or_assoc a.spent b.spent c.spent) ∙ ap (tally (a.spent || (b.spent || c.spent))) (or_assoc a.refused b.refused c.refused)
 
 pub both_none : (a : Tally) → both a (tally false false) ≡ a
-both_none a = ap (λ s. tally s (a.refused || false)) (or_false a.spent) ∙ ap (tally a.spent) (or_false a.refused)
+both_none a = ap (λ s. tally s (a.refused || false)) (or-false a.spent) ∙ ap (tally a.spent) (or-false a.refused)
 
 module _ (budget limit : ℕ) (program : Program) (table : List (List ℕ)) where
   -- every query has a block

@@ -17,7 +17,7 @@ use ap_instr::listing;
 use ap_mel::{Kind, annotate_sound};
 use ap_outside::{FileErr, Files, Got, Halt, Sink};
 use ap_patterns::Entries;
-use ap_term::{Atom, Atoms, Body, Clause, NoMemory, Part, Program, Query, Term, fixed};
+use ap_term::{Atom, Atoms, Body, Clause, NameKey, NoMemory, Part, Program, Query, Term, fixed};
 use std::alloc::Global;
 
 // The query `true`. Code is for a program beside a query, and this one asks nothing of the program.
@@ -57,11 +57,11 @@ fn print_code<K: Sink>(
 }
 
 // The bytes of a file.
-fn code_text<K: Sink>(alloc: Global, text: &[u8], out: &mut K) -> Result<Status, Halt>
+fn code_text<K: Sink>(alloc: Global, key: NameKey, text: &[u8], out: &mut K) -> Result<Status, Halt>
     ensures lines { Finishes (K.pieces out.old) (K.pieces out.new) (TextCodes text.now) result }
     ensures sink { SinkCount (K.faults out.old) (K.faults out.new) result }
 {
-    let Ok(mut atoms) = Atoms::new(alloc) else {
+    let Ok(mut atoms) = Atoms::with_key(alloc, key) else {
         return Err(Halt::NoMemory);
     };
     match program(alloc, text, &mut atoms) {
@@ -80,6 +80,7 @@ fn code_text<K: Sink>(alloc: Global, text: &[u8], out: &mut K) -> Result<Status,
 /// Lists the code of the file that was asked for, a line for each instruction and for each predicate.
 pub fn code_file<F: Files, K: Sink>(
     alloc: Global,
+    key: NameKey,
     file: &str,
     files: &mut F,
     out: &mut K,
@@ -93,6 +94,6 @@ pub fn code_file<F: Files, K: Sink>(
         Err(FileErr::Failed) => close(b"fault: file\n", Status::FileFault, out),
         Err(FileErr::NoMemory) => Err(Halt::NoMemory),
         Ok(Got::TooLong) => close(b"refused: too long\n", Status::ProgramRefused, out),
-        Ok(Got::Whole) => code_text(alloc, &text, out),
+        Ok(Got::Whole) => code_text(alloc, key, &text, out),
     }
 }

@@ -22,10 +22,11 @@ use crate::status::Status;
 use crate::texts::print_text;
 use ap_clause::{Refusal, program};
 use ap_outside::{FileErr, Files, Gate, Got, Halt, PutErr, Sink, Source};
-use ap_term::{Atoms, Program};
+use ap_term::{Atoms, NameKey, Program};
 use ap_words::{Asked as What, HELP, Reading, Run, VERSION_LINE, read};
 use ap_worker::Crew;
 use std::alloc::Global;
+use std::random::RandomSource;
 use std::sync::Wait;
 use std::thread::Threads;
 
@@ -74,6 +75,7 @@ fn run_source<R: Threads + Wait + Sync, G: Gate, S: Source, K: Sink>(
 fn run_text<R: Threads + Wait + Sync, G: Gate, S: Source, K: Sink>(
     alloc: Global,
     crew: &Crew<R, G>,
+    key: NameKey,
     text: &[u8],
     command: &Run,
     queries: &mut S,
@@ -85,7 +87,7 @@ fn run_text<R: Threads + Wait + Sync, G: Gate, S: Source, K: Sink>(
     ensures source { SourceCount (S.faults queries.old) (S.faults queries.new) result }
     ensures end { EndsSource (S.left queries.new) result }
 {
-    let Ok(mut atoms) = Atoms::new(alloc) else {
+    let Ok(mut atoms) = Atoms::with_key(alloc, key) else {
         return Err(Halt::NoMemory);
     };
     match program(alloc, text, &mut atoms) {
@@ -102,6 +104,7 @@ fn run_text<R: Threads + Wait + Sync, G: Gate, S: Source, K: Sink>(
 fn run_file<R: Threads + Wait + Sync, G: Gate, F: Files, S: Source, K: Sink>(
     alloc: Global,
     crew: &Crew<R, G>,
+    key: NameKey,
     command: &Run,
     files: &mut F,
     queries: &mut S,
@@ -120,7 +123,7 @@ fn run_file<R: Threads + Wait + Sync, G: Gate, F: Files, S: Source, K: Sink>(
         Err(FileErr::Failed) => close(b"fault: file\n", Status::FileFault, out),
         Err(FileErr::NoMemory) => Err(Halt::NoMemory),
         Ok(Got::TooLong) => close(b"refused: too long\n", Status::ProgramRefused, out),
-        Ok(Got::Whole) => run_text(alloc, crew, &text, command, queries, out),
+        Ok(Got::Whole) => run_text(alloc, crew, key, &text, command, queries, out),
     }
 }
 
@@ -137,7 +140,7 @@ fn crew_of<'a, R, G>(rt: &'a R, gate: &'a G, workers: u64) -> Crew<'a, R, G>
 }
 
 // What a command line asks for.
-fn run_asked<R: Threads + Wait + Sync, G: Gate, F: Files, S: Source, K: Sink>(
+fn run_asked<R: Threads + Wait + RandomSource + Sync, G: Gate, F: Files, S: Source, K: Sink>(
     rt: &R,
     alloc: Global,
     gate: &G,
@@ -154,13 +157,14 @@ fn run_asked<R: Threads + Wait + Sync, G: Gate, F: Files, S: Source, K: Sink>(
     ensures files { FilesCount (F.faults files.old) (F.faults files.new) result }
     ensures end { (what : Asked) → asks (asked_of asked.entry) ≡ asks (runs what) → EndsSource (S.left queries.new) result }
 {
+    let key = NameKey::draw(rt);
     match asked {
         What::Run(command) => {
             let crew = crew_of(rt, gate, command.workers);
-            run_file(alloc, &crew, &command, files, queries, out)
+            run_file(alloc, &crew, key, &command, files, queries, out)
         }
-        What::Show(command) => show_file(alloc, &command, files, out),
-        What::Code(file) => code_file(alloc, file, files, out),
+        What::Show(command) => show_file(alloc, key, &command, files, out),
+        What::Code(file) => code_file(alloc, key, file, files, out),
         What::Load {
             seed,
             size,
@@ -173,7 +177,7 @@ fn run_asked<R: Threads + Wait + Sync, G: Gate, F: Files, S: Source, K: Sink>(
 }
 
 // What a command line is read as.
-fn run_reading<R: Threads + Wait + Sync, G: Gate, F: Files, S: Source, K: Sink>(
+fn run_reading<R: Threads + Wait + RandomSource + Sync, G: Gate, F: Files, S: Source, K: Sink>(
     rt: &R,
     alloc: Global,
     gate: &G,
@@ -199,7 +203,7 @@ fn run_reading<R: Threads + Wait + Sync, G: Gate, F: Files, S: Source, K: Sink>(
 }
 
 // The command line.
-fn run_words<R: Threads + Wait + Sync, G: Gate, F: Files, S: Source, K: Sink>(
+fn run_words<R: Threads + Wait + RandomSource + Sync, G: Gate, F: Files, S: Source, K: Sink>(
     rt: &R,
     alloc: Global,
     gate: &G,
@@ -249,7 +253,7 @@ fn give_up<K: Sink>(out: &mut K) -> Status
 /// `load SEED SIZE` makes a program, asks it a question, and puts the summary of the block in three lines.
 ///
 /// `--help` and `--version` put their lines, and what is no command line the line of the usage.
-pub fn run<R: Threads + Wait + Sync, F: Files, S: Source, K: Sink, G: Gate>(
+pub fn run<R: Threads + Wait + RandomSource + Sync, F: Files, S: Source, K: Sink, G: Gate>(
     rt: &R,
     alloc: Global,
     words: &[&str],

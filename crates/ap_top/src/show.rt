@@ -19,7 +19,7 @@ use ap_clause::{Refusal, program};
 use ap_mel::{Kind, annotate_sound};
 use ap_outside::{FileErr, Files, Got, Halt, Sink};
 use ap_patterns::Entries;
-use ap_term::{Atoms, Program};
+use ap_term::{Atoms, NameKey, Program};
 use ap_words::{Annotator, Show};
 use std::alloc::Global;
 
@@ -97,6 +97,7 @@ fn show_program<K: Sink>(
 // The bytes of a file.
 fn show_text<K: Sink>(
     alloc: Global,
+    key: NameKey,
     text: &[u8],
     command: &Show,
     out: &mut K,
@@ -104,7 +105,7 @@ fn show_text<K: Sink>(
     ensures lines { Finishes (K.pieces out.old) (K.pieces out.new) (TextShows (show_of command.now) text.now) result }
     ensures sink { SinkCount (K.faults out.old) (K.faults out.new) result }
 {
-    let Ok(mut atoms) = Atoms::new(alloc) else {
+    let Ok(mut atoms) = Atoms::with_key(alloc, key) else {
         return Err(Halt::NoMemory);
     };
     match program(alloc, text, &mut atoms) {
@@ -120,6 +121,7 @@ fn show_text<K: Sink>(
 /// Shows the file that was asked for: a line for each clause, with the groups that may run side by side.
 pub fn show_file<F: Files, K: Sink>(
     alloc: Global,
+    key: NameKey,
     command: &Show,
     files: &mut F,
     out: &mut K,
@@ -133,6 +135,6 @@ pub fn show_file<F: Files, K: Sink>(
         Err(FileErr::Failed) => close(b"fault: file\n", Status::FileFault, out),
         Err(FileErr::NoMemory) => Err(Halt::NoMemory),
         Ok(Got::TooLong) => close(b"refused: too long\n", Status::ProgramRefused, out),
-        Ok(Got::Whole) => show_text(alloc, &text, command, out),
+        Ok(Got::Whole) => show_text(alloc, key, &text, command, out),
     }
 }
