@@ -14,6 +14,7 @@ mod runs;
 mod taking;
 
 pub use alternatives::{Alternative, first, following, instruction_at};
+pub use ap_codecheck::Sound;
 pub use checks::{are_apart, is_ground};
 pub use heads::{fails_at_once, first_possible, pass_over};
 pub use relations::solve;

@@ -1,11 +1,10 @@
 -- Where the leftmost failed slot stands, the left edge, the rightmost of a kind: lemmas of the laws.
-use Rattle.std.proofs.Common.{◌≡◌, ℕ, zero, suc, ◌+◌, ◌-◌, ◌<◌, ◌≤◌, Bool, true, false, ◌&&◌, ◌||◌, not, nat_lt, cond, if◌then◌else◌, List, [], ◌∷◌, ◌++◌, length, take, Option, Some, None, refl, ap, ap₂, sym, ◌∙◌, arith}
+use Rattle.std.proofs.Common.{◌≡◌, ℕ, suc, ◌+◌, ◌-◌, ◌<◌, Bool, true, false, ◌&&◌, ◌||◌, not, nat_lt, cond, if◌then◌else◌, List, [], ◌∷◌, ◌++◌, length, Option, Some, None, refl, ap, ap₂, sym, ◌∙◌, arith}
 use Rattle.std.specs.Prelude.{sum_by, position}
 use Rattle.std.specs.List.{list_any, list_all, position_or_len, prefix_len}
 use Rattle.std.proofs.Math.Seq.{take-append_seam}
-use Rattle.std.proofs.lemmas.Bool.{false≢true, lt-ltb, le-ltb}
+use Rattle.std.proofs.lemmas.Bool.{false≢true, lt-ltb, le-ltb, and_parts, or_parts, and_right, not_from_true}
 use Rattle.std.proofs.lemmas.List.{length-append}
-use Rattle.std.proofs.lemmas.List.Folds.{list_any-append, list_all-append}
 use Rattle.std.proofs.lemmas.List.Sums.{sum_by-cons}
 use Rattle.ap_frames.specs.declared.slots.Slot.{Slot}
 use Rattle.ap_frames.specs.declared.slots.Stand.{Stand}
@@ -18,20 +17,12 @@ use Rattle.ap_frames.specs.Slots.{has_answer, stands_answered, ends, is_failure,
 use Rattle.ap_frames.specs.Verdicts.{left_edge, ended_cost, leftmost_ending, charge, place_behind, rightmost, next_redo, charged, unless_failed, are_harmless, by_ending, after_failure, drains, in_first, in_later, judged}
 use Rattle.ap_frames.specs.Laws.{EdgeLaw, RedoLaw, VerdictLaw}
 
-pub both : (a b : Bool) → (a && b) ≡ true → (a ≡ true) × (b ≡ true)
-both true b h = (refl, h)
-both false b h = absurd (false≢true h)
-
-pub neither : (a b : Bool) → (a || b) ≡ false → (a ≡ false) × (b ≡ false)
-neither false b h = (refl, h)
-neither true b h = absurd (false≢true (sym h))
-
 -- ---- the leftmost of a kind
 
 prefix-behind : {A : Type 0} (f : A → Bool) (ls rs : List A) (x : A) → list_any f ls ≡ false → f x ≡ true → position_or_len f (ls ++ x ∷ rs) ≡ length ls
 prefix-behind f [] rs x h e = ap (λ b. cond (not b) (1 + position_or_len f rs) 0) e
 prefix-behind f (l ∷ ls) rs x h e =
-    let k = neither (f l) (list_any f ls) h in
+    let k = or_parts (f l) (list_any f ls) h in
     let m : 1 + length ls ≡ suc (length ls) = omega arith in
     ap (λ b. cond (not b) (1 + position_or_len f (ls ++ x ∷ rs)) 0) k.0 ∙ ap (λ n. 1 + n) (prefix-behind f ls rs x k.1 e) ∙ m
 
@@ -44,7 +35,7 @@ position-behind f ls rs x h e =
 prefix-none : {A : Type 0} (f : A → Bool) (xs : List A) → list_any f xs ≡ false → position_or_len f xs ≡ length xs
 prefix-none f [] h = refl
 prefix-none f (x ∷ xs) h =
-    let k = neither (f x) (list_any f xs) h in
+    let k = or_parts (f x) (list_any f xs) h in
     let m : 1 + length xs ≡ suc (length xs) = omega arith in
     ap (λ b. cond (not b) (1 + position_or_len f xs) 0) k.0 ∙ ap (λ n. 1 + n) (prefix-none f xs k.1) ∙ m
 
@@ -56,7 +47,7 @@ position-none f xs h =
 
 pub rightmost-none : {A : Type 0} (f : A → Bool) (xs : List A) → list_any f xs ≡ false → rightmost f xs ≡ None
 rightmost-none f [] h = refl
-rightmost-none f (x ∷ xs) h = let k = neither (f x) (list_any f xs) h in ap₂ place_behind (rightmost-none f xs k.1) k.0
+rightmost-none f (x ∷ xs) h = let k = or_parts (f x) (list_any f xs) h in ap₂ place_behind (rightmost-none f xs k.1) k.0
 
 pub rightmost-here : {A : Type 0} (f : A → Bool) (ls rs : List A) (x : A) → f x ≡ true → list_any f rs ≡ false → rightmost f (ls ++ x ∷ rs) ≡ Some (length ls + 1)
 rightmost-here f [] rs x e h = ap₂ place_behind (rightmost-none f rs h) e
@@ -69,13 +60,13 @@ rightmost-here f (l ∷ ls) rs x e h =
 pub edge-answered : {S T : Type 0} (xs : List (Slot S T)) → list_all has_answer xs ≡ true → left_edge xs ≡ sum_by cost_of xs
 edge-answered [] h = refl
 edge-answered (x ∷ xs) h =
-    let k = both (has_answer x) (list_all has_answer xs) h in
+    let k = and_parts (has_answer x) (list_all has_answer xs) h in
     ap (λ b. if b then cost_of x + left_edge xs else cost_of x) k.0 ∙ ap (λ n. cost_of x + n) (edge-answered xs k.1) ∙ sym (sum_by-cons cost_of x xs)
 
 pub edge-first : {S T : Type 0} (ls rs : List (Slot S T)) (x : Slot S T) → list_all has_answer ls ≡ true → has_answer x ≡ false → left_edge (ls ++ x ∷ rs) ≡ sum_by cost_of ls + cost_of x
 edge-first [] rs x h e = let m : cost_of x ≡ 0 + cost_of x = omega arith in ap (λ b. if b then cost_of x + left_edge rs else cost_of x) e ∙ m
 edge-first (l ∷ ls) rs x h e =
-    let k = both (has_answer l) (list_all has_answer ls) h in
+    let k = and_parts (has_answer l) (list_all has_answer ls) h in
     let a : left_edge (l ∷ (ls ++ x ∷ rs)) ≡ cost_of l + left_edge (ls ++ x ∷ rs) = ap (λ b. if b then cost_of l + left_edge (ls ++ x ∷ rs) else cost_of l) k.0 in
     let s = sum_by-cons cost_of l ls in
     let m : cost_of l + (sum_by cost_of ls + cost_of x) ≡ (cost_of l + sum_by cost_of ls) + cost_of x = omega arith in
@@ -84,13 +75,13 @@ edge-first (l ∷ ls) rs x h e =
 pub ended-first : {S T : Type 0} (ls rs : List (Slot S T)) (x : Slot S T) → list_all has_answer ls ≡ true → has_answer x ≡ false → ended_cost (ls ++ x ∷ rs) ≡ cost_of x
 ended-first [] rs x h e = ap (λ b. if b then ended_cost rs else cost_of x) e
 ended-first (l ∷ ls) rs x h e =
-    let k = both (has_answer l) (list_all has_answer ls) h in
+    let k = and_parts (has_answer l) (list_all has_answer ls) h in
     ap (λ b. if b then ended_cost (ls ++ x ∷ rs) else cost_of l) k.0 ∙ ended-first ls rs x k.1 e
 
 pub ending-first : {S T : Type 0} (ls rs : List (Slot S T)) (x : Slot S T) → list_all has_answer ls ≡ true → has_answer x ≡ false → leftmost_ending (ls ++ x ∷ rs) ≡ ending_of x
 ending-first [] rs x h e = ap (λ b. if b then leftmost_ending rs else ending_of x) e
 ending-first (l ∷ ls) rs x h e =
-    let k = both (has_answer l) (list_all has_answer ls) h in
+    let k = and_parts (has_answer l) (list_all has_answer ls) h in
     ap (λ b. if b then leftmost_ending (ls ++ x ∷ rs) else ending_of l) k.0 ∙ ending-first ls rs x k.1 e
 
 -- ---- verdicts
@@ -106,7 +97,7 @@ answered-stands GivenBack h = refl
 
 pub answered-unfailed : {S T : Type 0} (xs : List (Slot S T)) → list_all has_answer xs ≡ true → list_any has_failed xs ≡ false
 answered-unfailed [] h = refl
-answered-unfailed (x ∷ xs) h = let k = both (has_answer x) (list_all has_answer xs) h in ap₂ (λ a b. a || b) (answered-stands x.stand k.0) (answered-unfailed xs k.1)
+answered-unfailed (x ∷ xs) h = let k = and_parts (has_answer x) (list_all has_answer xs) h in ap₂ (λ a b. a || b) (answered-stands x.stand k.0) (answered-unfailed xs k.1)
 
 pub failed-stands : {S : Type 0} (y : Stand S) → is_failure (ends y) ≡ true → stands_answered y ≡ false
 failed-stands (Answered a) h = absurd (false≢true h)
@@ -135,10 +126,6 @@ all-fails f (l ∷ ls) ms y e = ap (λ b. f l && b) (all-fails f ls ms y e) ∙ 
     and-false : (b : Bool) → (b && false) ≡ false
     and-false true = refl
     and-false false = refl
-
-not-safe : (a b : Bool) → b ≡ true → (a && not b) ≡ false
-not-safe true b e = ap not e
-not-safe false b e = refl
 
 pub edges : (S T : Type 0) → EdgeLaw S T
 edges S T = record {
@@ -171,10 +158,10 @@ drains-first {S} {T} r ls ms rs y x h e m f =
     by o = drains r c o (unless_failed r c xs)
 
     loud : y.is_loud ≡ true
-    loud = (both y.is_loud (has_more y) e).0
+    loud = (and_parts y.is_loud (has_more y) e).0
 
     harmful : are_harmless (ls ++ y ∷ ms) ≡ false
-    harmful = ap₂ (λ a b. a || b) (all-fails is_quiet ls ms y (ap not loud)) (all-fails is_safe ls ms y (not-safe (has_answer y) (is_loud_with_more y) e))
+    harmful = ap₂ (λ a b. a || b) (all-fails is_quiet ls ms y (ap not loud)) (all-fails is_safe ls ms y (and_right (has_answer y) (not (is_loud_with_more y)) (not_from_true (is_loud_with_more y) e)))
 
 pub verdicts : (S T : Type 0) → VerdictLaw S T
 verdicts S T = record {

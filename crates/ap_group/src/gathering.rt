@@ -11,8 +11,7 @@ ghost use Rattle.ap_group.specs.Turns.{IsPushed, TurnsTo, ArePushedOrCut, LeadsT
 use crate::checking::{Checked, check_all};
 use crate::goals::Goals;
 use ap_cells::{Cells, Walk};
-use ap_codecheck::Sound;
-use ap_control::{instruction_at, run_to_transfer};
+use ap_control::{Sound, instruction_at, run_to_transfer};
 use ap_instr::{Code, Instr, Predicate};
 use ap_marks::Marks;
 use ap_term::NoMemory;

@@ -1,5 +1,9 @@
 -- What a machine stands for that has a tuple's places in its argument registers, and nothing else.
 use Rattle.std.proofs.Common.{◌≡◌, ℕ, zero, suc, ◌+◌, ◌-◌, ◌<◌, ◌≤◌, true, if◌then◌else◌, List, [], ◌∷◌, map, length, Option, Some, slice_get, refl, ap, ap₂, sym, ◌∙◌, subst, arith}
+use Rattle.ap_tracked.specs.Sets.{SameSet}
+use Rattle.ap_term.proofs.UpToNames.{instance-same}
+use Rattle.ap_term.specs.Tuples.{tuple_under}
+use Rattle.ap_instr.proofs.Applied.{instance-applied, arguments-applied}
 use Rattle.ap_term.specs.declared.fixed.TheConstants.{QUERY}
 use Rattle.ap_term.specs.Tree.{Tree, Trees, var, atom, none, more, count_trees, append_trees}
 use Rattle.ap_term.specs.Substitution.{instance, instance_all, shift}
@@ -26,9 +30,8 @@ use Rattle.ap_instr.specs.Step.{Step, builtin as builtin_step, proceed}
 use Rattle.ap_instr.specs.StandsFor.{IsOfBuiltin, ReadsAt, asked}
 use Rattle.ap_match.specs.Fits.{Fits}
 use Rattle.ap_tracked.specs.Instances.{Inst}
-use Rattle.ap_resolution.specs.Instances.{SameSet}
 use Rattle.ap_steps.specs.Moves.{held}
-use Rattle.ap_steps.specs.Standing.{Standing, tuple_under, AtCall, InCode}
+use Rattle.ap_steps.specs.Standing.{Standing, AtCall, InCode}
 use Rattle.ap_instr.specs.Steps.{steps_from}
 use Rattle.ap_standing.specs.Machine.{calling, inside}
 use Rattle.ap_standing.specs.Holds.{IsApart, AtCallOf, Holds}
@@ -36,7 +39,6 @@ use Rattle.ap_standing.specs.Laws.{machine}
 use Rattle.ap_standing.proofs.Machines.{steps-at}
 use Rattle.ap_standing.proofs.Named.{named-applied, named-placed}
 use Rattle.ap_machine.specs.Started.{called}
-use Rattle.ap_rejoin.proofs.Names.{instance-same}
 use Rattle.ap_machine.proofs.Tuples.{count-same}
 
 -- ---- places one behind another
@@ -60,17 +62,9 @@ spread-fits cs k f e p (suc n) l = ap₂ more (e p (omega arith)) (spread-fits c
 
 -- ---- names on arguments
 
-instance-applied : (f : ℕ → Tree) (p : ℕ) (ts : Trees) → instance f (applied p ts) ≡ applied p (instance_all f ts)
-instance-applied f p none = refl
-instance-applied f p (more t ts) = refl
-
 Local-applied : (P : ℕ → Type 0) (p : ℕ) (ts : Trees) → LocalAll P ts → Local P (applied p ts)
 Local-applied P p none h = tt
 Local-applied P p (more t ts) h = h
-
-arguments-applied : (p : ℕ) (ts : Trees) → arguments (applied p ts) ≡ ts
-arguments-applied p none = refl
-arguments-applied p (more t ts) = refl
 
 append-none : (ts : Trees) → append_trees ts none ≡ ts
 append-none none = refl

@@ -1,11 +1,11 @@
 -- Choice points that are kept for a clause whose head unifies with the call.
 use Rattle.std.proofs.Common.{◌≡◌, ℕ, List, [], ◌∷◌, ◌++◌, refl, ap, sym, ◌∙◌, subst}
 use Rattle.std.specs.List.{AllByRecursion}
+use Rattle.ap_tracked.specs.Sets.{IsSetOf}
 use Rattle.ap_term.specs.Tree.{Tree, Trees, append_trees}
 use Rattle.ap_tracked.specs.Tracked.{Tracked}
 use Rattle.ap_cells.specs.declared.cells.Raw.{Raw}
 use Rattle.ap_instr.specs.Code.{Compiled}
-use Rattle.ap_resolution.specs.Instances.{IsSetOf}
 use Rattle.ap_steps.specs.Moves.{held}
 use Rattle.ap_steps.specs.Standing.{InCode}
 use Rattle.ap_instr.specs.Steps.{steps_from}

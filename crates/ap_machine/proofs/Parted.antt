@@ -4,6 +4,7 @@ use Rattle.std.specs.Prelude.{IfOk, IfSome, OnOk}
 use Rattle.std.specs.List.{AllByRecursion}
 use Rattle.std.proofs.lemmas.List.{length-map, length-replicate, drop_at}
 use Rattle.std.proofs.Math.Seq.{take-append_seam}
+use Rattle.ap_group.specs.Meets.{AreInside}
 use Rattle.ap_cells.specs.declared.cells.Raw.{Raw}
 use Rattle.ap_cells.specs.Store.{Store, Keeps}
 use Rattle.ap_cells.specs.Walks.{Each}
@@ -14,7 +15,6 @@ use Rattle.ap_group.specs.declared.gathering.Gathered.{Gathered}
 use Rattle.ap_group.specs.Groups.{Pushed}
 use Rattle.ap_group.specs.Gathers.{IsGathered, IsPlainWay, IsForcedWay, IsUnchecked, IsCutOff}
 use Rattle.ap_group.specs.Turns.{IsKnown, IsInside, HasPushed}
-use Rattle.ap_rejoin.specs.Meets.{AreInside}
 use Rattle.ap_steps.specs.Moves.{held, HoldPlaces}
 use Rattle.ap_steps.specs.Standing.{Return}
 use Rattle.ap_standing.specs.Machine.{inside, Machine, AreWithin}

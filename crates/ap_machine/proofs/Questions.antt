@@ -1,10 +1,11 @@
 -- The query is the only clause of its predicate.
-use Rattle.std.proofs.Common.{◌≡◌, ℕ, zero, suc, ◌+◌, Bool, true, false, cond, ◌&&◌, nat_eq, List, [], ◌∷◌, ◌++◌, Option, Some, None, slice_get, refl, ap, ap₂, sym, ◌∙◌, subst, arith}
+use Rattle.std.proofs.Common.{◌≡◌, ℕ, ◌+◌, Bool, true, false, cond, ◌&&◌, nat_eq, List, [], ◌∷◌, ◌++◌, Option, Some, None, slice_get, refl, ap, ap₂, sym, ◌∙◌, subst, arith}
 use Rattle.std.specs.Prelude.{◌==◌, not}
 use Rattle.std.specs.Option.{option_eq}
 use Rattle.std.proofs.lemmas.Bool.{false≢true}
 use Rattle.std.specs.List.{AllZip}
 use Rattle.std.proofs.lemmas.List.Elements.{filter-append}
+use Rattle.ap_term.proofs.TreeLists.{count_trees-push, count_trees-variables}
 use Rattle.ap_term.specs.declared.fixed.TheConstants.{QUERY}
 use Rattle.ap_term.specs.Tree.{Tree, Trees, var, int, atom, node, none, more, count_trees, push_tree}
 use Rattle.ap_term.specs.Goals.{Clause, Program, Query, joined}
@@ -55,14 +56,6 @@ own-head : (q : Predicate) (a : ℕ) (ts : Trees) → q.name ≡ a → q.arity �
 own-head q a none e k = ap₂ (λ m n. (a == m) && (n == 0)) e k ∙ ap (λ b. b && true) (same-number a)
 own-head q a (more t ts) e k = ap₂ (λ m n. (a == m) && (count_trees (more t ts) == n)) e k ∙ ap₂ (λ b c. b && c) (same-number a) (same-number (count_trees (more t ts)))
 
-count-push : (ts : Trees) (t : Tree) → count_trees (push_tree ts t) ≡ count_trees ts + 1
-count-push none t = refl
-count-push (more u ts) t = ap (λ n. n + 1) (count-push ts t)
-
-pub count-variables : (n : ℕ) → count_trees (variables n) ≡ n
-count-variables zero = refl
-count-variables (suc n) = count-push (variables n) (var (suc n)) ∙ omega (arith, count-variables n)
-
 -- `?-` names no built-in goal
 query-apart : (ts : Trees) → builtin (applied QUERY ts) ≡ None
 query-apart none = refl
@@ -75,7 +68,7 @@ module _ (code : Compiled) (p : Program) (q : Query) (is : IsAsked code p q) whe
   only =
       let r = is.stands.predicate in
       let rest : clauses_of r q.lifted ≡ [] = other-clauses r QUERY is.stands.named q.lifted is.lifted in
-      let own : is_head_of r (asked q).head ≡ true = own-head r QUERY (variables q.question.vars) is.stands.named (is.stands.arity ∙ sym (count-variables q.question.vars)) in
+      let own : is_head_of r (asked q).head ≡ true = own-head r QUERY (variables q.question.vars) is.stands.named (is.stands.arity ∙ sym (count_trees-variables q.question.vars)) in
       filter-append (λ (c : Clause). is_head_of r c.head) p (asked q ∷ q.lifted)
       ∙ ap (λ cs. cs ++ clauses_of r (asked q ∷ q.lifted)) (other-clauses r QUERY is.stands.named p is.program)
       ∙ ap (λ b. cond b (asked q ∷ clauses_of r q.lifted) (clauses_of r q.lifted)) own

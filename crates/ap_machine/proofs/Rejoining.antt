@@ -1,12 +1,12 @@
 -- A search behind a group, whose goals' answers were copied in.
 use Rattle.std.proofs.Common.{◌≡◌, ℕ, zero, suc, ◌+◌, ◌<◌, ◌≤◌, true, false, List, [], ◌∷◌, ◌++◌, length, take, drop, map, slice_get, Some, refl, ap, sym, ◌∙◌, subst, arith}
+use Rattle.ap_group.specs.Meets.{MeetAll, AreInside}
 use Rattle.ap_term.specs.Tree.{Trees}
 use Rattle.ap_cells.specs.Store.{Store, Keeps}
 use Rattle.ap_instr.specs.Code.{Compiled}
 use Rattle.ap_match.specs.Fits.{Fits, Becomes, Answered}
 use Rattle.ap_environments.specs.Kept.{Forked, Kept}
 use Rattle.ap_group.specs.Groups.{Pushed}
-use Rattle.ap_rejoin.specs.Meets.{MeetAll, AreInside}
 use Rattle.ap_steps.specs.Standing.{Return}
 use Rattle.ap_standing.specs.Machine.{AreWithin}
 use Rattle.ap_machine.specs.declared.state.Now.{Now as Kind}

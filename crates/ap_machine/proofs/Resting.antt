@@ -1,6 +1,7 @@
 -- What the states are where a search comes to rest.
 use Rattle.std.proofs.Common.{◌≡◌, ℕ, ◌+◌, ◌<◌, List, [], ◌∷◌, ◌++◌, length, slice_get, Some, refl, ap, ap₂, sym, ◌∙◌, subst}
 use Rattle.std.specs.List.{AllByRecursion}
+use Rattle.ap_tracked.specs.Sets.{SameSet, IsSetOf}
 use Rattle.ap_term.specs.Tree.{Tree, Trees, none, more, append_trees}
 use Rattle.ap_term.specs.Substitution.{instance_all}
 use Rattle.ap_tracked.specs.Tracked.{Goal, Tracked}
@@ -15,7 +16,6 @@ use Rattle.ap_instr.specs.Step.{Step, builtin as builtin_step}
 use Rattle.ap_instr.specs.Runs.{applied, spread, IsOpen, AsksOpenly}
 use Rattle.ap_match.proofs.Maps.{fits-own}
 use Rattle.ap_tracked.specs.Instances.{Inst}
-use Rattle.ap_resolution.specs.Instances.{SameSet, IsSetOf}
 use Rattle.ap_steps.specs.Moves.{held}
 use Rattle.ap_steps.specs.Standing.{AtCall, InCode}
 use Rattle.ap_instr.specs.Steps.{steps_from}

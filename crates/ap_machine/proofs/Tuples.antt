@@ -1,11 +1,11 @@
 -- A tuple of places, in two spellings, and how many terms it has.
 use Rattle.std.proofs.Common.{◌≡◌, ℕ, List, [], ◌∷◌, length, refl, ap, sym, ◌∙◌, arith}
+use Rattle.ap_term.specs.Tuples.{tuple_under}
 use Rattle.ap_term.specs.Tree.{Tree, Trees, more, count_trees}
 use Rattle.ap_term.specs.UpToNames.{SameUpToNames}
 use Rattle.ap_term.proofs.TreeLists.{count_trees-instance_all}
 use Rattle.ap_cells.specs.Trees.{tree_at}
 use Rattle.ap_copy.specs.Copies.{tuple_at}
-use Rattle.ap_steps.specs.Standing.{tuple_under}
 
 pub tuple_at-under : (ts : List Tree) (rs : List ℕ) → tuple_at ts rs ≡ tuple_under (tree_at ts) rs
 tuple_at-under ts [] = refl

@@ -1,6 +1,7 @@
 -- What a search is after a group's code was run up to the fork, or elsewhere.
 use Rattle.std.specs.Prelude.{◌≡◌, ℕ, ◌+◌, ◌<◌, ◌≤◌, ◌⊎◌, List, [], ◌∷◌, ◌++◌, length, map, Option, Some, None}
 use Rattle.std.specs.List.{AllByRecursion}
+use Rattle.ap_group.specs.Meets.{AreInside}
 use Rattle.ap_cells.specs.Store.{Store, undone, IsMark}
 use Rattle.ap_instr.specs.Code.{Compiled}
 use Rattle.ap_environments.specs.Kept.{Kept}
@@ -10,7 +11,6 @@ use Rattle.ap_group.specs.declared.gathering.Gathered.TheVariants.{Pushed as For
 use Rattle.ap_group.specs.Groups.{Pushed, Forked}
 use Rattle.ap_group.specs.Gathers.{IsGathered, FailsCheck, IsPlainWay, IsUnchecked, IsCutOff}
 use Rattle.ap_group.specs.Turns.{IsKnown, HasPushed, LeadsPlain}
-use Rattle.ap_rejoin.specs.Meets.{AreInside}
 use Rattle.ap_steps.specs.Moves.{held}
 use Rattle.ap_steps.specs.Standing.{Return}
 use Rattle.ap_standing.specs.Machine.{Machine, inside, failed, AreWithin}

@@ -1,9 +1,9 @@
 -- A search at its newest fork, and behind the group that was forked there.
 use Rattle.std.specs.Prelude.{◌≡◌, ℕ, Bool, true, false, List, [], ◌∷◌, length}
+use Rattle.ap_group.specs.Meets.{MeetAll}
 use Rattle.ap_term.specs.Tree.{Tree, Trees}
 use Rattle.ap_match.specs.Fits.{Fits, Becomes}
 use Rattle.ap_group.specs.Groups.{Pushed}
-use Rattle.ap_rejoin.specs.Meets.{MeetAll}
 use Rattle.ap_standing.specs.Machine.{returning, failed}
 use Rattle.ap_machine.specs.View.{Segment, Paused}
 

@@ -1,5 +1,6 @@
 -- Where a search may come to rest, and what a list of states begins with.
 use Rattle.std.specs.Prelude.{◌≡◌, ℕ, List, [], ◌∷◌, slice_get, Some, None}
+use Rattle.ap_term.specs.Tuples.{tuple_under}
 use Rattle.ap_term.specs.Tree.{Trees}
 use Rattle.ap_tracked.specs.Tracked.{Tracked}
 use Rattle.ap_term.specs.UpToNames.{SameUpToNames}
@@ -9,7 +10,6 @@ use Rattle.ap_instr.specs.declared.instruction.Instr.TheVariants.{Builtin as bui
 use Rattle.ap_instr.specs.declared.compiled.Predicate.{Predicate}
 use Rattle.ap_instr.specs.Code.{Compiled}
 use Rattle.ap_group.specs.Gathers.{IsGroupAt}
-use Rattle.ap_steps.specs.Standing.{tuple_under}
 use Rattle.ap_standing.specs.Machine.{Now, calling, inside, returning, failed, Machine}
 
 -- a call of a predicate of the table, or a built-in goal

@@ -6,7 +6,7 @@ ghost use Rattle.ap_term.specs.UpToNames.{SameUpToNames};
 ghost use Rattle.ap_cells.specs.Trees.{tree_at, trees};
 ghost use Rattle.ap_instr.specs.Code.{Compiled};
 ghost use Rattle.ap_group.specs.Groups.{Pushed};
-ghost use Rattle.ap_steps.specs.Standing.{tuple_under};
+ghost use Rattle.ap_term.specs.Tuples.{tuple_under};
 ghost use Rattle.ap_standing.specs.Machine.{failed};
 ghost use Rattle.ap_machine.specs.View.{Segment, IsFor};
 ghost use Rattle.ap_machine.specs.Forks.{newest_goals, IsAtFork, IsBehindFork};

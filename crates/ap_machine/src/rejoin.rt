@@ -6,7 +6,7 @@ ghost use Rattle.ap_cells.specs.Store.{Keeps};
 ghost use Rattle.ap_environments.specs.Kept.{Forked};
 ghost use Rattle.ap_instr.specs.Code.{Compiled};
 ghost use Rattle.ap_match.specs.Fits.{Answered};
-ghost use Rattle.ap_rejoin.specs.Meets.{MeetAll, AreInside};
+ghost use Rattle.ap_group.specs.Meets.{MeetAll, AreInside};
 ghost use Rattle.ap_standing.specs.Machine.{failed};
 ghost use Rattle.ap_machine.specs.Sane.{HasFrames};
 ghost use Rattle.ap_machine.specs.View.{Segment, pushed_of, IsFor};

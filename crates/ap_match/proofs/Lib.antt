@@ -1,3 +1,4 @@
 pub mod Inside
 pub mod Maps
 pub mod Matches
+pub mod Tuples

@@ -2,7 +2,7 @@
 use Rattle.std.proofs.Common.{◌≡◌, ℕ, zero, suc, ◌+◌, ◌-◌, ◌<◌, ◌≤◌, ◌⊎◌, inl, inr, Bool, true, false, nat_lt, if◌then◌else◌, List, [], ◌∷◌, ◌++◌, length, Option, Some, None, refl, ap, sym, ◌∙◌, subst, arith}
 use Rattle.std.specs.Prelude.{position}
 use Rattle.std.specs.List.{list_any, list_all}
-use Rattle.std.proofs.lemmas.Bool.{false≢true, ltb-false}
+use Rattle.std.proofs.lemmas.Bool.{false≢true, ltb-false, and_parts, or_parts}
 use Rattle.ap_term.specs.Tree.{Tree}
 use Rattle.ap_core.specs.declared.tasks.Round.TheVariants as core_round
 use Rattle.ap_core.specs.declared.tasks.Busy.TheVariants as busy_kind
@@ -25,7 +25,7 @@ use Rattle.ap_frames.specs.Slots.{stands_answered, has_answer, has_failed, is_lo
 use Rattle.ap_frames.specs.Rows.{Row, at_place, standing, stood}
 use Rattle.ap_frames.specs.Verdicts.{ended_cost, leftmost_ending, charge, place_behind, rightmost, charged, by_ending, unless_failed, are_harmless, drains, after_failure, in_first, judged, verdict}
 use Rattle.ap_frames.specs.Rounds.{begun_in, run_in, resumed}
-use Rattle.ap_frames.proofs.Failing.{both, neither, first-failed, first-unfailed}
+use Rattle.ap_frames.proofs.Failing.{first-failed, first-unfailed}
 use Rattle.ap_parcall_laws.specs.Alike.{AreAlike, StandsAs, IsDrained, IsRound}
 use Rattle.ap_parcall_laws.specs.Laws.{DrainLaw}
 use Rattle.ap_parcall_laws.proofs.Rows.{Failure, find-failure}
@@ -129,7 +129,7 @@ drain-at : {S T : Type 0} (loud : Tree → Bool) (r x j b e : ℕ) (ls ms : List
     × (ended_cost (at_place (standing (Running Drained)) j (ls ++ ms)) ≡ 0)
 drain-at loud r x j b e [] ms w h a k u d = absurd (omega (arith, k))
 drain-at loud r x j b e (l ∷ ls) ms no_slot h a k u d = absurd h
-drain-at {S} {T} loud r x zero b e (l ∷ ls) ms (slot g f y w) (q, s, h) a k u d = go (held-of r l.stand (length (tuples_of l)) y (both (has_answer l) (list_all has_answer ls) a).0 (neither (conditions.is_again y) (conditions.some_is_again w) u).0 s)
+drain-at {S} {T} loud r x zero b e (l ∷ ls) ms (slot g f y w) (q, s, h) a k u d = go (held-of r l.stand (length (tuples_of l)) y (and_parts (has_answer l) (list_all has_answer ls) a).0 (or_parts (conditions.is_again y) (conditions.some_is_again w) u).0 s)
   where
     go : (m : List Answer) × (z : Answer) × (t : Task) × (y ≡ held m z t (cost_at l.stand))
         → AreAlike loud r (standing (Running Drained) l ∷ (ls ++ ms)) (slot g f (drained_with x e y) w) × IsDrained (conditions.left_edge r b (slot g f y w)) r 0 b (slot g f (drained_with x e y) w) × (ended_cost (standing (Running Drained) l ∷ (ls ++ ms)) ≡ 0)
@@ -140,8 +140,8 @@ drain-at {S} {T} loud r x zero b e (l ∷ ls) ms (slot g f y w) (q, s, h) a k u 
           refl,
         )
 drain-at {S} {T} loud r x (suc j) b e (l ∷ ls) ms (slot g f y w) (q, s, h) a k u d =
-    go (held-of r l.stand (length (tuples_of l)) y (both (has_answer l) (list_all has_answer ls) a).0 (neither (conditions.is_again y) (conditions.some_is_again w) u).0 s)
-    (λ c o. drain-at loud r x j (b + c) (e - c) ls ms w h (both (has_answer l) (list_all has_answer ls) a).1 (omega (arith, k)) (neither (conditions.is_again y) (conditions.some_is_again w) u).1 o)
+    go (held-of r l.stand (length (tuples_of l)) y (and_parts (has_answer l) (list_all has_answer ls) a).0 (or_parts (conditions.is_again y) (conditions.some_is_again w) u).0 s)
+    (λ c o. drain-at loud r x j (b + c) (e - c) ls ms w h (and_parts (has_answer l) (list_all has_answer ls) a).1 (omega (arith, k)) (or_parts (conditions.is_again y) (conditions.some_is_again w) u).1 o)
   where
     go : (m : List Answer) × (z : Answer) × (t : Task) × (y ≡ held m z t (cost_at l.stand))
         → ((c : ℕ) → (b + c) + (e - c) ≡ conditions.left_edge r (b + c) w → AreAlike loud r (at_place (standing (Running Drained)) j (ls ++ ms)) (drained_at x (e - c) (suc j) w)
@@ -162,7 +162,7 @@ drain-at {S} {T} loud r x (suc j) b e (l ∷ ls) ms (slot g f y w) (q, s, h) a k
         subst (λ o. IsDrained o r 0 (b + cost_at l.stand) (drained_at x (e - relation.cost_of y) (suc j) w)) (sym n1) w2 in (
           (q, s, w1),
           subst (λ o. IsDrained (conditions.left_edge r b (slot g f y w)) r 0 b (slot g f o (drained_at x (e - relation.cost_of y) (suc j) w))) (sym p) w3,
-          ap (λ o. if o then ended_cost (at_place (standing (Running Drained)) j (ls ++ ms)) else cost_at l.stand) (both (has_answer l) (list_all has_answer ls) a).0 ∙ z0.2,
+          ap (λ o. if o then ended_cost (at_place (standing (Running Drained)) j (ls ++ ms)) else cost_at l.stand) (and_parts (has_answer l) (list_all has_answer ls) a).0 ∙ z0.2,
         )
 
 -- ---- the whole

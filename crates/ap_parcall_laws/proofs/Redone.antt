@@ -4,7 +4,7 @@ use Rattle.std.specs.List.{list_all}
 use Rattle.std.specs.Ordering.{nat_cmp}
 use Rattle.std.specs.declared.cmp.Ordering.{Ordering}
 use Rattle.std.specs.declared.cmp.Ordering.TheVariants.{Less, Equal, Greater}
-use Rattle.std.proofs.lemmas.Bool.{false≢true, lt-ltb, le-ltb, eq-eqb, ne_eqb}
+use Rattle.std.proofs.lemmas.Bool.{false≢true, lt-ltb, le-ltb, eq-eqb, ne_eqb, and_parts}
 use Rattle.ap_term.specs.Tree.{Tree}
 use Rattle.ap_core.specs.declared.tasks.Busy.{Busy}
 use Rattle.ap_core.specs.declared.tasks.Busy.TheVariants as busy_kind
@@ -22,7 +22,6 @@ use Rattle.ap_frames.specs.Slots.{stands_answered, has_answer, has_more, more_at
 use Rattle.ap_frames.specs.Rows.{Row, at_place, standing, stood}
 use Rattle.ap_frames.specs.Verdicts.{place_behind, next_redo}
 use Rattle.ap_frames.specs.Rounds.{numbered, reset, reset_by, without_cost, new_round, begun_in, run_in, resumed}
-use Rattle.ap_frames.proofs.Failing.{both}
 use Rattle.ap_parcall_laws.specs.Alike.{AreAlike, StandsAs, HasAnswer, AreStored, AreStoredBehind, IsUndrained, IsRound}
 use Rattle.ap_parcall_laws.specs.Laws.{RedoLaw}
 use Rattle.ap_parcall_laws.proofs.Rows.{more-alike}
@@ -148,7 +147,7 @@ redo-alike {S} {T} loud q r i n j (x ∷ xs) (slot g k y w) (l, s, h) e m a b =
         let e3 : n < i = omega (arith, e0, e1, m) in
         let e4 : j ≡ suc p = omega (arith, e1) in
         let a1 : (has_answer x && list_all has_answer (take (p - 1) xs)) ≡ true = subst (λ v. list_all has_answer (take v (x ∷ xs)) ≡ true) (sym e2) a in
-        let a2 = both (has_answer x) (list_all has_answer (take (p - 1) xs)) a1 in
+        let a2 = and_parts (has_answer x) (list_all has_answer (take (p - 1) xs)) a1 in
         let b1 : AreStoredBehind p xs w = subst (λ v. AreStoredBehind v (x ∷ xs) (slot g k y w)) e4 b in
         let z = rec p f (m ∙ ap (λ v. n + v) (sym e1)) (a2.1, b1) in
         from (suc (p - 1)) Less true e2 (cmp-less n i e3) (ap is_some f)

@@ -1,7 +1,7 @@
 -- The slots behind a redone one that has answered are replayed.
 use Rattle.std.proofs.Common.{◌≡◌, ℕ, suc, ◌+◌, ◌-◌, ◌<◌, ◌≤◌, inl, inr, Bool, true, false, ◌&&◌, nat_lt, if◌then◌else◌, List, [], ◌∷◌, length, take, refl, ap, sym, ◌∙◌, subst, arith}
 use Rattle.std.specs.List.{list_all}
-use Rattle.std.proofs.lemmas.Bool.{false≢true, ltb-true, ltb-false}
+use Rattle.std.proofs.lemmas.Bool.{false≢true, ltb-true, ltb-false, and_parts}
 use Rattle.ap_term.specs.Tree.{Tree}
 use Rattle.ap_core.specs.Tasks as core
 use Rattle.ap_core.specs.Tasks.{Answer, Task, no_slot, slot, Progress, idle, stored, busy, held, redone, again, drained}
@@ -14,7 +14,6 @@ use Rattle.ap_frames.specs.declared.slots.Run.TheVariants.{First, Redone, Draine
 use Rattle.ap_frames.specs.declared.slots.Ending.{Ending}
 use Rattle.ap_frames.specs.Slots.{stands_answered, has_answer, tuples_of}
 use Rattle.ap_frames.specs.Rounds.{numbered, behind, replayed, replayed_stand}
-use Rattle.ap_frames.proofs.Failing.{both}
 use Rattle.ap_parcall_laws.specs.Alike.{AreAlike, StandsAs, HasAnswer, EndsAs}
 use Rattle.ap_parcall_laws.specs.Laws.{ReplayLaw}
 
@@ -77,7 +76,7 @@ replay-alike {S} {T} loud r i n (x ∷ xs) (slot g k y w) (l, s, h) a = go (nat_
     go false e rec =
         let m : (i + 1) - n ≡ suc ((i + 1) - (n + 1)) = omega (arith, ltb-false i n e) in
         let d : (has_answer x && list_all has_answer (take ((i + 1) - (n + 1)) xs)) ≡ true = subst (λ j. list_all has_answer (take j (x ∷ xs)) ≡ true) m a in
-        let b = both (has_answer x) (list_all has_answer (take ((i + 1) - (n + 1)) xs)) d in
+        let b = and_parts (has_answer x) (list_all has_answer (take ((i + 1) - (n + 1)) xs)) d in
         subst (λ c. AreAlike loud r ((if c then replayed x else x) ∷ numbered (behind replayed i) (n + 1) xs) (slot g k (relation.replayed y) (each_slot relation.replayed w))) (sym e)
         (l, stays-answered r x.stand (length (tuples_of x)) y b.0 s, rec b.1)
 

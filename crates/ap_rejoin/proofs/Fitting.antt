@@ -2,6 +2,9 @@
 use Rattle.std.proofs.Common.{◌≡◌, ℕ, zero, suc, ◌+◌, ◌-◌, ◌<◌, ◌≤◌, nat_lt, Bool, true, false, if◌then◌else◌, List, [], ◌∷◌, length, get_or, take, inl, inr, refl, sym, ap, ap₂, ◌∙◌, subst, arith}
 use Rattle.std.proofs.lemmas.Bool.{cases_lt, lt-ltb, le-ltb}
 use Rattle.std.proofs.lemmas.List.{get_or-take, take_all}
+use Rattle.ap_group.specs.Meets.{IsInstance}
+use Rattle.ap_term.specs.Tuples.{tuple_under}
+use Rattle.ap_term.proofs.TreeLists.{count_trees-instance_all, first-same, rest-same}
 use Rattle.ap_term.specs.Tree.{Tree, Trees, var, none, more, count_trees}
 use Rattle.ap_term.specs.Substitution.{instance, instance_all, shift}
 use Rattle.ap_term.proofs.Copies.{instance_all_twice}
@@ -16,14 +19,8 @@ use Rattle.ap_instr.specs.Runs.{spread}
 use Rattle.ap_match.specs.Fits.{Fits, Agree, Becomes, Answered}
 use Rattle.ap_match.proofs.Inside.{inside}
 use Rattle.ap_match.proofs.Matches.{Becomes-asked}
-use Rattle.ap_steps.specs.Standing.{tuple_under}
-use Rattle.ap_rejoin.specs.Meets.{IsInstance}
 
 -- ---- tuples
-
-count-instance : (f : ℕ → Tree) (ts : Trees) → count_trees (instance_all f ts) ≡ count_trees ts
-count-instance f none = refl
-count-instance f (more t ts) = ap (λ n. n + 1) (count-instance f ts)
 
 count-under : (k : ℕ → Tree) (rs : List ℕ) → count_trees (tuple_under k rs) ≡ length rs
 count-under k [] = refl
@@ -32,12 +29,6 @@ count-under k (r ∷ rs) = let e : count_trees (tuple_under k rs) ≡ length rs 
 count-span : (us : List Tree) (p n : ℕ) → count_trees (span us p n) ≡ n
 count-span us p zero = refl
 count-span us p (suc n) = let e : count_trees (span us (p + 1) n) ≡ n = count-span us (p + 1) n in omega arith
-
-first-same : {t u : Tree} {ts us : Trees} → more t ts ≡ more u us → t ≡ u
-first-same h = cc
-
-rest-same : {t u : Tree} {ts us : Trees} → more t ts ≡ more u us → ts ≡ us
-rest-same h = cc
 
 Each-at : (n : ℕ) (rs : List ℕ) → Each (λ r. r < n) rs → (i : ℕ) → i < length rs → get_or rs i 0 < n
 Each-at n [] h i l = absurd (omega arith)
@@ -54,11 +45,11 @@ still-inside n m l (r ∷ rs) h = (omega (arith, h.0), still-inside n m l rs h.1
 
 -- a span that is an instance has as many terms
 pub counted : (us : List Tree) (p n : ℕ) (f : ℕ → Tree) (ts : Trees) → span us p n ≡ instance_all f ts → n ≡ count_trees ts
-counted us p n f ts e = sym (count-span us p n) ∙ ap count_trees e ∙ count-instance f ts
+counted us p n f ts e = sym (count-span us p n) ∙ ap count_trees e ∙ count_trees-instance_all f ts
 
 -- an answer of another number of terms is met by no map
 pub other-count : (cs : List Raw) (rs : List ℕ) (ts : Trees) → (length rs ≡ count_trees ts → ⊥) → Answered cs cs (IsInstance rs ts) false
-other-count cs rs ts ne k f i = ne (sym (count-under k rs) ∙ ap count_trees i.1 ∙ count-instance i.0 ts)
+other-count cs rs ts ne k f i = ne (sym (count-under k rs) ∙ ap count_trees i.1 ∙ count_trees-instance_all i.0 ts)
 
 -- ---- an answer behind the cells
 

@@ -1,13 +1,13 @@
 -- Goals that are met by their answers one after another.
 use Rattle.std.proofs.Common.{◌≡◌, ℕ, zero, suc, ◌+◌, ◌<◌, ◌≤◌, false, List, [], ◌∷◌, length, slice_get, Some, inl, inr, refl, sym, ap, ◌∙◌, subst, arith}
 use Rattle.std.proofs.lemmas.Bool.{cases_lt}
+use Rattle.ap_group.specs.Meets.{MeetAll, IsInstance, AreInside}
 use Rattle.ap_term.specs.Tree.{Tree, Trees}
 use Rattle.ap_cells.specs.declared.cells.Raw.{Raw}
 use Rattle.ap_cells.specs.Walks.{Each}
 use Rattle.ap_match.specs.Fits.{Fits, Agree, Becomes, Answered}
 use Rattle.ap_match.proofs.Matches.{Becomes-asked}
 use Rattle.ap_group.specs.Groups.{Pushed}
-use Rattle.ap_rejoin.specs.Meets.{IsInstance, MeetAll, AreInside}
 use Rattle.ap_rejoin.proofs.Fitting.{tuple-agree, still-inside}
 
 -- the first n goals are met

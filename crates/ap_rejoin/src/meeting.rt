@@ -5,8 +5,8 @@ ghost use Rattle.ap_cells.specs.Store.{Keeps};
 ghost use Rattle.ap_cells.specs.Walks.{Each};
 ghost use Rattle.ap_instr.specs.Runs.{spread};
 ghost use Rattle.ap_match.specs.Fits.{Answered};
-ghost use Rattle.ap_rejoin.specs.Meets.{IsInstance, MeetAll, AreInside};
-ghost use Rattle.ap_steps.specs.Standing.{tuple_under};
+ghost use Rattle.ap_group.specs.Meets.{IsInstance, MeetAll, AreInside};
+ghost use Rattle.ap_term.specs.Tuples.{tuple_under};
 
 use ap_cells::Cells;
 use ap_copy::{Parcelled, copy_in};

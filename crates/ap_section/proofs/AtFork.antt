@@ -1,12 +1,12 @@
 -- What is read of the frame at which a section stands, and of its machine.
 use Rattle.std.proofs.Common.{◌≡◌, ◌∙◌, ℕ, zero, suc, ◌-◌, ◌<◌, ◌≤◌, List, [], ◌∷◌, length, slice_get, reverse, map, ap, sym, subst, refl, Some, get_or, rules, arith}
 use Rattle.std.specs.List.{AllByRecursion}
+use Rattle.ap_term.specs.Tuples.{tuple_under}
 use Rattle.ap_term.specs.Tree.{Trees, count_trees}
 use Rattle.ap_term.specs.UpToNames.{SameUpToNames}
 use Rattle.ap_cells.specs.Trees.{tree_at, trees}
 use Rattle.ap_instr.specs.Code.{Compiled}
 use Rattle.ap_group.specs.Groups.{Pushed}
-use Rattle.ap_steps.specs.Standing.{tuple_under}
 use Rattle.ap_tie.specs.Sections as seen
 use Rattle.ap_tie.specs.Sections.{section, Stack, bottom, parcall, rows}
 use Rattle.ap_tie.specs.Settled.{HasFailed}

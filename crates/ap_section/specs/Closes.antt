@@ -1,6 +1,7 @@
 -- What becomes of a section whose first frame is closed, forgotten or joined.
 use Rattle.std.specs.Prelude.{◌≡◌, ℕ, ◌+◌, ◌⊎◌, Bool, true, false, is_some, List, [], ◌∷◌, Option, Some, None, Result, IfOk, OnErr}
 use Rattle.std.specs.List.{AllByRecursion, list_any}
+use Rattle.ap_group.specs.Meets.{MeetAll}
 use Rattle.ap_term.specs.declared.memory.NoMemory.{NoMemory}
 use Rattle.ap_term.specs.Tree.{Tree, Trees}
 use Rattle.ap_frames.specs.declared.frame.Round.{Round}
@@ -10,7 +11,6 @@ use Rattle.ap_frames.specs.declared.slots.Stand.{Stand}
 use Rattle.ap_frames.specs.declared.slots.Stand.TheVariants.{Answered}
 use Rattle.ap_instr.specs.Code.{Compiled}
 use Rattle.ap_match.specs.Fits.{Fits}
-use Rattle.ap_rejoin.specs.Meets.{MeetAll}
 use Rattle.ap_standing.specs.Machine.{Machine}
 use Rattle.ap_machine.specs.View.{IsFor}
 use Rattle.ap_tie.specs.Sections as seen

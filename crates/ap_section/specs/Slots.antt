@@ -1,6 +1,7 @@
 -- What is read of the frame that comes first, and what becomes of it.
 use Rattle.std.specs.Prelude.{◌≡◌, ℕ, ◌-◌, ◌<◌, ◌≤◌, ◌⊎◌, Bool, true, false, List, [], length, slice_get, take, Option, Some, None}
 use Rattle.std.specs.List.{list_any}
+use Rattle.ap_term.specs.Tuples.{tuple_under}
 use Rattle.ap_term.specs.Tree.{Trees, count_trees}
 use Rattle.ap_term.specs.UpToNames.{SameUpToNames}
 use Rattle.ap_cells.specs.declared.cells.Raw.{Raw}
@@ -15,7 +16,6 @@ use Rattle.ap_frames.specs.Verdicts.{judged}
 use Rattle.ap_instr.specs.declared.compiled.Predicate.{Predicate}
 use Rattle.ap_instr.specs.Code.{Compiled}
 use Rattle.ap_group.specs.Groups.{Pushed}
-use Rattle.ap_steps.specs.Standing.{tuple_under}
 use Rattle.ap_tie.specs.Sections.{Row, Section, section, Stack, bottom, parcall, Slots, no_slot, Held, nothing, held, rows}
 use Rattle.ap_tie.specs.Redone.{taken}
 use Rattle.ap_tie.specs.Settled.{HasFailed}

@@ -1,6 +1,8 @@
 -- A built-in goal is one turn of the model.
 use Rattle.std.proofs.Common.{◌≡◌, ℕ, ℤ, zero, suc, ◌+◌, ◌<◌, Bool, true, false, List, [], ◌∷◌, ◌++◌, length, Option, Some, None, refl, ap, ap₂, sym, ◌∙◌, subst}
 use Rattle.std.specs.List.{AllByRecursion}
+use Rattle.ap_tracked.specs.Sets.{SameSet, IsSetOf, IsGeneralGoal, Behind, Equated, Valued}
+use Rattle.ap_instr.proofs.Applied.{instance-applied}
 use Rattle.ap_term.specs.declared.builtins.Relation.{Relation}
 use Rattle.ap_term.specs.declared.builtins.Relation.TheVariants.{Unify, NotUnify, Same, NotSame, Is, Compare}
 use Rattle.ap_term.specs.declared.fixed.TheConstants.{TRUE, FAIL, UNIFY, IS}
@@ -22,7 +24,6 @@ use Rattle.ap_instr.specs.Steps.{steps_from}
 use Rattle.ap_instr.specs.Runs.{Runs, applied, spread, IsOpen, AsksOpenly}
 use Rattle.ap_match.specs.Fits.{Fits, Becomes, Answered}
 use Rattle.ap_match.proofs.Maps.{fits-own}
-use Rattle.ap_resolution.specs.Instances.{SameSet, IsSetOf, IsGeneralGoal, Behind, Equated, Valued}
 use Rattle.ap_resolution.proofs.Unified.{IsSetOf-same}
 use Rattle.ap_resolution.proofs.Variants.{instances}
 use Rattle.ap_resolution.proofs.Builtins.{builtins}
@@ -40,10 +41,6 @@ use Rattle.ap_standing.proofs.Turns.{SameSet-trans, SameSet-sym, relation-answer
 use Rattle.ap_standing.proofs.Calls.{Begins, begins}
 
 -- ---- goals on registers
-
-instance-applied : (f : ℕ → Tree) (p : ℕ) (ts : Trees) → instance f (applied p ts) ≡ applied p (instance_all f ts)
-instance-applied f p none = refl
-instance-applied f p (more t ts) = refl
 
 instance_all-spread : (f t k : ℕ → Tree) (p n : ℕ) → ((w : ℕ) → k w ≡ instance f (t w)) → spread k p n ≡ instance_all f (spread t p n)
 instance_all-spread f t k p zero h = refl

@@ -1,6 +1,8 @@
 -- Calls, clauses that are taken and answers.
 use Rattle.std.proofs.Common.{◌≡◌, ℕ, ◌<◌, List, [], ◌∷◌, ◌++◌, length, slice_get, Some, None, refl, ap, sym, ◌∙◌, subst}
 use Rattle.std.specs.List.{AllByRecursion}
+use Rattle.ap_tracked.specs.Sets.{SameSet, IsSetOf}
+use Rattle.ap_term.specs.Tuples.{tuple_under}
 use Rattle.ap_term.specs.Tree.{Tree, Trees, none, more}
 use Rattle.ap_term.specs.Substitution.{instance, instance_all}
 use Rattle.ap_term.specs.Goals.{Program}
@@ -16,10 +18,9 @@ use Rattle.ap_instr.specs.Code.{Compiled}
 use Rattle.ap_instr.specs.Steps.{steps_from}
 use Rattle.ap_instr.specs.StandsFor.{StandsFor, IsOfClauses, clause_places}
 use Rattle.ap_match.proofs.Maps.{fits-own}
-use Rattle.ap_resolution.specs.Instances.{SameSet, IsSetOf}
 use Rattle.ap_resolution.proofs.Variants.{instances, tuples}
 use Rattle.ap_steps.specs.Moves.{held, IsStuck}
-use Rattle.ap_steps.specs.Standing.{Standing, tuple_under, AtCall, InCode}
+use Rattle.ap_steps.specs.Standing.{Standing, AtCall, InCode}
 use Rattle.ap_standing.specs.Machine.{Point, calling, inside, returning, standing_at}
 use Rattle.ap_standing.specs.Holds.{AtReturn, AtCallOf, AreOpen, IsPlain, HoldsPoints, HoldsRest, Holds, Turned}
 use Rattle.ap_standing.specs.Laws.{machine, SameArguments}

@@ -1,6 +1,7 @@
 -- What the moves of a machine make of the list of states that it stands for.
 use Rattle.std.proofs.Common.{◌≡◌, ℕ, ◌+◌, ◌<◌, List, [], ◌∷◌, ◌++◌, length, slice_get, Some, refl, ap, sym, ◌∙◌, subst, arith}
 use Rattle.std.specs.List.{AllByRecursion}
+use Rattle.ap_tracked.specs.Sets.{SameSet, IsSetOf}
 use Rattle.ap_term.specs.Tree.{Tree, Trees, atom, none, append_trees}
 use Rattle.ap_tracked.specs.Tracked.{Tracked}
 use Rattle.ap_tracked.specs.Instances.{Inst}
@@ -14,7 +15,6 @@ use Rattle.ap_instr.specs.Steps.{skipped, steps_from}
 use Rattle.ap_instr.proofs.Steps.{steps_law}
 use Rattle.ap_instr.specs.Runs.{AsksOpenly}
 use Rattle.ap_match.specs.Fits.{Fits}
-use Rattle.ap_resolution.specs.Instances.{SameSet, IsSetOf}
 use Rattle.ap_resolution.proofs.Unified.{IsSetOf-same}
 use Rattle.ap_steps.specs.Moves.{held, Moves, IsStuck}
 use Rattle.ap_steps.specs.Standing.{Return, Standing, Waits, AtCall, InCode, returning as returning_to}

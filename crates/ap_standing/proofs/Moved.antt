@@ -1,6 +1,9 @@
 -- What a machine stands for stays the same while no goal is called.
-use Rattle.std.proofs.Common.{◌≡◌, ℕ, ◌<◌, List, [], ◌∷◌, length, refl, ap, ◌∙◌, subst}
+use Rattle.std.proofs.Common.{ℕ, ◌<◌, List, [], ◌∷◌, length, refl, ◌∙◌, subst}
 use Rattle.std.specs.List.{AllByRecursion}
+use Rattle.ap_tracked.specs.Sets.{SameSet}
+use Rattle.ap_term.specs.Tuples.{tuple_under}
+use Rattle.ap_match.proofs.Tuples.{tuple_under-agree}
 use Rattle.ap_term.specs.Tree.{Tree, Trees, none, more, append_trees}
 use Rattle.ap_cells.specs.declared.cells.Raw.{Raw}
 use Rattle.ap_cells.specs.Trees.{tree_at, trees}
@@ -10,18 +13,13 @@ use Rattle.ap_instr.specs.Steps.{steps_from}
 use Rattle.ap_instr.specs.Runs.{Runs, lost}
 use Rattle.ap_match.specs.Fits.{Agree}
 use Rattle.ap_match.proofs.Maps.{fits-own}
-use Rattle.ap_resolution.specs.Instances.{SameSet}
 use Rattle.ap_steps.specs.Moves.{held, Moves, IsStuck}
-use Rattle.ap_steps.specs.Standing.{Return, Standing, tuple_under, Waits, AtCall, InCode}
+use Rattle.ap_steps.specs.Standing.{Return, Standing, Waits, AtCall, InCode}
 use Rattle.ap_steps.proofs.RegisterMaps.{funext}
 use Rattle.ap_standing.specs.Holds.{AtReturn, AreOpen}
 use Rattle.ap_standing.specs.Machine.{AreWithin}
 
 -- ---- maps that agree on places
-
-tuple_under-agree : (n : ℕ) (k l : ℕ → Tree) → Agree n k l → (rs : List ℕ) → AllByRecursion (λ r. r < n) rs → tuple_under k rs ≡ tuple_under l rs
-tuple_under-agree n k l a [] h = refl
-tuple_under-agree n k l a (r ∷ rs) h = ap (λ t. more t (tuple_under k rs)) (a r h.0) ∙ ap (more (l r)) (tuple_under-agree n k l a rs h.1)
 
 pub Waits-agree : (code : Compiled) (n : ℕ) (k l : ℕ → Tree) → Agree n k l → (ws : List Return) (roots : List ℕ) → AreWithin n ws → AllByRecursion (λ r. r < n) roots
     → (qs t : Trees) → Waits code ws roots k qs t → Waits code ws roots l qs t

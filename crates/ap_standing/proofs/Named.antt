@@ -1,8 +1,9 @@
 -- Goals that are no marks, in the states that a search comes to.
-use Rattle.std.proofs.Common.{◌≡◌, ℕ, ◌+◌, true, ◌&&◌, IsTrue, nat_le, List, [], ◌∷◌, ◌++◌, map, Option, Some, None, refl, ap}
+use Rattle.std.proofs.Common.{◌≡◌, ℕ, ◌+◌, true, ◌&&◌, IsTrue, nat_le, List, [], ◌∷◌, ◌++◌, map, Option, Some, None, refl}
 use Rattle.std.specs.List.{AllByRecursion, flat_map, list_all}
 use Rattle.std.proofs.lemmas.Bool.{false≢true, and_parts}
 use Rattle.std.proofs.lemmas.List.Elements.{All-head, All-tail}
+use Rattle.ap_term.proofs.TreeLists.{count_trees-instance_all}
 use Rattle.ap_term.specs.Tree.{Tree, Trees, var, int, atom, node, none, more, count_trees}
 use Rattle.ap_term.specs.Substitution.{instance, instance_all, Subst, value, shift}
 use Rattle.ap_term.specs.Unification.{mgu}
@@ -14,10 +15,6 @@ use Rattle.ap_term.proofs.Zips.{AllByRecursion-append, AllByRecursion-map}
 use Rattle.ap_tracked.specs.Tracked.{Goal, call, fork, moved, renamed, placed, calls, opened, Tracked, child_if, clause_children, call_children, children_by, children}
 use Rattle.ap_instr.specs.Runs.{applied}
 use Rattle.ap_standing.specs.Holds.{IsNamed, AllNamed, IsNamedGoal, AreNamed}
-
-pub count_instance : (f : ℕ → Tree) (ts : Trees) → count_trees (instance_all f ts) ≡ count_trees ts
-count_instance f none = refl
-count_instance f (more t ts) = ap (λ n. n + 1) (count_instance f ts)
 
 named-instance : (f : ℕ → Tree) (t : Tree) → IsNamed t → IsNamed (instance f t)
 named-instance f (var x) h = absurd h

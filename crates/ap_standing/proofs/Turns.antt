@@ -3,6 +3,7 @@ use Rattle.std.proofs.Common.{◌≡◌, ℕ, zero, suc, ◌+◌, ◌<◌, ◌�
 use Rattle.std.specs.List.{AllZip, AllByRecursion}
 use Rattle.std.proofs.lemmas.List.{append_assoc}
 use Rattle.std.proofs.lemmas.List.Elements.{All-nil, All-cons, All-head, All-tail, All-filter}
+use Rattle.ap_tracked.specs.Sets.{SameSet, IsSetOf, Resolved}
 use Rattle.ap_term.specs.Tree.{Tree, Trees, atom, node, none, more, count_trees}
 use Rattle.ap_term.specs.Substitution.{instance}
 use Rattle.ap_term.specs.Goals.{Clause, Program}
@@ -22,7 +23,6 @@ use Rattle.ap_instr.specs.Steps.{steps_from}
 use Rattle.ap_instr.specs.Code.{Compiled}
 use Rattle.ap_instr.specs.Runs.{applied, spread, AsksOpenly}
 use Rattle.ap_instr.specs.StandsFor.{ReadsAt, IsOfClauses, IsOfBuiltin, clauses_of, clause_places, is_head_of}
-use Rattle.ap_resolution.specs.Instances.{SameSet, IsSetOf, Resolved}
 use Rattle.ap_resolution.proofs.Unified.{IsSetOf-same}
 use Rattle.ap_resolution.proofs.Variants.{instances}
 use Rattle.ap_steps.specs.Moves.{held}

@@ -1,6 +1,7 @@
 -- Which states of the model a machine stands for.
 use Rattle.std.specs.Prelude.{◌≡◌, ℕ, zero, suc, List, [], ◌∷◌, ◌++◌, slice_get, Option, Some, None}
 use Rattle.std.specs.List.{AllZip, AllByRecursion}
+use Rattle.ap_tracked.specs.Sets.{SameSet, IsSetOf}
 use Rattle.ap_term.specs.Tree.{Tree, Trees, atom, node, none, more, count_trees}
 use Rattle.ap_term.specs.Goals.{Program}
 use Rattle.ap_term.specs.WellFormed.{IsProgram}
@@ -14,7 +15,6 @@ use Rattle.ap_instr.specs.Steps.{steps_from}
 use Rattle.ap_instr.specs.Runs.{applied, IsOpen, AsksOpenly}
 use Rattle.ap_instr.specs.StandsFor.{ReadsAt}
 use Rattle.ap_match.specs.Fits.{Fits}
-use Rattle.ap_resolution.specs.Instances.{SameSet, IsSetOf}
 use Rattle.ap_steps.specs.Moves.{held}
 use Rattle.ap_steps.specs.Standing.{Return, Standing, Waits, AtCall, InCode, IsHead}
 use Rattle.ap_standing.specs.Machine.{Point, Now, calling, inside, returning, failed, Machine, standing, standing_at, places}

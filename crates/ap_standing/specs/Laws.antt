@@ -1,6 +1,7 @@
 -- The laws that the crate's functions stand for.
 use Rattle.std.specs.Prelude.{◌≡◌, ℕ, ◌+◌, ◌<◌, Bool, true, false, List, [], ◌∷◌, length, slice_get, Some, None}
 use Rattle.std.specs.List.{AllByRecursion}
+use Rattle.ap_term.specs.Tuples.{tuple_under}
 use Rattle.ap_term.specs.declared.builtins.Relation.{Relation}
 use Rattle.ap_term.specs.declared.fixed.TheConstants.{TRUE, FAIL}
 use Rattle.ap_term.specs.Tree.{Tree, atom}
@@ -20,7 +21,7 @@ use Rattle.ap_instr.specs.Runs.{AsksOpenly}
 use Rattle.ap_instr.specs.StandsFor.{StandsFor, clause_places}
 use Rattle.ap_match.specs.Fits.{Fits}
 use Rattle.ap_steps.specs.Moves.{held, HoldPlaces, Moves, IsStuck}
-use Rattle.ap_steps.specs.Standing.{Return, tuple_under}
+use Rattle.ap_steps.specs.Standing.{Return}
 use Rattle.ap_standing.specs.Machine.{Point, Now, calling, inside, returning, failed, Machine, AreWithin}
 use Rattle.ap_standing.specs.Holds.{IsApart, HoldsPoints, HoldsRest, Holds, Turned}
 use Rattle.ap_standing.specs.Solved.{Solved}

@@ -6,7 +6,7 @@ use Rattle.ap_tracked.specs.Tracked.{placed}
 use Rattle.ap_tracked.specs.Marks.{marked}
 use Rattle.ap_instr.specs.Steps.{steps_from}
 use Rattle.ap_instr.specs.Runs.{Runs, Asks, applied, arguments, spread, lost}
-use Rattle.ap_resolution.specs.Instances.{Resolved}
+use Rattle.ap_tracked.specs.Sets.{Resolved}
 use Rattle.ap_steps.specs.Moves.{held}
 use Rattle.ap_steps.specs.Standing.{AtCall, InCode, IsHead, EntryLaw, CallLaw}
 use Rattle.ap_steps.proofs.RegisterMaps.{funext}

@@ -1,5 +1,6 @@
 -- Runs that may want memory.
-use Rattle.std.proofs.Common.{◌≡◌, ℕ, zero, suc, ◌+◌, Bool, true, false, ◌||◌, if◌then◌else◌, List, drop, slice_get, Some, refl, ap, ◌∙◌, arith}
+use Rattle.std.proofs.Common.{◌≡◌, ℕ, zero, suc, ◌+◌, true, false, ◌||◌, if◌then◌else◌, List, drop, slice_get, Some, refl, ap, ◌∙◌, arith}
+use Rattle.std.proofs.lemmas.Bool.{or_right}
 use Rattle.ap_instr.specs.declared.instruction.Instr.{Instr}
 use Rattle.ap_instr.specs.declared.instruction.Instr.TheVariants.{GetValue, GetStructure}
 use Rattle.ap_needs.specs.Needs.{is_transfer, wants_memory, wants}
@@ -19,13 +20,9 @@ goes-on i is e = cc
 pub wants-now : (is : List Instr) (at : ℕ) (i : Instr) → slice_get is at ≡ Some i → wants_memory i (drop (at + 1) is) ≡ true → wants (drop at is) ≡ true
 wants-now is at i e w = wants-here is at i e (goes-on i (drop (at + 1) is) w) ∙ ap (λ b. b || wants (drop (at + 1) is)) w
 
-either : (b c : Bool) → c ≡ true → b || c ≡ true
-either true c e = refl
-either false c e = e
-
 -- one behind it may
 pub wants-on : (is : List Instr) (at : ℕ) (i : Instr) → slice_get is at ≡ Some i → is_transfer i ≡ false → wants (drop (at + 1) is) ≡ true → wants (drop at is) ≡ true
-wants-on is at i e goes_on w = wants-here is at i e goes_on ∙ either (wants_memory i (drop (at + 1) is)) (wants (drop (at + 1) is)) w
+wants-on is at i e goes_on w = wants-here is at i e goes_on ∙ or_right (wants_memory i (drop (at + 1) is)) (wants (drop (at + 1) is)) w
 
 -- one behind some that are none of control may
 pub wants-past : (is : List Instr) (at n : ℕ) → NoneOfControl is at n → wants (drop (at + n) is) ≡ true → wants (drop at is) ≡ true

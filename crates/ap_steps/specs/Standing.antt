@@ -1,6 +1,7 @@
 -- What a machine at a place in code stands for: goals and a tuple, under each map that fits its cells.
 use Rattle.std.specs.Prelude.{◌≡◌, ℕ, List, [], ◌∷◌}
 use Rattle.ap_term.specs.Tree.{Tree, Trees, none, more, atom, node, count_trees, append_trees}
+pub use Rattle.ap_term.specs.Tuples.{tuple_under}
 use Rattle.ap_term.specs.Goals.{Clause}
 use Rattle.ap_cells.specs.declared.cells.Raw.{Raw}
 use Rattle.ap_instr.specs.Code.{Compiled}
@@ -8,7 +9,7 @@ use Rattle.ap_instr.specs.Step.{Step, call, execute, proceed}
 use Rattle.ap_instr.specs.Steps.{steps_from}
 use Rattle.ap_instr.specs.Runs.{Runs, Reads, applied, spread, lost}
 use Rattle.ap_match.specs.Fits.{Fits}
-use Rattle.ap_resolution.specs.Instances.{SameSet, Resolved}
+use Rattle.ap_tracked.specs.Sets.{SameSet, Resolved}
 use Rattle.ap_steps.specs.Moves.{held}
 
 -- a place in code that is come back to, with the registers of its environment
@@ -21,10 +22,6 @@ pub record Standing : Type 0 where
   pub cells : List Raw
   pub returns : List Return
   pub roots : List ℕ
-
-abbrev pub tuple_under : (ℕ → Tree) → List ℕ → Trees
-tuple_under k [] = none
-tuple_under k (r ∷ rs) = more (k r) (tuple_under k rs)
 
 -- what the returns ask for, and the tuple
 abbrev pub Waits : Compiled → List Return → List ℕ → (ℕ → Tree) → Trees → Trees → Type 0

@@ -3,6 +3,10 @@ use Rattle.std.proofs.Common.{◌≡◌, ℕ, zero, suc, ◌+◌, ◌<◌, ◌==
 use Rattle.std.specs.Prelude.{slice_get}
 use Rattle.std.specs.List.{AllByRecursion}
 use Rattle.std.proofs.lemmas.Bool.{false≢true, eq-eqb, ne_eqb}
+use Rattle.ap_tracked.specs.Sets.{SameSet}
+use Rattle.ap_term.specs.Tuples.{tuple_under}
+use Rattle.ap_match.proofs.Tuples.{tuple_under-agree}
+use Rattle.ap_term.proofs.TreeLists.{first-same, rest-same}
 use Rattle.ap_term.specs.declared.clauses.Check.{Check}
 use Rattle.ap_term.specs.declared.clauses.Check.TheVariants.{Ground, Indep}
 use Rattle.ap_term.specs.Tree.{Tree, Trees, var, int, atom, node, more, count_trees, append_trees}
@@ -26,9 +30,8 @@ use Rattle.ap_instr.specs.Step.{Step, check_ground, check_indep, group, push}
 use Rattle.ap_instr.specs.Runs.{read, spread, applied, IsOpen}
 use Rattle.ap_match.specs.Fits.{Agree}
 use Rattle.ap_match.proofs.Maps.{fits-own}
-use Rattle.ap_resolution.specs.Instances.{SameSet}
 use Rattle.ap_steps.specs.Moves.{Moves}
-use Rattle.ap_steps.specs.Standing.{Return, Standing, tuple_under, InCode}
+use Rattle.ap_steps.specs.Standing.{Return, Standing, InCode}
 use Rattle.ap_standing.specs.Machine.{AreWithin}
 use Rattle.ap_standing.specs.Holds.{AreOpen}
 use Rattle.ap_standing.proofs.Moved.{Waits-agree, some-waits}
@@ -36,7 +39,7 @@ use Rattle.ap_group.specs.Groups.{Pushed}
 use Rattle.ap_tie.specs.Forked.{goal_by, goals_under}
 use Rattle.ap_group.specs.Gathers.{places_from}
 use Rattle.ap_tie.specs.Grouping.{MarksLeft, NoMarkLeft, MarkLaw, Pushing, AreInside, PushLaw}
-use Rattle.ap_tie.proofs.Rejoined.{tuple-agree, opened-marks, first-same, rest-same}
+use Rattle.ap_tie.proofs.Rejoined.{opened-marks}
 
 -- ---- trees that are instances of one another
 
@@ -216,7 +219,7 @@ goals-more code k (q ∷ ps) p ts = ap (more (goal_by (slice_get code.predicates
 goals-agree : (code : Compiled) (n : ℕ) (k l : ℕ → Tree) → Agree n k l → (ps : List Pushed) → AreInside n ps → goals_under code k ps ≡ goals_under code l ps
 goals-agree code n k l a [] h = refl
 goals-agree code n k l a (p ∷ ps) h =
-    ap (λ t. more (goal_by (slice_get code.predicates p.predicate) t) (goals_under code k ps)) (tuple-agree n k l a p.arguments h.0)
+    ap (λ t. more (goal_by (slice_get code.predicates p.predicate) t) (goals_under code k ps)) (tuple_under-agree n k l a p.arguments h.0)
     ∙ ap (more (goal_by (slice_get code.predicates p.predicate) (tuple_under l p.arguments))) (goals-agree code n k l a ps h.1)
 
 module _ (code : Compiled) (s : Standing) (x y : ℕ → ℕ) (p n number : ℕ) (q : Predicate) (is : List Step) (ps : List Pushed) (known : slice_get code.predicates number ≡ Some q) (named : q.name ≡ p) where

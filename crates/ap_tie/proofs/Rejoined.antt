@@ -2,6 +2,10 @@
 use Rattle.std.proofs.Common.{◌≡◌, ℕ, ◌<◌, Bool, true, false, List, [], ◌∷◌, ◌++◌, map, None, refl, ap, ap₂, sym, ◌∙◌, subst, arith}
 use Rattle.std.specs.Prelude.{length, slice_get}
 use Rattle.std.specs.List.{AllByRecursion}
+use Rattle.ap_term.specs.Tuples.{tuple_under, arguments}
+use Rattle.ap_instr.proofs.Applied.{arguments-applied}
+use Rattle.ap_match.proofs.Tuples.{tuple_under-agree}
+use Rattle.ap_term.proofs.TreeLists.{first-same, rest-same}
 use Rattle.ap_term.specs.declared.clauses.Check.{Check}
 use Rattle.ap_term.specs.Tree.{Tree, Trees, var, int, atom, node, none, more, append_trees}
 use Rattle.ap_term.specs.Substitution.{instance, instance_all}
@@ -9,7 +13,7 @@ use Rattle.ap_term.specs.Goals.{Program}
 use Rattle.ap_term.specs.WellFormed.{IsProgram}
 use Rattle.ap_term.proofs.Zips.{AllByRecursion-map}
 use Rattle.ap_cells.specs.declared.cells.Raw.{Raw}
-use Rattle.ap_laws.specs.Graft.{arguments, lifted_var, fitted}
+use Rattle.ap_laws.specs.Graft.{lifted_var, fitted}
 use Rattle.ap_tracked.specs.Tracked.{Goal, call, fork, moved, calls, opened, Tracked}
 use Rattle.ap_tracked.specs.Marks.{marked}
 use Rattle.ap_tracked.specs.Instances.{Inst}
@@ -23,7 +27,7 @@ use Rattle.ap_graft.proofs.Variables.{below_from}
 use Rattle.ap_instr.specs.Code.{Compiled}
 use Rattle.ap_instr.specs.Runs.{applied}
 use Rattle.ap_match.specs.Fits.{Fits, Agree, Becomes, Answered}
-use Rattle.ap_steps.specs.Standing.{tuple_under, Waits}
+use Rattle.ap_steps.specs.Standing.{Waits}
 use Rattle.ap_standing.specs.Machine.{standing, Machine}
 use Rattle.ap_standing.specs.Holds.{AtReturn, SetOf, SetAt, IsOpenAt, AreOpen, IsNamed, AllNamed, IsNamedGoal, AreNamed, IsPlain, Holds, HoldsPoints}
 use Rattle.ap_standing.proofs.Moved.{Waits-agree}
@@ -36,14 +40,6 @@ use Rattle.ap_tie.specs.Rejoined.{MeetAnswers, IsKnown, IsPushed, HasRejoined, R
 
 -- ---- goals and their arguments
 
-pub tuple-agree : (n : ℕ) (k l : ℕ → Tree) → Agree n k l → (rs : List ℕ) → AllByRecursion (λ r. r < n) rs → tuple_under k rs ≡ tuple_under l rs
-tuple-agree n k l a [] h = refl
-tuple-agree n k l a (r ∷ rs) h = ap₂ more (a r h.0) (tuple-agree n k l a rs h.1)
-
-arguments-applied : (a : ℕ) (ts : Trees) → arguments (applied a ts) ≡ ts
-arguments-applied a none = refl
-arguments-applied a (more t ts) = refl
-
 arguments-instance : (f : ℕ → Tree) (g : Tree) → IsNamed g → instance_all f (arguments g) ≡ arguments (instance f g)
 arguments-instance f (var x) h = absurd h
 arguments-instance f (int z) h = absurd h
@@ -52,12 +48,6 @@ arguments-instance f (node a ts) h = refl
 
 arguments-by : (code : Compiled) (k : ℕ → Tree) (p : Pushed) → IsKnown code p → arguments (goal_by (slice_get code.predicates p.predicate) (tuple_under k p.arguments)) ≡ tuple_under k p.arguments
 arguments-by code k p (q, e) = ap (λ o. arguments (goal_by o (tuple_under k p.arguments))) e ∙ arguments-applied q.name (tuple_under k p.arguments)
-
-pub first-same : {t u : Tree} {ts us : Trees} → more t ts ≡ more u us → t ≡ u
-first-same h = cc
-
-pub rest-same : {t u : Tree} {ts us : Trees} → more t ts ≡ more u us → ts ≡ us
-rest-same h = cc
 
 -- the goals on both sides are equal one by one, and so is what stands behind them
 abbrev AreSame : Compiled → (ℕ → Tree) → (ℕ → Tree) → List Pushed → Trees → Type 0
@@ -228,7 +218,7 @@ MeetAnswers-last k (q ∷ ps) (v ∷ us) p u n m = let r = MeetAnswers-last k ps
 module _ (cs ds es : List Raw) (ps : List Pushed) (us : List Tracked) (p : Pushed) (u : Tracked) (ts : Trees) (many : length ps ≡ length us) (within : AllByRecursion (λ a. a < length cs) p.arguments) (general : AsGeneral ts u.tuple) (b : Becomes cs ds (λ k. MeetAnswers k ps us) (λ k. Unit {0})) where
   -- the last goal's answer is met by the map in the cells of the others
   last-there : (k l : ℕ → Tree) → Agree (length cs) k l → (h : ℕ → Tree) × (tuple_under k p.arguments ≡ instance_all h u.tuple) → (h : ℕ → Tree) × (tuple_under l p.arguments ≡ instance_all h ts)
-  last-there k l a m = let g = general.1 m.0 in (g.0, sym (tuple-agree (length cs) k l a p.arguments within) ∙ m.1 ∙ g.1)
+  last-there k l a m = let g = general.1 m.0 in (g.0, sym (tuple_under-agree (length cs) k l a p.arguments within) ∙ m.1 ∙ g.1)
 
   one-met : (r : Bool) → Answered ds es (λ k. (h : ℕ → Tree) × (tuple_under k p.arguments ≡ instance_all h ts)) r → Answered cs es (λ k. MeetAnswers k (ps ++ p ∷ []) (us ++ u ∷ [])) r
   one-met true c = record {

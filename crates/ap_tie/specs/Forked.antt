@@ -1,5 +1,7 @@
 -- What the place stands for at which a group's goals were pushed.
 use Rattle.std.specs.Prelude.{◌≡◌, ℕ, List, [], ◌∷◌, slice_get, Option, Some, None}
+use Rattle.ap_tracked.specs.Sets.{SameSet}
+use Rattle.ap_term.specs.Tuples.{tuple_under}
 use Rattle.ap_term.specs.declared.clauses.Check.{Check}
 use Rattle.ap_term.specs.Tree.{Tree, Trees, none, more, atom, append_trees}
 use Rattle.ap_term.specs.Substitution.{instance_all}
@@ -11,8 +13,7 @@ use Rattle.ap_match.specs.Fits.{Fits}
 use Rattle.ap_tracked.specs.Tracked.{Goal, fork, Tracked}
 use Rattle.ap_tracked.specs.Marks.{opening}
 use Rattle.ap_tracked.specs.Instances.{Inst}
-use Rattle.ap_resolution.specs.Instances.{SameSet}
-use Rattle.ap_steps.specs.Standing.{Waits, tuple_under}
+use Rattle.ap_steps.specs.Standing.{Waits}
 use Rattle.ap_standing.specs.Holds.{IsPlain, AreOpen}
 use Rattle.ap_group.specs.Groups.{Pushed, Forked}
 

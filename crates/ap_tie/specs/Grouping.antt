@@ -1,6 +1,7 @@
 -- A machine inside a group: from its first check to its last goal.
 use Rattle.std.specs.Prelude.{◌≡◌, ℕ, zero, suc, ◌+◌, ◌<◌, List, [], ◌∷◌, ◌++◌, length, slice_get, Some}
 use Rattle.std.specs.List.{AllByRecursion}
+use Rattle.ap_tracked.specs.Sets.{SameSet}
 use Rattle.ap_term.specs.declared.clauses.Check.{Check}
 use Rattle.ap_term.specs.declared.clauses.Check.TheVariants.{Ground, Indep}
 use Rattle.ap_term.specs.Tree.{Tree, Trees, none, more, count_trees, append_trees}
@@ -19,7 +20,6 @@ use Rattle.ap_instr.specs.Step.{Step, check_ground, check_indep, group, push, wa
 use Rattle.ap_instr.specs.Steps.{steps_from}
 use Rattle.ap_instr.specs.Runs.{Runs, read, IsOpen}
 use Rattle.ap_match.specs.Fits.{Fits}
-use Rattle.ap_resolution.specs.Instances.{SameSet}
 use Rattle.ap_steps.specs.Moves.{held, Moves}
 use Rattle.ap_steps.specs.Standing.{Return, Standing, InCode, Waits}
 use Rattle.ap_standing.specs.Machine.{AreWithin}

@@ -1,6 +1,7 @@
 -- A machine behind a group, whose goals' answers were copied in.
 use Rattle.std.specs.Prelude.{◌≡◌, ℕ, ◌<◌, Bool, List, [], ◌∷◌, ◌++◌, length, slice_get, Some}
 use Rattle.std.specs.List.{AllByRecursion}
+use Rattle.ap_term.specs.Tuples.{tuple_under}
 use Rattle.ap_term.specs.Tree.{Tree, Trees}
 use Rattle.ap_term.specs.Substitution.{instance_all}
 use Rattle.ap_term.specs.Goals.{Program}
@@ -11,7 +12,6 @@ use Rattle.ap_instr.specs.declared.compiled.Predicate.{Predicate}
 use Rattle.ap_instr.specs.Code.{Compiled}
 use Rattle.ap_cells.specs.declared.cells.Raw.{Raw}
 use Rattle.ap_match.specs.Fits.{Fits, Becomes, Answered}
-use Rattle.ap_steps.specs.Standing.{tuple_under}
 use Rattle.ap_standing.specs.Machine.{returning, Machine, AreWithin}
 use Rattle.ap_standing.specs.Holds.{Holds}
 use Rattle.ap_group.specs.Groups.{Pushed, Forked}

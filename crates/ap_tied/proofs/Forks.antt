@@ -1,6 +1,7 @@
 -- A group whose checks hold is a fork of the core, in whose slots no answers are kept.
 use Rattle.std.proofs.Common.{◌≡◌, ℕ, ◌+◌, ◌-◌, inr, List, [], ◌∷◌, length, Some, refl, ap, sym, ◌∙◌, subst}
 use Rattle.std.specs.Prelude.{option_and_then}
+use Rattle.ap_term.proofs.TreeLists.{count_trees-instance_all}
 use Rattle.ap_term.specs.Tree.{count_trees, Trees}
 use Rattle.ap_term.specs.Substitution.{instance_all}
 use Rattle.ap_term.specs.Independence.{AreApart}
@@ -17,7 +18,6 @@ use Rattle.ap_instr.specs.Code.{Compiled}
 use Rattle.ap_steps.specs.Moves.{held}
 use Rattle.ap_steps.specs.Standing.{Return}
 use Rattle.ap_standing.specs.Machine.{inside, Machine}
-use Rattle.ap_standing.proofs.Named.{count_instance}
 use Rattle.ap_group.specs.Groups.{Forked}
 use Rattle.ap_group.specs.Gathers.{IsGroupAt, IsGathered}
 use Rattle.ap_tie.specs.Sections.{section, Stack, parcall}
@@ -59,7 +59,7 @@ forks code m n c b st at to f x' y' w closed now is_group is_inside way returns 
     } in
     let forked : own p ForkEvent (task (b - c) c (alternative (state (untracked u)) behind)) ≡ Some (task (b - c) c (alternative (frame (untracked u) core_round.First (ready gs)) behind)) =
     forks_of p o u g.group.checks g.group.goals g.group.own g.group.now g.group.behind (b - c) c behind searched.safe g.kept g.begins_with h.hold in
-    let many : length f.goals ≡ count_trees gs = h.many ∙ sym (count_instance g.group.own g.group.goals) in
+    let many : length f.goals ≡ count_trees gs = h.many ∙ sym (count_trees-instance_all g.group.own g.group.goals) in
     let l : Alternatives = alternative (frame (untracked u) core_round.First (all_unkept gs)) behind in
     let q : IsQuietStack code m.roots st = tied.quiet in
     let simple : AreSimple behind = (subst IsSimple g.is tied.simple).1 in (

@@ -3,6 +3,8 @@ use Rattle.std.proofs.Common.{◌≡◌, ℕ, zero, suc, ◌+◌, ◌-◌, ◌<�
 use Rattle.std.specs.Prelude.{slice_get}
 use Rattle.std.specs.List.{All, AllZip, AllByRecursion}
 use Rattle.std.proofs.lemmas.List.Elements.{All-nil, All-cons}
+use Rattle.ap_tracked.specs.Sets.{SameSet}
+use Rattle.ap_term.proofs.TreeLists.{first-same}
 use Rattle.ap_term.specs.declared.clauses.Check.{Check}
 use Rattle.ap_term.specs.declared.clauses.Check.TheVariants.{Ground, Indep}
 use Rattle.ap_term.specs.Tree.{Tree, Trees, var, int, atom, node, none, more, count_trees, append_trees}
@@ -25,7 +27,6 @@ use Rattle.ap_instr.specs.Step.{Step, check_ground, check_indep, group, push, wa
 use Rattle.ap_instr.specs.Steps.{steps_from}
 use Rattle.ap_instr.specs.Runs.{read, IsOpen, AsksOpenly}
 use Rattle.ap_match.proofs.Maps.{fits-own}
-use Rattle.ap_resolution.specs.Instances.{SameSet}
 use Rattle.ap_steps.specs.Moves.{held}
 use Rattle.ap_steps.specs.Standing.{Return, Standing, InCode}
 use Rattle.ap_steps.proofs.RegisterMaps.{funext}
@@ -42,7 +43,6 @@ use Rattle.ap_tie.specs.Forked.{AtFork}
 use Rattle.ap_tie.specs.Tied.{HoldsTask, HoldsStack}
 use Rattle.ap_tie.specs.Grouping.{MarksLeft, NoMarkLeft, Pushing, AreInside}
 use Rattle.ap_tie.proofs.Grouping.{marking, pushing}
-use Rattle.ap_tie.proofs.Rejoined.{first-same}
 
 -- ---- a group comes first in the state
 

@@ -2,6 +2,7 @@
 use Rattle.std.proofs.Common.{◌≡◌, ℕ, ◌+◌, inr, List, [], ◌∷◌, Some, refl, sym, ◌∙◌, subst, arith}
 use Rattle.std.specs.Prelude.{slice_get}
 use Rattle.std.specs.List.{AllByRecursion}
+use Rattle.ap_tracked.specs.Sets.{SameSet}
 use Rattle.ap_term.specs.declared.clauses.Check.{Check}
 use Rattle.ap_term.specs.declared.clauses.Check.TheVariants.{Ground, Indep}
 use Rattle.ap_term.specs.Tree.{Tree, Trees, none, more, count_trees, append_trees}
@@ -20,7 +21,6 @@ use Rattle.ap_instr.specs.Groups.{otherwise, AsksUnmarked}
 use Rattle.ap_instr.specs.Step.{Step, check_ground, check_indep, group, push}
 use Rattle.ap_instr.specs.Steps.{steps_from}
 use Rattle.ap_instr.specs.Runs.{Runs, read}
-use Rattle.ap_resolution.specs.Instances.{SameSet}
 use Rattle.ap_steps.specs.Moves.{held, Asked}
 use Rattle.ap_steps.specs.Standing.{InCode}
 use Rattle.ap_standing.specs.Machine.{inside, failed, Machine, standing}

@@ -2,6 +2,7 @@
 use Rattle.std.proofs.Common.{◌≡◌, ℕ, ◌-◌, ◌<◌, ◌≤◌, ◌⊎◌, inl, inr, true, false, ◌&&◌, nat_lt, not, List, [], ◌∷◌, map, Some, None, refl, ap, ap₂, sym, ◌∙◌, subst, arith}
 use Rattle.std.specs.Prelude.{is_none}
 use Rattle.std.specs.List.{AllZip}
+use Rattle.ap_tracked.specs.Sets.{IsSetOf}
 use Rattle.ap_term.specs.Tree.{Trees, none, more}
 use Rattle.ap_term.specs.UpToNames.{SameUpToNames}
 use Rattle.ap_term.specs.Goals.{Part, Program}
@@ -14,7 +15,6 @@ use Rattle.ap_tracked.specs.Marks.{marked, opening}
 use Rattle.ap_graft.specs.Variables.{LocalGoals, IsTrackedBelow}
 use Rattle.ap_graft.proofs.Variables.{below_from}
 use Rattle.ap_instr.specs.Code.{Compiled}
-use Rattle.ap_resolution.specs.Instances.{IsSetOf}
 use Rattle.ap_resolution.proofs.Variants.{instances}
 use Rattle.ap_steps.specs.Standing.{Waits}
 use Rattle.ap_standing.specs.Machine.{returning, failed, Machine, standing}

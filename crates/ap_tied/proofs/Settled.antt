@@ -2,6 +2,8 @@
 use Rattle.std.proofs.Common.{◌≡◌, ℕ, suc, ◌+◌, ◌-◌, inl, Bool, true, false, not, if◌then◌else◌, List, [], ◌∷◌, Some, refl, ap, sym, ◌∙◌, subst}
 use Rattle.std.specs.Prelude.{length}
 use Rattle.std.specs.List.{list_any}
+use Rattle.ap_group.specs.Meets.{MeetAll}
+use Rattle.ap_term.proofs.UpToNames.{instance-same}
 use Rattle.ap_term.specs.Tree.{Tree, Trees, none, more}
 use Rattle.ap_term.specs.Search.{State}
 use Rattle.ap_term.specs.UpToNames.{SameUpToNames}
@@ -23,8 +25,6 @@ use Rattle.ap_frames.specs.Verdicts.{judged}
 use Rattle.ap_tracked.specs.Tracked.{Tracked}
 use Rattle.ap_instr.specs.Code.{Compiled}
 use Rattle.ap_match.specs.Fits.{Fits, Becomes}
-use Rattle.ap_rejoin.specs.Meets.{MeetAll}
-use Rattle.ap_rejoin.proofs.Names.{instance-same}
 use Rattle.ap_standing.specs.Machine.{Point, Machine}
 use Rattle.ap_standing.specs.Holds.{Holds}
 use Rattle.ap_group.specs.Groups.{Pushed, Forked}

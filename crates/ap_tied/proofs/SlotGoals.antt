@@ -2,6 +2,9 @@
 use Rattle.std.proofs.Common.{◌≡◌, ℕ, zero, suc, ◌<◌, inl, inr, List, [], ◌∷◌, Some, refl, ap, ap₂, sym, ◌∙◌, subst, arith}
 use Rattle.std.specs.Prelude.{length, slice_get}
 use Rattle.std.specs.List.{AllByRecursion}
+use Rattle.ap_term.specs.Tuples.{tuple_under, arguments}
+use Rattle.ap_laws.proofs.Plain.{LocalAll-arguments}
+use Rattle.ap_instr.proofs.Applied.{arguments-applied}
 use Rattle.ap_term.specs.declared.clauses.Check.{Check}
 use Rattle.ap_term.specs.Tree.{Tree, Trees, var, int, atom, node, none, more, append_trees}
 use Rattle.ap_term.specs.Substitution.{instance, instance_all}
@@ -9,7 +12,6 @@ use Rattle.ap_term.specs.UpToNames.{renumbered}
 use Rattle.ap_term.specs.Vars.{Local, LocalAll}
 use Rattle.ap_term.proofs.Copies.{instance_all_var}
 use Rattle.ap_term.proofs.Locals.{Local-occurs}
-use Rattle.ap_laws.specs.Graft.{arguments}
 use Rattle.ap_cells.specs.Trees.{tree_at, trees}
 use Rattle.ap_match.specs.Fits.{Fits}
 use Rattle.ap_match.proofs.Maps.{fits-own}
@@ -27,7 +29,6 @@ use Rattle.ap_instr.specs.Code.{Compiled}
 use Rattle.ap_instr.specs.Runs.{applied}
 use Rattle.ap_group.specs.Groups.{Pushed, Forked}
 use Rattle.ap_resolution.proofs.Variants.{same-part}
-use Rattle.ap_steps.specs.Standing.{tuple_under}
 use Rattle.ap_standing.proofs.Moved.{some-waits}
 use Rattle.ap_tie.specs.Forked.{goal_by, goals_under, IsForked}
 use Rattle.ap_tie.proofs.Rejoined.{opened-marks}
@@ -76,19 +77,9 @@ each-nth P (suc (suc i)) (x ∷ xs) a l h = each-nth P (suc i) xs a l.1 h
 
 -- ---- goals and their arguments
 
-arguments-applied : (a : ℕ) (ts : Trees) → arguments (applied a ts) ≡ ts
-arguments-applied a none = refl
-arguments-applied a (more t ts) = refl
-
 arguments-of : (f : ℕ → Tree) (a : ℕ) (ts : Trees) → arguments (instance f (applied a ts)) ≡ instance_all f ts
 arguments-of f a none = refl
 arguments-of f a (more t ts) = refl
-
-local-arguments : (P : ℕ → Type 0) (g : Tree) → Local P g → LocalAll P (arguments g)
-local-arguments P (var x) h = (h, tt)
-local-arguments P (int z) h = tt
-local-arguments P (atom a) h = tt
-local-arguments P (node a ts) h = h
 
 under-instance : (n : ℕ) (k l f : ℕ → Tree) → ((i : ℕ) → i < n → k i ≡ instance f (l i)) → (rs : List ℕ) → AllByRecursion (λ r. r < n) rs → tuple_under k rs ≡ instance_all f (tuple_under l rs)
 under-instance n k l f e [] h = refl
@@ -126,7 +117,7 @@ module _ (code : Compiled) (p : Rules) (o : Tracked) (roots : List ℕ) (f : For
           program = searched.program;
           code_stands = searched.code_stands;
           safe = subst (λ k. IsSafe p.program (alone k s.next)) (sym t.2) (safe.goals p.program s e t.0 s.next from comes t.1 (subst (IsUnused s.next) t.2 unused));
-          below = ((goal_local, tt), local-arguments (λ v. v < s.next) g goal_local, omega arith, tt);
+          below = ((goal_local, tt), LocalAll-arguments (λ v. v < s.next) g goal_local, omega arith, tt);
           quiet = searched.quiet;
         }
 

@@ -6,7 +6,7 @@ use Rattle.std.specs.Cmp.{nat_cmp_is}
 use Rattle.std.specs.Ordering.{nat_cmp}
 use Rattle.std.specs.declared.cmp.Ordering.{Ordering}
 use Rattle.std.specs.declared.cmp.Ordering.TheVariants.{Less, Equal, Greater}
-use Rattle.std.proofs.lemmas.Bool.{false≢true}
+use Rattle.std.proofs.lemmas.Bool.{false≢true, and_parts}
 use Rattle.ap_term.specs.Tree.{Tree, Trees, none, more}
 use Rattle.ap_term.specs.Substitution.{instance_all}
 use Rattle.ap_core.specs.declared.events.Kind.TheVariants as kinds
@@ -27,7 +27,6 @@ use Rattle.ap_frames.specs.Slots.{has_answer, has_more, stands_answered}
 use Rattle.ap_frames.specs.Rows.{at_place, standing}
 use Rattle.ap_frames.specs.Rounds.{numbered, reset, reset_by, without_cost}
 use Rattle.ap_frames.specs.Verdicts.{next_redo, place_behind}
-use Rattle.ap_frames.proofs.Failing.{both}
 use Rattle.ap_parcall_laws.proofs.Rows.{more-alike}
 use Rattle.ap_parcall_laws.proofs.Same as alike_slots
 use Rattle.ap_parcall_laws.proofs.Redone.{redo-from-one}
@@ -85,7 +84,7 @@ next_redone code p q b (more g gs) (slot x n w) v i (k, y, u, l, rest, is) e a =
         let is_place : i ≡ suc (suc j) = omega (arith, place) in
         let left : i - 1 ≡ suc j = omega (arith, place) in
         let inner : suc j - 1 ≡ j = omega arith in
-        let parts = both (has_answer x) (list_all has_answer (take j (rows w))) (sym (ap (λ m. list_all has_answer (take m (rows (slot x n w)))) left) ∙ a) in
+        let parts = and_parts (has_answer x) (list_all has_answer (take j (rows w))) (sym (ap (λ m. list_all has_answer (take m (rows (slot x n w)))) left) ∙ a) in
         subst (λ m. IsNextRedo m (core.slot g k y u)) (sym is_place)
         (redoes ∙ ap is_some f, (alike_slots.same q x.stand (_) y l.1).answer ∙ parts.0, next (suc j) f (ap (λ m. list_all has_answer (take m (rows w))) inner ∙ parts.1))
     go None true f d next =

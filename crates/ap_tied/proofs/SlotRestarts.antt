@@ -1,7 +1,7 @@
 -- Slots behind a redone one that has answered.
 use Rattle.std.proofs.Common.{◌≡◌, ℕ, zero, suc, ◌-◌, ◌<◌, ◌⊎◌, inl, inr, Bool, true, false, ◌&&◌, ◌||◌, List, [], Some, refl, ap, sym, ◌∙◌, subst}
 use Rattle.std.specs.Prelude.{length}
-use Rattle.std.proofs.lemmas.Bool.{false≢true}
+use Rattle.std.proofs.lemmas.Bool.{false≢true, or_right}
 use Rattle.ap_term.specs.Tree.{Tree, Trees, none, more}
 use Rattle.ap_term.specs.Substitution.{instance_all}
 use Rattle.ap_core.specs.declared.events.Kind.TheVariants as kinds
@@ -154,15 +154,11 @@ redone_place zero (core.slot f l y v) g k x h d = absurd d
 redone_place (suc zero) (core.slot f l y v) g k x h d = subst WasRedone (ap (λ (c : Tree × Recorded). c.1.1) (same h)) d
 redone_place (suc (suc i)) (core.slot f l y v) g k x h d = redone_place (suc i) v g k x h d.1
 
-or_true : (a b : Bool) → b ≡ true → (a || b) ≡ true
-or_true true b h = refl
-or_true false b h = h
-
 again_place : (i : ℕ) (v : core.Slots) (g : Tree) (k : Bool) (x : Progress) → place_in i v ≡ Some (g, (k, x)) → is_again x ≡ true → some_is_again v ≡ true
 again_place i core.no_slot g k x h a = absurd (refused h)
 again_place zero (core.slot f l y v) g k x h a = absurd (refused h)
 again_place (suc zero) (core.slot f l y v) g k x h a = ap (λ j. j || some_is_again v) (ap (λ (c : Tree × Recorded). is_again c.1.1) (same h) ∙ a)
-again_place (suc (suc i)) (core.slot f l y v) g k x h a = or_true (is_again y) (some_is_again v) (again_place (suc i) v g k x h a)
+again_place (suc (suc i)) (core.slot f l y v) g k x h a = or_right (is_again y) (some_is_again v) (again_place (suc i) v g k x h a)
 
 is_again_now : (code : Compiled) (r n : ℕ) (e : Stand (Unit {0})) (h : Held) (x : Progress) → stands_answered e ≡ true → HoldsAnswer code e h → StandsAs r e n x → WasRedone x → is_again x ≡ true
 is_again_now code r n Ready h x a k s d = absurd (false≢true a)

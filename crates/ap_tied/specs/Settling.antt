@@ -1,6 +1,7 @@
 -- What it is in the core that a section's frame is settled, and where a section comes to rest.
 use Rattle.std.specs.Prelude.{◌≡◌, ℕ, ◌+◌, ◌-◌, ◌≤◌, true, false, List, [], ◌∷◌, take, Some}
 use Rattle.std.specs.List.{list_any, list_all}
+use Rattle.ap_group.specs.Meets.{MeetAll}
 use Rattle.ap_term.specs.Tree.{Tree, Trees}
 use Rattle.ap_term.specs.UpToNames.{SameUpToNames}
 use Rattle.ap_core.specs.Tasks.{Answer, Task}
@@ -15,7 +16,6 @@ use Rattle.ap_tracked.specs.Tracked.{Tracked}
 use Rattle.ap_instr.specs.Code.{Compiled}
 use Rattle.ap_group.specs.Groups.{Forked}
 use Rattle.ap_match.specs.Fits.{Fits, Becomes}
-use Rattle.ap_rejoin.specs.Meets.{MeetAll}
 use Rattle.ap_standing.specs.Machine.{Point, Machine, returning, failed}
 use Rattle.ap_standing.specs.Holds.{Holds}
 use Rattle.ap_tie.specs.Sections.{Row, Section, section, Stack, bottom, parcall, Slots, no_slot, slot, nothing, held, machine_in, rows}

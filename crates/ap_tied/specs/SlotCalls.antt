@@ -1,9 +1,9 @@
 -- What it is in the core that a slot of the frame that comes first begins, answers, ends, and is redone.
 use Rattle.std.specs.Prelude.{◌≡◌, ℕ, zero, suc, ◌+◌, ◌-◌, ◌<◌, Bool, true, false, not, List, [], ◌∷◌, slice_get, Option, Some, None}
+use Rattle.ap_term.specs.Tuples.{tuple_under, arguments}
 use Rattle.ap_term.specs.Tree.{Tree}
 use Rattle.ap_term.specs.UpToNames.{SameUpToNames}
 use Rattle.ap_term.specs.Vars.{Local}
-use Rattle.ap_laws.specs.Graft.{arguments}
 use Rattle.ap_cells.specs.Trees.{tree_at, trees}
 use Rattle.ap_core.specs.declared.events.Kind.TheVariants as kinds
 use Rattle.ap_core.specs.Tasks as core
@@ -27,7 +27,6 @@ use Rattle.ap_instr.specs.declared.compiled.Predicate.{Predicate}
 use Rattle.ap_instr.specs.Code.{Compiled}
 use Rattle.ap_instr.specs.Runs.{applied}
 use Rattle.ap_group.specs.Groups.{Pushed, Forked}
-use Rattle.ap_steps.specs.Standing.{tuple_under}
 use Rattle.ap_standing.specs.Machine.{Point, Machine, failed}
 use Rattle.ap_tie.specs.Sections.{Row, Section, section, Stack, bottom, parcall, Slots, no_slot, slot, Held, nothing, held, rows, machine_in}
 use Rattle.ap_tie.specs.Open.{origin_of}

@@ -1,9 +1,9 @@
 use Rattle.std.proofs.Common.{rules, ◌≡◌, ◌<◌, length, slice_get, Some, None, [], ap, subst, ◌∙◌, sym, arith}
 use Rattle.std.proofs.lemmas.Option.{slice_get-get_or}
+use Rattle.ap_group.specs.Meets.{IsInstance}
 use Rattle.ap_cells.proofs.Stores.{Keeps-refl, Keeps-trans}
 use Rattle.ap_match.specs.Fits.{Answered}
 use Rattle.ap_group.specs.Groups.{Pushed}
-use Rattle.ap_rejoin.specs.Meets.{IsInstance}
 use Rattle.ap_rejoin.proofs.Together.{same-count, none-met, more-met, not-met, all-met, inside-more}
 use Rattle.ap_rejoin.proofs.meeting.meet_all.Goals as goal
 

@@ -1,13 +1,13 @@
 use Rattle.std.proofs.Common.{◌≡◌, ◌<◌, length, slice_get, Some, ap, sym, ◌∙◌, subst}
 use Rattle.std.specs.Prelude.{IfOk}
 use Rattle.std.proofs.lemmas.Result.{IfOk-weaker}
+use Rattle.ap_term.specs.Tuples.{tuple_under}
 use Rattle.ap_term.specs.Tree.{Trees, count_trees}
 use Rattle.ap_term.specs.UpToNames.{SameUpToNames}
 use Rattle.ap_cells.specs.Trees.{tree_at, trees}
 use Rattle.ap_cells.specs.Walks.{Each}
 use Rattle.ap_copy.specs.Copies.{tuple_at}
 use Rattle.ap_group.specs.Groups.{Pushed}
-use Rattle.ap_steps.specs.Standing.{tuple_under}
 use Rattle.ap_machine.specs.View.{Paused, pushed_of}
 use Rattle.ap_machine.specs.Forks.{newest_goals}
 use Rattle.ap_machine.proofs.Parting.{no-moment, no-frame, goal-at, goal-inside, each-held}

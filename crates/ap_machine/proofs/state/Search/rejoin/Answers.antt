@@ -1,6 +1,6 @@
 use Rattle.std.proofs.Common.{sym, subst}
+use Rattle.ap_group.specs.Meets.{MeetAll}
 use Rattle.ap_match.specs.Fits.{Answered}
-use Rattle.ap_rejoin.specs.Meets.{MeetAll}
 use Rattle.ap_machine.specs.View.{IsFor}
 use Rattle.ap_machine.proofs.Parting.{no-moment}
 use Rattle.ap_machine.proofs.Rejoining.{are-inside, Sane-met, at-fork-again, for-again, not-rejoined, Sane-behind, rejoined, for-rejoined}

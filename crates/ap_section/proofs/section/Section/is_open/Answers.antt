@@ -1,14 +1,6 @@
-use Rattle.std.proofs.Common.{◌≡◌, Bool, true, false, not, refl}
+use Rattle.std.proofs.lemmas.Bool.{not-true, not-false}
 use Rattle.ap_section.proofs.Shut.{open-at, top-shut, none-shut, top-last, none-last}
 use Rattle.ap_section.proofs.section.Section.is_open.Goals as goal
-
-not-true : (b : Bool) → not b ≡ true → b ≡ false
-not-true true h = cc
-not-true false h = refl
-
-not-false : (b : Bool) → not b ≡ false → b ≡ true
-not-false true h = refl
-not-false false h = cc
 
 pub returns-in-Some-clause-open : goal.returns-in-Some-clause-open
 returns-in-Some-clause-open c = λ e code. open-at code c.args.self.now c.in-Some.frame.now (top-last c.args.self.now c.in-Some.frame.now c.deref.result.now c.deref.ensures.value c.in-Some.ensures.value) (c.is_over.ensures.open (not-true c.is_over.result e))
