@@ -1,4 +1,5 @@
 pub mod Moves
 pub mod Puts
+pub mod Readers
 pub mod Halts
 pub mod Places

@@ -1,3 +1,5 @@
+pub mod Calls
+pub mod Cuts
 pub mod Faults
 pub mod Files
 pub mod Halting

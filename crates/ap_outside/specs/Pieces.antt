@@ -1,5 +1,6 @@
 -- Pieces that were put to a sink, where it tells them: `None` claims nothing.
 use Rattle.std.specs.Prelude.{◌≡◌, ℕ, List, [], ◌∷◌, ◌++◌, length, take, Option, None, Some, ⊤, ◌⊎◌}
+use Rattle.std.specs.Io.KnownBytes.{Appends}
 
 -- the pieces told grow by these
 abbrev pub Adds : Option (List (List ℕ)) → Option (List (List ℕ)) → List (List ℕ) → Type 0
@@ -27,3 +28,7 @@ FrontOf P lines = (lines ≡ []) ⊎ PrefixOf P lines
 abbrev pub CutOf : (List (List ℕ) → Type 0) → List (List ℕ) → Type 0
 CutOf P pieces = (before : List (List ℕ)) × (line : List ℕ) × (rest : List (List ℕ)) × (part : List ℕ) ×
     (pieces ≡ before ++ part ∷ []) × (take (length part) line ≡ part) × P (before ++ line ∷ rest)
+
+-- a writer's known bytes grow by a beginning of a piece, perhaps empty
+abbrev pub WritesFront : Option (List ℕ) → Option (List ℕ) → List ℕ → Type 0
+WritesFront old new piece = (count : ℕ) × Appends old new (take count piece)

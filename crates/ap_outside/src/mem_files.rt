@@ -1,6 +1,7 @@
 // Files in memory.
-ghost use Rattle.std.specs.Prelude.{◌≡◌, ◌<◌, ◌≤◌, [], length, map, Some, IfOk, OnErr, IsOkUnless, option_map};
-ghost use Rattle.ap_outside.specs.Files.{content_of};
+ghost use Rattle.std.specs.Prelude.{◌≡◌, ◌<◌, ◌≤◌, [], length, map, None, Some, IfOk, OnOk, OnErr, IsErrOf, IsOkUnless, option_map};
+ghost use Rattle.ap_outside.specs.Faults.{Rises};
+ghost use Rattle.ap_outside.specs.Files.{content_of, HasContent};
 ghost use Rattle.ap_outside.specs.MemFiles.{entries_of};
 
 use crate::{FileErr, Files, Got};
@@ -75,7 +76,20 @@ impl Files for MemFiles {
 
     ghost faults = { λ s. s.faults };
 
-    fn read(&mut self, name: &str, into: &mut Vec<u8>, limit: u64) -> Result<Got, FileErr> {
+    fn read(&mut self, name: &str, into: &mut Vec<u8>, limit: u64) -> Result<Got, FileErr>
+        ensures whole { result ≡ Ok Got.Whole → HasContent (Some (entries_of self.old.files.items)) name.now (λ bytes. into.new.items ≡ bytes) }
+        ensures fits { result ≡ Ok Got.Whole → length into.new.items ≤ limit }
+        ensures too_long { result ≡ Ok Got.TooLong → HasContent (Some (entries_of self.old.files.items)) name.now (λ bytes. limit < length bytes) }
+        ensures emptied { result ≡ Ok Got.TooLong → into.new.items ≡ [] }
+        ensures emptied_err { OnErr result (into.new.items ≡ []) }
+        ensures same { self.new.files ≡ self.old.files }
+
+        // It fails at names that it does not have.
+        ensures missing { IsErrOf result FileErr.Failed → content_of (entries_of self.old.files.items) name.now ≡ None }
+        ensures cause { IsErrOf result FileErr.Failed → Rises self.old.faults self.new.faults }
+        ensures counted { OnOk result (self.new.faults ≡ self.old.faults) }
+        ensures counted_memory { IsErrOf result FileErr.NoMemory → self.new.faults ≡ self.old.faults }
+    {
         into.clear();
         match find_file(&self.files, name) {
             None => {

@@ -1,6 +1,9 @@
 // Sinks in memory.
-ghost use Rattle.std.specs.Prelude.{◌≡◌, [], Some, IfOk};
+ghost use Rattle.std.specs.Prelude.{◌≡◌, ℕ, [], ◌∷◌, take, None, Some, IfOk, OnOk, IsErrOf};
+ghost use Rattle.ap_outside.specs.Calls.{next_call, takes_at};
+ghost use Rattle.ap_outside.specs.Faults.{Rises};
 ghost use Rattle.ap_outside.specs.MemSink.{pieces_of};
+ghost use Rattle.ap_outside.specs.Pieces.{Adds};
 
 use crate::{PutErr, Sink};
 use std::alloc::{AllocError, Global};
@@ -67,6 +70,8 @@ impl MemSink {
     pub fn new(alloc: Global, refusals: &[Refusal]) -> Result<MemSink, AllocError>
         ensures pieces { IfOk result (λ made. ⟦<MemSink as Sink>⟧.pieces made ≡ Some []) }
         ensures faults { IfOk result (λ made. ⟦<MemSink as Sink>⟧.faults made ≡ 0) }
+        ensures refusals { IfOk result (λ made. made.refusals.items ≡ refusals.now) }
+        ensures calls { IfOk result (λ made. made.calls ≡ 0) }
     {
         Ok(MemSink {
             inner: SteadySink::new(alloc),
@@ -85,8 +90,15 @@ impl MemSink {
 }
 
 // How many bytes the call takes before it fails, where it fails.
-fn refusal_of(refusals: &[Refusal], call: u64) -> Option<usize> {
-    refusals.iter().find(|r| r.call == call).map(|r| r.takes)
+fn refusal_of(refusals: &[Refusal], call: u64) -> Option<usize>
+    ensures { result ≡ takes_at refusals.now call }
+{
+    for refusal in refusals {
+        if refusal.call == call {
+            return Some(refusal.takes);
+        }
+    }
+    None
 }
 
 impl Sink for MemSink {
@@ -94,7 +106,20 @@ impl Sink for MemSink {
 
     ghost faults = { λ s. s.faults };
 
-    fn put(&mut self, piece: &[u8]) -> Result<(), PutErr> {
+    fn put(&mut self, piece: &[u8]) -> Result<(), PutErr>
+        ensures ok { OnOk result (Adds (⟦<MemSink as Sink>⟧.pieces self.old) (⟦<MemSink as Sink>⟧.pieces self.new) (piece.now ∷ [])) }
+        ensures memory { IsErrOf result PutErr.NoMemory → Adds (⟦<MemSink as Sink>⟧.pieces self.old) (⟦<MemSink as Sink>⟧.pieces self.new) [] }
+
+        // It fails at the calls that it was told, and takes as many bytes before as it was told.
+        ensures accepts { OnOk result (takes_at self.old.refusals.items (next_call self.old.calls) ≡ None) }
+        ensures failed { IsErrOf result PutErr.Failed → (takes : ℕ) × (takes_at self.old.refusals.items (next_call self.old.calls) ≡ Some takes)
+            × Adds (⟦<MemSink as Sink>⟧.pieces self.old) (⟦<MemSink as Sink>⟧.pieces self.new) (take takes piece.now ∷ []) }
+        ensures calls { self.new.calls ≡ next_call self.old.calls }
+        ensures refusals { self.new.refusals ≡ self.old.refusals }
+        ensures cause { IsErrOf result PutErr.Failed → Rises self.old.faults self.new.faults }
+        ensures counted { OnOk result (self.new.faults ≡ self.old.faults) }
+        ensures counted_memory { IsErrOf result PutErr.NoMemory → self.new.faults ≡ self.old.faults }
+    {
         self.calls = self.calls.saturating_add(1);
         match refusal_of(&self.refusals, self.calls) {
             None => self.inner.put(piece),

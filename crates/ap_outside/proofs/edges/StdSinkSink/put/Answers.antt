@@ -2,5 +2,5 @@
 use Rattle.std.proofs.Common.{[], ◌∷◌, refl}
 use Rattle.ap_outside.proofs.edges.StdSinkSink.put.Goals as goal
 
-pub returns-in-Err-clause-failed : goal.returns-in-Err-clause-failed
-returns-in-Err-clause-failed g c = λ _. ([] ∷ [], tt, ([], refl, refl))
+pub returns-in-Err-clause-pieces : goal.returns-in-Err-clause-pieces
+returns-in-Err-clause-pieces g c = λ _. ([] ∷ [], tt, ([], refl, refl))
