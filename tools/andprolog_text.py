@@ -8,10 +8,12 @@ import os
 import re
 import shutil
 import sys
+from bisect import bisect_right
 from dataclasses import dataclass, field
 
 # Terms are nested at most 1,000 deep, each level taking a few calls of the reader.
-sys.setrecursionlimit(40_000)
+sys.setrecursionlimit(12_000)
+MOST = 9223372036854775808
 
 INFIX = {
     ":-": (1200, 1199, 1199), "-->": (1200, 1199, 1199), ";": (1100, 1099, 1100), "->": (1050, 1049, 1050),
@@ -72,33 +74,40 @@ class Term:
 class Mistake(Exception):
     """What is wrong in a piece, and where."""
 
-    def __init__(self, at, text):
+    def __init__(self, at, text, is_bad=False):
         super().__init__(text)
         self.at = at
+        # whether a token is bad, and not the order of tokens
+        self.is_bad = is_bad
 
 
 class Source:
-    """A text with its lines, by which offsets become lines and columns, both from 1."""
+    """The text of a program in one or more files, one behind the other, and where each offset stands in them."""
 
-    def __init__(self, text):
-        self.text = text
-        self.starts = [0, *(it.end() for it in re.finditer("\n", text))]
+    def __init__(self, files):
+        self.text = "".join(text for _, text in files)
+        self.lines = [0, *(it.end() for it in re.finditer("\n", self.text))]
+        self.names, self.begins, begin = [], [], 0
+        for name, text in files:
+            self.names.append(name)
+            self.begins.append(begin)
+            begin += len(text)
+
+    def row(self, at):
+        """Gives the number of the offset's line in the whole text, from 1."""
+        return bisect_right(self.lines, at)
 
     def place(self, at):
-        line = 0
-        low, high = 0, len(self.starts)
-        while low < high:
-            line = (low + high) // 2
-            if self.starts[line] <= at:
-                low = line + 1
-            else:
-                high = line
-        return low, at - self.starts[low - 1] + 1
+        """Gives the name of the offset's file, with its line and its column there, both from 1."""
+        number = bisect_right(self.begins, at) - 1
+        begin, row = self.begins[number], self.row(at)
+        return self.names[number], row - self.row(begin) + 1, at - max(self.lines[row - 1], begin) + 1
 
-    def line(self, number):
-        """Gives a line's text."""
-        lines = self.text.split("\n")
-        return lines[number - 1].rstrip("\r") if number <= len(lines) else ""
+    def line(self, at):
+        """Gives the text of the offset's line, as far as it stands in the offset's file."""
+        number = bisect_right(self.begins, at)
+        begin, end = self.begins[number - 1], [*self.begins, len(self.text)][number]
+        return self.text[max(self.lines[self.row(at) - 1], begin) : end].split("\n")[0].rstrip("\r")
 
 
 def tokens(text):
@@ -107,7 +116,7 @@ def tokens(text):
         kind, word, stop = found.lastgroup, found.group(), found.end()
         if kind == "layout":
             continue
-        if kind == "unclosed":
+        if kind == "unclosed" or kind == "int" and int(word) > MOST:
             kind = "bad"
         if word == "." and (stop == len(text) or text[stop] in " \t\r\n%"):
             kind = "end"
@@ -133,15 +142,15 @@ def unquoted(word):
 class Reader:
     """Reads one piece as a term, by the table of operators (ISO 13211-1, section 6.3)."""
 
-    def __init__(self, piece, ends=True):
+    def __init__(self, piece):
         self.piece = piece
         self.at = 0
         last = piece[-1].stop if piece else 0
         self.beyond = Token("none", "", last, last)
         for token in piece:
             if token.kind == "bad":
-                raise Mistake(token.start, self.why_bad(token))
-        if ends and piece[-1].kind != "end":
+                raise Mistake(token.start, self.why_bad(token), is_bad=True)
+        if piece[-1].kind != "end":
             raise Mistake(max(last - 1, 0), "the clause has no full stop behind it")
 
     @staticmethod
@@ -150,6 +159,8 @@ class Reader:
             return "a quoted name is not closed on its line, or has an unknown escape"
         if token.text == "/*":
             return "a comment is not closed"
+        if token.text.isdigit():
+            return "integers have 64 bits"
         if token.text == '"':
             return "there are no strings: use a list, or a name in single quotes"
         return f"no token begins with {token.text}"
@@ -282,24 +293,10 @@ class Reader:
 
 def read_clause(piece):
     """Reads a piece as a term; a Mistake says where it is none."""
-    return Reader(piece).clause()
-
-
-def read_answer(line):
-    """Reads an answer line as pairs of a variable's name and its term; `true` has none."""
-    if line == "true":
-        return []
-    reader = Reader(list(tokens(line)), ends=False)
-    pairs = []
-    while True:
-        name = reader.take()
-        if name.kind != "var":
-            raise Mistake(name.start, "expected a variable's name")
-        reader.expect("=", "'='")
-        pairs.append((name.text, reader.term(999)))
-        if reader.peek().kind == "none":
-            return pairs
-        reader.expect(",", "','")
+    try:
+        return Reader(piece).clause()
+    except RecursionError:
+        raise Mistake(piece[0].start, "it is nested too deep") from None
 
 
 def split_clause(term):
@@ -307,6 +304,15 @@ def split_clause(term):
     if term.kind == "node" and term.key == (":-", 2):
         return term.args[0], term.args[1]
     return term, None
+
+
+def flat(term, name):
+    """Gives the operands of a chain of one operator, from left to right."""
+    found = []
+    while term.kind == "node" and term.key == (name, 2):
+        found.append(term.args[0])
+        term = term.args[1]
+    return [*found, term]
 
 
 def goals_of(body):
@@ -341,3 +347,16 @@ def program_path():
     if not found:
         sys.exit("andprolog: not found: set ANDPROLOG to the program")
     return found
+
+
+def run_tool(main):
+    """Ends the process with the status of `main`, and quietly where it is interrupted or nobody reads what it writes."""
+    try:
+        status = main()
+        sys.stdout.flush()
+    except KeyboardInterrupt:
+        status = 130
+    except BrokenPipeError:
+        os.dup2(os.open(os.devnull, os.O_WRONLY), 1)
+        status = 141
+    sys.exit(status)
