@@ -1,11 +1,10 @@
--- The variables of a tree from left to right are those that occur in it.
+-- The variables that are gathered from a tree are those that occur in it.
 use Rattle.std.proofs.Common.{◌≡◌, ℕ, Bool, true, false, ◌||◌, nat_eq, List, [], ◌∷◌, ◌++◌, refl, sym, ap, ◌∙◌, inl, inr, ◌⊎◌, if◌then◌else◌}
 use Rattle.std.proofs.Math.Bool.{or-false, or_assoc}
 use Rattle.std.proofs.lemmas.Bool.{false≢true, or_cases, or_left, or_right}
 use Rattle.ap_term.specs.Tree.{Tree, Trees, var, int, atom, node, none, more}
 use Rattle.ap_term.specs.Vars.{has, add_vars, add_all_vars, occurs, occurs_all}
 use Rattle.ap_term.proofs.Solutions.{same_var, same_test}
-use Rattle.ap_cells.specs.Walks.{leaves, leaves_all}
 
 has-append : (xs ys : List ℕ) (x : ℕ) → has (xs ++ ys) x ≡ (has xs x || has ys x)
 has-append [] ys x = refl
@@ -18,17 +17,6 @@ eq-sym x y = go (nat_eq x y) (nat_eq y x) refl refl
     go true b e f = e ∙ sym (same_test y x (sym (same_var x y e)))
     go false true e f = absurd (false≢true (sym e ∙ same_test x y (sym (same_var y x f))))
     go false false e f = e ∙ sym f
-
-mutual
-  pub has-leaves : (t : Tree) (x : ℕ) → has (leaves t) x ≡ occurs x t
-  has-leaves (var y) x = or-false (nat_eq y x) ∙ eq-sym y x
-  has-leaves (int z) x = refl
-  has-leaves (atom a) x = refl
-  has-leaves (node a ts) x = has-leaves_all ts x
-
-  pub has-leaves_all : (ts : Trees) (x : ℕ) → has (leaves_all ts) x ≡ occurs_all x ts
-  has-leaves_all none x = refl
-  has-leaves_all (more t ts) x = has-append (leaves t) (leaves_all ts) x ∙ ap (λ b. b || has (leaves_all ts) x) (has-leaves t x) ∙ ap (λ b. occurs x t || b) (has-leaves_all ts x)
 
 mutual
   -- a variable that is found was there, or stands in the tree

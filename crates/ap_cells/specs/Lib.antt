@@ -4,4 +4,5 @@ pub mod Store
 pub mod Kept
 pub mod Tops
 pub mod Walks
+pub mod Assumed
 pub mod Built

@@ -1,12 +1,13 @@
 -- Runs of places that are compared.
 use Rattle.std.proofs.Common.{◌≡◌, ◌↔◌, ℕ, zero, suc, ◌+◌, ◌-◌, ◌*◌, ◌<◌, ◌≤◌, List, [], ◌∷◌, ◌++◌, refl, sym, ap, ◌∙◌, subst, arith}
-use Rattle.ap_term.specs.Tree.{Tree, Trees, node, more, count_trees}
+use Rattle.ap_term.specs.Tree.{Tree, node, count_trees}
 use Rattle.ap_cells.specs.Trees.{tree_at, span}
 use Rattle.ap_cells.specs.Tops.{topped}
-use Rattle.ap_cells.specs.Walks.{Each, weight, weight_all}
-use Rattle.ap_cells.proofs.Walks.{Each-push, Each-pop, weight-some, span-first}
+use Rattle.ap_cells.specs.Walks.{weight, weight_all}
+use Rattle.ap_cells.proofs.Walks.{Each-push, Each-pop, span-first}
+use Rattle.ap_cells.proofs.Assumed.{more_head}
 use Rattle.ap_cells.specs.declared.top.Top.{Top}
-use Rattle.ap_checks.specs.declared.identity.Pairs.{Pairs}
+use Rattle.ap_cells.specs.declared.pairs.Pairs.{Pairs}
 use Rattle.ap_checks.specs.declared.identity.Answer.TheVariants.{Arguments}
 use Rattle.ap_checks.specs.Pairs.{AreSame, AllSame, Says, weight_pairs}
 
@@ -26,38 +27,11 @@ count-span ts p (suc n) = let k = count-span ts (p + 1) n in omega arith
 pub apart_by_count : (ts : List Tree) (a b p q m n : ℕ) → (m ≡ n → ⊥) → node a (span ts p m) ≡ node b (span ts q n) → ⊥
 apart_by_count ts a b p q m n h e = let k : span ts p m ≡ span ts q n = cc in h (sym (count-span ts p m) ∙ ap count_trees k ∙ count-span ts q n)
 
--- one run with what became of its first pair: the others are as they were, or it is settled that not all are the same
-pub left_pairs : (ts : List Tree) (old popped rest new : List Pairs) (r : Pairs) → 0 < r.count → old ≡ popped ++ r ∷ []
-    → (AllSame ts rest ↔ (AllSame ts popped × (span ts (r.left + 1) (r.count - 1) ≡ span ts (r.right + 1) (r.count - 1))))
-    → (AllSame ts new ↔ (AllSame ts rest × (tree_at ts r.left ≡ tree_at ts r.right)))
-    → AllSame ts new ↔ AllSame ts old
-left_pairs ts old popped rest new r h e f g =
-    (λ s. subst (AllSame ts) (sym e) (there (g.0 s)), λ s. g.1 (back (subst (AllSame ts) e s)))
-  where
-    first : (u v : Tree) (us vs : Trees) → more u us ≡ more v vs → u ≡ v
-    first u v us vs k = cc
-
-    others : (u v : Tree) (us vs : Trees) → more u us ≡ more v vs → us ≡ vs
-    others u v us vs k = cc
-
-    there : AllSame ts rest × (tree_at ts r.left ≡ tree_at ts r.right) → AllSame ts (popped ++ r ∷ [])
-    there s = let k = f.0 s.0 in
-        (AllSame-push ts popped r).1 (k.0, span-first ts r.left r.count h ∙ ap (λ t. more t (span ts (r.left + 1) (r.count - 1))) s.1 ∙ ap (more (tree_at ts r.right)) k.1 ∙ sym (span-first ts r.right r.count h))
-
-    back : AllSame ts (popped ++ r ∷ []) → AllSame ts rest × (tree_at ts r.left ≡ tree_at ts r.right)
-    back s =
-        let k = (AllSame-push ts popped r).0 s in
-        let l = sym (span-first ts r.left r.count h) ∙ k.1 ∙ span-first ts r.right r.count h in
-        (f.1 (k.0, others (tree_at ts r.left) (tree_at ts r.right) (span ts (r.left + 1) (r.count - 1)) (span ts (r.right + 1) (r.count - 1)) l), first (tree_at ts r.left) (tree_at ts r.right) (span ts (r.left + 1) (r.count - 1)) (span ts (r.right + 1) (r.count - 1)) l)
-
 -- its first pair stands for different trees
 pub apart_pairs : (ts : List Tree) (old popped : List Pairs) (r : Pairs) → 0 < r.count → old ≡ popped ++ r ∷ [] → (tree_at ts r.left ≡ tree_at ts r.right → ⊥) → AllSame ts old → ⊥
 apart_pairs ts old popped r h e n s =
     let k = (AllSame-push ts popped r).0 (subst (AllSame ts) e s) in
-    n (first (tree_at ts r.left) (tree_at ts r.right) (span ts (r.left + 1) (r.count - 1)) (span ts (r.right + 1) (r.count - 1)) (sym (span-first ts r.left r.count h) ∙ k.1 ∙ span-first ts r.right r.count h))
-  where
-    first : (u v : Tree) (us vs : Trees) → more u us ≡ more v vs → u ≡ v
-    first u v us vs k = cc
+    n (more_head (tree_at ts r.left) (tree_at ts r.right) (span ts (r.left + 1) (r.count - 1)) (span ts (r.right + 1) (r.count - 1)) (sym (span-first ts r.left r.count h) ∙ k.1 ∙ span-first ts r.right r.count h))
 
 pub weight_turn : (ts : List Tree) (old popped rest new : List Pairs) (r : Pairs) → 0 < r.count → old ≡ popped ++ r ∷ []
     → weight_pairs ts rest ≤ weight_pairs ts popped + (2 * weight_all (span ts (r.left + 1) (r.count - 1)) + 1) → weight_pairs ts new < weight_pairs ts rest + 2 * weight (tree_at ts r.left)
@@ -70,10 +44,6 @@ weight_turn ts old popped rest new r h e f g =
 pub weight_empty : (ts : List Tree) (old popped : List Pairs) (r : Pairs) → old ≡ popped ++ r ∷ [] → weight_pairs ts popped < weight_pairs ts old
 weight_empty ts old popped r e = let w = ap (weight_pairs ts) e ∙ weight_pairs-push ts popped r in omega arith
 
--- the arguments put in the place of their terms
-pub weight_arguments : (ts : List Tree) (rs : List Pairs) (t u : Top) (p q n left : ℕ) → tree_at ts left ≡ topped ts t → Says t u (Arguments p q n)
-    → weight_pairs ts (rs ++ record { left = p; right = q; count = n } ∷ []) < weight_pairs ts rs + 2 * weight (tree_at ts left)
-weight_arguments ts rs t u p q n left e s =
-    let w = weight_pairs-push ts rs (record { left = p; right = q; count = n }) in
-    let v = ap weight (e ∙ ap (topped ts) s.1.0) in
-    omega arith
+-- the arguments in the place of their terms
+pub weight_arguments : (ts : List Tree) (t u : Top) (p q n left : ℕ) → tree_at ts left ≡ topped ts t → Says t u (Arguments p q n) → 2 * weight_all (span ts p n) + 1 < 2 * weight (tree_at ts left)
+weight_arguments ts t u p q n left e s = let v = ap weight (e ∙ ap (topped ts) s.1.0) in omega arith

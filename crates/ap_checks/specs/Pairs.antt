@@ -1,18 +1,14 @@
 -- Places whose terms are compared with those of others.
-use Rattle.std.specs.Prelude.{◌≡◌, ◌↔◌, ℕ, ◌+◌, ◌*◌, ◌≤◌, Bool, true, false, List, [], ◌∷◌}
+use Rattle.std.specs.Prelude.{◌≡◌, ℕ, ◌+◌, ◌*◌, List, [], ◌∷◌}
 use Rattle.ap_term.specs.Tree.{Tree}
-use Rattle.ap_cells.specs.Trees.{tree_at, span}
+use Rattle.ap_cells.specs.Trees.{span}
 use Rattle.ap_cells.specs.Tops.{topped}
 use Rattle.ap_cells.specs.Walks.{Each, weight_all}
 use Rattle.ap_cells.specs.declared.top.Top.{Top}
 use Rattle.ap_cells.specs.declared.top.Top.TheVariants.{Node}
-use Rattle.ap_checks.specs.declared.identity.Pairs.{Pairs}
+use Rattle.ap_cells.specs.declared.pairs.Pairs.{Pairs}
 use Rattle.ap_checks.specs.declared.identity.Answer.{Answer}
 use Rattle.ap_checks.specs.declared.identity.Answer.TheVariants.{Same, Apart, Arguments}
-
--- the places lie among the first n
-abbrev pub ArePairs : ℕ → Pairs → Type 0
-ArePairs n r = (r.left + r.count ≤ n) × (r.right + r.count ≤ n)
 
 -- both sides stand for the same trees
 abbrev pub AreSame : List Tree → Pairs → Type 0
@@ -26,11 +22,6 @@ abbrev pub Says : Top → Top → Answer → Type 0
 Says t u Same = (ts : List Tree) → topped ts t ≡ topped ts u
 Says t u Apart = (ts : List Tree) → topped ts t ≡ topped ts u → ⊥
 Says t u (Arguments p q n) = (a : ℕ) × ((t ≡ Node a p n) × (u ≡ Node a q n))
-
--- with the pairs qs left in the place of rs, the places p and q may still stand for one tree, or they don't
-abbrev pub Leaves : List Tree → List Pairs → List Pairs → ℕ → ℕ → Bool → Type 0
-Leaves ts rs qs p q true = AllSame ts qs ↔ (AllSame ts rs × (tree_at ts p ≡ tree_at ts q))
-Leaves ts rs qs p q false = tree_at ts p ≡ tree_at ts q → ⊥
 
 -- more turns than the comparison takes
 abbrev pub weight_pairs : List Tree → List Pairs → ℕ

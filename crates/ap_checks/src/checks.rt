@@ -1,4 +1,5 @@
-//! Both checks walk over the variables of a term. `indep` marks those of its first term.
+//! Both checks walk over the variables of a term. `indep` marks those of its first term. Terms that are shared are gone through
+//! about once.
 
 ghost use Rattle.std.specs.Prelude.{◌≡◌, ◌↔◌, ℕ, ◌<◌, Bool, true, false, nat_eq, length, IfOk, OnOk};
 ghost use Rattle.std.specs.List.{list_any};
@@ -6,7 +7,7 @@ ghost use Rattle.ap_term.specs.Vars.{occurs};
 ghost use Rattle.ap_term.specs.Independence.{IsGround, SharesNoVariable};
 ghost use Rattle.ap_cells.specs.Trees.{tree_at, trees};
 
-use ap_cells::{Cells, Walk};
+use ap_cells::{Cells, Walk, mark_variables};
 use ap_marks::Marks;
 use ap_term::NoMemory;
 
@@ -33,6 +34,7 @@ pub fn indep(
     requires { (a < length cells.now.cells) × (b < length cells.now.cells) }
     ensures { IfOk result (λ r. (r ≡ true) ↔ SharesNoVariable (tree_at (trees cells.now.cells) a) (tree_at (trees cells.now.cells) b)) }
 {
+    marks.clear();
     mark_variables(cells, a, walk, marks)?;
     if marks.is_empty() {
         return Ok(true);
@@ -40,24 +42,7 @@ pub fn indep(
     has_none_of(cells, b, marks, walk)
 }
 
-/// Marks the variables of a place's term, and no others.
-fn mark_variables(
-    cells: &Cells,
-    place: usize,
-    walk: &mut Walk,
-    marks: &mut Marks,
-) -> Result<(), NoMemory>
-    requires { place < length cells.now.cells }
-    ensures { OnOk result ((x : ℕ) → list_any (nat_eq x) marks.new ≡ occurs x (tree_at (trees cells.now.cells) place)) }
-{
-    marks.clear();
-    walk.start(cells, place)?;
-    while let Some(variable) = walk.next(cells)? {
-        marks.insert(variable)?;
-    }
-    Ok(())
-}
-
+/// Whether no marked variable stands in the term of a place.
 fn has_none_of(
     cells: &Cells,
     place: usize,

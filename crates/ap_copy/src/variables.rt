@@ -23,23 +23,7 @@ pub fn mark_variables(
 {
     marks.clear();
     for root in roots {
-        add_variables(cells, *root, walk, marks)?;
-    }
-    Ok(())
-}
-
-fn add_variables(
-    cells: &Cells,
-    place: usize,
-    walk: &mut Walk,
-    marks: &mut Marks,
-) -> Result<(), NoMemory>
-    requires { place < length cells.now.cells }
-    ensures { OnOk result ((x : ℕ) → list_any (nat_eq x) marks.new ≡ (list_any (nat_eq x) marks.old || occurs x (tree_at (trees cells.now.cells) place))) }
-{
-    walk.start(cells, place)?;
-    while let Some(variable) = walk.next(cells)? {
-        marks.insert(variable)?;
+        ap_cells::mark_variables(cells, *root, walk, marks)?;
     }
     Ok(())
 }

@@ -5,6 +5,8 @@
 //! among them.
 #![tactic(auto)]
 
+mod classes;
 mod marks;
 
+pub use classes::Classes;
 pub use marks::Marks;

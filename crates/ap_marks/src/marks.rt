@@ -7,11 +7,11 @@ use ap_term::NoMemory;
 use std::alloc::Global;
 use std::marker::Model;
 
-/// Each of `order` has its place there in `places`; what else `places` holds means nothing.
+/// Each of `order` has its place there in `places`; what else `places` holds means nothing. Numbers of 32 bits are kept.
 #[derive(Drop)]
 pub struct Marks {
-    order: Vec<usize>,
-    places: Vec<usize>,
+    order: Vec<u32>,
+    places: Vec<u32>,
 }
 
 impl Model for Marks {
@@ -27,7 +27,7 @@ impl Model for Marks {
 }
 
 /// Makes the list long enough for the place x.
-fn make_room(places: &mut Vec<usize>, x: usize) -> Result<(), NoMemory>
+fn make_room(places: &mut Vec<u32>, x: usize) -> Result<(), NoMemory>
     ensures room { OnOk result (x < length places.new.items) }
     ensures longer { length places.old.items ≤ length places.new.items }
     ensures same { (k : ℕ) → k < length places.old.items → slice_index_or places.new.items k 0 ≡ slice_index_or places.old.items k 0 }
@@ -79,11 +79,12 @@ impl Marks {
         ensures there { IfSome result (λ n. list_any (nat_eq x) self.now ≡ true) }
         ensures number { IfSome result (λ n. n ≡ position_or_len (nat_eq x) self.now) }
         ensures below { IfSome result (λ n. n < length self.now) }
+        ensures at { IfSome result (λ n. slice_index_or self.now n 0 ≡ x) }
     {
         if x < self.places.len() {
-            let number = self.places[x];
+            let number = self.places[x] as usize;
             if number < self.order.len() {
-                if self.order[number] == x {
+                if self.order[number] as usize == x {
                     return Some(number);
                 }
             }
@@ -98,7 +99,7 @@ impl Marks {
     }
 
     /// Puts a number behind the others, if it isn't there. It takes time in proportion to a number that is greater than all
-    /// before, and else none that grows.
+    /// before, and else none that grows. A number of more than 32 bits finds no memory.
     pub fn insert(&mut self, x: usize) -> Result<(), NoMemory>
         ensures ok { OnOk result (self.new ≡ (if list_any (nat_eq x) self.old then self.old else self.old ++ x ∷ [])) }
         ensures marked { OnOk result ((y : ℕ) → list_any (nat_eq y) self.new ≡ (list_any (nat_eq y) self.old || nat_eq y x)) }
@@ -107,9 +108,12 @@ impl Marks {
         if self.contains(x) {
             return Ok(());
         }
+        let (Ok(mark), Ok(number)) = (u32::try_from(x), u32::try_from(self.order.len())) else {
+            return Err(NoMemory);
+        };
         make_room(&mut self.places, x)?;
-        self.order.push(x)?;
-        self.places[x] = self.order.len() - 1;
+        self.order.push(mark)?;
+        self.places[x] = number;
         Ok(())
     }
 }

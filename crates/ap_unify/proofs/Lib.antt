@@ -1,4 +1,4 @@
 pub mod Works
 pub mod Weights
-pub mod Goings
 pub mod Same
+pub mod Shared

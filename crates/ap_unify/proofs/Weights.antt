@@ -8,10 +8,11 @@ use Rattle.std.proofs.lemmas.Bool.{false≢true}
 use Rattle.ap_term.specs.Substitution.{instance, instance_all, value, one}
 use Rattle.ap_cells.specs.Trees.{tree_at, span}
 use Rattle.ap_cells.proofs.Stands.{span-map, one-self, one-other}
-use Rattle.ap_unify.specs.declared.unification.Run.{Run}
+use Rattle.ap_cells.specs.declared.pairs.Pairs.{Pairs}
 use Rattle.ap_cells.specs.Walks.{Each, weight, weight_all}
 use Rattle.ap_cells.proofs.Walks.{weight-some, span-first}
-use Rattle.ap_unify.specs.Works.{IsRun, weight_run, weight_runs, turns, IsBound}
+use Rattle.ap_unify.specs.Works.{weight_run, weight_runs, turns, IsBound}
+use Rattle.ap_cells.specs.Assumed.{ArePairs}
 use Rattle.ap_unify.proofs.Works.{weight_runs-push}
 
 mutual
@@ -32,7 +33,7 @@ one-weight x t y = elim (cases_eq x y) [
   | inr n ↦ let w = ap weight (one-other x t y n) in let l = weight-some t in omega arith
 ]
 
-run-instance : (f : ℕ → Tree) (m : ℕ) → 0 < m → ((y : ℕ) → weight (f y) ≤ m) → (ts : List Tree) (r : Run) → IsRun (length ts) r → weight_run (map (instance f) ts) r ≤ weight_run ts r * m
+run-instance : (f : ℕ → Tree) (m : ℕ) → 0 < m → ((y : ℕ) → weight (f y) ≤ m) → (ts : List Tree) (r : Pairs) → ArePairs (length ts) r → weight_run (map (instance f) ts) r ≤ weight_run ts r * m
 run-instance f m k h ts r i =
     let a = weight_all (span ts r.left r.count) in
     let b = weight_all (span ts r.right r.count) in
@@ -45,7 +46,7 @@ run-instance f m k h ts r i =
     let d = add-mul a b m in
     omega arith
 
-runs-instance : (f : ℕ → Tree) (m : ℕ) → 0 < m → ((y : ℕ) → weight (f y) ≤ m) → (ts : List Tree) (rs : List Run) → Each (IsRun (length ts)) rs → weight_runs (map (instance f) ts) rs ≤ weight_runs ts rs * m
+runs-instance : (f : ℕ → Tree) (m : ℕ) → 0 < m → ((y : ℕ) → weight (f y) ≤ m) → (ts : List Tree) (rs : List Pairs) → Each (ArePairs (length ts)) rs → weight_runs (map (instance f) ts) rs ≤ weight_runs ts rs * m
 runs-instance f m k h ts [] i = omega arith
 runs-instance f m k h ts (r ∷ rs) i =
     let a = run-instance f m k h ts r i.0 in let b = runs-instance f m k h ts rs i.1 in let e = add-mul (weight_run ts r) (weight_runs ts rs) m in omega arith
@@ -69,7 +70,7 @@ pub turns_plain : (v w : ℕ) (a b : ℕ) → v ≡ w → a < b → turns v a < 
 turns_plain v w a b e h = rw e (turns-lt w a b h)
 
 -- a turn that binds one
-pub turns_bind : (v w x : ℕ) (ts us : List Tree) (rs : List Run) (t : Tree) (b : ℕ) → v + 1 ≡ w → us ≡ map (instance (value (one x t))) ts → Each (IsRun (length ts)) rs
+pub turns_bind : (v w x : ℕ) (ts us : List Tree) (rs : List Pairs) (t : Tree) (b : ℕ) → v + 1 ≡ w → us ≡ map (instance (value (one x t))) ts → Each (ArePairs (length ts)) rs
     → weight_runs ts rs ≤ b → weight t ≤ b → turns v (weight_runs us rs) < turns w b
 turns_bind v w x ts us rs t b e u i h k =
     let p : w ≡ suc v = omega arith in
@@ -79,19 +80,19 @@ turns_bind v w x ts us rs t b e u i h k =
     rw p (turns-less v (weight_runs us rs) b (omega arith))
 
 -- a place bound to the tree of another
-pub less_bound : (v w x n a c : ℕ) (ts us : List Tree) (rs : List Run) (t : Tree) (b : Bool) → length ts ≡ n → Each (IsRun n) rs → b ≡ true → IsBound ts us x t b → (b ≡ true → v + 1 ≡ w) → weight t ≤ a + c
+pub less_bound : (v w x n a c : ℕ) (ts us : List Tree) (rs : List Pairs) (t : Tree) (b : Bool) → length ts ≡ n → Each (ArePairs n) rs → b ≡ true → IsBound ts us x t b → (b ≡ true → v + 1 ≡ w) → weight t ≤ a + c
     → turns v (weight_runs us rs) < turns w (weight_runs ts rs + 2 * (a + c))
-less_bound v w x n a c ts us rs t true z i e k f l = turns_bind v w x ts us rs t (weight_runs ts rs + 2 * (a + c)) (f refl) k.1 (subst (λ j. Each (IsRun j) rs) (sym z) i) (omega arith) (omega arith)
+less_bound v w x n a c ts us rs t true z i e k f l = turns_bind v w x ts us rs t (weight_runs ts rs + 2 * (a + c)) (f refl) k.1 (subst (λ j. Each (ArePairs j) rs) (sym z) i) (omega arith) (omega arith)
 less_bound v w x n a c ts us rs t false z i e k f l = absurd (false≢true e)
 
-pub less_args : (v w : ℕ) (ts us : List Tree) (rs : List Run) (r : Run) (a c : ℕ) → v ≡ w → us ≡ ts → weight_all (span ts r.left r.count) + 1 ≡ a → weight_all (span ts r.right r.count) + 1 ≡ c
+pub less_args : (v w : ℕ) (ts us : List Tree) (rs : List Pairs) (r : Pairs) (a c : ℕ) → v ≡ w → us ≡ ts → weight_all (span ts r.left r.count) + 1 ≡ a → weight_all (span ts r.right r.count) + 1 ≡ c
     → turns v (weight_runs us (rs ++ r ∷ [])) < turns w (weight_runs ts rs + 2 * (a + c))
 less_args v w ts us rs r a c e u f g =
     let k = ap (λ vs. weight_runs vs (rs ++ r ∷ [])) u ∙ weight_runs-push ts rs r in
     turns_plain v w (weight_runs us (rs ++ r ∷ [])) (weight_runs ts rs + 2 * (a + c)) e (omega arith)
 
 -- a run taken off, its other pairs left, its first one solved
-pub run_turn : (v w : ℕ) (ts us : List Tree) (old popped left new : List Run) (r : Run) → 0 < r.count → old ≡ popped ++ r ∷ []
+pub run_turn : (v w : ℕ) (ts us : List Tree) (old popped left new : List Pairs) (r : Pairs) → 0 < r.count → old ≡ popped ++ r ∷ []
     → weight_runs ts left ≤ weight_runs ts popped + (2 * (weight_all (span ts (r.left + 1) (r.count - 1)) + weight_all (span ts (r.right + 1) (r.count - 1))) + 1)
     → turns v (weight_runs us new) < turns w (weight_runs ts left + 2 * (weight (tree_at ts r.left) + weight (tree_at ts r.right))) → turns v (weight_runs us new) < turns w (weight_runs ts old)
 run_turn v w ts us old popped left new r h e f g =

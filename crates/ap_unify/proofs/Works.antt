@@ -12,13 +12,12 @@ use Rattle.ap_cells.specs.declared.cells.Raw.TheVariants.{Free, Same, Int, Atom,
 use Rattle.ap_cells.specs.Trees.{tree_at, span, step}
 use Rattle.ap_unify.specs.Sides.{IsTerm}
 use Rattle.ap_cells.proofs.Stands.{span-map, one-self}
-use Rattle.ap_unify.specs.declared.unification.Run.{Run}
+use Rattle.ap_cells.specs.Assumed.{ArePairs}
+use Rattle.ap_cells.specs.declared.pairs.Pairs.{Pairs}
 use Rattle.ap_cells.specs.Walks.{Each}
-use Rattle.ap_cells.proofs.Walks.{Each-push, Each-pop}
-use Rattle.ap_unify.specs.declared.unification.Outcome.{Outcome}
-use Rattle.ap_unify.specs.Works.{IsRun, SolvesRun, SolvesRuns, weight_run, weight_runs, Turn, Turned, IsBound, goes_on, outcome_of, with_args}
+use Rattle.ap_unify.specs.Works.{SolvesRuns, weight_run, weight_runs, Step, Stepped, IsBound, goes_on, outcome_of, with_args}
 
-pub weight_runs-push : (ts : List Tree) (rs : List Run) (r : Run) → weight_runs ts (rs ++ r ∷ []) ≡ weight_runs ts rs + weight_run ts r
+pub weight_runs-push : (ts : List Tree) (rs : List Pairs) (r : Pairs) → weight_runs ts (rs ++ r ∷ []) ≡ weight_runs ts rs + weight_run ts r
 weight_runs-push ts [] r = omega arith
 weight_runs-push ts (q ∷ rs) r = omega (arith, weight_runs-push ts rs r)
 
@@ -27,7 +26,7 @@ map_same [] = refl
 map_same (t ∷ ts) = ap (λ u. u ∷ ts) (sym (instance_var t)) ∙ ap (λ us. instance (λ x. var x) t ∷ us) (map_same ts)
 
 -- two places that stand for one tree
-pub turn_same : (ts : List Tree) (rs : List Run) (p q : ℕ) → tree_at ts p ≡ tree_at ts q → Turn ts ts rs rs p q
+pub turn_same : (ts : List Tree) (rs : List Pairs) (p q : ℕ) → tree_at ts p ≡ tree_at ts q → Step ts ts rs rs p q
 turn_same ts rs p q e = record {
   by = λ x. var x;
   now = map_same ts;
@@ -35,7 +34,7 @@ turn_same ts rs p q e = record {
   solves = λ h s. (s, ap (instance h) e);
 }
 
-pub turn_back : (ts us : List Tree) (rs qs : List Run) (p q : ℕ) → Turn ts us rs qs p q → Turn ts us rs qs q p
+pub turn_back : (ts us : List Tree) (rs qs : List Pairs) (p q : ℕ) → Step ts us rs qs p q → Step ts us rs qs q p
 turn_back ts us rs qs p q t = record {
   by = t.by;
   now = t.now;
@@ -43,41 +42,25 @@ turn_back ts us rs qs p q t = record {
   solves = λ h s. ((t.solves h s).0, sym (t.solves h s).1);
 }
 
--- two terms with one name and as many arguments
-pub turn_node : (ts : List Tree) (rs : List Run) (p q a i j n : ℕ) → tree_at ts p ≡ node a (span ts i n) → tree_at ts q ≡ node a (span ts j n)
-    → Turn ts ts rs (rs ++ record { left = i; right = j; count = n } ∷ []) p q
-turn_node ts rs p q a i j n e f = record {
-  by = λ x. var x;
-  now = map_same ts;
-  finds = λ g s k. (λ x. refl, Each-push (SolvesRun g ts) rs r s (apart g (sym (ap (instance g) e) ∙ k ∙ ap (instance g) f)));
-  solves = λ h s. let k = Each-pop (SolvesRun h ts) rs r s in (k.0, ap (instance h) e ∙ ap (node a) k.1 ∙ sym (ap (instance h) f));
-}
-  where
-    r : Run
-    r = record { left = i; right = j; count = n }
-
-    apart : (g : ℕ → Tree) → node a (instance_all g (span ts i n)) ≡ node a (instance_all g (span ts j n)) → instance_all g (span ts i n) ≡ instance_all g (span ts j n)
-    apart g k = cc
-
 instance_all_same : (f g : ℕ → Tree) (ts : Trees) → ((y : ℕ) → f y ≡ g y) → instance_all f ts ≡ instance_all g ts
 instance_all_same f g ts e = instance_all_agree f g ts (λ y o. e y)
 
 -- all instances of the runs under f, and then under h
-runs_twice : (f h : ℕ → Tree) (ts : List Tree) (rs : List Run) → Each (IsRun (length ts)) rs → SolvesRuns h (map (instance f) ts) rs → SolvesRuns (λ x. instance h (f x)) ts rs
+runs_twice : (f h : ℕ → Tree) (ts : List Tree) (rs : List Pairs) → Each (ArePairs (length ts)) rs → SolvesRuns h (map (instance f) ts) rs → SolvesRuns (λ x. instance h (f x)) ts rs
 runs_twice f h ts [] i s = tt
 runs_twice f h ts (r ∷ rs) i s =
     let b = λ (p : ℕ) (k : p + r.count ≤ length ts). ap (instance_all h) (span-map f ts p r.count k) ∙ instance_all_twice f h (span ts p r.count) in
     (sym (b r.left i.0.0) ∙ s.0 ∙ b r.right i.0.1, runs_twice f h ts rs i.1 s.1)
 
-runs_once : (f g : ℕ → Tree) (ts : List Tree) (rs : List Run) → ((x : ℕ) → instance g (f x) ≡ g x) → Each (IsRun (length ts)) rs → SolvesRuns g ts rs → SolvesRuns g (map (instance f) ts) rs
+runs_once : (f g : ℕ → Tree) (ts : List Tree) (rs : List Pairs) → ((x : ℕ) → instance g (f x) ≡ g x) → Each (ArePairs (length ts)) rs → SolvesRuns g ts rs → SolvesRuns g (map (instance f) ts) rs
 runs_once f g ts [] e i s = tt
 runs_once f g ts (r ∷ rs) e i s =
     let b = λ (p : ℕ) (k : p + r.count ≤ length ts). ap (instance_all g) (span-map f ts p r.count k) ∙ instance_all_twice f g (span ts p r.count) ∙ instance_all_same (λ x. instance g (f x)) g (span ts p r.count) e in
     (b r.left i.0.0 ∙ s.0 ∙ sym (b r.right i.0.1), runs_once f g ts rs e i.1 s.1)
 
 -- an unbound place bound to a tree without it
-pub turn_bind : (ts us : List Tree) (rs : List Run) (p q x : ℕ) (t : Tree) → Each (IsRun (length ts)) rs → tree_at ts p ≡ var x → tree_at ts q ≡ t → occurs x t ≡ false
-    → us ≡ map (instance (value (one x t))) ts → Turn ts us rs rs p q
+pub turn_bind : (ts us : List Tree) (rs : List Pairs) (p q x : ℕ) (t : Tree) → Each (ArePairs (length ts)) rs → tree_at ts p ≡ var x → tree_at ts q ≡ t → occurs x t ≡ false
+    → us ≡ map (instance (value (one x t))) ts → Step ts us rs rs p q
 turn_bind ts us rs p q x t i e f o u = record {
   by = value (one x t);
   now = u;
@@ -115,7 +98,7 @@ node-count g ts a b p q m n d e = d (span-count g ts p q m n (arguments (instanc
     arguments us vs k = cc
 
 -- a turn at the ends of two chains is a turn at their starts
-pub turn_ends : (ts us : List Tree) (rs qs : List Run) (p q x y : ℕ) (b : Bool) → tree_at ts x ≡ tree_at ts p → tree_at ts y ≡ tree_at ts q → Turned ts us rs qs x y b → Turned ts us rs qs p q b
+pub turn_ends : (ts us : List Tree) (rs qs : List Pairs) (p q x y : ℕ) (b : Bool) → tree_at ts x ≡ tree_at ts p → tree_at ts y ≡ tree_at ts q → Stepped ts us rs qs x y b → Stepped ts us rs qs p q b
 turn_ends ts us rs qs p q x y true e f t = record {
   by = t.by;
   now = t.now;
@@ -131,42 +114,37 @@ term_not_var ts i y (Int z) k e = cc
 term_not_var ts i y (Atom a) k e = cc
 term_not_var ts i y (Node a p n) k e = cc
 
-turned_back : (ts us : List Tree) (rs qs : List Run) (p q : ℕ) (b : Bool) → Turned ts us rs qs p q b → Turned ts us rs qs q p b
+turned_back : (ts us : List Tree) (rs qs : List Pairs) (p q : ℕ) (b : Bool) → Stepped ts us rs qs p q b → Stepped ts us rs qs q p b
 turned_back ts us rs qs p q true t = turn_back ts us rs qs p q t
 turned_back ts us rs qs p q false t = λ g k. t g (sym k)
 
-bound_turn : (ts us : List Tree) (rs : List Run) (p q x : ℕ) (b : Bool) → Each (IsRun (length ts)) rs → tree_at ts p ≡ var x → ((y : ℕ) → tree_at ts q ≡ var y → ⊥)
-    → IsBound ts us x (tree_at ts q) b → Turned ts us rs rs p q b
+bound_turn : (ts us : List Tree) (rs : List Pairs) (p q x : ℕ) (b : Bool) → Each (ArePairs (length ts)) rs → tree_at ts p ≡ var x → ((y : ℕ) → tree_at ts q ≡ var y → ⊥)
+    → IsBound ts us x (tree_at ts q) b → Stepped ts us rs rs p q b
 bound_turn ts us rs p q x true i e n k = turn_bind ts us rs p q x (tree_at ts q) i e refl k.0 k.1
 bound_turn ts us rs p q x false i e n k = turn_inside ts p q x (tree_at ts q) e refl (n x) k
 
 -- a variable on the left, a term on the right
-pub solve_left : (ts us : List Tree) (rs : List Run) (p q l r n : ℕ) (c d : Raw) (b : Bool) → length ts ≡ n → Each (IsRun n) rs → tree_at ts l ≡ tree_at ts p → tree_at ts r ≡ tree_at ts q
-    → tree_at ts l ≡ step ts l c → tree_at ts r ≡ step ts r d → c ≡ Free → IsTerm d → IsBound ts us l (tree_at ts r) b → Turned ts us rs rs p q b
+pub solve_left : (ts us : List Tree) (rs : List Pairs) (p q l r n : ℕ) (c d : Raw) (b : Bool) → length ts ≡ n → Each (ArePairs n) rs → tree_at ts l ≡ tree_at ts p → tree_at ts r ≡ tree_at ts q
+    → tree_at ts l ≡ step ts l c → tree_at ts r ≡ step ts r d → c ≡ Free → IsTerm d → IsBound ts us l (tree_at ts r) b → Stepped ts us rs rs p q b
 solve_left ts us rs p q l r n c d b z i e f g h k m o =
     turn_ends ts us rs rs p q l r b e f
-    (bound_turn ts us rs l r l b (subst (λ j. Each (IsRun j) rs) (sym z) i) (g ∙ ap (step ts l) k) (λ y v. term_not_var ts r y d m (sym h ∙ v)) o)
+    (bound_turn ts us rs l r l b (subst (λ j. Each (ArePairs j) rs) (sym z) i) (g ∙ ap (step ts l) k) (λ y v. term_not_var ts r y d m (sym h ∙ v)) o)
 
-pub solve_right : (ts us : List Tree) (rs : List Run) (p q l r n : ℕ) (c d : Raw) (b : Bool) → length ts ≡ n → Each (IsRun n) rs → tree_at ts l ≡ tree_at ts p → tree_at ts r ≡ tree_at ts q
-    → tree_at ts l ≡ step ts l c → tree_at ts r ≡ step ts r d → IsTerm c → d ≡ Free → IsBound ts us r (tree_at ts l) b → Turned ts us rs rs p q b
+pub solve_right : (ts us : List Tree) (rs : List Pairs) (p q l r n : ℕ) (c d : Raw) (b : Bool) → length ts ≡ n → Each (ArePairs n) rs → tree_at ts l ≡ tree_at ts p → tree_at ts r ≡ tree_at ts q
+    → tree_at ts l ≡ step ts l c → tree_at ts r ≡ step ts r d → IsTerm c → d ≡ Free → IsBound ts us r (tree_at ts l) b → Stepped ts us rs rs p q b
 solve_right ts us rs p q l r n c d b z i e f g h k m o = turned_back ts us rs rs q p b (solve_left ts us rs q p r l n d c b z i f e h g m k o)
 
 -- two variables, the left one bound
-pub solve_both : (ts us : List Tree) (rs : List Run) (p q l r n : ℕ) (c d : Raw) → length ts ≡ n → Each (IsRun n) rs → tree_at ts l ≡ tree_at ts p → tree_at ts r ≡ tree_at ts q
-    → tree_at ts l ≡ step ts l c → tree_at ts r ≡ step ts r d → c ≡ Free → d ≡ Free → (l ≡ r → ⊥) → us ≡ map (instance (value (one l (tree_at ts r)))) ts → Turn ts us rs rs p q
+pub solve_both : (ts us : List Tree) (rs : List Pairs) (p q l r n : ℕ) (c d : Raw) → length ts ≡ n → Each (ArePairs n) rs → tree_at ts l ≡ tree_at ts p → tree_at ts r ≡ tree_at ts q
+    → tree_at ts l ≡ step ts l c → tree_at ts r ≡ step ts r d → c ≡ Free → d ≡ Free → (l ≡ r → ⊥) → us ≡ map (instance (value (one l (tree_at ts r)))) ts → Step ts us rs rs p q
 solve_both ts us rs p q l r n c d z i e f g h k m o u =
     turn_ends ts us rs rs p q l r true e f
-    (turn_bind ts us rs l r l (tree_at ts r) (subst (λ j. Each (IsRun j) rs) (sym z) i) (g ∙ ap (step ts l) k) refl (ap (occurs l) (h ∙ ap (step ts r) m) ∙ ne_eqb l r o) u)
+    (turn_bind ts us rs l r l (tree_at ts r) (subst (λ j. Each (ArePairs j) rs) (sym z) i) (g ∙ ap (step ts l) k) refl (ap (occurs l) (h ∙ ap (step ts r) m) ∙ ne_eqb l r o) u)
 
 pub goes_on-outcome_of : (b : Bool) → goes_on (outcome_of b) ≡ b
 goes_on-outcome_of true = refl
 goes_on-outcome_of false = refl
 
-pub with_args-outcome_of : (b : Bool) (rs : List Run) → with_args (outcome_of b) rs ≡ rs
+pub with_args-outcome_of : (b : Bool) (rs : List Pairs) → with_args (outcome_of b) rs ≡ rs
 with_args-outcome_of true rs = refl
 with_args-outcome_of false rs = refl
-
--- a pair whose place is bound, or can't be
-pub turned_outcome : (ts us : List Tree) (rs : List Run) (p q : ℕ) (b : Bool) (o : Outcome) → o ≡ outcome_of b → Turned ts us rs rs p q b → Turned ts us rs (with_args o rs) p q (goes_on o)
-turned_outcome ts us rs p q true o e t = subst (λ w. Turned ts us rs (with_args w rs) p q (goes_on w)) (sym e) t
-turned_outcome ts us rs p q false o e t = subst (λ w. Turned ts us rs (with_args w rs) p q (goes_on w)) (sym e) t

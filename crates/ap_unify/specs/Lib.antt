@@ -1,3 +1,4 @@
 pub mod Works
 pub mod Sides
 pub mod Laws
+pub mod Shared

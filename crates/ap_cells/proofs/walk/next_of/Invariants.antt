@@ -1,11 +1,12 @@
-use Rattle.std.proofs.Common.{◌≡◌, ◌+◌, ◌*◌, ◌++◌, length}
+use Rattle.std.proofs.Common.{ℕ, ◌+◌, ◌*◌, ◌≤◌, ◌∷◌, length}
 use Rattle.ap_cells.specs.Trees.{trees, span}
-use Rattle.ap_cells.specs.Walks.{AreRanges, IsRange, left, leaves_all, weight_all, weight_in}
+use Rattle.ap_cells.specs.Walks.{AreRanges, IsRange, Search, weight_all, weight_in}
 use Rattle.ap_cells.proofs.walk.next_of.Given as goal
 
 abbrev pub invariant-loop-run : goal.invariant-loop-run
 invariant-loop-run l = record {
-  left : leaves_all (span (trees l.cells.cells) l.run.first l.run.count) ++ left (trees l.cells.cells) l.ranges.items ≡ left (trees l.cells.cells) l.initial.ranges.items;
+  search : (x root : ℕ) → Search x (trees l.cells.cells) root l.initial.marks l.initial.ranges.items → Search x (trees l.cells.cells) root l.marks (l.run ∷ l.ranges.items);
+  less : 2 * weight_all (span (trees l.cells.cells) l.run.first l.run.count) + weight_in (trees l.cells.cells) l.ranges.items ≤ weight_in (trees l.cells.cells) l.initial.ranges.items;
   run : IsRange (length l.cells.cells) l.run;
   inside : AreRanges (length l.cells.cells) l.ranges.items;
 }

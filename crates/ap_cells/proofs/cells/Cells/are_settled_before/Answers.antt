@@ -1,4 +1,4 @@
-use Rattle.std.proofs.Common.{◌≡◌, ◌≤◌, false, ap, sym, subst, arith}
+use Rattle.std.proofs.Common.{◌≡◌, false, subst, arith}
 use Rattle.ap_term.specs.Vars.{occurs_all}
 use Rattle.ap_cells.specs.Trees.{span, trees}
 use Rattle.ap_cells.specs.Store.{Store}

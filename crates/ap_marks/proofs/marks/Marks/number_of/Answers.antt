@@ -7,41 +7,44 @@ pub returns-then-index-x : goal.returns-then-index-x
 returns-then-index-x c =
     let order = c.self.inside.order.items in
     let places = c.self.inside.places.items in
-    let k = c.index-number.result.now in
+    let k = c.index.result.now in
     let x = c.args.x in
     let h : k < length order = omega arith in
-    let p = get_or_default places x 0 k (omega arith) ∙ sym c.index-number.ensures in
-    let e = get_or_default order k 0 c.index.result.now h ∙ sym c.index.ensures ∙ c.if-index-x.true in
+    let p = get_or_default places x 0 k (omega arith) ∙ sym c.index.ensures in
+    let e = get_or_default order k 0 c.index-then-number-len.result.now h ∙ sym c.index-then-number-len.ensures ∙ c.if-index-x.true in
     record {
       absent = tt;
       there = rw (← c.self.view_is) (is_there order places c.self.invariant x k p h e);
       number = rw (← c.self.view_is) (place_is order places c.self.invariant x k p h e);
       below = rw (← c.self.view_is) h;
+      at = rw (← c.self.view_is) e;
     }
 
 pub returns-else-index-x : goal.returns-else-index-x
 returns-else-index-x c =
     let order = c.self.inside.order.items in
     let places = c.self.inside.places.items in
-    let p = get_or_default places c.args.x 0 c.index-number.result.now (omega arith) ∙ sym c.index-number.ensures in
+    let p = get_or_default places c.args.x 0 c.index.result.now (omega arith) ∙ sym c.index.ensures in
     record {
       absent = rw (← c.self.view_is) (is_absent order places c.self.invariant c.args.x
-          (λ l h e. c.if-index-x.false (c.index.ensures ∙ get_or_default order c.index-number.result.now c.index.result.now 0 (omega arith) ∙ ap (λ k. get_or order k 0) (sym p) ∙ e)));
+          (λ l h e. c.if-index-x.false (c.index-then-number-len.ensures ∙ get_or_default order c.index.result.now c.index-then-number-len.result.now 0 (omega arith) ∙ ap (λ k. get_or order k 0) (sym p) ∙ e)));
       there = tt;
       number = tt;
       below = tt;
+      at = tt;
     }
 
 pub returns-else-number-len : goal.returns-else-number-len
 returns-else-number-len c =
     let order = c.self.inside.order.items in
     let places = c.self.inside.places.items in
-    let p = get_or_default places c.args.x 0 c.index-number.result.now (omega arith) ∙ sym c.index-number.ensures in
+    let p = get_or_default places c.args.x 0 c.index.result.now (omega arith) ∙ sym c.index.ensures in
     record {
       absent = rw (← c.self.view_is) (is_absent order places c.self.invariant c.args.x (λ l h e. omega arith));
       there = tt;
       number = tt;
       below = tt;
+      at = tt;
     }
 
 pub returns-else-x-len : goal.returns-else-x-len
@@ -50,4 +53,5 @@ returns-else-x-len c = record {
   there = tt;
   number = tt;
   below = tt;
+  at = tt;
 }

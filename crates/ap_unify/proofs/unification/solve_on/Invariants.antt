@@ -1,0 +1,22 @@
+use Rattle.std.proofs.Common.{◌≡◌, ℕ, ◌<◌, List, [], ◌∷◌, ◌++◌, length}
+use Rattle.ap_term.specs.Tree.{Tree}
+use Rattle.ap_cells.specs.Trees.{trees, frees}
+use Rattle.ap_cells.specs.Store.{Keeps}
+use Rattle.ap_cells.specs.Walks.{Each}
+use Rattle.ap_cells.specs.Assumed.{ArePairs}
+use Rattle.ap_unify.specs.Works.{weight_runs, turns}
+use Rattle.ap_unify.specs.Shared.{Going}
+use Rattle.ap_unify.proofs.unification.solve_on.Given as goal
+
+abbrev pub invariant-loop-next : goal.invariant-loop-next
+invariant-loop-next l = record {
+  going : (ts : List Tree) (a b : ℕ) → a < length ts → b < length ts → Going ts (trees l.initial.cells.cells) (l.initial.runs.items ++ l.fn.start ∷ []) l.initial.classes a b → Going ts (trees l.cells.cells) (l.runs.items ++ l.pairs ∷ []) l.classes a b;
+  left : Each (ArePairs (length l.cells.cells)) l.runs.items;
+  inside : ArePairs (length l.cells.cells) l.pairs;
+  len : length l.cells.cells ≡ length l.initial.cells.cells;
+  keeps : Keeps l.initial.cells l.cells;
+  spare : l.cells.spare ≡ l.initial.cells.spare;
+}
+
+abbrev pub decreases-loop-next : goal.decreases-loop-next
+decreases-loop-next l = turns (frees l.cells.cells) (weight_runs (trees l.cells.cells) (l.runs.items ++ l.pairs ∷ []))
