@@ -2,12 +2,17 @@
 
 ghost use Rattle.std.specs.Prelude.{◌≡◌, ◌↔◌, ℕ, ◌<◌, ◌≤◌, ◌++◌, ◌∷◌, [], ◌||◌, true, false, nat_eq, length, slice_index_or, IsTrue, IfSome, IfNone, OnOk, OnErr, if◌then◌else◌};
 ghost use Rattle.std.specs.List.{list_any, position_or_len};
+ghost use Rattle.ap_marks.specs.Marks.{AreDistinct, AreKept};
 
 use ap_term::NoMemory;
 use std::alloc::Global;
 use std::marker::Model;
 
-/// Each of `order` has its place there in `places`; what else `places` holds means nothing. Numbers of 32 bits are kept.
+/// So many numbers are found by going through them, so that few great ones take no memory in proportion to the greatest.
+const FEW: usize = 16;
+
+/// Where there are more than a few, each of `order` has its place there in `places`; what else `places` holds means nothing. Numbers
+/// of 32 bits are kept.
 #[derive(Drop)]
 pub struct Marks {
     order: Vec<u32>,
@@ -42,6 +47,50 @@ fn make_room(places: &mut Vec<u32>, x: usize) -> Result<(), NoMemory>
         }
         None => Err(NoMemory),
     }
+}
+
+/// Where a number stands in a list.
+fn number_among(order: &[u32], x: usize) -> Option<usize>
+    ensures absent { IfNone result (list_any (nat_eq x) order.now ≡ false) }
+    ensures there { IfSome result (λ n. list_any (nat_eq x) order.now ≡ true) }
+    ensures number { IfSome result (λ n. n ≡ position_or_len (nat_eq x) order.now) }
+    ensures below { IfSome result (λ n. n < length order.now) }
+    ensures at { IfSome result (λ n. slice_index_or order.now n 0 ≡ x) }
+{
+    for number in 0..order.len() {
+        if order[number] as usize == x {
+            return Some(number);
+        }
+    }
+    None
+}
+
+/// Notes where each number of a list stands.
+fn keep_all(order: &[u32], places: &mut Vec<u32>) -> Result<(), NoMemory>
+    requires distinct { AreDistinct order.now }
+    requires few { length order.now ≤ 16 }
+    ensures kept { OnOk result (AreKept order.now places.new.items) }
+{
+    for number in 0..order.len() {
+        let x = order[number] as usize;
+        make_room(places, x)?;
+        places[x] = number as u32;
+    }
+    Ok(())
+}
+
+/// Notes where each number of a list stands as soon as there are more than a few; behind that it is noted.
+fn keep_many(order: &[u32], places: &mut Vec<u32>) -> Result<(), NoMemory>
+    requires distinct { AreDistinct order.now }
+    requires many { 16 ≤ length order.now }
+    requires kept { 16 < length order.now → AreKept order.now places.old.items }
+    ensures kept { OnOk result (AreKept order.now places.new.items) }
+    ensures still { 16 < length order.now → AreKept order.now places.new.items }
+{
+    if order.len() == FEW {
+        return keep_all(order, places);
+    }
+    Ok(())
 }
 
 impl Marks {
@@ -81,6 +130,9 @@ impl Marks {
         ensures below { IfSome result (λ n. n < length self.now) }
         ensures at { IfSome result (λ n. slice_index_or self.now n 0 ≡ x) }
     {
+        if self.order.len() <= FEW {
+            return number_among(&self.order, x);
+        }
         if x < self.places.len() {
             let number = self.places[x] as usize;
             if number < self.order.len() {
@@ -98,8 +150,9 @@ impl Marks {
         self.number_of(x).is_some()
     }
 
-    /// Puts a number behind the others, if it isn't there. It takes time in proportion to a number that is greater than all
-    /// before, and else none that grows. A number of more than 32 bits finds no memory.
+    /// Puts a number behind the others, if it isn't there. Where there are more than a few it takes time in proportion to a number
+    /// that is greater than all before, and else none that grows. A number of more than 32 bits finds no memory.
+    #[tactic(auto, using(crate::proofs::Kept::one_more))]
     pub fn insert(&mut self, x: usize) -> Result<(), NoMemory>
         ensures ok { OnOk result (self.new ≡ (if list_any (nat_eq x) self.old then self.old else self.old ++ x ∷ [])) }
         ensures marked { OnOk result ((y : ℕ) → list_any (nat_eq y) self.new ≡ (list_any (nat_eq y) self.old || nat_eq y x)) }
@@ -111,6 +164,11 @@ impl Marks {
         let (Ok(mark), Ok(number)) = (u32::try_from(x), u32::try_from(self.order.len())) else {
             return Err(NoMemory);
         };
+        if self.order.len() < FEW {
+            self.order.push(mark)?;
+            return Ok(());
+        }
+        keep_many(&self.order, &mut self.places)?;
         make_room(&mut self.places, x)?;
         self.order.push(mark)?;
         self.places[x] = number;

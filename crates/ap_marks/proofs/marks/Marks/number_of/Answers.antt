@@ -1,6 +1,6 @@
 use Rattle.std.proofs.Common.{◌<◌, length, get_or, ap, sym, ◌∙◌, arith}
 use Rattle.std.proofs.lemmas.List.{get_or_default}
-use Rattle.ap_marks.proofs.Kept.{is_there, place_is, is_absent}
+use Rattle.ap_marks.proofs.Kept.{there_is, place_is, is_absent}
 use Rattle.ap_marks.proofs.marks.Marks.number_of.Goals as goal
 
 pub returns-then-index-x : goal.returns-then-index-x
@@ -14,8 +14,8 @@ returns-then-index-x c =
     let e = get_or_default order k 0 c.index-then-number-len.result.now h ∙ sym c.index-then-number-len.ensures ∙ c.if-index-x.true in
     record {
       absent = tt;
-      there = rw (← c.self.view_is) (is_there order places c.self.invariant x k p h e);
-      number = rw (← c.self.view_is) (place_is order places c.self.invariant x k p h e);
+      there = rw (← c.self.view_is) (there_is x order k h e);
+      number = rw (← c.self.view_is) (place_is order places (c.self.invariant.kept (omega arith)) x k p h e);
       below = rw (← c.self.view_is) h;
       at = rw (← c.self.view_is) e;
     }
@@ -26,7 +26,7 @@ returns-else-index-x c =
     let places = c.self.inside.places.items in
     let p = get_or_default places c.args.x 0 c.index.result.now (omega arith) ∙ sym c.index.ensures in
     record {
-      absent = rw (← c.self.view_is) (is_absent order places c.self.invariant c.args.x
+      absent = rw (← c.self.view_is) (is_absent order places (c.self.invariant.kept (omega arith)) c.args.x
           (λ l h e. c.if-index-x.false (c.index-then-number-len.ensures ∙ get_or_default order c.index.result.now c.index-then-number-len.result.now 0 (omega arith) ∙ ap (λ k. get_or order k 0) (sym p) ∙ e)));
       there = tt;
       number = tt;
@@ -40,7 +40,7 @@ returns-else-number-len c =
     let places = c.self.inside.places.items in
     let p = get_or_default places c.args.x 0 c.index.result.now (omega arith) ∙ sym c.index.ensures in
     record {
-      absent = rw (← c.self.view_is) (is_absent order places c.self.invariant c.args.x (λ l h e. omega arith));
+      absent = rw (← c.self.view_is) (is_absent order places (c.self.invariant.kept (omega arith)) c.args.x (λ l h e. omega arith));
       there = tt;
       number = tt;
       below = tt;
@@ -49,7 +49,7 @@ returns-else-number-len c =
 
 pub returns-else-x-len : goal.returns-else-x-len
 returns-else-x-len c = record {
-  absent = rw (← c.self.view_is) (is_absent c.self.inside.order.items c.self.inside.places.items c.self.invariant c.args.x (λ l h e. omega arith));
+  absent = rw (← c.self.view_is) (is_absent c.self.inside.order.items c.self.inside.places.items (c.self.invariant.kept (omega arith)) c.args.x (λ l h e. omega arith));
   there = tt;
   number = tt;
   below = tt;
