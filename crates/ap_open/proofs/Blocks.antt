@@ -32,6 +32,7 @@ use Rattle.ap_tied.specs.Ties.{IsSearched}
 use Rattle.ap_open.specs.Opened.{Outer, OpenTied, IsSolving, spent_in}
 use Rattle.ap_open.specs.Away.{Away, Level, OpenBeside, IsSolvingBeside}
 use Rattle.ap_open.specs.Solving.{IsUpToNames, IsCharged, BlockLaw}
+use Rattle.ap_open.proofs.Ungrouped.{finds_all, ends_then}
 use Rattle.ap_open.proofs.Harmless.{harmless}
 use Rattle.ap_open.proofs.Opening.{after_more}
 use Rattle.ap_open.proofs.Resting.{spent_tied, ended, spent}
@@ -262,4 +263,13 @@ block resting settling = record {
   goes_on_beside = λ line code p q budget limit levels s aways given same is h le. goes_on line code p q budget given same is (by_levels code p q budget levels s aways given h) limit le;
   charges = λ line code p q budget s given same is h. charged line code p q budget given same is (by_outer code p q budget [] s given h) (spent_in s) (let e = spent_tied code p (tracked_start q) s h.core.root h.opened.1 in omega arith);
   charges_all = λ line code p q budget s given same is h done. charged_all line code p q budget given same is (by_outer code p q budget [] s given h) (spent resting settling code p (tracked_start q) s h.core.root done h.opened.1);
+  finds_all = λ line code p q budget s given same plain calls h.
+      let lines : map line h.core.emitted ≡ map line given = sym (same_lines line same given h.core.emitted h.emitted) in
+      let found : ℕ → List Trees = λ n. (search p.program n (start q ∷ [])).answers in
+      subst (λ n. IsPrefix (map line given) (map line (found n))) (spent_tied code p (tracked_start q) s h.core.root h.opened.1)
+      (subst (λ ls. IsPrefix ls (map line (found (spent_by h.core.root)))) lines
+      (prefix_map line h.core.emitted (found (spent_by h.core.root)) (finds_all p (start q) plain calls budget h.events h.core h.led)));
+  ends_then = λ code p q budget s given plain calls h done.
+      subst (λ n. (search p.program n (start q ∷ [])).ended ≡ true) (spent_tied code p (tracked_start q) s h.core.root h.opened.1)
+      (ends_then p (start q) plain calls budget h.events h.core h.led (ended resting code p (tracked_start q) s h.core.root done h.opened.1));
 }

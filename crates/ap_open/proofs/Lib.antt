@@ -5,6 +5,7 @@ pub mod Resting
 pub mod Calling
 pub mod Solving
 pub mod Harmless
+pub mod Ungrouped
 pub mod Blocks
 pub mod Stripping
 pub mod Tracing

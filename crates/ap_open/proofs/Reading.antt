@@ -19,6 +19,7 @@ use Rattle.ap_tied.specs.Ties.{IsSearched}
 use Rattle.ap_open.specs.Solving.{IsCharged}
 use Rattle.ap_open.specs.Reading.{AreRead, IsSafeQuery, rules_beside, ReadingLaw}
 use Rattle.ap_open.proofs.Stripping.{never_calls}
+use Rattle.ap_open.proofs.Ungrouped.{asked_ungrouped}
 use Rattle.ap_open.proofs.Tracing.{applied_named, same_search, same_answers}
 
 asked_good : (a : Program) (q : Query) → IsProgram a → IsQuery q → IsProgram (joined a (asked_query q))
@@ -26,7 +27,7 @@ asked_good a q good is = All-append IsClause a (asked q ∷ q.lifted) good (All-
 
 module _ (line : Trees → List ℕ) (program a : Program) (asks q : Query) (good : IsProgram program) (is : IsQuery asks) (good_asked : IsProgram a) (is_asked : IsQuery q) (read : AreRead program asks a q)
     (never : NeverCalls QUERY (joined program asks)) where
-  searches : (n : ℕ) → search (joined a (asked_query q)) n (start q ∷ []) ≡ search (joined program asks) n (start asks ∷ [])
+  pub searches : (n : ℕ) → search (joined a (asked_query q)) n (start q ∷ []) ≡ search (joined program asks) n (start asks ∷ [])
   searches n = same_search program a asks q ((query asks is).2 program good) is (asked_good a q good_asked is_asked) is_asked read never n
 
   begins : (ls : List (List ℕ)) → Begins line (joined a (asked_query q)) (start q) ls → Begins line (joined program asks) (start asks) ls
@@ -74,4 +75,6 @@ module _ (starting : StartLaw) where
     searched = searched;
     blocks = λ line program a asks q budget limit ls end good is good_asked is_asked read never h. blocks line program a asks q good is good_asked is_asked read never budget limit ls end h;
     charges = λ line program a asks q c ls good is good_asked is_asked read never h. charges line program a asks q good is good_asked is_asked read never c ls h;
+    searches = λ program a asks q n good is good_asked is_asked read never. searches (λ t. []) program a asks q good is good_asked is_asked read never n;
+    ungrouped = asked_ungrouped;
   }

@@ -1,4 +1,5 @@
 pub mod Opened
+pub mod Ungrouped
 pub mod Moving
 pub mod Calling
 pub mod Solving

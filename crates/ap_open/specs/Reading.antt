@@ -1,9 +1,9 @@
 -- The program and the query that were read, beside those that are searched: with groups, and asked by a call of `?-`.
-use Rattle.std.specs.Prelude.{◌≡◌, ℕ, false, List}
+use Rattle.std.specs.Prelude.{◌≡◌, ℕ, false, List, [], ◌∷◌}
 use Rattle.ap_term.specs.declared.fixed.TheConstants.{QUERY}
 use Rattle.ap_term.specs.Tree.{Trees, atom}
 use Rattle.ap_term.specs.Goals.{Program, Query, joined}
-use Rattle.ap_term.specs.Search.{start}
+use Rattle.ap_term.specs.Search.{start, search}
 use Rattle.ap_term.specs.Blocks.{End, IsBlock}
 use Rattle.ap_term.specs.WellFormed.{IsProgram, IsQuery}
 use Rattle.ap_core.specs.Relation.{Rules}
@@ -15,6 +15,7 @@ use Rattle.ap_graft.specs.Uncalled.{NeverCalls}
 use Rattle.ap_instr.specs.Code.{Compiled}
 use Rattle.ap_instr.specs.StandsFor.{asked_query, StandsFor}
 use Rattle.ap_tied.specs.Ties.{IsSearched}
+use Rattle.ap_open.specs.Ungrouped.{AreCalls, IsUngrouped}
 use Rattle.ap_open.specs.Solving.{IsCharged}
 
 -- Without groups and checks the program and the query are those that were read.
@@ -42,3 +43,6 @@ pub record ReadingLaw : Type 0 where
   pub charges : (line : Trees → List ℕ) (program a : Program) (query q : Query) (c : ℕ) (ls : List (List ℕ))
       → IsProgram program → IsQuery query → IsProgram a → IsQuery q → AreRead program query a q → NeverCalls QUERY (joined program query)
       → IsCharged line (joined a (asked_query q)) (start q) c ls → IsCharged line (joined program query) (start query) c ls
+  pub searches : (program a : Program) (query q : Query) (n : ℕ) → IsProgram program → IsQuery query → IsProgram a → IsQuery q → AreRead program query a q → NeverCalls QUERY (joined program query)
+      → search (joined a (asked_query q)) n (start q ∷ []) ≡ search (joined program query) n (start query ∷ [])
+  pub ungrouped : (a : Program) (q : Query) → IsUngrouped (joined a q) → IsUngrouped (joined a (asked_query q)) × AreCalls q.question.body

@@ -1,5 +1,5 @@
 -- Where the search of a query begins, how it gives answers, and which block they are.
-use Rattle.std.specs.Prelude.{◌≡◌, ℕ, ◌<◌, ◌≤◌, false, List, [], ◌∷◌, ◌++◌, map, length}
+use Rattle.std.specs.Prelude.{◌≡◌, ℕ, ◌<◌, ◌≤◌, true, false, List, [], ◌∷◌, ◌++◌, map, length}
 use Rattle.ap_term.specs.Tree.{Trees}
 use Rattle.ap_term.specs.Goals.{Program, Query}
 use Rattle.ap_term.specs.Search.{State, start, search}
@@ -15,6 +15,7 @@ use Rattle.ap_standing.specs.Holds.{Holds}
 use Rattle.ap_tie.specs.Sections.{Section, section, bottom}
 use Rattle.ap_tied.specs.Settling.{IsAnswerIn}
 use Rattle.ap_tied.specs.Ties.{IsSearched}
+use Rattle.ap_open.specs.Ungrouped.{AreCalls, IsUngrouped}
 use Rattle.ap_open.specs.Opened.{Outer, IsSolving, spent_in}
 use Rattle.ap_open.specs.Away.{Away, Level, IsSolvingBeside}
 use Rattle.ap_open.specs.Calling.{IsAnswering, IsDone, IsSpent}
@@ -58,3 +59,8 @@ pub record BlockLaw : Type 0 where
   -- where its budget is spent, all of it is
   pub charges_all : (line : Trees → List ℕ) (code : Compiled) (p : Rules) (q : Query) (budget : ℕ) (s : Section) (given : List Trees) → IsUpToNames line → IsQuery q
       → IsSolving code p (tracked_start q) (start q) budget [] s given → IsSpent code s → IsCharged line p.program (start q) budget (map line given)
+  -- without groups sequential search finds them with just as many calls, and ends with those where nothing is left to do
+  pub finds_all : (line : Trees → List ℕ) (code : Compiled) (p : Rules) (q : Query) (budget : ℕ) (s : Section) (given : List Trees) → IsUpToNames line → IsUngrouped p.program → AreCalls q.question.body
+      → IsSolving code p (tracked_start q) (start q) budget [] s given → IsPrefix (map line given) (map line (search p.program (spent_in s) (start q ∷ [])).answers)
+  pub ends_then : (code : Compiled) (p : Rules) (q : Query) (budget : ℕ) (s : Section) (given : List Trees) → IsUngrouped p.program → AreCalls q.question.body
+      → IsSolving code p (tracked_start q) (start q) budget [] s given → IsDone s → (search p.program (spent_in s) (start q ∷ [])).ended ≡ true

@@ -118,7 +118,7 @@ pub fn print_query<R: Threads + Wait + Sync, G: Gate, K: Sink>(
     };
     let _good = program.as_slice();
     let _asked = query.question();
-    let end = solve(
+    let ended = solve(
         alloc,
         crew,
         &grouped.program,
@@ -128,6 +128,6 @@ pub fn print_query<R: Threads + Wait + Sync, G: Gate, K: Sink>(
         &lines,
         out,
     )?;
-    put_line(end_line(end), out)?;
-    Ok(is_spent(end))
+    put_line(end_line(ended.end), out)?;
+    Ok(is_spent(ended.end))
 }

@@ -1,13 +1,14 @@
 -- A query that is asked by a clause for `?-`.
-use Rattle.std.proofs.Common.{◌≡◌, ℕ, List, [], ◌∷◌, length, slice_get, Option, Result, Some, None, refl, ap, sym, ◌∙◌, subst}
+use Rattle.std.proofs.Common.{◌≡◌, ℕ, List, [], ◌∷◌, map, length, slice_get, Option, Result, Ok, Err, Some, None, IfOk, refl, ap, sym, ◌∙◌, subst}
 use Rattle.ap_outside.specs.Halting.{Finishes}
+use Rattle.ap_outside.specs.Pieces.{Puts}
 use Rattle.ap_outside.specs.declared.halting.Halt.{Halt}
 use Rattle.ap_outside.proofs.Halts.{finishes_map}
 use Rattle.ap_term.specs.declared.fixed.TheConstants.{QUERY}
 use Rattle.ap_term.specs.Tree.{Trees}
 use Rattle.ap_term.specs.Goals.{Program, Query, joined}
 use Rattle.ap_term.specs.Search.{start, variables}
-use Rattle.ap_term.specs.Blocks.{IsBlock}
+use Rattle.ap_term.specs.Blocks.{IsPrefix, IsBlock}
 use Rattle.ap_term.specs.UpToNames.{SameUpToNames}
 use Rattle.ap_term.specs.WellFormed.{IsProgram, IsQuery}
 use Rattle.ap_graft.specs.Starts.{tracked_start}
@@ -23,11 +24,13 @@ use Rattle.ap_open.specs.Away.{IsSolvingBeside}
 use Rattle.ap_open.specs.Opened.{IsSolving}
 use Rattle.ap_open.specs.Sharing.{OutcomeLaw}
 use Rattle.ap_open.specs.Solving.{SolvingLaw}
+use Rattle.ap_open.specs.Ungrouped.{AreCalls, IsUngrouped}
 use Rattle.ap_open.specs.Reading.{AreRead, IsSafeQuery, rules_beside, ReadingLaw}
 use Rattle.ap_section.specs.Ends.{Begins}
 use Rattle.ap_stack.specs.declared.stack.Stack.{Stack}
 use Rattle.ap_stack.specs.Stacks.{code_in, section_in}
-use Rattle.ap_worker.specs.declared.emission.End.{End}
+use Rattle.ap_worker.specs.declared.emission.Ended.{Ended}
+use Rattle.ap_worker.specs.Charged.{IsChargedBlock}
 use Rattle.ap_worker.specs.Ends.{end_of}
 use Rattle.ap_worker.specs.Sought.{MayBeAsked}
 
@@ -62,12 +65,31 @@ module _ (law : ReadingLaw) (code : Compiled) (a : Program) (b : Query) (good : 
   pub is-searched : IsSafeQuery a b → IsSearched code (rules_beside a b) (tracked_start b)
   is-searched safe = law.searched code a b good is may.calls safe stands.stands
 
-  pub read-finishes : (line : Trees → List ℕ) (budget limit : ℕ) (o o' : Option (List (List ℕ))) (r : Result End Halt) (p : Program) (q : Query) → IsProgram p → IsQuery q → AreRead p q a b
-      → Finishes o o' (λ end put. IsBlock line (joined a (asked_query b)) (start b) budget limit put (end_of end)) r → Finishes o o' (λ end put. IsBlock line (joined p q) (start q) budget limit put (end_of end)) r
+  pub read-finishes : (line : Trees → List ℕ) (budget limit : ℕ) (o o' : Option (List (List ℕ))) (r : Result Ended Halt) (p : Program) (q : Query) → IsProgram p → IsQuery q → AreRead p q a b
+      → Finishes o o' (λ e put. IsBlock line (joined a (asked_query b)) (start b) budget limit put (end_of e.end)) r → Finishes o o' (λ e put. IsBlock line (joined p q) (start q) budget limit put (end_of e.end)) r
   read-finishes line budget limit o o' r p q fine asks read h =
       let never = law.never_calls a p b q QUERY (turned p a q b read) may.calls in
-      finishes_map o o' (λ end put. IsBlock line (joined a (asked_query b)) (start b) budget limit put (end_of end)) (λ end put. IsBlock line (joined p q) (start q) budget limit put (end_of end)) r
-      (λ end put block. law.blocks line p a q b budget limit put (end_of end) fine asks good is read never block) h
+      finishes_map o o' (λ e put. IsBlock line (joined a (asked_query b)) (start b) budget limit put (end_of e.end)) (λ e put. IsBlock line (joined p q) (start q) budget limit put (end_of e.end)) r
+      (λ e put block. law.blocks line p a q b budget limit put (end_of e.end) fine asks good is read never block) h
+
+  abbrev Searched : (Trees → List ℕ) → ℕ → ℕ → Ended → List (List ℕ) → Type 0
+  Searched line budget limit e put = IsChargedBlock line (joined a (asked_query b)) (start b) budget limit (IsUngrouped (joined a (asked_query b)) × AreCalls b.question.body) e put
+
+  pub read-charged : (line : Trees → List ℕ) (budget limit : ℕ) (o o' : Option (List (List ℕ))) (r : Result Ended Halt) (p : Program) (q : Query) → IsProgram p → IsQuery q → AreRead p q a b
+      → IfOk r (λ e. Puts o o' (Searched line budget limit e)) → IfOk r (λ e. Puts o o' (IsChargedBlock line (joined p q) (start q) budget limit (IsUngrouped (joined a b)) e))
+  read-charged line budget limit o o' (Err h) p q fine asks read k = tt
+  read-charged line budget limit o o' (Ok e) p q fine asks read (put, adds, k) =
+      let never = law.never_calls a p b q QUERY (turned p a q b read) may.calls in (
+        put,
+        adds,
+        record {
+          block = law.blocks line p a q b budget limit put (end_of e.end) fine asks good is read never k.block;
+          charged = law.charges line p a q b e.charged put fine asks good is read never k.charged;
+          spent = k.spent;
+          found = λ bare. subst (λ f. IsPrefix put (map line f.answers)) (law.searches p a q b e.charged fine asks good is read never) (k.found (law.ungrouped a b bare));
+          ended = λ bare end. ap (λ f. f.ended) (sym (law.searches p a q b e.charged fine asks good is read never)) ∙ k.ended (law.ungrouped a b bare) end;
+        },
+      )
 
 -- the search of the query by the sections of whoever leads
 pub leads-solving : OutcomeLaw → (code : Compiled) (r : Rules) (b : Query) (budget : ℕ) (s : Stack) (v : Section) → code_in s ≡ code → section_in s ≡ v → IsSolving code r (tracked_start b) (start b) budget [] v []

@@ -28,10 +28,12 @@ use Rattle.ap_post.specs.Posts.{posted_in}
 use Rattle.ap_stack.specs.declared.stack.Stack.{Stack}
 use Rattle.ap_stack.specs.declared.stack.Ending.{Ending}
 use Rattle.ap_stack.specs.declared.stack.Ending.TheVariants as ending
-use Rattle.ap_stack.specs.declared.stack.Step.TheVariants.{Answer, Ended}
+use Rattle.ap_stack.specs.declared.stack.Step.TheVariants as step
+use Rattle.ap_stack.specs.declared.stack.Step.TheVariants.{Answer}
 use Rattle.ap_stack.specs.Levels.{level_of, aways_of}
 use Rattle.ap_stack.specs.Stacks.{code_in, levels_in, section_in, away_in, IsStep}
 use Rattle.ap_worker.specs.declared.emission.End.{End}
+use Rattle.ap_worker.specs.declared.emission.Ended.{Ended}
 use Rattle.ap_worker.specs.declared.emission.End.TheVariants.{NoMore, Spent, Stopped}
 use Rattle.ap_worker.specs.declared.lead.Lead.{Lead}
 use Rattle.ap_worker.specs.Ends.{end_of}
@@ -59,13 +61,16 @@ module _ (line : Trees → List ℕ) (code : Compiled) (p : Rules) (q : Query) (
 
   module _ (law : SolvingLaw) (laws : OutcomeLaw) (block : BlockLaw) (names : IsUpToNames line) (good : IsQuery q) (limit : ℕ) where
     -- the lines that go with an end
-    abbrev pub Lines : End → List (List ℕ) → Type 0
-    Lines end put = IsBlock line p.program (start q) budget limit put (end_of end)
+    abbrev pub Lines : Ended → List (List ℕ) → Type 0
+    Lines e put = IsBlock line p.program (start q) budget limit put (end_of e.end)
+
+    abbrev EndsBy : End → List (List ℕ) → Type 0
+    EndsBy end put = IsBlock line p.program (start q) budget limit put (end_of end)
 
     go-on : (o : List Level) (s : Section) (w : List Away) (given : List Trees) → IsSolvingBeside code p (tracked_start q) (start q) budget o s w given → length given ≤ limit → PrefixOf (AnyOf Lines) (map line given)
     go-on o s w given h few =
         let on = block.goes_on_beside line code p q budget limit o s w given names good h few in
-        (on.0, (of-end on.1, subst (IsBlock line p.program (start q) budget limit (map line given ++ on.0)) (sym (end_of-of-end on.1)) on.2))
+        (on.0, (record { end = of-end on.1; charged = 0 }, subst (IsBlock line p.program (start q) budget limit (map line given ++ on.0)) (sym (end_of-of-end on.1)) on.2))
 
     -- memory was wanting
     pub broken-off : (n : ℕ) (a b : Option (List (List ℕ))) (o : List Level) (s : Section) (w : List Away) → Finding line code p q budget n a b o s w → n ≤ limit → Finishes a b Lines (Err halt.NoMemory)
@@ -76,17 +81,17 @@ module _ (line : Trees → List ℕ) (code : Compiled) (p : Rules) (q : Query) (
       solves = laws.alone_is code p (tracked_start q) (start q) budget s m.given m.solves
 
       -- as many as the limit
-      pub at-limit : n ≡ limit → Puts a b (Lines Stopped)
+      pub at-limit : n ≡ limit → Puts a b (EndsBy Stopped)
       at-limit e = (map line m.given, m.put, block.stops line code p q budget limit s m.given names good solves (m.count_is ∙ e))
 
       module _ (short : n < limit) where
         few : length m.given < limit
         few = let e = m.count_is in omega arith
 
-        pub at-end : IsDone s → Puts a b (Lines NoMore)
+        pub at-end : IsDone s → Puts a b (EndsBy NoMore)
         at-end done = (map line m.given, m.put, block.ends line code p q budget limit s m.given names good solves few done)
 
-        pub at-spent : IsSpent code s → Puts a b (Lines Spent)
+        pub at-spent : IsSpent code s → Puts a b (EndsBy Spent)
         at-spent spent = (map line m.given, m.put, block.spends line code p q budget limit s m.given names good solves few spent)
 
         -- an answer comes
@@ -110,7 +115,7 @@ module _ (line : Trees → List ℕ) (code : Compiled) (p : Rules) (q : Query) (
               }
 
           -- putting it failed
-          pub one-lost : (r : Result (Unit {0}) Halt) (r' : Result End Halt) (h : Halt) → r ≡ Err h → r' ≡ Err h → Prints b c (IsLineAt line s) r → Finishes a c Lines r'
+          pub one-lost : (r : Result (Unit {0}) Halt) (r' : Result Ended Halt) (h : Halt) → r ≡ Err h → r' ≡ Err h → Prints b c (IsLineAt line s) r → Finishes a c Lines r'
           one-lost r r' h was same prints =
               let P : List (List ℕ) → Type 0 = λ ps. ps ≡ map line m.given in
               let E : Unit {0} → List (List ℕ) → Type 0 = λ _ put. IsLineAt line s put in
@@ -150,7 +155,7 @@ at-answer l leads d = (d.0, d.1, leads.good.none_out d.1, d.2)
 
 -- the search of the query has ended
 pub at-ending : (line : Trees → List ℕ) (code : Compiled) (p : Rules) (q : Query) (budget : ℕ) → SolvingLaw → OutcomeLaw → BlockLaw → IsUpToNames line → IsQuery q → (limit n : ℕ) (a b : Option (List (List ℕ))) (w : Post) (t : Stack) (e : Ending) → code_in t ≡ code
-    → IsStep w t (Ended e) → n < limit → FindingBy line code p q budget n a b w t → Puts a b (λ put. IsBlock line p.program (start q) budget limit put (end_of (end_after e)))
+    → IsStep w t (step.Ended e) → n < limit → FindingBy line code p q budget n a b w t → Puts a b (λ put. IsBlock line p.program (start q) budget limit put (end_of (end_after e)))
 at-ending line code p q budget law laws block names good limit n a b w t ending.Failed is d short m =
     at-end line code p q budget law laws block names good limit n a b (section_in t) (alone line code p q budget n a b w t d.0 d.1 m) short d.2
 at-ending line code p q budget law laws block names good limit n a b w t ending.Spent is d short m =

@@ -1,5 +1,6 @@
 mod Asks
 mod Begun
+mod Charging
 mod Crosses
 mod Emitted
 mod Finding

@@ -1,4 +1,4 @@
-//! How answers end.
+//! How answers end, and what was charged for them.
 
 use ap_term::Fault;
 
@@ -13,4 +13,12 @@ pub enum End {
     Stopped,
     /// These are all before a fault.
     Error(Fault),
+}
+
+/// How a query's answers end, and what its search was charged.
+#[derive(Clone, Copy, Debug, PartialEq, Eq)]
+pub struct Ended {
+    pub end: End,
+    /// With fewer calls sequential search doesn't end, and finds no more.
+    pub charged: u64,
 }

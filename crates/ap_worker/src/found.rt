@@ -2,6 +2,7 @@
 
 ghost use Rattle.std.specs.Prelude.{◌≡◌, ℕ, List, [], ◌∷◌, OnOk, IfOk, false};
 ghost use Rattle.ap_outside.specs.Halting.{Finishes, Prints, SinkCount};
+ghost use Rattle.ap_outside.specs.Pieces.{Puts};
 ghost use Rattle.ap_term.specs.Goals.{Query};
 ghost use Rattle.ap_term.specs.Search.{start};
 ghost use Rattle.ap_term.specs.WellFormed.{IsQuery};
@@ -11,14 +12,17 @@ ghost use Rattle.ap_graft.specs.Starts.{tracked_start};
 ghost use Rattle.ap_instr.specs.Code.{Compiled};
 ghost use Rattle.ap_open.specs.Away.{IsSolvingBeside};
 ghost use Rattle.ap_open.specs.Solving.{past_answer};
+ghost use Rattle.ap_open.specs.Ungrouped.{AreCalls, IsUngrouped};
 ghost use Rattle.ap_post.specs.declared.post.Post.{Post as Posting};
 ghost use Rattle.ap_post.specs.Posts.{posted_in};
 ghost use Rattle.ap_stack.specs.Stacks.{code_in, section_in, IsGood, IsStep};
+ghost use Rattle.ap_worker.specs.Charged.{IsChargedBlock, charge_after};
 ghost use Rattle.ap_worker.specs.Ends.{end_of};
 ghost use Rattle.ap_worker.specs.Leads.{IsLeading, IsLineAt, end_after};
 
 use crate::answers::Answers;
-use crate::emission::End;
+use crate::bounds::Bounds;
+use crate::emission::{End, Ended};
 use crate::lead::Lead;
 use crate::parcels::terms_of;
 use ap_open::{block_law, outcome_law, solving_law};
@@ -27,13 +31,20 @@ use ap_stack::{Ending, Stack, Step};
 use crossbeam_utils::Backoff;
 use std::alloc::Global;
 
-// How answers end by how their search did.
-fn ended(ending: Ending) -> End
-    ensures { result ≡ end_after ending }
+// How answers end by how their search did, and what it is charged, where it has made so many calls itself.
+fn ended(ending: Ending, made: u64, budget: u64) -> Ended
+    ensures end { result.end ≡ end_after ending }
+    ensures charged { result.charged ≡ charge_after ending made budget }
 {
     match ending {
-        Ending::Failed => End::NoMore,
-        Ending::Spent => End::Spent,
+        Ending::Failed => Ended {
+            end: End::NoMore,
+            charged: made,
+        },
+        Ending::Spent => Ended {
+            end: End::Spent,
+            charged: made.max(budget),
+        },
     }
 }
 
@@ -70,29 +81,33 @@ fn put_answer<A: Answers, K: Sink>(
     Ok(())
 }
 
-/// Puts the lines of a query's answers as its search finds them, as many as the limit at most, and says how they end. While the search
-/// waits its worker helps others, or backs off.
+/// Puts the lines of a query's answers as its search finds them, as many as the limit at most, and says how they end and what is
+/// charged for them. While the search waits its worker helps others, or backs off.
 pub(crate) fn put_found<G: Gate, A: Answers, K: Sink>(
     alloc: Global,
     gate: &G,
     lead: &mut Lead<'_, '_>,
     width: usize,
-    limit: u64,
+    bounds: Bounds,
     answers: &A,
     out: &mut K,
-) -> Result<End, Halt>
+) -> Result<Ended, Halt>
     requires width { A.width answers.now ≡ width }
     requires leads { IsLeading lead.old }
     requires alone { lead.old.query.outer.items ≡ [] }
     requires none { posted_in lead.old.worker.post lead.old.query.frame ≡ [] }
-    ensures lines { (p : Rules) (q : Query) (budget : ℕ) → IsQuery q → IsSolvingBeside (code_in lead.old.query) p (tracked_start q) (start q) budget [] (section_in lead.old.query) [] [] → Finishes (K.pieces out.old) (K.pieces out.new) (λ end put. IsBlock (A.line answers.now) p.program (start q) budget limit put (end_of end)) result }
+    ensures lines { (p : Rules) (q : Query) → IsQuery q → IsSolvingBeside (code_in lead.old.query) p (tracked_start q) (start q) bounds.budget [] (section_in lead.old.query) [] [] → Finishes (K.pieces out.old) (K.pieces out.new) (λ e put. IsBlock (A.line answers.now) p.program (start q) bounds.budget bounds.limit put (end_of e.end)) result }
+    ensures charged { (p : Rules) (q : Query) → IsQuery q → IsSolvingBeside (code_in lead.old.query) p (tracked_start q) (start q) bounds.budget [] (section_in lead.old.query) [] [] → IfOk result (λ e. Puts (K.pieces out.old) (K.pieces out.new) (IsChargedBlock (A.line answers.now) p.program (start q) bounds.budget bounds.limit (IsUngrouped p.program × AreCalls q.question.body) e)) }
     ensures count { SinkCount (K.faults out.old) (K.faults out.new) result }
 {
     solving_law();
     outcome_law();
     block_law();
-    if limit == 0 {
-        return Ok(End::Stopped);
+    if bounds.limit == 0 {
+        return Ok(Ended {
+            end: End::Stopped,
+            charged: 0,
+        });
     }
     let mut count = 0;
     let backoff = Backoff::new();
@@ -102,12 +117,15 @@ pub(crate) fn put_found<G: Gate, A: Answers, K: Sink>(
         };
         match step {
             Step::Waits => backoff.snooze(),
-            Step::Ended(ending) => return Ok(ended(ending)),
+            Step::Ended(ending) => return Ok(ended(ending, lead.query.spent(), bounds.budget)),
             Step::Answer => {
                 put_answer(alloc, &mut lead.query, width, answers, out)?;
                 count += 1;
-                if count == limit {
-                    return Ok(End::Stopped);
+                if count == bounds.limit {
+                    return Ok(Ended {
+                        end: End::Stopped,
+                        charged: lead.query.spent(),
+                    });
                 }
             }
             _ => backoff.reset(),

@@ -9,6 +9,7 @@
 #![tactic(auto)]
 
 mod answers;
+mod bounds;
 mod crew;
 mod emission;
 mod found;
@@ -21,6 +22,6 @@ mod worker;
 
 pub use answers::Answers;
 pub use crew::Crew;
-pub use emission::End;
+pub use emission::{End, Ended};
 pub use parcels::terms_of;
 pub use solving::solve;

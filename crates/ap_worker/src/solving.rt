@@ -2,6 +2,7 @@
 
 ghost use Rattle.std.specs.Prelude.{◌≡◌, ℕ, [], All, length, IfOk};
 ghost use Rattle.ap_outside.specs.Halting.{Finishes, SinkCount};
+ghost use Rattle.ap_outside.specs.Pieces.{Puts};
 ghost use Rattle.ap_term.specs.Goals as goals;
 ghost use Rattle.ap_term.specs.Goals.{Query as Asked, joined};
 ghost use Rattle.ap_term.specs.Search.{start};
@@ -18,16 +19,19 @@ ghost use Rattle.ap_open.specs.Opened.{IsSolving};
 ghost use Rattle.ap_section.specs.Views.{view_of};
 ghost use Rattle.ap_section.specs.Ready.{IsReady};
 ghost use Rattle.ap_open.specs.Reading.{AreRead, IsSafeQuery, rules_beside};
+ghost use Rattle.ap_open.specs.Ungrouped.{AreCalls, IsUngrouped};
 ghost use Rattle.ap_post.specs.Posts.{posted_in};
 ghost use Rattle.ap_stack.specs.Stacks.{code_in, section_in};
+ghost use Rattle.ap_worker.specs.Charged.{IsChargedBlock};
 ghost use Rattle.ap_worker.specs.Ends.{end_of};
 ghost use Rattle.ap_worker.specs.Leads.{IsLeading};
 ghost use Rattle.ap_worker.specs.Workers.{IsStaffed, IsIdle};
 ghost use Rattle.ap_worker.specs.Sought.{MayBeAsked};
 
 use crate::answers::Answers;
+use crate::bounds::Bounds;
 use crate::crew::Crew;
-use crate::emission::End;
+use crate::emission::Ended;
 use crate::found::put_found;
 use crate::lead::Lead;
 use crate::serving::serve_all;
@@ -119,18 +123,19 @@ fn lead_on<G: Gate, A: Answers, K: Sink>(
     gate: &G,
     lead: &mut Lead<'_, '_>,
     width: usize,
-    limit: u64,
+    bounds: Bounds,
     answers: &A,
     out: &mut K,
-) -> Result<End, Halt>
+) -> Result<Ended, Halt>
     requires width { A.width answers.now ≡ width }
     requires leads { IsLeading lead.old }
     requires alone { lead.old.query.outer.items ≡ [] }
     requires none { posted_in lead.old.worker.post lead.old.query.frame ≡ [] }
-    ensures lines { (p : Rules) (q : Asked) (budget : ℕ) → IsQuery q → IsSolvingBeside (code_in lead.old.query) p (tracked_start q) (start q) budget [] (section_in lead.old.query) [] [] → Finishes (K.pieces out.old) (K.pieces out.new) (λ end put. IsBlock (A.line answers.now) p.program (start q) budget limit put (end_of end)) result }
+    ensures lines { (p : Rules) (q : Asked) → IsQuery q → IsSolvingBeside (code_in lead.old.query) p (tracked_start q) (start q) bounds.budget [] (section_in lead.old.query) [] [] → Finishes (K.pieces out.old) (K.pieces out.new) (λ e put. IsBlock (A.line answers.now) p.program (start q) bounds.budget bounds.limit put (end_of e.end)) result }
+    ensures charged { (p : Rules) (q : Asked) → IsQuery q → IsSolvingBeside (code_in lead.old.query) p (tracked_start q) (start q) bounds.budget [] (section_in lead.old.query) [] [] → IfOk result (λ e. Puts (K.pieces out.old) (K.pieces out.new) (IsChargedBlock (A.line answers.now) p.program (start q) bounds.budget bounds.limit (IsUngrouped p.program × AreCalls q.question.body) e)) }
     ensures count { SinkCount (K.faults out.old) (K.faults out.new) result }
 {
-    let found = put_found(alloc, gate, lead, width, limit, answers, out);
+    let found = put_found(alloc, gate, lead, width, bounds, answers, out);
     lead.worker.post.end();
     found
 }
@@ -142,16 +147,17 @@ fn search_beside<R: Threads + Wait + Sync, G: Gate, A: Answers, K: Sink>(
     others: &mut Vec<Worker<'_, '_>>,
     lead: &mut Lead<'_, '_>,
     width: usize,
-    limit: u64,
+    bounds: Bounds,
     answers: &A,
     out: &mut K,
-) -> Result<End, Halt>
+) -> Result<Ended, Halt>
     requires width { A.width answers.now ≡ width }
     requires idle { All IsIdle others.old.items }
     requires leads { IsLeading lead.old }
     requires alone { lead.old.query.outer.items ≡ [] }
     requires none { posted_in lead.old.worker.post lead.old.query.frame ≡ [] }
-    ensures lines { (p : Rules) (q : Asked) (budget : ℕ) → IsQuery q → IsSolvingBeside (code_in lead.old.query) p (tracked_start q) (start q) budget [] (section_in lead.old.query) [] [] → Finishes (K.pieces out.old) (K.pieces out.new) (λ end put. IsBlock (A.line answers.now) p.program (start q) budget limit put (end_of end)) result }
+    ensures lines { (p : Rules) (q : Asked) → IsQuery q → IsSolvingBeside (code_in lead.old.query) p (tracked_start q) (start q) bounds.budget [] (section_in lead.old.query) [] [] → Finishes (K.pieces out.old) (K.pieces out.new) (λ e put. IsBlock (A.line answers.now) p.program (start q) bounds.budget bounds.limit put (end_of e.end)) result }
+    ensures charged { (p : Rules) (q : Asked) → IsQuery q → IsSolvingBeside (code_in lead.old.query) p (tracked_start q) (start q) bounds.budget [] (section_in lead.old.query) [] [] → IfOk result (λ e. Puts (K.pieces out.old) (K.pieces out.new) (IsChargedBlock (A.line answers.now) p.program (start q) bounds.budget bounds.limit (IsUngrouped p.program × AreCalls q.question.body) e)) }
     ensures count { SinkCount (K.faults out.old) (K.faults out.new) result }
 {
     let rt = crew.rt;
@@ -163,11 +169,12 @@ fn search_beside<R: Threads + Wait + Sync, G: Gate, A: Answers, K: Sink>(
         &mut ||
             requires { All IsIdle others.now.items }
         { serve_all(rt, there, gate, others) },
-        &mut || -> Result<End, Halt>
+        &mut || -> Result<Ended, Halt>
             requires { (A.width answers.now ≡ width) × IsLeading lead.now × (lead.now.query.outer.items ≡ []) × (posted_in lead.now.worker.post lead.now.query.frame ≡ []) }
-            ensures lines { (p : Rules) (q : Asked) (budget : ℕ) → IsQuery q → IsSolvingBeside (code_in lead.entry.now.query) p (tracked_start q) (start q) budget [] (section_in lead.entry.now.query) [] [] → Finishes (K.pieces out.entry.now) (K.pieces out.exit.now) (λ end put. IsBlock (A.line answers.entry.now) p.program (start q) budget limit put (end_of end)) result }
+            ensures lines { (p : Rules) (q : Asked) → IsQuery q → IsSolvingBeside (code_in lead.entry.now.query) p (tracked_start q) (start q) bounds.budget [] (section_in lead.entry.now.query) [] [] → Finishes (K.pieces out.entry.now) (K.pieces out.exit.now) (λ e put. IsBlock (A.line answers.entry.now) p.program (start q) bounds.budget bounds.limit put (end_of e.end)) result }
+            ensures charged { (p : Rules) (q : Asked) → IsQuery q → IsSolvingBeside (code_in lead.entry.now.query) p (tracked_start q) (start q) bounds.budget [] (section_in lead.entry.now.query) [] [] → IfOk result (λ e. Puts (K.pieces out.entry.now) (K.pieces out.exit.now) (IsChargedBlock (A.line answers.entry.now) p.program (start q) bounds.budget bounds.limit (IsUngrouped p.program × AreCalls q.question.body) e)) }
             ensures count { SinkCount (K.faults out.entry.now) (K.faults out.exit.now) result }
-        { lead_on(alloc, gate, lead, width, limit, answers, out) },
+        { lead_on(alloc, gate, lead, width, bounds, answers, out) },
     );
     found
 }
@@ -179,27 +186,28 @@ fn search<R: Threads + Wait + Sync, G: Gate, A: Answers, K: Sink>(
     others: &mut Vec<Worker<'_, '_>>,
     lead: &mut Lead<'_, '_>,
     width: usize,
-    limit: u64,
+    bounds: Bounds,
     answers: &A,
     out: &mut K,
-) -> Result<End, Halt>
+) -> Result<Ended, Halt>
     requires width { A.width answers.now ≡ width }
     requires idle { All IsIdle others.old.items }
     requires leads { IsLeading lead.old }
     requires alone { lead.old.query.outer.items ≡ [] }
     requires none { posted_in lead.old.worker.post lead.old.query.frame ≡ [] }
-    ensures lines { (p : Rules) (q : Asked) (budget : ℕ) → IsQuery q → IsSolvingBeside (code_in lead.old.query) p (tracked_start q) (start q) budget [] (section_in lead.old.query) [] [] → Finishes (K.pieces out.old) (K.pieces out.new) (λ end put. IsBlock (A.line answers.now) p.program (start q) budget limit put (end_of end)) result }
+    ensures lines { (p : Rules) (q : Asked) → IsQuery q → IsSolvingBeside (code_in lead.old.query) p (tracked_start q) (start q) bounds.budget [] (section_in lead.old.query) [] [] → Finishes (K.pieces out.old) (K.pieces out.new) (λ e put. IsBlock (A.line answers.now) p.program (start q) bounds.budget bounds.limit put (end_of e.end)) result }
+    ensures charged { (p : Rules) (q : Asked) → IsQuery q → IsSolvingBeside (code_in lead.old.query) p (tracked_start q) (start q) bounds.budget [] (section_in lead.old.query) [] [] → IfOk result (λ e. Puts (K.pieces out.old) (K.pieces out.new) (IsChargedBlock (A.line answers.now) p.program (start q) bounds.budget bounds.limit (IsUngrouped p.program × AreCalls q.question.body) e)) }
     ensures count { SinkCount (K.faults out.old) (K.faults out.new) result }
 {
     if others.is_empty() {
-        return put_found(alloc, crew.gate, lead, width, limit, answers, out);
+        return put_found(alloc, crew.gate, lead, width, bounds, answers, out);
     }
-    search_beside(alloc, crew, others, lead, width, limit, answers, out)
+    search_beside(alloc, crew, others, lead, width, bounds, answers, out)
 }
 
 /// Searches a query beside a program by code, with its groups, and puts the lines of its answers as they are found, as many as
 /// the limit at most. They are a block of any query and program that these are without their groups, however many workers there are
-/// and however they take turns.
+/// and however they take turns. With fewer calls than were charged for them sequential search hasn't ended.
 pub fn solve<R: Threads + Wait + Sync, G: Gate, A: Answers, K: Sink>(
     alloc: Global,
     crew: &Crew<R, G>,
@@ -209,11 +217,12 @@ pub fn solve<R: Threads + Wait + Sync, G: Gate, A: Answers, K: Sink>(
     limit: u64,
     answers: &A,
     out: &mut K,
-) -> Result<End, Halt>
+) -> Result<Ended, Halt>
     requires width { A.width answers.now ≡ length query.now.names }
     requires asked { MayBeAsked program.now query.now }
     requires safe { IsSafeQuery program.now query.now }
-    ensures lines { (p : goals.Program) (q : Asked) → IsProgram p → IsQuery q → AreRead p q program.now query.now → Finishes (K.pieces out.old) (K.pieces out.new) (λ end put. IsBlock (A.line answers.now) (joined p q) (start q) budget limit put (end_of end)) result }
+    ensures lines { (p : goals.Program) (q : Asked) → IsProgram p → IsQuery q → AreRead p q program.now query.now → Finishes (K.pieces out.old) (K.pieces out.new) (λ e put. IsBlock (A.line answers.now) (joined p q) (start q) budget limit put (end_of e.end)) result }
+    ensures charged { (p : goals.Program) (q : Asked) → IsProgram p → IsQuery q → AreRead p q program.now query.now → IfOk result (λ e. Puts (K.pieces out.old) (K.pieces out.new) (IsChargedBlock (A.line answers.now) (joined p q) (start q) budget limit (IsUngrouped (joined program.now query.now)) e)) }
     ensures count { SinkCount (K.faults out.old) (K.faults out.new) result }
 {
     reading_law();
@@ -240,13 +249,14 @@ pub fn solve<R: Threads + Wait + Sync, G: Gate, A: Answers, K: Sink>(
         return Err(Halt::NoMemory);
     };
     let width = query.names().len();
+    let bounds = Bounds { budget, limit };
     let found = search(
         alloc,
         crew,
         &mut workers,
         &mut lead,
         width,
-        limit,
+        bounds,
         answers,
         out,
     );

@@ -9,12 +9,12 @@ solve-requires-clause-asked g c κs within = grouped-asked _ c.args.program.now 
 pub solve-requires-clause-safe : goal.solve-requires-clause-safe
 solve-requires-clause-safe g c κs within = grouped-safe _ c.args.program.now c.args.query.now c.in-Ok.grouped.program c.in-Ok.grouped.query c.in-Ok.ensures
 
-pub returns-in_err-end-clause-lines : goal.returns-in_err-end-clause-lines
-returns-in_err-end-clause-lines g c =
+pub returns-in_err-ended-clause-lines : goal.returns-in_err-ended-clause-lines
+returns-in_err-ended-clause-lines g c =
     let p = c.args.program.now in
     let q = c.args.query.now in
-    let same : c.from_residual.result ≡ Err c.in_err-end.field-0.0 = search rules in
-    answers_halt c.args.bounds.budget c.args.bounds.answers p c.args.atoms.now q _ _ c.solve.result _ c.in_err-end.field-0.0 c.in_err-end.was same
+    let same : c.from_residual.result ≡ Err c.in_err-ended.field-0.0 = search rules in
+    answers_halt c.args.bounds.budget c.args.bounds.answers p c.args.atoms.now q _ _ c.solve.result _ c.in_err-ended.field-0.0 c.in_err-ended.was same
     (c.solve.ensures.lines p q c.as_slice-good.ensures.kept c.question-asked.ensures.kept (grouped-read _ p q c.in-Ok.grouped.program c.in-Ok.grouped.query c.in-Ok.ensures))
 
 pub returns-in_err-put_line-clause-lines : goal.returns-in_err-put_line-clause-lines
@@ -22,12 +22,12 @@ returns-in_err-put_line-clause-lines g c =
     let p = c.args.program.now in
     let q = c.args.query.now in
     let same : c.from_residual-in_err-put_line.result ≡ Err c.in_err-put_line.field-0.0 = search rules in
-    end_halts c.args.bounds.budget c.args.bounds.answers p c.args.atoms.now q c.in_ok-end.end _ _ _ c.end_line.result.now c.put_line.result _ c.in_err-put_line.field-0.0 c.end_line.ensures c.in_err-put_line.was same
-    (c.in_ok-end.ensures.lines p q c.as_slice-good.ensures.kept c.question-asked.ensures.kept (grouped-read _ p q c.in-Ok.grouped.program c.in-Ok.grouped.query c.in-Ok.ensures)) c.put_line.ensures.lines
+    end_halts c.args.bounds.budget c.args.bounds.answers p c.args.atoms.now q c.in_ok-ended.ended _ _ _ c.end_line.result.now c.put_line.result _ c.in_err-put_line.field-0.0 c.end_line.ensures c.in_err-put_line.was same
+    (c.in_ok-ended.ensures.lines p q c.as_slice-good.ensures.kept c.question-asked.ensures.kept (grouped-read _ p q c.in-Ok.grouped.program c.in-Ok.grouped.query c.in-Ok.ensures)) c.put_line.ensures.lines
 
 pub returns-clause-lines : goal.returns-clause-lines
 returns-clause-lines g c =
     let p = c.args.program.now in
     let q = c.args.query.now in
-    query_puts c.args.bounds.budget c.args.bounds.answers p c.args.atoms.now q c.in_ok-end.end _ _ _ c.end_line.result.now c.is_spent.result c.end_line.ensures c.is_spent.ensures
-    (c.in_ok-end.ensures.lines p q c.as_slice-good.ensures.kept c.question-asked.ensures.kept (grouped-read _ p q c.in-Ok.grouped.program c.in-Ok.grouped.query c.in-Ok.ensures)) c.in_ok-put_line.ensures.lines
+    query_puts c.args.bounds.budget c.args.bounds.answers p c.args.atoms.now q c.in_ok-ended.ended _ _ _ c.end_line.result.now c.is_spent.result c.end_line.ensures c.is_spent.ensures
+    (c.in_ok-ended.ensures.lines p q c.as_slice-good.ensures.kept c.question-asked.ensures.kept (grouped-read _ p q c.in-Ok.grouped.program c.in-Ok.grouped.query c.in-Ok.ensures)) c.in_ok-put_line.ensures.lines

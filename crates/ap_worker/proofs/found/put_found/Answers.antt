@@ -2,34 +2,38 @@ use Rattle.std.proofs.Common.{◌≡◌, ◌+◌, ◌<◌, [], Err, refl, ap, sy
 use Rattle.ap_outside.specs.Pieces.{Puts}
 use Rattle.ap_term.specs.Search.{start}
 use Rattle.ap_term.specs.Blocks.{IsBlock}
+use Rattle.ap_open.specs.Opened.{spent_in}
+use Rattle.ap_open.specs.Solving.{past_answer}
 use Rattle.ap_post.specs.Posts.{posted_in}
 use Rattle.ap_stack.specs.Stacks.{code_in, section_in, IsStep}
 use Rattle.ap_worker.specs.declared.lead.Lead.{Lead}
+use Rattle.ap_worker.specs.Charged.{charge_after}
 use Rattle.ap_worker.specs.Ends.{end_of}
 use Rattle.ap_worker.specs.Leads.{IsLeading}
+use Rattle.ap_worker.proofs.Charging.{charged-at-limit, charged-at-ending, spent-alone, nothing-asked}
 use Rattle.ap_worker.proofs.Finding.{FindingBy, broken-off, at-limit, at-answer, at-ending, one-more, one-lost, stepped, alone, not-alone}
 use Rattle.ap_worker.proofs.found.put_found.Goals as goal
 use Rattle.ap_worker.proofs.found.put_found.Goals.{in-Waits, in-Answer+in_ok-put_answer-in-Answer+else-count-limit, in_default-step}
 
 pub returns-in_default-clause-lines : goal.returns-in_default-clause-lines
-returns-in_default-clause-lines g c = λ p q budget good h.
+returns-in_default-clause-lines g c = λ p q good h.
     let i = c.loop-step.invariant in
-    broken-off (g.A.Answers.line c.args.answers.now) (code_in c.args.lead.now.query) p q budget c.solving_law.ensures c.outcome_law.ensures c.block_law.ensures (λ x y. g.met.A.Answers.names c.args.answers.now x y) good c.args.limit _ _ _ _ _ _ (i.found p q budget good h) (let s = i.short in omega arith)
+    broken-off (g.A.Answers.line c.args.answers.now) (code_in c.args.lead.now.query) p q c.args.bounds.budget c.solving_law.ensures c.outcome_law.ensures c.block_law.ensures (λ x y. g.met.A.Answers.names c.args.answers.now x y) good c.args.bounds.limit _ _ _ _ _ _ (i.found p q good h) (let s = i.short in omega arith)
 
 pub returns-in-Ended-clause-lines : goal.returns-in-Ended-clause-lines
-returns-in-Ended-clause-lines g c = λ p q budget good h.
+returns-in-Ended-clause-lines g c = λ p q good h.
     let i = c.loop-step.invariant in
     let line = g.A.Answers.line c.args.answers.now in
     let code = code_in c.args.lead.now.query in
     let t = c.step.new.self in
     let go = c.in-Ok.ensures.goes in
     let d = subst (IsStep t.worker.post t.query) c.in-Ended.is c.in-Ok.ensures.step in
-    subst (λ e. Puts (g.K.Sink.pieces c.args.out.now) (g.K.Sink.pieces c.loop-step.out) (λ put. IsBlock line p.program (start q) budget c.args.limit put (end_of e))) (sym c.ended.ensures)
-    (at-ending line code p q budget c.solving_law.ensures c.outcome_law.ensures c.block_law.ensures (λ x y. g.met.A.Answers.names c.args.answers.now x y) good c.args.limit _ _ _ t.worker.post t.query c.in-Ended.ending (go.code ∙ i.code) d i.short
-    (stepped line code p q budget _ _ _ c.outcome_law.ensures c.loop-step.lead t i.code go (i.found p q budget good h)))
+    subst (λ e. Puts (g.K.Sink.pieces c.args.out.now) (g.K.Sink.pieces c.loop-step.out) (λ put. IsBlock line p.program (start q) c.args.bounds.budget c.args.bounds.limit put (end_of e))) (sym c.ended.ensures.end)
+    (at-ending line code p q c.args.bounds.budget c.solving_law.ensures c.outcome_law.ensures c.block_law.ensures (λ x y. g.met.A.Answers.names c.args.answers.now x y) good c.args.bounds.limit _ _ _ t.worker.post t.query c.in-Ended.ending (go.code ∙ i.code) d i.short
+    (stepped line code p q c.args.bounds.budget _ _ _ c.outcome_law.ensures c.loop-step.lead t i.code go (i.found p q good h)))
 
 pub returns-in_err-put_answer-in-Answer-clause-lines : goal.returns-in_err-put_answer-in-Answer-clause-lines
-returns-in_err-put_answer-in-Answer-clause-lines g c = λ p q budget good h.
+returns-in_err-put_answer-in-Answer-clause-lines g c = λ p q good h.
     let same : c.from_residual.result ≡ Err c.in_err-put_answer-in-Answer.field-0.0 = search rules in
     let i = c.loop-step.invariant in
     let line = g.A.Answers.line c.args.answers.now in
@@ -38,12 +42,12 @@ returns-in_err-put_answer-in-Answer-clause-lines g c = λ p q budget good h.
     let go = c.in-Ok.ensures.goes in
     let d = subst (IsStep t.worker.post t.query) c.in-Answer.is c.in-Ok.ensures.step in
     let x = at-answer t go.leads d in
-    let m = alone line code p q budget _ _ _ t.worker.post t.query x.0 x.2 (stepped line code p q budget _ _ _ c.outcome_law.ensures c.loop-step.lead t i.code go (i.found p q budget good h)) in
-    one-lost line code p q budget c.solving_law.ensures c.outcome_law.ensures c.block_law.ensures (λ x y. g.met.A.Answers.names c.args.answers.now x y) good c.args.limit _ _ _ (section_in t.query) m i.short x.3 _
+    let m = alone line code p q c.args.bounds.budget _ _ _ t.worker.post t.query x.0 x.2 (stepped line code p q c.args.bounds.budget _ _ _ c.outcome_law.ensures c.loop-step.lead t i.code go (i.found p q good h)) in
+    one-lost line code p q c.args.bounds.budget c.solving_law.ensures c.outcome_law.ensures c.block_law.ensures (λ x y. g.met.A.Answers.names c.args.answers.now x y) good c.args.bounds.limit _ _ _ (section_in t.query) m i.short x.3 _
     c.put_answer.result _ c.in_err-put_answer-in-Answer.field-0.0 c.in_err-put_answer-in-Answer.was same c.put_answer.ensures.lines
 
 pub returns-then-count-limit-clause-lines : goal.returns-then-count-limit-clause-lines
-returns-then-count-limit-clause-lines g c = λ p q budget good h.
+returns-then-count-limit-clause-lines g c = λ p q good h.
     let i = c.loop-step.invariant in
     let line = g.A.Answers.line c.args.answers.now in
     let code = code_in c.args.lead.now.query in
@@ -51,10 +55,41 @@ returns-then-count-limit-clause-lines g c = λ p q budget good h.
     let go = c.in-Ok.ensures.goes in
     let d = subst (IsStep t.worker.post t.query) c.in-Answer.is c.in-Ok.ensures.step in
     let x = at-answer t go.leads d in
-    let m = alone line code p q budget _ _ _ t.worker.post t.query x.0 x.2 (stepped line code p q budget _ _ _ c.outcome_law.ensures c.loop-step.lead t i.code go (i.found p q budget good h)) in
-    at-limit line code p q budget c.solving_law.ensures c.outcome_law.ensures c.block_law.ensures (λ x y. g.met.A.Answers.names c.args.answers.now x y) good c.args.limit _ _ _ _
-    (one-more line code p q budget c.solving_law.ensures c.outcome_law.ensures c.block_law.ensures (λ x y. g.met.A.Answers.names c.args.answers.now x y) good c.args.limit _ _ _ (section_in t.query) m i.short x.3 _ c.in_ok-put_answer-in-Answer.ensures.lines)
+    let m = alone line code p q c.args.bounds.budget _ _ _ t.worker.post t.query x.0 x.2 (stepped line code p q c.args.bounds.budget _ _ _ c.outcome_law.ensures c.loop-step.lead t i.code go (i.found p q good h)) in
+    at-limit line code p q c.args.bounds.budget c.solving_law.ensures c.outcome_law.ensures c.block_law.ensures (λ x y. g.met.A.Answers.names c.args.answers.now x y) good c.args.bounds.limit _ _ _ _
+    (one-more line code p q c.args.bounds.budget c.solving_law.ensures c.outcome_law.ensures c.block_law.ensures (λ x y. g.met.A.Answers.names c.args.answers.now x y) good c.args.bounds.limit _ _ _ (section_in t.query) m i.short x.3 _ c.in_ok-put_answer-in-Answer.ensures.lines)
     c.if-count-limit.true
+
+pub returns-in-Ended-clause-charged : goal.returns-in-Ended-clause-charged
+returns-in-Ended-clause-charged g c = λ p q good h.
+    let i = c.loop-step.invariant in
+    let line = g.A.Answers.line c.args.answers.now in
+    let code = code_in c.args.lead.now.query in
+    let t = c.step.new.self in
+    let go = c.in-Ok.ensures.goes in
+    let d = subst (IsStep t.worker.post t.query) c.in-Ended.is c.in-Ok.ensures.step in
+    charged-at-ending line code p q c.args.bounds.budget c.outcome_law.ensures c.block_law.ensures (λ x y. g.met.A.Answers.names c.args.answers.now x y) good c.args.bounds.limit _ _ _ t.worker.post t.query c.in-Ended.ending c.ended.result (go.code ∙ i.code) d i.short
+    c.ended.ensures.end (c.ended.ensures.charged ∙ ap (λ n. charge_after c.in-Ended.ending n c.args.bounds.budget) (c.spent.ensures t.worker.post))
+    (stepped line code p q c.args.bounds.budget _ _ _ c.outcome_law.ensures c.loop-step.lead t i.code go (i.found p q good h))
+
+pub returns-then-count-limit-clause-charged : goal.returns-then-count-limit-clause-charged
+returns-then-count-limit-clause-charged g c = λ p q good h.
+    let i = c.loop-step.invariant in
+    let line = g.A.Answers.line c.args.answers.now in
+    let code = code_in c.args.lead.now.query in
+    let t = c.step.new.self in
+    let go = c.in-Ok.ensures.goes in
+    let d = subst (IsStep t.worker.post t.query) c.in-Answer.is c.in-Ok.ensures.step in
+    let x = at-answer t go.leads d in
+    let e = c.in_ok-put_answer-in-Answer.ensures in
+    let m = alone line code p q c.args.bounds.budget _ _ _ t.worker.post t.query x.0 x.2 (stepped line code p q c.args.bounds.budget _ _ _ c.outcome_law.ensures c.loop-step.lead t i.code go (i.found p q good h)) in
+    let u = c.put_answer.new.query in
+    let before = x.0 in
+    let kept = e.same.1 in
+    let outer : u.outer.items ≡ [] = cc in
+    charged-at-limit line code p q c.args.bounds.budget c.outcome_law.ensures c.block_law.ensures (λ x y. g.met.A.Answers.names c.args.answers.now x y) good c.args.bounds.limit _ _ _ (past_answer (section_in t.query))
+    (one-more line code p q c.args.bounds.budget c.solving_law.ensures c.outcome_law.ensures c.block_law.ensures (λ x y. g.met.A.Answers.names c.args.answers.now x y) good c.args.bounds.limit _ _ _ (section_in t.query) m i.short x.3 _ e.lines)
+    c.spent.result (c.spent.ensures t.worker.post ∙ spent-alone t.worker.post u outer ∙ ap spent_in e.past) c.if-count-limit.true
 
 pub loop-step-preserved : goal.loop-step-preserved
 loop-step-preserved g c =
@@ -68,13 +103,13 @@ loop-step-preserved g c =
       | in-Waits w ↦ record {
         leads = subst IsLeading (sym w.lead-is) go.leads;
         code = subst (λ (l : Lead). code_in l.query ≡ code) (sym w.lead-is) (go.code ∙ i.code);
-        short = subst (λ n. n < c.args.limit) (sym w.count-is) i.short;
+        short = subst (λ n. n < c.args.bounds.limit) (sym w.count-is) i.short;
         faults = ap g.K.Sink.faults w.out-is ∙ i.faults;
-        found = λ p q budget good h.
-            subst (λ (l : Lead). FindingBy line code p q budget c.match-step-2.count first (g.K.Sink.pieces c.match-step-2.out) l.worker.post l.query) (sym w.lead-is)
-            (subst (λ k. FindingBy line code p q budget c.match-step-2.count first (g.K.Sink.pieces k) t.worker.post t.query) (sym w.out-is)
-            (subst (λ n. FindingBy line code p q budget n first (g.K.Sink.pieces c.loop-step.out) t.worker.post t.query) (sym w.count-is)
-            (stepped line code p q budget _ _ _ c.outcome_law.ensures c.loop-step.lead t i.code go (i.found p q budget good h))));
+        found = λ p q good h.
+            subst (λ (l : Lead). FindingBy line code p q c.args.bounds.budget c.match-step-2.count first (g.K.Sink.pieces c.match-step-2.out) l.worker.post l.query) (sym w.lead-is)
+            (subst (λ k. FindingBy line code p q c.args.bounds.budget c.match-step-2.count first (g.K.Sink.pieces k) t.worker.post t.query) (sym w.out-is)
+            (subst (λ n. FindingBy line code p q c.args.bounds.budget n first (g.K.Sink.pieces c.loop-step.out) t.worker.post t.query) (sym w.count-is)
+            (stepped line code p q c.args.bounds.budget _ _ _ c.outcome_law.ensures c.loop-step.lead t i.code go (i.found p q good h))));
       }
       | in-Answer+in_ok-put_answer-in-Answer+else-count-limit w ↦
           let d = subst (IsStep t.worker.post t.query) w.in-Answer.is c.in-Ok.ensures.step in
@@ -93,30 +128,30 @@ loop-step-preserved g c =
               above = λ some. subst (λ f. f < t.worker.floor) (sym e.same.2) (go.leads.above some);
             });
             code = subst (λ (l : Lead). code_in l.query ≡ code) (sym w.lead-is) (e.same.0 ∙ go.code ∙ i.code);
-            short = subst (λ n. n < c.args.limit) (sym w.count-is) (let l = i.short in omega arith);
+            short = subst (λ n. n < c.args.bounds.limit) (sym w.count-is) (let l = i.short in omega arith);
             faults = ap g.K.Sink.faults w.out-is ∙ e.count ∙ i.faults;
-            found = λ p q budget good h.
-                let m = alone line code p q budget _ _ _ t.worker.post t.query x.0 x.2 (stepped line code p q budget _ _ _ c.outcome_law.ensures c.loop-step.lead t i.code go (i.found p q budget good h)) in
-                let more = one-more line code p q budget c.solving_law.ensures c.outcome_law.ensures c.block_law.ensures (λ x y. g.met.A.Answers.names c.args.answers.now x y) good c.args.limit _ _ _ (section_in t.query) m i.short x.3 _ e.lines in
-                subst (λ (l : Lead). FindingBy line code p q budget c.match-step-2.count first (g.K.Sink.pieces c.match-step-2.out) l.worker.post l.query) (sym w.lead-is)
-                (subst (λ k. FindingBy line code p q budget c.match-step-2.count first (g.K.Sink.pieces k) s.worker.post s.query) (sym w.out-is)
-                (subst (λ n. FindingBy line code p q budget n first (g.K.Sink.pieces w.put_answer.new.out) s.worker.post s.query) (sym w.count-is)
-                (not-alone line code p q budget _ _ _ s.worker.post s.query _ outer none e.past more)));
+            found = λ p q good h.
+                let m = alone line code p q c.args.bounds.budget _ _ _ t.worker.post t.query x.0 x.2 (stepped line code p q c.args.bounds.budget _ _ _ c.outcome_law.ensures c.loop-step.lead t i.code go (i.found p q good h)) in
+                let more = one-more line code p q c.args.bounds.budget c.solving_law.ensures c.outcome_law.ensures c.block_law.ensures (λ x y. g.met.A.Answers.names c.args.answers.now x y) good c.args.bounds.limit _ _ _ (section_in t.query) m i.short x.3 _ e.lines in
+                subst (λ (l : Lead). FindingBy line code p q c.args.bounds.budget c.match-step-2.count first (g.K.Sink.pieces c.match-step-2.out) l.worker.post l.query) (sym w.lead-is)
+                (subst (λ k. FindingBy line code p q c.args.bounds.budget c.match-step-2.count first (g.K.Sink.pieces k) s.worker.post s.query) (sym w.out-is)
+                (subst (λ n. FindingBy line code p q c.args.bounds.budget n first (g.K.Sink.pieces w.put_answer.new.out) s.worker.post s.query) (sym w.count-is)
+                (not-alone line code p q c.args.bounds.budget _ _ _ s.worker.post s.query _ outer none e.past more)));
           }
       | in_default-step w ↦ record {
         leads = subst IsLeading (sym w.lead-is) go.leads;
         code = subst (λ (l : Lead). code_in l.query ≡ code) (sym w.lead-is) (go.code ∙ i.code);
-        short = subst (λ n. n < c.args.limit) (sym w.count-is) i.short;
+        short = subst (λ n. n < c.args.bounds.limit) (sym w.count-is) i.short;
         faults = ap g.K.Sink.faults w.out-is ∙ i.faults;
-        found = λ p q budget good h.
-            subst (λ (l : Lead). FindingBy line code p q budget c.match-step-2.count first (g.K.Sink.pieces c.match-step-2.out) l.worker.post l.query) (sym w.lead-is)
-            (subst (λ k. FindingBy line code p q budget c.match-step-2.count first (g.K.Sink.pieces k) t.worker.post t.query) (sym w.out-is)
-            (subst (λ n. FindingBy line code p q budget n first (g.K.Sink.pieces c.loop-step.out) t.worker.post t.query) (sym w.count-is)
-            (stepped line code p q budget _ _ _ c.outcome_law.ensures c.loop-step.lead t i.code go (i.found p q budget good h))));
+        found = λ p q good h.
+            subst (λ (l : Lead). FindingBy line code p q c.args.bounds.budget c.match-step-2.count first (g.K.Sink.pieces c.match-step-2.out) l.worker.post l.query) (sym w.lead-is)
+            (subst (λ k. FindingBy line code p q c.args.bounds.budget c.match-step-2.count first (g.K.Sink.pieces k) t.worker.post t.query) (sym w.out-is)
+            (subst (λ n. FindingBy line code p q c.args.bounds.budget n first (g.K.Sink.pieces c.loop-step.out) t.worker.post t.query) (sym w.count-is)
+            (stepped line code p q c.args.bounds.budget _ _ _ c.outcome_law.ensures c.loop-step.lead t i.code go (i.found p q good h))));
       }
     ]
 
 pub returns-clause-lines : goal.returns-clause-lines
-returns-clause-lines g c = λ p q budget good h.
+returns-clause-lines g c = λ p q good h.
     let i = c.loop-step.invariant in
-    broken-off (g.A.Answers.line c.args.answers.now) (code_in c.args.lead.now.query) p q budget c.solving_law.ensures c.outcome_law.ensures c.block_law.ensures (λ x y. g.met.A.Answers.names c.args.answers.now x y) good c.args.limit _ _ _ _ _ _ (i.found p q budget good h) (let s = i.short in omega arith)
+    broken-off (g.A.Answers.line c.args.answers.now) (code_in c.args.lead.now.query) p q c.args.bounds.budget c.solving_law.ensures c.outcome_law.ensures c.block_law.ensures (λ x y. g.met.A.Answers.names c.args.answers.now x y) good c.args.bounds.limit _ _ _ _ _ _ (i.found p q good h) (let s = i.short in omega arith)

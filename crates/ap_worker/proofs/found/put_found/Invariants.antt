@@ -1,4 +1,4 @@
-use Rattle.std.proofs.Common.{◌≡◌, ℕ, ◌<◌, []}
+use Rattle.std.proofs.Common.{◌≡◌, ◌<◌, []}
 use Rattle.ap_term.specs.Goals.{Query}
 use Rattle.ap_term.specs.Search.{start}
 use Rattle.ap_term.specs.WellFormed.{IsQuery}
@@ -14,8 +14,8 @@ abbrev pub invariant-loop-step : goal.invariant-loop-step
 invariant-loop-step g l = record {
   leads : IsLeading l.lead;
   code : code_in l.lead.query ≡ code_in l.fn.lead.query;
-  short : l.count < l.limit;
+  short : l.count < l.bounds.limit;
   faults : g.K.Sink.faults l.out ≡ g.K.Sink.faults l.fn.out;
-  found : (p : Rules) (q : Query) (budget : ℕ) → IsQuery q → IsSolvingBeside (code_in l.fn.lead.query) p (tracked_start q) (start q) budget [] (section_in l.fn.lead.query) [] []
-      → FindingBy (g.A.Answers.line l.answers) (code_in l.fn.lead.query) p q budget l.count (g.K.Sink.pieces l.fn.out) (g.K.Sink.pieces l.out) l.lead.worker.post l.lead.query;
+  found : (p : Rules) (q : Query) → IsQuery q → IsSolvingBeside (code_in l.fn.lead.query) p (tracked_start q) (start q) l.bounds.budget [] (section_in l.fn.lead.query) [] []
+      → FindingBy (g.A.Answers.line l.answers) (code_in l.fn.lead.query) p q l.bounds.budget l.count (g.K.Sink.pieces l.fn.out) (g.K.Sink.pieces l.out) l.lead.worker.post l.lead.query;
 }
