@@ -1,7 +1,7 @@
 -- The code of a clause with groups ends once, with its last step, and no label leads past it.
 use Rattle.std.proofs.Common.{◌≡◌, ℕ, ◌+◌, ◌<◌, Bool, true, false, not, ◌&&◌, if◌then◌else◌, List, [], ◌∷◌, ◌++◌, length, refl, ap, sym, ◌∙◌, subst, arith, append_assoc}
 use Rattle.std.specs.List.{list_all}
-use Rattle.std.proofs.lemmas.Bool.{false≢true}
+use Rattle.std.proofs.lemmas.Bool.{false≢true, and_parts}
 use Rattle.std.proofs.lemmas.List.Folds.{list_all-append}
 use Rattle.ap_term.specs.declared.clauses.Check.{Check}
 use Rattle.ap_term.specs.declared.clauses.Check.TheVariants.{Ground, Indep}
@@ -15,7 +15,6 @@ use Rattle.ap_codegen.specs.Emitted.{Lead}
 use Rattle.ap_codegen.specs.Temporary.{ends}
 use Rattle.ap_codegen.specs.Permanent.{name, is_builtin, goal_code, asking, gets}
 use Rattle.ap_codegen.specs.Grouped.{straight, IsEnded, see_check, see_checks, make, make_check, make_checks, pushes, side_by_side, in_turn, check_step, check_leads, ways, group_leads, is_last_part, body_leads, clause_leads}
-use Rattle.ap_codegen.proofs.Registers.{both_true}
 use Rattle.ap_codegen.proofs.Open.{is_quiet, Quiet, quiet_goal, quiet_gets}
 
 -- ---- steps behind which others run
@@ -39,7 +38,7 @@ no_end i e = go (ends i) e
 quiet_goes : (is : List Step) → Quiet is → GoesOn is
 quiet_goes [] q = refl
 quiet_goes (i ∷ is) q =
-    let b = both_true (is_quiet i) (list_all is_quiet is) q in
+    let b = and_parts (is_quiet i) (list_all is_quiet is) q in
     ap (λ c. c && list_all goes_on is) (one i b.0) ∙ quiet_goes is b.1
   where
     one : (i : Step) → is_quiet i ≡ true → goes_on i ≡ true
@@ -97,7 +96,7 @@ ended_some (l ∷ ls) h = omega arith
 pub straight_ended : (is : List Step) (ls : List Lead) → GoesOn is → IsEnded ls → IsEnded (straight is ++ ls)
 straight_ended [] ls g h = h
 straight_ended (i ∷ is) ls g h =
-    let b = both_true (goes_on i) (list_all goes_on is) g in
+    let b = and_parts (goes_on i) (list_all goes_on is) g in
     let k = straight_ended is ls b.1 h in
     ended_more (i, 0) (straight is ++ ls) (no_end i b.0) (ended_some (straight is ++ ls) k) k
 

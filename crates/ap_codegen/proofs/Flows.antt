@@ -1,5 +1,6 @@
 -- Instructions that say a clause's steps at a place run as these do, also where some are passed over.
 use Rattle.std.proofs.Common.{◌≡◌, ℕ, zero, suc, ◌+◌, ◌-◌, true, ℤ, slice_get, List, [], ◌∷◌, ◌++◌, length, drop, Option, Some, None, refl, ap, sym, ◌∙◌, subst, arith}
+use Rattle.std.proofs.lemmas.Bool.{and_parts}
 use Rattle.std.specs.List.{list_all}
 use Rattle.std.proofs.lemmas.List.{drop-drop}
 use Rattle.ap_term.specs.Tree.{Tree, int}
@@ -20,7 +21,6 @@ use Rattle.ap_codegen.specs.Grouped.{passed_over, flow, Unmarks, is_check, AreTu
 use Rattle.ap_codegen.specs.CodeOf.{calls_apart}
 use Rattle.ap_codegen.specs.Assembled.{AreCallsApart, AreSequences}
 use Rattle.ap_codegen.specs.Said.{special_of, special_in, AreSaidAt}
-use Rattle.ap_codegen.proofs.Registers.{both_true}
 
 -- ---- instructions as steps with labels
 
@@ -158,5 +158,5 @@ pub said_apart : (code : Compiled) (at : ℕ) (es : List Emitted) (is : List Ins
 said_apart code at es [] h a = tt
 said_apart code at [] (i ∷ is) h a = absurd h
 said_apart code at (e ∷ es) (i ∷ is) h a =
-    let b = both_true (calls_apart (step_of e)) (list_all (λ l. calls_apart l.0) (leads_of es)) a in
+    let b = and_parts (calls_apart (step_of e)) (list_all (λ l. calls_apart l.0) (leads_of es)) a in
     (ap calls_apart h.0.says ∙ b.0, said_apart code (at + 1) es is h.1 b.1)

@@ -1,23 +1,21 @@
 -- Steps with their labels inside an environment are still the clause's code with its groups. The environment is given back
 -- before the last step, so that labels which led to it lead there.
-use Rattle.std.proofs.Common.{◌≡◌, ℕ, zero, suc, ◌<◌, ◌≤◌, Bool, true, false, ◌&&◌, if◌then◌else◌, List, [], ◌∷◌, ◌++◌, length, refl, ap, sym, ◌∙◌, subst, arith}
+use Rattle.std.proofs.Common.{[], ◌≡◌, ℕ, zero, suc, ◌<◌, ◌≤◌, Bool, true, false, ◌&&◌, if◌then◌else◌, List, ◌∷◌, ◌++◌, length, refl, ap, sym, ◌∙◌, subst, arith}
 use Rattle.std.specs.List.{list_all}
-use Rattle.std.proofs.lemmas.Bool.{false≢true}
+use Rattle.std.proofs.lemmas.Bool.{false≢true, and_parts}
 use Rattle.ap_term.specs.Tree.{none, more}
 use Rattle.ap_term.specs.Goals.{Clause}
 use Rattle.ap_instr.specs.Step.{Step, execute, proceed, frame, jump}
 use Rattle.ap_instr.specs.Runs.{AsksOpenly}
 use Rattle.ap_codegen.specs.declared.steps.Step.{Step as Emitted}
-use Rattle.ap_codegen.specs.declared.steps.Step.TheVariants.{Allocate, Deallocate, Execute, Proceed, AllocParcall, PushGoal}
+use Rattle.ap_codegen.specs.declared.steps.Step.TheVariants.{Allocate, Deallocate}
 use Rattle.ap_codegen.specs.Emitted.{step_of, Lead, lead_of, leads_of}
 use Rattle.ap_codegen.specs.Temporary.{ends}
 use Rattle.ap_codegen.specs.CodeOf.{calls_apart}
 use Rattle.ap_codegen.specs.Framed.{leaving, left_leads}
 use Rattle.ap_codegen.specs.Grouped.{passed_over, flow, Unmarks, is_check, AreTurns, IsGroupedCode, IsEnded}
-use Rattle.ap_codegen.specs.Said.{AreNumbered}
-use Rattle.ap_codegen.proofs.Registers.{both_true}
 use Rattle.ap_codegen.proofs.Framing.{Through, through_step, ends_outside, openly_step}
-use Rattle.ap_codegen.proofs.EndedLeads.{ended_more, ended_some}
+use Rattle.ap_codegen.proofs.EndedLeads.{ended_some}
 
 -- what runs through the one runs through the other, both ways
 abbrev AreAlike : List Step → List Step → Type 0
@@ -73,7 +71,7 @@ leads_left (e ∷ es) = go (ends (step_of e)) (leads_left es)
 left_apart : (ls : List Lead) → list_all (λ l. calls_apart l.0) ls ≡ true → list_all (λ l. calls_apart l.0) (left_leads ls) ≡ true
 left_apart [] h = h
 left_apart (l ∷ ls) h =
-    let b = both_true (calls_apart l.0) (list_all (λ l. calls_apart l.0) ls) h in
+    let b = and_parts (calls_apart l.0) (list_all (λ l. calls_apart l.0) ls) h in
     go (ap (λ c. c && list_all (λ l. calls_apart l.0) (left_leads ls)) b.0 ∙ left_apart ls b.1) (ends l.0)
   where
     go : list_all (λ l. calls_apart l.0) (l ∷ left_leads ls) ≡ true → (b : Bool) → list_all (λ l. calls_apart l.0) (if b then (frame, 0) ∷ l ∷ left_leads ls else l ∷ left_leads ls) ≡ true
@@ -130,36 +128,3 @@ framed_leads c ls k h = record {
 
 pub framed_grouped : (c : Clause) (es : List Emitted) (n : ℕ) → IsGroupedCode c (leads_of es) → IsEnded (leads_of es) → IsGroupedCode c (leads_of (Allocate n ∷ leaving es))
 framed_grouped c es n k h = subst (λ ls. IsGroupedCode c ((frame, 0) ∷ ls)) (sym (leads_left es)) (framed_leads c (leads_of es) k h)
-
--- ---- its end
-
-left_longer : (ls : List Lead) → length ls ≤ length (left_leads ls)
-left_longer [] = omega arith
-left_longer (l ∷ ls) = go (ends l.0) (left_longer ls)
-  where
-    go : (b : Bool) → length ls ≤ length (left_leads ls) → length (l ∷ ls) ≤ length (if b then (frame, 0) ∷ l ∷ left_leads ls else l ∷ left_leads ls)
-    go true h = omega arith
-    go false h = omega arith
-
-pub left_ended : (ls : List Lead) → IsEnded ls → IsEnded (left_leads ls)
-left_ended [] h = absurd h
-left_ended (l ∷ []) h = subst IsEnded (sym (left_last l h.0)) (refl, omega arith, h)
-left_ended (l ∷ m ∷ ls) h =
-    let q = h.1 in
-    let k : length (m ∷ ls) ≤ length (left_leads (m ∷ ls)) = left_longer (m ∷ ls) in
-    subst IsEnded (sym (left_on l (m ∷ ls) h.0)) (ended_more l (left_leads (m ∷ ls)) h.0 (omega arith) (left_ended (m ∷ ls) h.2))
-
-pub framed_ended : (es : List Emitted) (n : ℕ) → IsEnded (leads_of es) → IsEnded (leads_of (Allocate n ∷ leaving es))
-framed_ended es n h =
-    let k = left_ended (leads_of es) h in
-    subst (λ ls. IsEnded ((frame, 0) ∷ ls)) (sym (leads_left es)) (ended_more (frame, 0) (left_leads (leads_of es)) refl (ended_some (left_leads (leads_of es)) k) k)
-
--- ---- the numbers of a group's goals
-
-pub left_numbered : (k : ℕ) (es : List Emitted) → AreNumbered k es → AreNumbered k (leaving es)
-left_numbered k [] h = h
-left_numbered k (AllocParcall n ∷ es) h = left_numbered 0 es h
-left_numbered k (PushGoal i p n ∷ es) h = (h.0, left_numbered i es h.1)
-left_numbered k (Execute p n ∷ es) h = left_numbered k es h
-left_numbered k (Proceed ∷ es) h = left_numbered k es h
-left_numbered k (_ ∷ es) h = left_numbered k es h

@@ -1,19 +1,15 @@
--- Steps inside an environment are still the clause's code.
-use Rattle.std.proofs.Common.{◌≡◌, ℕ, zero, suc, ◌+◌, ◌<◌, ◌≤◌, Bool, true, false, ◌&&◌, if◌then◌else◌, List, [], ◌∷◌, ◌++◌, length, drop, get_or, refl, ap, sym, ◌∙◌, arith, append_assoc}
-use Rattle.std.specs.List.{list_all}
+-- A step before steps that ask for the same asks for the same; and steps inside an environment.
+use Rattle.std.proofs.Common.{◌≡◌, ℕ, zero, suc, ◌+◌, ◌<◌, ◌≤◌, Bool, true, false, if◌then◌else◌, List, [], ◌∷◌, ◌++◌, length, drop, get_or, refl, ap, sym, ◌∙◌, arith, append_assoc}
 use Rattle.std.proofs.lemmas.Bool.{false≢true}
 use Rattle.std.proofs.lemmas.List.{drop_more}
 use Rattle.ap_term.specs.Tree.{Tree, Trees, none, more}
-use Rattle.ap_term.specs.Goals.{Clause}
 use Rattle.ap_instr.specs.Step.{Step, get_variable, get_value, get_constant, get_structure, put_variable, put_value, put_constant, put_structure, unify_variable, unify_value, unify_constant, call, execute, builtin, proceed, frame, jump, check_ground, check_indep, group, push, wait, other}
 use Rattle.ap_instr.specs.Runs.{Runs, IsOpen, AsksOpenly}
 use Rattle.ap_codegen.specs.declared.steps.Step.{Step as Emitted}
-use Rattle.ap_codegen.specs.declared.steps.Step.TheVariants.{Allocate, Deallocate}
-use Rattle.ap_codegen.specs.Emitted.{step_of, steps_of}
+use Rattle.ap_codegen.specs.declared.steps.Step.TheVariants.{Deallocate}
+use Rattle.ap_codegen.specs.Emitted.{step_of}
 use Rattle.ap_codegen.specs.Temporary.{ends}
-use Rattle.ap_codegen.specs.CodeOf.{calls_apart, IsCodeOf}
 use Rattle.ap_codegen.specs.Framed.{leaving}
-use Rattle.ap_codegen.proofs.Registers.{both_true}
 
 -- what runs through the one runs through the other
 abbrev pub Through : List Step → List Step → Type 0
@@ -54,24 +50,6 @@ ends_outside (execute p n) is t ts x y bs e r = r
 ends_outside proceed is t ts x y bs e r = r
 ends_outside _ is t ts x y bs e r = false≢true e
 
-left_only : (rest : List Step) (es : List Emitted) → Through (steps_of (leaving es) ++ rest) (steps_of es ++ rest)
-left_only rest [] ts x y bs r = r
-left_only rest (e ∷ es) ts x y bs r = go (through_step (step_of e) (steps_of (leaving es) ++ rest) (steps_of es ++ rest) (left_only rest es)) (ends (step_of e)) ts r
-  where
-    go : Through (step_of e ∷ (steps_of (leaving es) ++ rest)) (step_of e ∷ (steps_of es ++ rest)) → (b : Bool) (ts : Trees) → Runs (steps_of (if b then Deallocate ∷ e ∷ leaving es else e ∷ leaving es) ++ rest) ts x y bs → Runs (step_of e ∷ (steps_of es ++ rest)) ts x y bs
-    go next true none r = next none x y bs r
-    go next true (more t ts) r = absurd r
-    go next false ts r = next ts x y bs r
-
-left_each : (rest : List Step) (es : List Emitted) → Through (steps_of es ++ rest) (steps_of (leaving es) ++ rest)
-left_each rest [] ts x y bs r = r
-left_each rest (e ∷ es) ts x y bs r = go (through_step (step_of e) (steps_of es ++ rest) (steps_of (leaving es) ++ rest) (left_each rest es)) (ends (step_of e)) refl ts r
-  where
-    go : Through (step_of e ∷ (steps_of es ++ rest)) (step_of e ∷ (steps_of (leaving es) ++ rest)) → (b : Bool) → ends (step_of e) ≡ b → (ts : Trees) → Runs (step_of e ∷ (steps_of es ++ rest)) ts x y bs → Runs (steps_of (if b then Deallocate ∷ e ∷ leaving es else e ∷ leaving es) ++ rest) ts x y bs
-    go next true d none r = next none x y bs r
-    go next true d (more t ts) r = absurd (ends_outside (step_of e) (steps_of es ++ rest) t ts x y bs d r)
-    go next false d ts r = next ts x y bs r
-
 open_through : (is js : List Step) → Through is js → IsOpen is → IsOpen js
 open_through is js h o x y = let r = o x y in (r.0, h none x y r.0 r.1)
 
@@ -87,34 +65,6 @@ openly_step jump is js h a o = (open_through is js h o.0, a o.1)
 openly_step (execute p n) is js h a o = tt
 openly_step proceed is js h a o = tt
 openly_step _ is js h a o = a o
-
-left_openly : (rest : List Step) (es : List Emitted) → AsksOpenly (steps_of es ++ rest) → AsksOpenly (steps_of (leaving es) ++ rest)
-left_openly rest [] o = o
-left_openly rest (e ∷ es) o = go (openly_step (step_of e) (steps_of es ++ rest) (steps_of (leaving es) ++ rest) (left_each rest es) (left_openly rest es) o) (ends (step_of e))
-  where
-    go : AsksOpenly (step_of e ∷ (steps_of (leaving es) ++ rest)) → (b : Bool) → AsksOpenly (steps_of (if b then Deallocate ∷ e ∷ leaving es else e ∷ leaving es) ++ rest)
-    go next true = next
-    go next false = next
-
-left_apart : (es : List Emitted) → list_all calls_apart (steps_of es) ≡ true → list_all calls_apart (steps_of (leaving es)) ≡ true
-left_apart [] h = h
-left_apart (e ∷ es) h =
-    let b = both_true (calls_apart (step_of e)) (list_all calls_apart (steps_of es)) h in
-    go (ap (λ c. c && list_all calls_apart (steps_of (leaving es))) b.0 ∙ left_apart es b.1) (ends (step_of e))
-  where
-    go : list_all calls_apart (step_of e ∷ steps_of (leaving es)) ≡ true → (b : Bool) → list_all calls_apart (steps_of (if b then Deallocate ∷ e ∷ leaving es else e ∷ leaving es)) ≡ true
-    go next true = next
-    go next false = next
-
-pub framed_code : (c : Clause) (es : List Emitted) (n : ℕ) → IsCodeOf c (steps_of es) → IsCodeOf c (steps_of (Allocate n ∷ leaving es))
-framed_code c es n k = record {
-  reads = λ rest. record {
-    only = λ x y bs r. (k.reads rest).only x y bs (left_only rest es none x y bs r);
-    each = λ x y bs a. left_each rest es none x y bs ((k.reads rest).each x y bs a);
-  };
-  openly = λ rest. left_openly rest es (k.openly rest);
-  apart = left_apart es k.apart;
-}
 
 -- one more step
 pub leaving_turn : (es : List Emitted) (i : ℕ) (e : Emitted) (o0 o1 w : List Emitted) → i < length es → e ≡ get_or es i e → o1 ≡ o0 ++ leaving (e ∷ [])

@@ -1,6 +1,7 @@
 -- What the pieces of a body's code ask for before what stands behind them: goals, called or pushed, variables that are
 -- made, and the checks and goals of a group.
 use Rattle.std.proofs.Common.{◌≡◌, ℕ, Bool, true, false, if◌then◌else◌, List, [], ◌∷◌, ◌++◌, map, refl, ap, sym, ◌∙◌, subst, append_assoc}
+use Rattle.std.proofs.lemmas.Bool.{and_parts}
 use Rattle.ap_term.specs.declared.clauses.Check.{Check}
 use Rattle.ap_term.specs.declared.clauses.Check.TheVariants.{Ground, Indep}
 use Rattle.ap_term.specs.Tree.{Tree, Trees, var, none, more, count_trees, append_trees}
@@ -13,7 +14,7 @@ use Rattle.ap_instr.specs.Step.{Step, put_variable, execute, proceed, jump, grou
 use Rattle.ap_instr.specs.Runs.{Runs, IsOpen, AsksOpenly, applied, spread, set, lost, arguments}
 use Rattle.ap_codegen.specs.Permanent.{name, is_builtin, goal_code, asking}
 use Rattle.ap_codegen.specs.Grouped.{see_check, see_checks, make, make_check, make_checks, pushes, side_by_side, in_turn, check_step}
-use Rattle.ap_codegen.proofs.Registers.{both_true, has_more}
+use Rattle.ap_codegen.proofs.Registers.{has_more}
 use Rattle.ap_codegen.proofs.PermanentReads.{AgreeOn, set_agrees, push_agrees, seen_same, grows, here, goal-only, goal-each, asks-only, asks-each}
 use Rattle.ap_codegen.proofs.Open.{quiet_openly, quiet_goal, behind}
 
@@ -164,7 +165,7 @@ module _ (is : List Step) (goals : (ℕ → Tree) → Trees) where
   pub goals_first : (gs : Trees) (seen : List ℕ) → all_callable gs ≡ true → AsksFor (add_all_vars gs seen) is goals → AsksFor seen (in_turn gs seen ++ is) (λ h. append_trees (instance_all h gs) (goals h))
   goals_first none seen c a = a
   goals_first (more g gs) seen c a =
-      let d = both_true (callable g) (all_callable gs) c in
+      let d = and_parts (callable g) (all_callable gs) c in
       let next : List Step = in_turn gs (add_vars g seen) in
       subst (λ is. AsksFor seen is (λ h. more (instance h g) (append_trees (instance_all h gs) (goals h)))) (sym (append_assoc (goal_code g seen) (asking g ∷ next) is))
       (goal_first (next ++ is) (λ h. append_trees (instance_all h gs) (goals h)) g seen d.0 (goals_first gs (add_vars g seen) d.1 a))
@@ -172,7 +173,7 @@ module _ (is : List Step) (goals : (ℕ → Tree) → Trees) where
   pub pushes_first : (gs : Trees) (seen : List ℕ) → all_callable gs ≡ true → AsksFor (add_all_vars gs seen) is goals → AsksFor seen (pushes gs seen ++ is) (λ h. append_trees (instance_all h gs) (goals h))
   pushes_first none seen c a = a
   pushes_first (more g gs) seen c a =
-      let d = both_true (callable g) (all_callable gs) c in
+      let d = and_parts (callable g) (all_callable gs) c in
       let next : List Step = pushes gs (add_vars g seen) in
       subst (λ is. AsksFor seen is (λ h. more (instance h g) (append_trees (instance_all h gs) (goals h))))
       (sym (append_assoc (goal_code g seen) (push (name g) (count_trees (arguments g)) ∷ next) is))

@@ -1,7 +1,7 @@
 -- The predicates of clauses in a table, and those that are listed.
 use Rattle.std.proofs.Common.{◌≡◌, ℕ, zero, suc, ◌+◌, ◌<◌, ◌≤◌, nat_lt, ◌==◌, Bool, true, false, not, ◌&&◌, ◌||◌, is_some, is_none, if◌then◌else◌, inl, inr, List, [], ◌∷◌, ◌++◌, map, length, take, drop, get_or, slice_get, Option, Some, None, refl, ap, sym, ◌∙◌, subst, arith, append_assoc}
 use Rattle.std.specs.List.{filter, list_any}
-use Rattle.std.proofs.lemmas.Bool.{false≢true}
+use Rattle.std.proofs.lemmas.Bool.{false≢true, and_parts}
 use Rattle.std.proofs.lemmas.Bool.Decides.{Decides-eqb, nat_tests}
 use Rattle.std.proofs.lemmas.List.{drop_more, drop_all}
 use Rattle.ap_term.specs.declared.builtins.Relation.{Relation}
@@ -17,14 +17,12 @@ use Rattle.ap_instr.specs.Table.{Key, is_key, key_of, head_key, first, predicate
 use Rattle.ap_codegen.specs.Assembled.{Keeps}
 use Rattle.ap_codegen.specs.Heads.{with_key, with_heads}
 use Rattle.ap_codegen.specs.Permanent.{is_builtin_key}
-use Rattle.ap_codegen.specs.Sequential.{sequential_program}
-use Rattle.ap_codegen.proofs.Registers.{both_true}
 
 -- ---- keys
 
 same_key : (k l : Key) → is_key k l ≡ true → k ≡ l
 same_key k l e =
-    let b = both_true (k.0 == l.0) (k.1 == l.1) e in
+    let b = and_parts (k.0 == l.0) (k.1 == l.1) e in
     let f : k.0 ≡ l.0 = (Decides-eqb k.0 l.0).0 b.0 in
     let g : k.1 ≡ l.1 = (Decides-eqb k.1 l.1).0 b.1 in
     ap (λ n. (n, k.1)) f ∙ ap (λ n. (l.0, n)) g
@@ -106,11 +104,6 @@ node_key a (more t (more u (more v ts))) c = go ((a == TRUE) || (a == FAIL)) (is
         none true false = refl
         none false true = refl
         none false false = refl
-
--- the same of clauses whose groups are their goals one after another
-pub predicates_in_turn : (p : Program) → predicates_of (sequential_program p) ≡ predicates_of p
-predicates_in_turn [] = refl
-predicates_in_turn (c ∷ p) = ap (first (head_key c.head)) (predicates_in_turn p)
 
 -- ---- keys that are put into a table
 

@@ -1,7 +1,7 @@
 -- A predicate whose clauses stand one behind another, with choice instructions before them, is laid out as code has to be.
 use Rattle.std.proofs.Common.{◌≡◌, ℕ, zero, suc, ◌+◌, ◌<◌, ◌≤◌, ◌==◌, Bool, true, false, if◌then◌else◌, List, [], ◌∷◌, ◌++◌, length, drop, take, ◌⊎◌, inl, inr, Some, refl, ap, sym, ◌∙◌, subst, arith, append_assoc}
 use Rattle.std.specs.List.{slice_get}
-use Rattle.std.proofs.lemmas.Bool.{false≢true}
+use Rattle.std.proofs.lemmas.Bool.{false≢true, and_parts}
 use Rattle.std.proofs.lemmas.Bool.Decides.{Decides-eqb}
 use Rattle.ap_term.specs.Tree.{Tree, var, int, atom, node, count_trees}
 use Rattle.ap_term.specs.Goals.{Clause, Program}
@@ -17,7 +17,6 @@ use Rattle.ap_codecheck.specs.Rules.{InRange, GoesInside, CallsKnown, IsAlternat
 use Rattle.ap_codecheck.specs.Judged.{AreAwaited}
 use Rattle.ap_codecheck.specs.Walk.{Walks, WalksFrom, IsLaid}
 use Rattle.ap_codegen.specs.Assembled.{AreAloneIn, AreInstructionsOf, AreCoded, places, retries, choices, chosen, together, heads, clauses_for}
-use Rattle.ap_codegen.proofs.Registers.{both_true}
 use Rattle.ap_codegen.proofs.Placed.{drop_append, length_choices, block_places}
 
 -- ---- lists
@@ -69,8 +68,8 @@ AreOf code arity at _ _ = ⊥
 heads_arity : (k : ℕ × ℕ) (t : Tree) → heads k t ≡ true → count_trees (arguments t) ≡ k.1
 heads_arity k (var x) h = absurd (false≢true h)
 heads_arity k (int z) h = absurd (false≢true h)
-heads_arity k (atom a) h = (Decides-eqb 0 k.1).0 (both_true (a == k.0) (0 == k.1) h).1
-heads_arity k (node a ts) h = (Decides-eqb (count_trees ts) k.1).0 (both_true (a == k.0) (count_trees ts == k.1) h).1
+heads_arity k (atom a) h = (Decides-eqb 0 k.1).0 (and_parts (a == k.0) (0 == k.1) h).1
+heads_arity k (node a ts) h = (Decides-eqb (count_trees ts) k.1).0 (and_parts (a == k.0) (count_trees ts == k.1) h).1
 
 are_of : (code : Compiled) (k : ℕ × ℕ) (at : ℕ) (bs : List (List Instr)) (p : Program) → AreCoded code at bs (clauses_for k p) → AreOf code k.1 at bs (clauses_for k p)
 are_of code k at bs [] h = none bs h

@@ -1,7 +1,7 @@
 -- The code of a clause with groups keeps the rules of code on both ways of each check.
 use Rattle.std.proofs.Common.{◌≡◌, ℕ, suc, ◌+◌, ◌<◌, ◌≤◌, nat_le, Bool, true, false, ◌&&◌, ◌==◌, if◌then◌else◌, is_some, List, [], ◌∷◌, ◌++◌, length, Option, Some, None, refl, ap, sym, ◌∙◌, subst, arith, append_assoc, append-nil}
 use Rattle.std.specs.List.{list_all}
-use Rattle.std.proofs.lemmas.Bool.{false≢true}
+use Rattle.std.proofs.lemmas.Bool.{false≢true, and_parts}
 use Rattle.std.proofs.lemmas.Bool.Decides.{nat_tests}
 use Rattle.std.proofs.lemmas.List.{map-append}
 use Rattle.ap_term.specs.declared.clauses.Check.{Check}
@@ -20,7 +20,6 @@ use Rattle.ap_codegen.specs.Emitted.{Lead}
 use Rattle.ap_codegen.specs.Permanent.{name, is_builtin, place, inner, see, fill, fills, see_built, see_nested, build, nested, puts as put_all, goal_code, asking, gets}
 use Rattle.ap_codegen.specs.Grouped.{straight, see_check, see_checks, make, make_check, make_checks, pushes, side_by_side, in_turn, check_step, check_leads, ways, group_leads, is_last_part, body_leads, clause_leads}
 use Rattle.ap_codegen.specs.Paces.{PacesTo, inside, StandsIn, IsOpen, IsFull, one_pushed, PacesOn, PacesLeads}
-use Rattle.ap_codegen.proofs.Registers.{both_true}
 use Rattle.ap_codegen.proofs.PermanentReads.{here, grows}
 use Rattle.ap_codegen.proofs.Walking.{passed_group}
 use Rattle.ap_codegen.proofs.Pacing.{Fine, Sees, slot_of, sees_more, numbered_arguments, goal_paces, gets_paces, entered}
@@ -145,8 +144,8 @@ module _ (n : ℕ) where
       → ((z : Shape) → z.group ≡ None → Fine n z → Sees (add_all_vars gs seen) z.y → PacesLeads 0 ls z) → PacesLeads 0 (straight (in_turn gs seen) ++ ls) s
   turn_led none seen ls s e i k f o c = c s e f o
   turn_led (more g gs) seen ls s e i k f o c =
-      let b = both_true (numbered n g) (numbered_all n gs) i in
-      let d = both_true (callable g) (all_callable gs) k in
+      let b = and_parts (numbered n g) (numbered_all n gs) i in
+      let d = and_parts (callable g) (all_callable gs) k in
       let seen1 : List ℕ = add_vars g seen in
       subst (λ q. PacesLeads 0 q s) (sym (straight_append (goal_code g seen) (asking g ∷ in_turn gs seen1) ls))
       (goal_led None g seen ((asking g, 0) ∷ (straight (in_turn gs seen1) ++ ls)) s e b.0 d.0 f o (λ z ez fz oz az.
@@ -157,8 +156,8 @@ module _ (n : ℕ) where
       → ((z : Shape) → z.group ≡ Some (m, m) → Fine n z → Sees (add_all_vars gs seen) z.y → PacesLeads 0 ls z) → PacesLeads 0 (straight (pushes gs seen) ++ ls) s
   pushes_led none seen ls m k s e q i h f o c = c s (e ∙ ap (λ k. Some (m, k)) (let d : k ≡ m = omega (arith, q) in d)) f o
   pushes_led (more g gs) seen ls m k s e q i h f o c =
-      let b = both_true (numbered n g) (numbered_all n gs) i in
-      let d = both_true (callable g) (all_callable gs) h in
+      let b = and_parts (numbered n g) (numbered_all n gs) i in
+      let d = and_parts (callable g) (all_callable gs) h in
       let seen1 : List ℕ = add_vars g seen in
       let size : ℕ = count_trees (arguments g) in
       let l : k + 1 ≤ m = omega (arith, q) in
@@ -198,14 +197,14 @@ module _ (n : ℕ) where
       → PacesLeads 0 ls s → PacesLeads m ls s → PacesLeads 0 ((check_step c, m) ∷ ls) s
   check_led (Ground x) m seen ls s e i h f o p q = (e, f.settled, slot_of n x s i f.room, o x h, p, q)
   check_led (Indep x y) m seen ls s e i h f o p q =
-      let b = both_true (in_range n x) (in_range n y) i in
+      let b = and_parts (in_range n x) (in_range n y) i in
       (e, f.settled, slot_of n x s b.0 f.room, slot_of n y s b.1 f.room, o x h.0, o y h.1, p, q)
 
   checks_led : (cs : List Check) (m : ℕ) (seen : List ℕ) (ls : List Lead) (s : Shape) → s.group ≡ None → list_all (numbered_check n) cs ≡ true → ChecksSeen cs seen → Fine n s → Sees seen s.y
       → PacesLeads 0 ls s → PacesLeads (m + 1) ls s → PacesLeads 0 (check_leads cs m ++ ls) s
   checks_led [] m seen ls s e i h f o p q = p
   checks_led (c ∷ cs) m seen ls s e i h f o p q =
-      let b = both_true (numbered_check n c) (list_all (numbered_check n) cs) i in
+      let b = and_parts (numbered_check n c) (list_all (numbered_check n) cs) i in
       let l : length cs + (m + 1) ≡ length cs + m + 1 = omega arith in
       check_led c (length cs + m + 1) seen (check_leads cs m ++ ls) s e b.0 h.0 f o (checks_led cs m seen ls s e b.1 h.1 f o p q)
       (subst (λ k. PacesLeads k (check_leads cs m ++ ls) s) l (over_checks cs m (m + 1) ls s q))
@@ -244,7 +243,7 @@ module _ (n : ℕ) where
       → ((z : Shape) → z.group ≡ None → Fine n z → Sees (see_check d seen) z.y → PacesLeads 0 ls z) → PacesLeads 0 (straight (make_check d seen) ++ ls) s
   make_check_led (Ground x) seen ls s e i f o c = make_led x seen ls s e i f o c
   make_check_led (Indep x y) seen ls s e i f o c =
-      let b = both_true (in_range n x) (in_range n y) i in
+      let b = and_parts (in_range n x) (in_range n y) i in
       subst (λ q. PacesLeads 0 q s) (sym (straight_append (make x seen) (make y (add_vars (var x) seen)) ls))
       (make_led x seen (straight (make y (add_vars (var x) seen)) ++ ls) s e b.0 f o (λ z ez fz oz.
       make_led y (add_vars (var x) seen) ls z ez b.1 fz oz c))
@@ -253,7 +252,7 @@ module _ (n : ℕ) where
       → ((z : Shape) → z.group ≡ None → Fine n z → Sees (see_checks cs seen) z.y → PacesLeads 0 ls z) → PacesLeads 0 (straight (make_checks cs seen) ++ ls) s
   makes_led [] seen ls s e i f o c = c s e f o
   makes_led (d ∷ ds) seen ls s e i f o c =
-      let b = both_true (numbered_check n d) (list_all (numbered_check n) ds) i in
+      let b = and_parts (numbered_check n d) (list_all (numbered_check n) ds) i in
       subst (λ q. PacesLeads 0 q s) (sym (straight_append (make_check d seen) (make_checks ds (see_check d seen)) ls))
       (make_check_led d seen (straight (make_checks ds (see_check d seen)) ++ ls) s e b.0 f o (λ z ez fz oz.
       makes_led ds (see_check d seen) ls z ez b.1 fz oz c))
@@ -291,8 +290,8 @@ module _ (n : ℕ) where
   body_led : (ps : List Part) (seen : List ℕ) (s : Shape) → list_all (well_formed_part n) ps ≡ true → s.group ≡ None → Fine n s → Sees seen s.y → PacesLeads 0 (body_leads ps seen) s
   body_led [] seen s i e f o = (subst (StandsIn proceed) (sym e) tt, (f.settled, refl))
   body_led (goal g ∷ ps) seen s i e f o =
-      let b = both_true (well_formed_part n (goal g)) (list_all (well_formed_part n) ps) i in
-      let d = both_true (callable g) (numbered n g) b.0 in
+      let b = and_parts (well_formed_part n (goal g)) (list_all (well_formed_part n) ps) i in
+      let d = and_parts (callable g) (numbered n g) b.0 in
       go d.0 d.1 (λ z ez fz oz. body_led ps (add_vars g seen) z b.1 ez fz oz) (is_last_part g ps)
     where
       size : ℕ
@@ -308,10 +307,10 @@ module _ (n : ℕ) where
           (goal_led None g seen ((asking g, 0) ∷ body_leads ps (add_vars g seen)) s e j k f o (λ z ez fz oz az.
           ask_led g (body_leads ps (add_vars g seen)) z ez fz az (λ u eu fu y. ih u eu fu (subst (Sees (add_vars g seen)) (sym y) oz))))
   body_led (parallel cs gs ∷ ps) seen s i e f o =
-      let b = both_true (well_formed_part n (parallel cs gs)) (list_all (well_formed_part n) ps) i in
-      let d = both_true (list_all (numbered_check n) cs) (nat_le 1 (count_trees gs) && (all_callable gs && numbered_all n gs)) b.0 in
-      let h = both_true (nat_le 1 (count_trees gs)) (all_callable gs && numbered_all n gs) d.1 in
-      let k = both_true (all_callable gs) (numbered_all n gs) h.1 in
+      let b = and_parts (well_formed_part n (parallel cs gs)) (list_all (well_formed_part n) ps) i in
+      let d = and_parts (list_all (numbered_check n) cs) (nat_le 1 (count_trees gs) && (all_callable gs && numbered_all n gs)) b.0 in
+      let h = and_parts (nat_le 1 (count_trees gs)) (all_callable gs && numbered_all n gs) d.1 in
+      let k = and_parts (all_callable gs) (numbered_all n gs) h.1 in
       let one : nat_le 1 (count_trees gs) ≡ true = h.0 in
       let l : 0 < count_trees gs = grind (arith, nat_tests) in
       let seen1 : List ℕ = add_all_vars gs (see_checks cs seen) in
@@ -326,5 +325,5 @@ clause_led c i =
     straight_led head (body_leads c.body seen) (inside n k) None refl (none_stand head)
     (subst (λ q. PacesTo (λ z. z.group ≡ None → PacesLeads 0 (body_leads c.body seen) z) q (inside n k)) (append-nil head)
     (gets_paces (λ z. z.group ≡ None → PacesLeads 0 (body_leads c.body seen) z) n (arguments c.head) 1 [] (k + 1) [] (inside n k) (omega arith) (omega arith)
-    (numbered_arguments n c.head (both_true (callable c.head) (numbered n c.head) i.head).1) (record { settled = refl; room = refl }) (λ w o. absurd (false≢true o)) (λ w h l. entered w k h l)
+    (numbered_arguments n c.head (and_parts (callable c.head) (numbered n c.head) i.head).1) (record { settled = refl; room = refl }) (λ w o. absurd (false≢true o)) (λ w h l. entered w k h l)
     (λ z f o e. body_led n c.body seen z i.body e f o)))

@@ -1,7 +1,7 @@
 -- The operands of a clause's code with groups are in range, also of steps that no path comes to.
 use Rattle.std.proofs.Common.{◌≡◌, ℕ, ◌+◌, ◌<◌, nat_le, Bool, true, false, ◌&&◌, if◌then◌else◌, List, [], ◌∷◌, ◌++◌, length, ◌⊎◌, inl, inr, Some, None, refl, sym, subst, arith, append-nil}
 use Rattle.std.specs.List.{list_all}
-use Rattle.std.proofs.lemmas.Bool.{false≢true}
+use Rattle.std.proofs.lemmas.Bool.{false≢true, and_parts}
 use Rattle.std.proofs.lemmas.Bool.Decides.{nat_tests}
 use Rattle.std.proofs.lemmas.List.{map-append}
 use Rattle.ap_term.specs.declared.clauses.Check.{Check}
@@ -20,7 +20,6 @@ use Rattle.ap_codegen.specs.Temporary.{ends}
 use Rattle.ap_codegen.specs.Permanent.{name, is_builtin, goal_code, asking, gets}
 use Rattle.ap_codegen.specs.Grouped.{straight, see_check, see_checks, make, make_check, make_checks, pushes, side_by_side, in_turn, check_leads, ways, is_last_part, body_leads, clause_leads}
 use Rattle.ap_codegen.specs.Paces.{PacesTo, inside, IsInRange, AreInRange}
-use Rattle.ap_codegen.proofs.Registers.{both_true}
 use Rattle.ap_codegen.proofs.Pacing.{slot_of, numbered_arguments, goal_paces, gets_paces, entered}
 use Rattle.ap_codegen.proofs.Walking.{from_one}
 
@@ -82,15 +81,15 @@ module _ (n : ℕ) where
   turn_range : (gs : Trees) (seen : List ℕ) → numbered_all n gs ≡ true → all_callable gs ≡ true → AreInRange (straight (in_turn gs seen))
   turn_range none seen i k = tt
   turn_range (more g gs) seen i k =
-      let b = both_true (numbered n g) (numbered_all n gs) i in
-      let d = both_true (callable g) (all_callable gs) k in
+      let b = and_parts (numbered n g) (numbered_all n gs) i in
+      let d = and_parts (callable g) (all_callable gs) k in
       joined (goal_code g seen) (asking g ∷ in_turn gs (add_vars g seen)) (goal_range g seen b.0 d.0) (ask_range g, turn_range gs (add_vars g seen) b.1 d.1)
 
   pushes_range : (gs : Trees) (seen : List ℕ) → numbered_all n gs ≡ true → all_callable gs ≡ true → AreInRange (straight (pushes gs seen))
   pushes_range none seen i k = tt
   pushes_range (more g gs) seen i k =
-      let b = both_true (numbered n g) (numbered_all n gs) i in
-      let d = both_true (callable g) (all_callable gs) k in
+      let b = and_parts (numbered n g) (numbered_all n gs) i in
+      let d = and_parts (callable g) (all_callable gs) k in
       joined (goal_code g seen) _ (goal_range g seen b.0 d.0) (tt, pushes_range gs (add_vars g seen) b.1 d.1)
 
   side_range : (gs : Trees) (seen : List ℕ) → 0 < count_trees gs → numbered_all n gs ≡ true → all_callable gs ≡ true → AreInRange (straight (side_by_side gs seen))
@@ -101,10 +100,10 @@ module _ (n : ℕ) where
 
   checks_range : (cs : List Check) (m : ℕ) → list_all (numbered_check n) cs ≡ true → AreInRange (check_leads cs m)
   checks_range [] m i = tt
-  checks_range (Ground x ∷ cs) m i = let b = both_true (numbered_check n (Ground x)) (list_all (numbered_check n) cs) i in (one x b.0, checks_range cs m b.1)
+  checks_range (Ground x ∷ cs) m i = let b = and_parts (numbered_check n (Ground x)) (list_all (numbered_check n) cs) i in (one x b.0, checks_range cs m b.1)
   checks_range (Indep x y ∷ cs) m i =
-      let b = both_true (numbered_check n (Indep x y)) (list_all (numbered_check n) cs) i in
-      let d = both_true (in_range n x) (in_range n y) b.0 in
+      let b = and_parts (numbered_check n (Indep x y)) (list_all (numbered_check n) cs) i in
+      let d = and_parts (in_range n x) (in_range n y) b.0 in
       ((one x d.0, one y d.1), checks_range cs m b.1)
 
   make_range : (x : ℕ) (seen : List ℕ) → in_range n x ≡ true → AreInRange (straight (make x seen))
@@ -117,13 +116,13 @@ module _ (n : ℕ) where
   makes_range : (cs : List Check) (seen : List ℕ) → list_all (numbered_check n) cs ≡ true → AreInRange (straight (make_checks cs seen))
   makes_range [] seen i = tt
   makes_range (c ∷ cs) seen i =
-      let b = both_true (numbered_check n c) (list_all (numbered_check n) cs) i in
+      let b = and_parts (numbered_check n c) (list_all (numbered_check n) cs) i in
       joined (make_check c seen) (make_checks cs (see_check c seen)) (first c b.0) (makes_range cs (see_check c seen) b.1)
     where
       first : (c : Check) → numbered_check n c ≡ true → AreInRange (straight (make_check c seen))
       first (Ground x) i = make_range x seen i
       first (Indep x y) i =
-          let d = both_true (in_range n x) (in_range n y) i in
+          let d = and_parts (in_range n x) (in_range n y) i in
           joined (make x seen) (make y (add_vars (var x) seen)) (make_range x seen d.0) (make_range y (add_vars (var x) seen) d.1)
 
   ways_range : (cs : List Check) (gs : Trees) (seen : List ℕ) → list_all (numbered_check n) cs ≡ true → 0 < count_trees gs → numbered_all n gs ≡ true → all_callable gs ≡ true → AreInRange (ways cs gs seen)
@@ -135,8 +134,8 @@ module _ (n : ℕ) where
   body_range : (ps : List Part) (seen : List ℕ) → list_all (well_formed_part n) ps ≡ true → AreInRange (body_leads ps seen)
   body_range [] seen i = (tt, tt)
   body_range (goal g ∷ ps) seen i =
-      let b = both_true (well_formed_part n (goal g)) (list_all (well_formed_part n) ps) i in
-      let d = both_true (callable g) (numbered n g) b.0 in
+      let b = and_parts (well_formed_part n (goal g)) (list_all (well_formed_part n) ps) i in
+      let d = and_parts (callable g) (numbered n g) b.0 in
       go (goal_range g seen d.1 d.0) (body_range ps (add_vars g seen) b.1) (is_last_part g ps)
     where
       size : ℕ
@@ -147,10 +146,10 @@ module _ (n : ℕ) where
       go h k true = joined (goal_code g seen) (execute (name g) size ∷ []) h (tt, tt)
       go h k false = range_append (straight (goal_code g seen ++ asking g ∷ [])) (body_leads ps (add_vars g seen)) (joined (goal_code g seen) (asking g ∷ []) h (ask_range g, tt)) k
   body_range (parallel cs gs ∷ ps) seen i =
-      let b = both_true (well_formed_part n (parallel cs gs)) (list_all (well_formed_part n) ps) i in
-      let d = both_true (list_all (numbered_check n) cs) (nat_le 1 (count_trees gs) && (all_callable gs && numbered_all n gs)) b.0 in
-      let h = both_true (nat_le 1 (count_trees gs)) (all_callable gs && numbered_all n gs) d.1 in
-      let k = both_true (all_callable gs) (numbered_all n gs) h.1 in
+      let b = and_parts (well_formed_part n (parallel cs gs)) (list_all (well_formed_part n) ps) i in
+      let d = and_parts (list_all (numbered_check n) cs) (nat_le 1 (count_trees gs) && (all_callable gs && numbered_all n gs)) b.0 in
+      let h = and_parts (nat_le 1 (count_trees gs)) (all_callable gs && numbered_all n gs) d.1 in
+      let k = and_parts (all_callable gs) (numbered_all n gs) h.1 in
       let few : nat_le 1 (count_trees gs) ≡ true = h.0 in
       let l : 0 < count_trees gs = grind (arith, nat_tests) in
       let seen1 : List ℕ = see_checks cs seen in
@@ -167,5 +166,5 @@ clause_range c i =
     (paced_range (λ z. Unit {0}) head (inside n k)
     (subst (λ q. PacesTo (λ z. Unit {0}) q (inside n k)) (append-nil head)
     (gets_paces (λ z. Unit {0}) n (arguments c.head) 1 [] (k + 1) [] (inside n k) (omega arith) (omega arith)
-    (numbered_arguments n c.head (both_true (callable c.head) (numbered n c.head) i.head).1) (record { settled = refl; room = refl }) (λ w o. absurd (false≢true o)) (λ w h l. entered w k h l) (λ z f o. tt))))
+    (numbered_arguments n c.head (and_parts (callable c.head) (numbered n c.head) i.head).1) (record { settled = refl; room = refl }) (λ w o. absurd (false≢true o)) (λ w h l. entered w k h l) (λ z f o. tt))))
     (body_range n c.body (add_all_vars (arguments c.head) []) i.body)

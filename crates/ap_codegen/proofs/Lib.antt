@@ -5,7 +5,6 @@ pub mod Framing
 pub mod EndedLeads
 pub mod FramedLeads
 pub mod StraightLeads
-pub mod BodyTurns
 pub mod Straight
 pub mod Flows
 pub mod Heads
@@ -24,7 +23,6 @@ pub mod LeadRanges
 pub mod LeadWalks
 pub mod LeadAlone
 pub mod LocatedLeads
-pub mod ReadAs
 pub mod RelocatedReads
 pub mod RelocatedPaces
 pub mod RelocatedOpen

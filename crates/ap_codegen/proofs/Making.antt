@@ -3,7 +3,7 @@ use Rattle.std.proofs.Common.{◌≡◌, ℕ, zero, suc, ◌+◌, ◌<◌, ◌�
 use Rattle.std.specs.List.{IsDistinct, filter}
 use Rattle.std.proofs.lemmas.List.{map-append, take_more}
 use Rattle.std.proofs.lemmas.Option.{slice_get_within}
-use Rattle.std.proofs.lemmas.Bool.{false≢true}
+use Rattle.std.proofs.lemmas.Bool.{false≢true, not_from_true}
 use Rattle.ap_term.specs.Goals.{Clause, Program}
 use Rattle.ap_instr.specs.declared.instruction.Instr.{Instr}
 use Rattle.ap_instr.specs.declared.instruction.Instr.TheVariants.{Call, Execute}
@@ -84,10 +84,6 @@ apart_at code [] j i h e = cc
 apart_at code (k ∷ is) zero i h e = let same : k ≡ i = cc in subst (λ i. calls_apart (said_by code i) ≡ true) same h.0
 apart_at code (k ∷ is) (suc j) i h e = apart_at code is j i h.1 e
 
-not_both : (b : Bool) → b ≡ true → not b ≡ true → ⊥
-not_both true e f = false≢true f
-not_both false e f = false≢true e
-
 -- a predicate that is called is none of built-in goals
 called_apart : (code : Compiled) (i : Instr) (n : ℕ) (q : Predicate) → calls_apart (said_by code i) ≡ true → called_by i ≡ Some n → slice_get code.predicates n ≡ Some q → not (is_builtin_key (q.name, q.arity)) ≡ true
 called_apart code (Call m) n q h c e =
@@ -104,7 +100,7 @@ of_clauses : (code : Compiled) (p : Program) (q : Predicate) → IsOfClauses cod
 of_clauses code p q (inl h) e = h
 of_clauses code p q (inr h) e =
     let k : is_builtin_key (q.name, q.arity) ≡ true = ap (λ n. is_builtin_key (n, q.arity)) (sym h.name) ∙ ap (λ n. is_builtin_key (builtin_name h.goal, n)) (sym h.arity) ∙ builtin_key h.goal in
-    absurd (not_both (is_builtin_key (q.name, q.arity)) k e)
+    absurd (false≢true (sym (not_from_true (is_builtin_key (q.name, q.arity)) k) ∙ e))
 
 -- where all predicates are made, the code stands for the program
 pub made_all : (t : Numbered) (is : List Instr) (qs : List Predicate) (p : Program) (code : Compiled) (m : ℕ) (k : ℕ × ℕ) → IsMade t is qs p → slice_get t.predicates (length qs) ≡ None

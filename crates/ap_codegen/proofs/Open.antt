@@ -1,22 +1,19 @@
--- Behind each goal the code of a clause tests nothing, and it calls no predicate of built-in goals.
-use Rattle.std.proofs.Common.{◌≡◌, ℕ, ◌+◌, ◌==◌, Bool, true, false, not, ◌&&◌, ◌||◌, is_some, if◌then◌else◌, List, [], ◌∷◌, ◌++◌, refl, ap, sym, ◌∙◌, subst, arith, append_assoc}
+-- Steps of a clause that ask for no goal, before which nothing asks for one; and goals that are called, which are no built-in ones.
+use Rattle.std.proofs.Common.{[], ◌≡◌, ℕ, ◌+◌, ◌==◌, Bool, true, false, not, ◌&&◌, ◌||◌, is_some, if◌then◌else◌, List, ◌∷◌, ◌++◌, refl, ap, ◌∙◌, arith}
 use Rattle.std.specs.List.{list_all}
 use Rattle.std.proofs.lemmas.Bool.{false≢true}
 use Rattle.std.proofs.lemmas.Bool.Decides.{Decides-eqb}
 use Rattle.std.proofs.lemmas.List.Folds.{list_all-append}
 use Rattle.ap_term.specs.declared.fixed.TheConstants.{TRUE, FAIL}
 use Rattle.ap_term.specs.Tree.{Tree, Trees, var, int, atom, node, none, more, count_trees}
-use Rattle.ap_term.specs.Vars.{has, add_vars, add_all_vars}
-use Rattle.ap_term.specs.Substitution.{instance_all}
+use Rattle.ap_term.specs.Vars.{has, add_vars}
 use Rattle.ap_term.specs.Builtins.{relation_named}
-use Rattle.ap_term.specs.WellFormed.{callable, all_callable}
+use Rattle.ap_term.specs.WellFormed.{callable}
 use Rattle.ap_instr.specs.declared.instruction.Slot.TheVariants.{Y}
 use Rattle.ap_instr.specs.Step.{Step, get_variable, get_value, put_variable, put_value, put_structure, unify_variable, unify_value, call, execute, builtin, proceed, jump, check_ground, check_indep, group, push, wait}
 use Rattle.ap_instr.specs.Runs.{arguments, IsOpen, AsksOpenly}
-use Rattle.ap_codegen.specs.Permanent.{name, is_builtin, is_builtin_key, see, inner, place, fills, see_built, see_nested, build, nested, puts, goal_code, is_last_call, asking, body_code, see_all, see_taken, takes, get, opens, gets, clause_code}
+use Rattle.ap_codegen.specs.Permanent.{name, is_builtin, is_builtin_key, see, inner, place, fills, see_built, see_nested, build, nested, puts, goal_code, see_all, see_taken, takes, get, opens, gets}
 use Rattle.ap_codegen.specs.CodeOf.{calls_apart}
-use Rattle.ap_codegen.proofs.Registers.{both_true}
-use Rattle.ap_codegen.proofs.PermanentReads.{body-each}
 
 -- whether a step asks for no goal, and the next one runs
 abbrev pub is_quiet : Step → Bool
@@ -51,20 +48,6 @@ quiet_openly (group n ∷ us) is q o = absurd (false≢true q)
 quiet_openly (push p n ∷ us) is q o = absurd (false≢true q)
 quiet_openly (wait ∷ us) is q o = absurd (false≢true q)
 quiet_openly (i ∷ us) is q o = quiet_openly us is q o
-
-quiet_apart : (us bs : List Step) → Quiet us → list_all calls_apart bs ≡ true → list_all calls_apart (us ++ bs) ≡ true
-quiet_apart [] bs q o = o
-quiet_apart (call p n ∷ us) bs q o = absurd (false≢true q)
-quiet_apart (execute p n ∷ us) bs q o = absurd (false≢true q)
-quiet_apart (builtin p n ∷ us) bs q o = absurd (false≢true q)
-quiet_apart (proceed ∷ us) bs q o = absurd (false≢true q)
-quiet_apart (jump ∷ us) bs q o = absurd (false≢true q)
-quiet_apart (check_ground v ∷ us) bs q o = absurd (false≢true q)
-quiet_apart (check_indep v w ∷ us) bs q o = absurd (false≢true q)
-quiet_apart (group n ∷ us) bs q o = absurd (false≢true q)
-quiet_apart (push p n ∷ us) bs q o = absurd (false≢true q)
-quiet_apart (wait ∷ us) bs q o = absurd (false≢true q)
-quiet_apart (i ∷ us) bs q o = quiet_apart us bs q o
 
 -- ---- what is quiet
 
@@ -147,31 +130,9 @@ quiet_gets (more t ts) a seen m = quiet_both (get t a seen m) (gets ts (a + 1) (
 
 -- ---- goals
 
--- any values of the variables are some
-body_is_open : (gs : Trees) (seen : List ℕ) (rest : List Step) → all_callable gs ≡ true → IsOpen (body_code gs seen ++ rest)
-body_is_open gs seen rest c x y = (instance_all y gs, body-each y gs seen rest x y c (λ w o. refl))
-
 pub behind : (b : Bool) (p n : ℕ) (is : List Step) → IsOpen is → AsksOpenly is → AsksOpenly ((if b then builtin p n else call p n) ∷ is)
 behind true p n is o a = (o, a)
 behind false p n is o a = (o, a)
-
-body_asks_openly : (gs : Trees) (seen : List ℕ) (rest : List Step) → all_callable gs ≡ true → AsksOpenly (body_code gs seen ++ rest)
-body_asks_openly none seen rest c = tt
-body_asks_openly (more g gs) seen rest c = let d = (both_true (callable g) (all_callable gs) c).1 in go d (body_asks_openly gs (add_vars g seen) rest d) (is_last_call g gs)
-  where
-    go : all_callable gs ≡ true → AsksOpenly (body_code gs (add_vars g seen) ++ rest) → (l : Bool) → AsksOpenly ((if l then goal_code g seen ++ execute (name g) (count_trees (arguments g)) ∷ [] else goal_code g seen ++ (asking g ∷ body_code gs (add_vars g seen))) ++ rest)
-    go d o true = subst AsksOpenly (sym (append_assoc (goal_code g seen) (execute (name g) (count_trees (arguments g)) ∷ []) rest)) (quiet_openly (goal_code g seen) (execute (name g) (count_trees (arguments g)) ∷ rest) (quiet_goal g seen) tt)
-    go d o false =
-        let is : List Step = body_code gs (add_vars g seen) in
-        subst AsksOpenly (sym (append_assoc (goal_code g seen) (asking g ∷ is) rest))
-        (quiet_openly (goal_code g seen) (asking g ∷ (is ++ rest)) (quiet_goal g seen)
-        (behind (is_builtin g) (name g) (count_trees (arguments g)) (is ++ rest) (body_is_open gs (add_vars g seen) rest d) o))
-
-pub asks_openly : (head : Tree) (goals : Trees) (rest : List Step) → all_callable goals ≡ true → AsksOpenly (clause_code head goals ++ rest)
-asks_openly head goals rest c =
-    let us : List Step = gets (arguments head) 1 [] (count_trees (arguments head) + 1) in
-    let bs : List Step = body_code goals (add_all_vars (arguments head) []) in
-    subst AsksOpenly (sym (append_assoc us bs rest)) (quiet_openly us (bs ++ rest) (quiet_gets (arguments head) 1 [] (count_trees (arguments head) + 1)) (body_asks_openly goals (add_all_vars (arguments head) []) rest c))
 
 -- ---- what is called
 
@@ -204,31 +165,6 @@ key_apart (node a (more t ts)) c e =
     go false true false q = refl
     go false false k q = refl
 
--- a goal that is called is none that an instruction runs
-pub last_apart : (g : Tree) (gs : Trees) → callable g ≡ true → is_last_call g gs ≡ true → calls_apart (execute (name g) (count_trees (arguments g))) ≡ true
-last_apart g none c e = ap not (key_apart g c (go (is_builtin g) e))
-  where
-    go : (b : Bool) → not b ≡ true → b ≡ false
-    go true d = absurd (false≢true d)
-    go false d = refl
-last_apart g (more t ts) c e = absurd (false≢true e)
-
 pub asking_apart : (g : Tree) (b : Bool) → callable g ≡ true → is_builtin g ≡ b → calls_apart (if b then builtin (name g) (count_trees (arguments g)) else call (name g) (count_trees (arguments g))) ≡ true
 asking_apart g true c e = refl
 asking_apart g false c e = ap not (key_apart g c e)
-
-body_apart : (gs : Trees) (seen : List ℕ) → all_callable gs ≡ true → list_all calls_apart (body_code gs seen) ≡ true
-body_apart none seen c = refl
-body_apart (more g gs) seen c = let d = both_true (callable g) (all_callable gs) c in go d.0 (body_apart gs (add_vars g seen) d.1) (is_last_call g gs) refl
-  where
-    go : callable g ≡ true → list_all calls_apart (body_code gs (add_vars g seen)) ≡ true → (l : Bool) → is_last_call g gs ≡ l
-        → list_all calls_apart (if l then goal_code g seen ++ execute (name g) (count_trees (arguments g)) ∷ [] else goal_code g seen ++ (asking g ∷ body_code gs (add_vars g seen))) ≡ true
-    go d o true e = quiet_apart (goal_code g seen) (execute (name g) (count_trees (arguments g)) ∷ []) (quiet_goal g seen) (ap (λ b. b && true) (last_apart g gs d e))
-    go d o false e =
-        quiet_apart (goal_code g seen) (asking g ∷ body_code gs (add_vars g seen)) (quiet_goal g seen)
-        (ap (λ b. b && list_all calls_apart (body_code gs (add_vars g seen))) (asking_apart g (is_builtin g) d refl) ∙ o)
-
-pub calls_are_apart : (head : Tree) (goals : Trees) → all_callable goals ≡ true → list_all calls_apart (clause_code head goals) ≡ true
-calls_are_apart head goals c =
-    quiet_apart (gets (arguments head) 1 [] (count_trees (arguments head) + 1)) (body_code goals (add_all_vars (arguments head) [])) (quiet_gets (arguments head) 1 [] (count_trees (arguments head) + 1))
-    (body_apart goals (add_all_vars (arguments head) []) c)

@@ -1,19 +1,19 @@
--- The code of a clause keeps the rules of code one by one.
-use Rattle.std.proofs.Common.{◌≡◌, ◌≢◌, ℕ, zero, suc, ◌+◌, ◌-◌, ◌<◌, ◌≤◌, nat_le, ◌==◌, Bool, true, false, ◌&&◌, if◌then◌else◌, is_some, List, [], ◌∷◌, ◌++◌, ◌⊎◌, inl, inr, Option, Some, None, refl, ap, sym, ◌∙◌, subst, arith, append_assoc}
-use Rattle.std.proofs.lemmas.Bool.{false≢true}
+-- The code of a head and of a goal keeps the rules of code one by one.
+use Rattle.std.proofs.Common.{[], ◌≡◌, ◌≢◌, ℕ, zero, suc, ◌+◌, ◌-◌, ◌<◌, ◌≤◌, nat_le, ◌==◌, Bool, true, false, ◌&&◌, if◌then◌else◌, List, ◌∷◌, ◌++◌, ◌⊎◌, inl, inr, Option, Some, None, refl, ap, sym, ◌∙◌, subst, arith, append_assoc}
+use Rattle.std.proofs.lemmas.Bool.{and_parts}
 use Rattle.std.proofs.lemmas.Bool.Decides.{Decides-eqb, nat_tests}
 use Rattle.ap_term.specs.Tree.{Tree, Trees, var, int, atom, node, none, more, count_trees}
 use Rattle.ap_term.specs.Vars.{has, add_vars, add_all_vars}
-use Rattle.ap_term.specs.WellFormed.{in_range, numbered, numbered_all, callable, all_callable}
+use Rattle.ap_term.specs.WellFormed.{in_range, numbered, numbered_all, callable}
 use Rattle.ap_instr.specs.declared.instruction.Slot.TheVariants.{X, Y}
-use Rattle.ap_instr.specs.declared.instruction.Instr.TheVariants.{PutStructure, Call}
-use Rattle.ap_instr.specs.Step.{Step, get_variable, get_value, put_variable, put_value, put_structure, unify_variable, unify_value, call, execute, builtin}
+use Rattle.ap_instr.specs.declared.instruction.Instr.TheVariants.{PutStructure}
+use Rattle.ap_instr.specs.Step.{Step, get_variable, get_value, put_variable, put_value, put_structure, unify_variable, unify_value}
 use Rattle.ap_instr.specs.Runs.{set, arguments}
 use Rattle.ap_codecheck.specs.Shape.{Shape, write, with_target, passed, behind_argument, after}
 use Rattle.ap_codecheck.specs.Rules.{ArgumentsSet, IsRoomFor}
-use Rattle.ap_codegen.specs.Permanent.{name, is_builtin, see, see_all, inner, place, fill, fills, see_built, see_nested, build, nested, puts, see_puts, goal_code, is_last_call, asking, body_code, see_taken, see_opened, take, takes, get, opens, gets, clause_code}
-use Rattle.ap_codegen.specs.Paces.{IsSlot, PacesTo, Paces, inside}
-use Rattle.ap_codegen.proofs.Registers.{both_true, set_here, set_other}
+use Rattle.ap_codegen.specs.Permanent.{see, see_all, inner, place, fill, fills, see_built, see_nested, build, nested, puts, see_puts, goal_code, see_taken, see_opened, take, takes, get, opens, gets}
+use Rattle.ap_codegen.specs.Paces.{IsSlot, PacesTo, inside}
+use Rattle.ap_codegen.proofs.Registers.{set_here, set_other}
 use Rattle.ap_codegen.proofs.PermanentReads.{has-push, place_below, place_apart, goal_sees, taken_sees}
 
 -- outside of structures, in an environment for n variables
@@ -113,7 +113,7 @@ below n k e = grind (arith, nat_tests)
 -- a permanent variable of the environment
 pub slot_of : (n v : ℕ) (s : Shape) → in_range n v ≡ true → s.room ≡ Some n → IsSlot (Y v) s
 slot_of n v s h r =
-    let b = both_true (nat_le 1 v) (nat_le v n) h in
+    let b = and_parts (nat_le 1 v) (nat_le v n) h in
     let l : 1 ≤ v = below 1 v b.0 in
     (omega arith, subst (IsRoomFor v) (sym r) (below v n b.1))
 
@@ -183,10 +183,10 @@ module _ (K : Shape → Type 0) (n : ℕ) where
   fills_paces : (t : Tree) (ts : Trees) (seen : List ℕ) (b m : ℕ) (rest : List Step) (x y : ℕ → Bool) (r : Shape) (g : Option ℕ) → 0 < b → 0 < m → numbered_all n (more t ts) ≡ true → Sees seen y → Temps (more t ts) b m x
       → r.room ≡ Some n → ((z : ℕ → Bool) → Sees (see_all (more t ts) seen) z → PacesTo K rest (filling (with_target g x) z r None 0)) → PacesTo K (fills (more t ts) seen b m ++ rest) (filling x y r g (count_trees (more t ts)))
   fills_paces t none seen b m rest x y r g j l i o s e c =
-      let d = both_true (numbered n t) (numbered_all n none) i in
+      let d = and_parts (numbered n t) (numbered_all n none) i in
       fill_paces t seen b rest x y r g 1 j d.0 o (first_temp t none b m x s) e (omega arith) c
   fills_paces t (more u us) seen b m rest x y r g j l i o s e c =
-      let d = both_true (numbered n t) (numbered_all n (more u us)) i in
+      let d = and_parts (numbered n t) (numbered_all n (more u us)) i in
       let p : ℕ = place (inner (more u us)) b m in
       fill_paces t seen p (fills (more u us) (see t seen) b m ++ rest) x y r g (count_trees us + 1 + 1) (place_positive (inner (more u us)) b m j l) d.0 o (first_temp t (more u us) b m x s) e (omega arith) (λ z o1.
       subst (PacesTo K (fills (more u us) (see t seen) b m ++ rest)) (sym (behind_filling x z r g (count_trees us)))
@@ -233,11 +233,11 @@ module _ (K : Shape → Type 0) (n : ℕ) where
     nested_paces : (ts : Trees) (a : ℕ) (seen : List ℕ) (b m : ℕ) (rest : List Step) (s : Shape) → 0 < a → 0 < b → a ≢ b → a < m → b < m → numbered_all n ts ≡ true → Sees seen s.y → Fine n s
         → ((z : Shape) → Fine n z → Grows s.x z.x → Sees (see_nested ts seen) z.y → Temps ts b m z.x → PacesTo K rest z) → PacesTo K (nested ts a seen b m ++ rest) s
     nested_paces none a seen b m rest s p j d l k i o f c = c s f (λ w e. e) o tt
-    nested_paces (more (var v) ts) a seen b m rest s p j d l k i o f c = nested_paces ts a seen b m rest s p j d l k (both_true (in_range n v) (numbered_all n ts) i).1 o f c
+    nested_paces (more (var v) ts) a seen b m rest s p j d l k i o f c = nested_paces ts a seen b m rest s p j d l k (and_parts (in_range n v) (numbered_all n ts) i).1 o f c
     nested_paces (more (int v) ts) a seen b m rest s p j d l k i o f c = nested_paces ts a seen b m rest s p j d l k i o f c
     nested_paces (more (atom v) ts) a seen b m rest s p j d l k i o f c = nested_paces ts a seen b m rest s p j d l k i o f c
     nested_paces (more (node g us) ts) a seen b m rest s p j d l k i o f c =
-        let e = both_true (numbered_all n us) (numbered_all n ts) i in
+        let e = and_parts (numbered_all n us) (numbered_all n ts) i in
         let q : ℕ = place (inner ts) b m in
         let end : ℕ = m + inner ts in
         let seen1 : List ℕ = see_nested ts seen in
@@ -266,7 +266,7 @@ module _ (K : Shape → Type 0) (n : ℕ) where
       → ((z : Shape) → Fine n z → Grows s.x z.x → Sees (see_puts ts seen) z.y → ((w : ℕ) → a ≤ w → w < a + count_trees ts → z.x w ≡ true) → PacesTo K rest z) → PacesTo K (puts ts a seen m ++ rest) s
   puts_paces none a seen m rest s p l i o f c = c s f (λ w e. e) o (λ w j d. absurd (omega arith))
   puts_paces (more t ts) a seen m rest s p l i o f c =
-      let b = both_true (numbered n t) (numbered_all n ts) i in
+      let b = and_parts (numbered n t) (numbered_all n ts) i in
       let seen1 : List ℕ = see_built t seen in
       subst (λ q. PacesTo K q s) (sym (append_assoc (build t a seen m (m + 1)) (puts ts (a + 1) seen1 m) rest))
       (build_paces K n t a seen m (m + 1) (puts ts (a + 1) seen1 m ++ rest) s p (omega arith) (omega arith) (omega arith) (omega arith) b.0 o f (λ z h.
@@ -279,23 +279,6 @@ module _ (K : Shape → Type 0) (n : ℕ) where
   goal_paces g seen rest s i k f o c =
       puts_paces (arguments g) 1 seen (count_trees (arguments g) + 1) rest s (omega arith) (omega arith) (numbered_arguments n g i) o f (λ z fz kz oz az.
       c z fz (λ w q. oz w (goal_sees g seen w k q)) (λ a j d. az a (omega arith) (omega arith)))
-
-  pub asks_pace : (b : Bool) (p k : ℕ) (rest : List Step) (z : Shape) → ArgumentsSet k z → Fine n z → ((u : Shape) → Fine n u → u.y ≡ z.y → PacesTo K rest u) → PacesTo K ((if b then builtin p k else call p k) ∷ rest) z
-  asks_pace true p k rest z a f c = (a, f.settled, c z f refl)
-  asks_pace false p k rest z a f c = (a, ap is_some f.room, f.settled, c (after (Call 0) z) (record { settled = f.settled; room = f.room }) refl)
-
-  body_paces : (gs : Trees) (seen : List ℕ) (s : Shape) → numbered_all n gs ≡ true → all_callable gs ≡ true → Fine n s → Sees seen s.y → PacesTo K (body_code gs seen) s
-  body_paces none seen s i k f o = (f.settled, refl)
-  body_paces (more g gs) seen s i k f o =
-      let b = both_true (numbered n g) (numbered_all n gs) i in
-      let d = both_true (callable g) (all_callable gs) k in go b.0 d.0 (λ z. body_paces gs (add_vars g seen) z b.1 d.1) (is_last_call g gs)
-    where
-      go : numbered n g ≡ true → callable g ≡ true → ((z : Shape) → Fine n z → Sees (add_vars g seen) z.y → PacesTo K (body_code gs (add_vars g seen)) z) → (l : Bool)
-          → PacesTo K (if l then goal_code g seen ++ execute (name g) (count_trees (arguments g)) ∷ [] else goal_code g seen ++ (asking g ∷ body_code gs (add_vars g seen))) s
-      go d k ih true = goal_paces g seen (execute (name g) (count_trees (arguments g)) ∷ []) s d k f o (λ z fz sz az. (az, fz.settled, refl))
-      go d k ih false =
-          goal_paces g seen (asking g ∷ body_code gs (add_vars g seen)) s d k f o (λ z fz sz az.
-          asks_pace (is_builtin g) (name g) (count_trees (arguments g)) (body_code gs (add_vars g seen)) z az fz (λ u fu e. ih u fu (subst (Sees (add_vars g seen)) (sym e) sz)))
 
   -- ---- heads
 
@@ -315,9 +298,9 @@ module _ (K : Shape → Type 0) (n : ℕ) where
       → ((u z : ℕ → Bool) → Grows x u → Sees (see_all ts seen) z → Taken ts m u → PacesTo K rest (filling u z r None 0)) → PacesTo K (takes ts seen m ++ rest) (filling x y r None (count_trees ts))
   takes_paces none seen m rest x y r l i o e c = c x y (λ w h. h) o tt
   takes_paces (more t none) seen m rest x y r l i o e c =
-      take_paces t seen (m + 0) rest x y r 1 (omega arith) (both_true (numbered n t) (numbered_all n none) i).0 o e (omega arith) (λ u z g h k. c u z g h (join_taken t none m u k tt))
+      take_paces t seen (m + 0) rest x y r 1 (omega arith) (and_parts (numbered n t) (numbered_all n none) i).0 o e (omega arith) (λ u z g h k. c u z g h (join_taken t none m u k tt))
   takes_paces (more t (more d ds)) seen m rest x y r l i o e c =
-      let b = both_true (numbered n t) (numbered_all n (more d ds)) i in
+      let b = and_parts (numbered n t) (numbered_all n (more d ds)) i in
       let p : ℕ = m + inner (more d ds) in
       take_paces t seen p (takes (more d ds) (see t seen) m ++ rest) x y r (count_trees ds + 1 + 1) (omega arith) b.0 o e (omega arith) (λ u z g1 o1 t1.
       subst (PacesTo K (takes (more d ds) (see t seen) m ++ rest)) (sym (behind_filling u z r None (count_trees ds)))
@@ -354,11 +337,11 @@ module _ (K : Shape → Type 0) (n : ℕ) where
     opens_paces : (ts : Trees) (seen : List ℕ) (m : ℕ) (rest : List Step) (s : Shape) → 0 < m → numbered_all n ts ≡ true → Sees seen s.y → Fine n s → Taken ts m s.x
         → ((z : Shape) → Made n (see_opened ts seen) s z → PacesTo K rest z) → PacesTo K (opens ts seen m ++ rest) s
     opens_paces none seen m rest s l i o f t c = c s (record { fine = f; keeps = λ w e. e; sees = o })
-    opens_paces (more (var v) ts) seen m rest s l i o f t c = opens_paces ts seen m rest s l (both_true (in_range n v) (numbered_all n ts) i).1 o f t c
+    opens_paces (more (var v) ts) seen m rest s l i o f t c = opens_paces ts seen m rest s l (and_parts (in_range n v) (numbered_all n ts) i).1 o f t c
     opens_paces (more (int v) ts) seen m rest s l i o f t c = opens_paces ts seen m rest s l i o f t c
     opens_paces (more (atom v) ts) seen m rest s l i o f t c = opens_paces ts seen m rest s l i o f t c
     opens_paces (more (node g us) ts) seen m rest s l i o f t c =
-        let b = both_true (numbered_all n us) (numbered_all n ts) i in
+        let b = and_parts (numbered_all n us) (numbered_all n ts) i in
         let p : ℕ = m + inner ts in
         let seen1 : List ℕ = see_taken (node g us) seen in
         let part : List Step = get (node g us) p seen p in
@@ -371,7 +354,7 @@ module _ (K : Shape → Type 0) (n : ℕ) where
       → ((w : ℕ) → a ≤ w → w < m → s.x w ≡ true) → ((z : Shape) → Fine n z → Sees (add_all_vars ts seen) z.y → PacesTo K rest z) → PacesTo K (gets ts a seen m ++ rest) s
   gets_paces none a seen m rest s p l i f o h c = c s f o
   gets_paces (more t ts) a seen m rest s p l i f o h c =
-      let b = both_true (numbered n t) (numbered_all n ts) i in
+      let b = and_parts (numbered n t) (numbered_all n ts) i in
       subst (λ q. PacesTo K q s) (sym (append_assoc (get t a seen m) (gets ts (a + 1) (add_vars t seen) m) rest))
       (get_paces t a seen m (gets ts (a + 1) (add_vars t seen) m ++ rest) s p (omega arith) b.0 f o (h a (omega arith) (omega arith)) (λ z d.
       gets_paces ts (a + 1) (add_vars t seen) m rest z (omega arith) (omega arith) b.1 d.fine (λ w q. d.sees w (taken_sees t seen w q)) (λ w j q. d.keeps w (h w (omega arith) q)) c))
@@ -384,10 +367,3 @@ entered w k h l = ap (λ b. b && nat_le w k) one ∙ other
 
     other : nat_le w k ≡ true
     other = grind (arith, nat_tests)
-
-pub clause_paces : (n : ℕ) (head : Tree) (goals : Trees) → numbered n head ≡ true → numbered_all n goals ≡ true → all_callable goals ≡ true → Paces (clause_code head goals) (inside n (count_trees (arguments head)))
-clause_paces n head goals i j d =
-    let k : ℕ = count_trees (arguments head) in
-    let seen : List ℕ = add_all_vars (arguments head) [] in
-    gets_paces (λ z. ⊥) n (arguments head) 1 [] (k + 1) (body_code goals seen) (inside n k) (omega arith) (omega arith) (numbered_arguments n head i) (record { settled = refl; room = refl }) (λ w o. absurd (false≢true o))
-    (λ w h l. entered w k h l) (λ z f o. body_paces (λ z. ⊥) n goals seen z j d f o)

@@ -1,7 +1,7 @@
 -- A body with groups asks for its goals and marks, and each check of it leads to its group's goals one after another.
 use Rattle.std.proofs.Common.{◌≡◌, ℕ, suc, ◌+◌, Bool, true, false, ◌&&◌, if◌then◌else◌, List, [], ◌∷◌, ◌++◌, map, length, pos, refl, ap, sym, ◌∙◌, subst, arith, append_assoc}
 use Rattle.std.specs.List.{list_all}
-use Rattle.std.proofs.lemmas.Bool.{false≢true}
+use Rattle.std.proofs.lemmas.Bool.{false≢true, and_parts}
 use Rattle.ap_term.specs.declared.clauses.Check.{Check}
 use Rattle.ap_term.specs.declared.clauses.Check.TheVariants.{Ground, Indep}
 use Rattle.ap_term.specs.Tree.{Tree, Trees, int, none, more, count_trees, append_trees}
@@ -16,7 +16,6 @@ use Rattle.ap_instr.specs.Runs.{Runs, arguments}
 use Rattle.ap_codegen.specs.Emitted.{Lead}
 use Rattle.ap_codegen.specs.Permanent.{name, goal_code, asking}
 use Rattle.ap_codegen.specs.Grouped.{passed_over, flow, straight, Unmarks, AreTurns, see_checks, make_checks, side_by_side, in_turn, check_step, check_leads, ways, group_leads, is_last_part, body_leads}
-use Rattle.ap_codegen.proofs.Registers.{both_true}
 use Rattle.ap_codegen.proofs.GroupReads.{AsksFor, SeesAll, checks_seen, nothing, last_goal, goal_first, jump_first, goals_first, makes_first, checks_first, side_by_side_first}
 
 -- ---- which steps run
@@ -150,9 +149,9 @@ last_part g (p ∷ ps) e = absurd (false≢true e)
 
 pub group_callable : (n : ℕ) (cs : List Check) (gs : Trees) → well_formed_part n (parallel cs gs) ≡ true → all_callable gs ≡ true
 group_callable n cs gs w =
-    let d = both_true (list_all (numbered_check n) cs) _ w in
-    let e = both_true _ (all_callable gs && numbered_all n gs) d.1 in
-    (both_true (all_callable gs) (numbered_all n gs) e.1).0
+    let d = and_parts (list_all (numbered_check n) cs) _ w in
+    let e = and_parts _ (all_callable gs && numbered_all n gs) d.1 in
+    (and_parts (all_callable gs) (numbered_all n gs) e.1).0
 
 -- whatever stands behind a body, it asks for its goals and marks
 pub parts_ask : (n : ℕ) (ps : List Part) (seen : List ℕ) (rest : List Lead) → list_all (well_formed_part n) ps ≡ true → AsksFor seen (flow 0 (body_leads ps seen ++ rest)) (λ h. marked (map (placed h) ps))
@@ -160,10 +159,10 @@ parts_ask n [] seen rest w = nothing seen (flow 0 rest)
 parts_ask n (goal g ∷ ps) seen rest w = go (is_last_part g ps) refl (parts_ask n ps (add_vars g seen) rest b.1)
   where
     b : (well_formed_part n (goal g) ≡ true) × (list_all (well_formed_part n) ps ≡ true)
-    b = both_true (well_formed_part n (goal g)) (list_all (well_formed_part n) ps) w
+    b = and_parts (well_formed_part n (goal g)) (list_all (well_formed_part n) ps) w
 
     c : callable g ≡ true
-    c = (both_true (callable g) (numbered n g) b.0).0
+    c = (and_parts (callable g) (numbered n g) b.0).0
 
     call_last : Step
     call_last = execute (name g) (count_trees (arguments g))
@@ -181,7 +180,7 @@ parts_ask n (goal g ∷ ps) seen rest w = go (is_last_part g ps) refl (parts_ask
         (sym (ap (flow 0) (append_assoc (straight is) behind rest) ∙ flow_straight is (behind ++ rest) ∙ append_assoc (goal_code g seen) (asking g ∷ []) (flow 0 (behind ++ rest))))
         (goal_first (flow 0 (behind ++ rest)) (λ h. marked (map (placed h) ps)) g seen c a)
 parts_ask n (parallel cs gs ∷ ps) seen rest w =
-    let b = both_true (well_formed_part n (parallel cs gs)) (list_all (well_formed_part n) ps) w in
+    let b = and_parts (well_formed_part n (parallel cs gs)) (list_all (well_formed_part n) ps) w in
     let seen1 : List ℕ = add_all_vars gs (see_checks cs seen) in
     let behind : List Lead = body_leads ps seen1 in
     subst (λ ls. AsksFor seen (flow 0 ls) (λ h. marked (map (placed h) (parallel cs gs ∷ ps)))) (sym (append_assoc (group_leads cs gs seen) behind rest))

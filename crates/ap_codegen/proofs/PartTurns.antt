@@ -1,7 +1,7 @@
 -- Each check of a clause leads to its group's goals in turn, and the clause calls no predicate of built-in goals.
 use Rattle.std.proofs.Common.{◌≡◌, ℕ, ◌+◌, ◌≤◌, Bool, true, false, ◌&&◌, not, if◌then◌else◌, List, [], ◌∷◌, ◌++◌, map, length, refl, ap, sym, ◌∙◌, subst, arith, append_assoc}
 use Rattle.std.specs.List.{list_all}
-use Rattle.std.proofs.lemmas.Bool.{false≢true}
+use Rattle.std.proofs.lemmas.Bool.{false≢true, and_parts}
 use Rattle.std.proofs.lemmas.List.Folds.{list_all-append}
 use Rattle.ap_term.specs.declared.clauses.Check.{Check}
 use Rattle.ap_term.specs.declared.clauses.Check.TheVariants.{Ground, Indep}
@@ -18,7 +18,6 @@ use Rattle.ap_codegen.specs.CodeOf.{calls_apart}
 use Rattle.ap_codegen.specs.Emitted.{Lead}
 use Rattle.ap_codegen.specs.Permanent.{name, is_builtin, goal_code, asking, gets}
 use Rattle.ap_codegen.specs.Grouped.{flow, straight, Unmarks, is_check, AreTurns, IsGroupedCode, see_check, see_checks, make, make_check, make_checks, pushes, side_by_side, in_turn, check_leads, ways, group_leads, is_last_part, body_leads, clause_leads}
-use Rattle.ap_codegen.proofs.Registers.{both_true}
 use Rattle.ap_codegen.proofs.PermanentReads.{seen_same_all, gets-only, gets-each}
 use Rattle.ap_codegen.proofs.Open.{Quiet, quiet_openly, quiet_goal, quiet_gets, key_apart, asking_apart}
 use Rattle.ap_codegen.proofs.GroupReads.{AsksFor, SeesAll, checks_seen}
@@ -70,7 +69,7 @@ last_plain g (p ∷ ps) c e = absurd (false≢true e)
 turns_plain : (gs : Trees) (seen : List ℕ) → all_callable gs ≡ true → Plain (in_turn gs seen)
 turns_plain none seen c = refl
 turns_plain (more g gs) seen c =
-    let d = both_true (callable g) (all_callable gs) c in
+    let d = and_parts (callable g) (all_callable gs) c in
     plain_goal g seen (asking g ∷ in_turn gs (add_vars g seen)) (asking_plain g (in_turn gs (add_vars g seen)) d.0 (turns_plain gs (add_vars g seen) d.1))
 
 pushes_plain : (gs : Trees) (seen : List ℕ) → Plain (pushes gs seen)
@@ -111,8 +110,8 @@ both_turn first second rest t u = (go first t.0, list_all-append (λ l. calls_ap
 plain_turns : (is : List Step) (rest : List Lead) → Plain is → Turning (straight is) rest
 plain_turns [] rest p = (tt, refl)
 plain_turns (i ∷ is) rest p =
-    let b = both_true (is_plain i) (list_all is_plain is) p in
-    let d = both_true (calls_apart i) (not (is_check i)) b.0 in
+    let b = and_parts (is_plain i) (list_all is_plain is) p in
+    let d = and_parts (calls_apart i) (not (is_check i)) b.0 in
     let k = plain_turns is rest b.1 in
     ((λ e. absurd (false≢true (ap not (sym e) ∙ d.1)), k.0), ap (λ a. a && list_all (λ (l : Lead). calls_apart l.0) (straight is)) d.0 ∙ k.1)
 
@@ -138,10 +137,10 @@ body_turns n [] seen rest w = plain_turns (proceed ∷ []) rest refl
 body_turns n (goal g ∷ ps) seen rest w = go (is_last_part g ps) refl (body_turns n ps (add_vars g seen) rest b.1)
   where
     b : (well_formed_part n (goal g) ≡ true) × (list_all (well_formed_part n) ps ≡ true)
-    b = both_true (well_formed_part n (goal g)) (list_all (well_formed_part n) ps) w
+    b = and_parts (well_formed_part n (goal g)) (list_all (well_formed_part n) ps) w
 
     c : callable g ≡ true
-    c = (both_true (callable g) (numbered n g) b.0).0
+    c = (and_parts (callable g) (numbered n g) b.0).0
 
     call_last : Step
     call_last = execute (name g) (count_trees (arguments g))
@@ -154,7 +153,7 @@ body_turns n (goal g ∷ ps) seen rest w = go (is_last_part g ps) refl (body_tur
         let behind : List Lead = body_leads ps (add_vars g seen) in
         both_turn (straight is) behind rest (plain_turns is (behind ++ rest) (plain_goal g seen (asking g ∷ []) (asking_plain g [] c refl))) t
 body_turns n (parallel cs gs ∷ ps) seen rest w =
-    let b = both_true (well_formed_part n (parallel cs gs)) (list_all (well_formed_part n) ps) w in
+    let b = and_parts (well_formed_part n (parallel cs gs)) (list_all (well_formed_part n) ps) w in
     let seen1 : List ℕ = see_checks cs seen in
     let seen2 : List ℕ = add_all_vars gs seen1 in
     let behind : List Lead = body_leads ps seen2 in

@@ -1,25 +1,19 @@
--- The code of a clause whose variables stand in its environment reads as the clause, whatever stands behind it.
-use Rattle.std.proofs.Common.{◌≡◌, ◌≢◌, nat_eq, ℕ, zero, suc, ◌+◌, ◌<◌, ◌≤◌, ◌==◌, Bool, true, false, ◌||◌, if◌then◌else◌, List, [], ◌∷◌, ◌++◌, ◌⊎◌, inl, inr, refl, ap, sym, ◌∙◌, subst, arith, append_assoc}
-use Rattle.std.proofs.lemmas.Bool.{false≢true}
+-- The code of a head and of a goal whose variables stand in the environment reads as they do, whatever stands behind it.
+use Rattle.std.proofs.Common.{[], ◌≡◌, ◌≢◌, nat_eq, ℕ, zero, suc, ◌+◌, ◌<◌, ◌≤◌, ◌==◌, Bool, true, false, if◌then◌else◌, List, ◌∷◌, ◌++◌, ◌⊎◌, inl, inr, refl, ap, sym, ◌∙◌, subst, arith, append_assoc}
+use Rattle.ap_term.proofs.TreeLists.{count_trees-instance_all}
+use Rattle.std.proofs.lemmas.Bool.{false≢true, or_cases}
 use Rattle.std.proofs.lemmas.Bool.Decides.{Decides-eqb}
 use Rattle.ap_term.specs.Tree.{Tree, Trees, var, int, atom, node, none, more, count_trees}
 use Rattle.ap_term.specs.Vars.{has, add_vars, add_all_vars, occurs, occurs_all}
 use Rattle.ap_term.specs.Substitution.{instance, instance_all}
-use Rattle.ap_term.specs.Goals.{Clause, plain_goals}
-use Rattle.ap_term.specs.WellFormed.{callable, all_callable}
+use Rattle.ap_term.specs.WellFormed.{callable}
 use Rattle.ap_term.proofs.Solutions.{instance_agree, instance_all_agree, or_left, or_right, same_var, same_test}
 use Rattle.ap_term.proofs.Solvable.{has-add_vars, has-add_all_vars}
 use Rattle.ap_instr.specs.declared.instruction.Slot.TheVariants.{Y}
-use Rattle.ap_instr.specs.Step.{Step, get_variable, get_value, put_variable, put_value, put_structure, unify_variable, unify_value, call, execute, builtin}
-use Rattle.ap_instr.specs.Runs.{Runs, Reads, set, spread, lost, applied, arguments}
-use Rattle.ap_instr.proofs.Ungrouped.{marked-calls}
-use Rattle.ap_codegen.specs.Permanent.{name, is_builtin, see, see_all, inner, place, fills, see_built, see_nested, build, nested, puts, see_puts, goal_code, is_last_call, asking, body_code, see_taken, see_opened, takes, get, opens, gets, clause_code}
-use Rattle.ap_codegen.specs.Sequential.{sequential}
-use Rattle.ap_codegen.proofs.Registers.{both_true, set_here, has_more, has_first}
-
-or_cases : (a b : Bool) → (a || b) ≡ true → (a ≡ true) ⊎ (b ≡ true)
-or_cases true b h = inl refl
-or_cases false b h = inr h
+use Rattle.ap_instr.specs.Step.{Step, get_variable, get_value, put_variable, put_value, put_structure, unify_variable, unify_value, call, builtin}
+use Rattle.ap_instr.specs.Runs.{Runs, set, spread, lost, applied, arguments}
+use Rattle.ap_codegen.specs.Permanent.{name, see, see_all, inner, place, fills, see_built, see_nested, build, nested, puts, see_puts, goal_code, see_taken, see_opened, takes, get, opens, gets}
+use Rattle.ap_codegen.proofs.Registers.{set_here, has_more, has_first}
 
 -- the same below m, but for two numbers
 abbrev But : ℕ → ℕ → ℕ → (ℕ → Tree) → (ℕ → Tree) → Type 0
@@ -90,10 +84,6 @@ set_but x a w t n = go (w == a) refl
     go : (b : Bool) → (w == a) ≡ b → (if b then t else x w) ≡ x w
     go true e = absurd (n ((Decides-eqb w a).0 e))
     go false e = refl
-
-count-instance : (f : ℕ → Tree) (ts : Trees) → count_trees (instance_all f ts) ≡ count_trees ts
-count-instance f none = refl
-count-instance f (more t ts) = ap (λ n. n + 1) (count-instance f ts)
 
 -- code in two parts
 pub reassoc : (a b c : List Step) (ts : Trees) (x y : ℕ → Tree) (bs : Trees) → Runs ((a ++ b) ++ c) ts x y bs → Runs (a ++ (b ++ c)) ts x y bs
@@ -405,7 +395,7 @@ module _ (bs : Trees) where
           let t : Tree = node f (instance_all h ts) in
           let x' : ℕ → Tree = set x1 a t in (
             instance_all h ts,
-            count-instance h ts,
+            count_trees-instance_all h ts,
             fills-each bs rest x' b m h ts seen1 y1 g1 (Temps-same ts b m x1 x' h (λ k i. set_but x1 a (place k b m) t (place_apart k a b m n l)) temps)
                 (λ y' g'. r x' y' (set_here x1 a t) (λ w i p q. set_but x1 a w t p ∙ same w i p q) g'),
           )))
@@ -491,61 +481,6 @@ pub asks-each : (c : Bool) (p n : ℕ) (rest : List Step) (x y : ℕ → Tree) (
     → Runs ((if c then builtin p n else call p n) ∷ rest) none x y bs
 asks-each true p n rest x y bs cs e r = (cs, e, r x)
 asks-each false p n rest x y bs cs e r = (cs, e, r lost)
-
-last_goal : (g : Tree) (gs : Trees) → is_last_call g gs ≡ true → gs ≡ none
-last_goal g none e = refl
-last_goal g (more t ts) e = absurd (false≢true e)
-
-abbrev BodyOnly : Trees → List ℕ → (ℕ → Tree) → Trees → Type 0
-BodyOnly gs seen y bs = (y' : ℕ → Tree) × AgreeOn seen y y' × (bs ≡ instance_all y' gs)
-
-body-only : (gs : Trees) (seen : List ℕ) (rest : List Step) (x y : ℕ → Tree) (bs : Trees) → all_callable gs ≡ true → Runs (body_code gs seen ++ rest) none x y bs → BodyOnly gs seen y bs
-body-only none seen rest x y bs i r = (y, λ w o. refl, r)
-body-only (more g gs) seen rest x y bs i r = go (λ x y bs i r. body-only gs (add_vars g seen) rest x y bs i r) (is_last_call g gs) refl r
-  where
-    c : (callable g ≡ true) × (all_callable gs ≡ true)
-    c = both_true (callable g) (all_callable gs) i
-
-    go : ((x y : ℕ → Tree) (bs : Trees) → all_callable gs ≡ true → Runs (body_code gs (add_vars g seen) ++ rest) none x y bs → BodyOnly gs (add_vars g seen) y bs)
-        → (l : Bool) → is_last_call g gs ≡ l
-        → Runs ((if l then goal_code g seen ++ execute (name g) (count_trees (arguments g)) ∷ [] else goal_code g seen ++ (asking g ∷ body_code gs (add_vars g seen))) ++ rest) none x y bs
-        → BodyOnly (more g gs) seen y bs
-    go ih true e r =
-        let k : List Step = execute (name g) (count_trees (arguments g)) ∷ [] in
-        let a = goal-only g seen (k ++ rest) x y bs c.0 (reassoc (goal_code g seen) k rest none x y bs r) in
-        let d : bs ≡ more (instance a.1 g) none = a.4 ∙ ap (λ t. more t none) a.3 in
-        (a.1, a.2, d ∙ ap (λ gs. more (instance a.1 g) (instance_all a.1 gs)) (sym (last_goal g gs e)))
-    go ih false e r =
-        let k : List Step = asking g ∷ body_code gs (add_vars g seen) in
-        let a = goal-only g seen (k ++ rest) x y bs c.0 (reassoc (goal_code g seen) k rest none x y bs r) in
-        let q = asks-only (is_builtin g) (name g) (count_trees (arguments g)) (body_code gs (add_vars g seen) ++ rest) a.0 a.1 bs a.4 in
-        let d = ih q.1 a.1 q.0 c.1 q.3 in (
-          d.0,
-          λ w o. a.2 w o ∙ d.1 w (grows g seen w o),
-          q.2 ∙ ap (more (applied (name g) (spread a.0 1 (count_trees (arguments g))))) d.2 ∙ ap (λ t. more t (instance_all d.0 gs)) (a.3 ∙ seen_same g seen a.1 d.0 d.1),
-        )
-
-pub body-each : (h : ℕ → Tree) (gs : Trees) (seen : List ℕ) (rest : List Step) (x y : ℕ → Tree) → all_callable gs ≡ true → AgreeOn seen y h → Runs (body_code gs seen ++ rest) none x y (instance_all h gs)
-body-each h none seen rest x y i a = refl
-body-each h (more g gs) seen rest x y i a = go (λ x y i a. body-each h gs (add_vars g seen) rest x y i a) (is_last_call g gs) refl
-  where
-    c : (callable g ≡ true) × (all_callable gs ≡ true)
-    c = both_true (callable g) (all_callable gs) i
-
-    go : ((x y : ℕ → Tree) → all_callable gs ≡ true → AgreeOn (add_vars g seen) y h → Runs (body_code gs (add_vars g seen) ++ rest) none x y (instance_all h gs))
-        → (l : Bool) → is_last_call g gs ≡ l
-        → Runs ((if l then goal_code g seen ++ execute (name g) (count_trees (arguments g)) ∷ [] else goal_code g seen ++ (asking g ∷ body_code gs (add_vars g seen))) ++ rest) none x y (more (instance h g) (instance_all h gs))
-    go ih true e =
-        let k : List Step = execute (name g) (count_trees (arguments g)) ∷ [] in
-        reassoc_back (goal_code g seen) k rest none x y (more (instance h g) (instance_all h gs))
-        (goal-each h g seen (k ++ rest) x y (more (instance h g) (instance_all h gs)) c.0 a (λ x' y' a' e'.
-        ap (λ t. more t (instance_all h gs)) (sym e') ∙ ap (λ gs. more (applied (name g) (spread x' 1 (count_trees (arguments g)))) (instance_all h gs)) (last_goal g gs e)))
-    go ih false e =
-        let k : List Step = asking g ∷ body_code gs (add_vars g seen) in
-        reassoc_back (goal_code g seen) k rest none x y (more (instance h g) (instance_all h gs))
-        (goal-each h g seen (k ++ rest) x y (more (instance h g) (instance_all h gs)) c.0 a (λ x' y' a' e'.
-        asks-each (is_builtin g) (name g) (count_trees (arguments g)) (body_code gs (add_vars g seen) ++ rest) x' y' (more (instance h g) (instance_all h gs)) (instance_all h gs)
-        (ap (λ t. more t (instance_all h gs)) (sym e')) (λ z. ih z y' c.1 a')))
 
 -- ---- heads
 
@@ -705,7 +640,7 @@ module _ (bs : Trees) where
       get-each (node f ts) a seen m rest x y ag e r =
           let seen1 : List ℕ = see_all ts seen in (
             instance_all h ts,
-            count-instance h ts,
+            count_trees-instance_all h ts,
             e,
             reassoc_back (takes ts seen m) (opens ts seen1 m) rest (instance_all h ts) x y bs
                 (takes-each bs (opens ts seen1 m ++ rest) h ts seen m x y ag (λ x1 y1 s1 b1 t1 a1. opens-each ts seen1 m rest x1 y1 a1 t1 (λ x' y' s a. r x' y' (λ w i. s w i ∙ s1 w i) a))),
@@ -738,26 +673,3 @@ module _ (bs : Trees) where
         spread_under : (x x' : ℕ → Tree) (p n : ℕ) → ((w : ℕ) → w < p + n → x w ≡ x' w) → spread x p n ≡ spread x' p n
         spread_under x x' p zero h = refl
         spread_under x x' p (suc n) h = ap (λ t. more t (spread x (p + 1) n)) (h p (omega arith)) ∙ ap (more (x' p)) (spread_under x x' (p + 1) n (λ w i. h w (omega arith)))
-
--- ---- the whole clause
-
-pub reads : (rest : List Step) (c : Clause) → all_callable (plain_goals c.body) ≡ true → Reads (clause_code c.head (plain_goals c.body) ++ rest) (sequential c)
-reads rest c i =
-    let m : ℕ = count_trees (arguments c.head) + 1 in
-    let goals : Trees = plain_goals c.body in
-    let seen : List ℕ = add_all_vars (arguments c.head) [] in
-    let head : List Step = gets (arguments c.head) 1 [] m in
-    let body : List Step = body_code goals seen in
-    let split : clause_code c.head goals ++ rest ≡ head ++ (body ++ rest) = append_assoc head body rest in
-    record {
-      only = λ x y bs r.
-          let g = gets-only bs (arguments c.head) 1 [] m (body ++ rest) x y (let l : 1 + count_trees (arguments c.head) ≤ count_trees (arguments c.head) + 1 = omega arith in l) (subst (λ q. Runs q none x y bs) split r) in
-          let d = body-only goals seen rest g.0 g.1 bs i g.5 in
-          (d.0, g.4 ∙ seen_same_all (arguments c.head) [] g.1 d.0 d.1, d.2 ∙ sym (marked-calls d.0 goals));
-      each = λ x y bs a.
-          subst (Runs (clause_code c.head goals ++ rest) none x y) (sym (a.2 ∙ marked-calls a.0 goals))
-          (subst (λ q. Runs q none x y (instance_all a.0 goals)) (sym split)
-          (gets-each (instance_all a.0 goals) a.0 (arguments c.head) 1 [] m (body ++ rest) x y
-          (let l : 1 + count_trees (arguments c.head) ≤ count_trees (arguments c.head) + 1 = omega arith in l) (λ w o. absurd (false≢true o)) a.1
-          (λ x' y' a'. body-each a.0 goals seen rest x' y' i a')));
-    }

@@ -1,5 +1,6 @@
 -- Clauses one behind another, with choice instructions before them, are read in order.
 use Rattle.std.proofs.Common.{◌≡◌, ℕ, zero, suc, ◌+◌, ◌<◌, ◌≤◌, ◌==◌, Bool, true, false, if◌then◌else◌, List, [], ◌∷◌, ◌++◌, length, drop, map, ◌⊎◌, inl, inr, refl, ap, sym, ◌∙◌, subst, arith, append_assoc}
+use Rattle.ap_term.proofs.TreeLists.{count_trees-instance_all}
 use Rattle.std.specs.List.{AllZip}
 use Rattle.std.proofs.lemmas.Bool.Decides.{Decides-eqb}
 use Rattle.ap_term.specs.Tree.{Tree, Trees, var, none, more, count_trees}
@@ -57,14 +58,10 @@ spread_loaded p (more t ts) =
     ∙ ap (λ u. more u (spread (loaded p (more t ts)) (p + 1) (count_trees ts))) (set_here (loaded (p + 1) ts) p t)
     ∙ ap (more t) (spread_agree (loaded p (more t ts)) (loaded (p + 1) ts) (p + 1) (count_trees ts) (λ w i. set_above (loaded (p + 1) ts) p w t (omega arith)) ∙ spread_loaded (p + 1) ts)
 
-count_instance : (f : ℕ → Tree) (ts : Trees) → count_trees (instance_all f ts) ≡ count_trees ts
-count_instance f none = refl
-count_instance f (more t ts) = ap (λ n. n + 1) (count_instance f ts)
-
 not_other : (is : List Step) (c : Clause) → Reads (other ∷ is) c → ⊥
 not_other is c r =
     let ts : Trees = instance_all var (arguments c.head) in
-    r.each (loaded 1 ts) (λ w. var 0) (marked (map (placed var) c.body)) (var, ap (spread (loaded 1 ts) 1) (sym (count_instance var (arguments c.head))) ∙ spread_loaded 1 ts, refl)
+    r.each (loaded 1 ts) (λ w. var 0) (marked (map (placed var) c.body)) (var, ap (spread (loaded 1 ts) 1) (sym (count_trees-instance_all var (arguments c.head))) ∙ spread_loaded 1 ts, refl)
 
 single : (code : Compiled) (at : ℕ) (is : List Instr) (c : Clause) → Reads (steps_behind code at 0 is) c → alternatives at is ≡ at ∷ []
 single code at [] c r = refl

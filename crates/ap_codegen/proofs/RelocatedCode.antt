@@ -1,5 +1,6 @@
 -- Code whose variables stand in other places, and which is tested, is still the clause's code and keeps the rules of code.
-use Rattle.std.proofs.Common.{◌≡◌, ℕ, ◌<◌, Bool, true, false, ◌&&◌, List, [], ◌∷◌, map, Option, Some, None, MatchOption, inl, inr, refl, ap, sym, ◌∙◌, subst, arith}
+use Rattle.std.proofs.Common.{[], ◌≡◌, ℕ, ◌<◌, Bool, true, false, ◌&&◌, List, ◌∷◌, map, Option, Some, None, MatchOption, inl, inr, refl, ap, sym, ◌∙◌, subst, arith}
+use Rattle.std.proofs.lemmas.Bool.{and_parts}
 use Rattle.std.specs.List.{list_all}
 use Rattle.ap_term.specs.Tree.{Tree, Trees, none}
 use Rattle.ap_term.specs.Goals.{Clause}
@@ -12,12 +13,10 @@ use Rattle.ap_codegen.specs.Paces.{Paces, ArePaced, inside}
 use Rattle.ap_codegen.specs.declared.steps.Step.{Step as Emitted}
 use Rattle.ap_codegen.specs.declared.steps.Step.TheVariants.{Allocate}
 use Rattle.ap_codegen.specs.Framed.{leaving}
-use Rattle.ap_codegen.proofs.Framing.{framed_code}
 use Rattle.ap_codegen.specs.declared.relocating.Change.{Change as Chosen}
 use Rattle.ap_codegen.specs.declared.relocating.Change.TheVariants.{Kept, Dropped}
 use Rattle.ap_codegen.specs.Emitted.{step_of, steps_of}
 use Rattle.ap_codegen.specs.Relocated.{Change, kept, dropped, olds, news, relocated, Known, former, latter, all_kept, IsBegun, all_open, within, changes_of, step_in}
-use Rattle.ap_codegen.proofs.Registers.{both_true}
 use Rattle.ap_codegen.proofs.RelocatedReads.{Below, Held, Same, Alike, alike}
 use Rattle.ap_codegen.proofs.RelocatedPaces.{Implies, relocated_paces}
 use Rattle.ap_codegen.proofs.RelocatedOpen.{asks_openly}
@@ -53,9 +52,9 @@ olds_chosen (Dropped s ∷ cs) = ap (λ is. step_of s ∷ is) (olds_chosen cs)
 
 still_apart : (cs : List Change) → list_all calls_apart (olds cs) ≡ true → list_all calls_apart (news cs) ≡ true
 still_apart [] e = e
-still_apart (dropped i ∷ cs) e = still_apart cs (both_true (calls_apart i) (list_all calls_apart (olds cs)) e).1
+still_apart (dropped i ∷ cs) e = still_apart cs (and_parts (calls_apart i) (list_all calls_apart (olds cs)) e).1
 still_apart (kept i u a ∷ cs) e =
-    let b = both_true (calls_apart i) (list_all calls_apart (olds cs)) e in
+    let b = and_parts (calls_apart i) (list_all calls_apart (olds cs)) e in
     ap (λ c. c && list_all calls_apart (news cs)) (one i ∙ b.0) ∙ still_apart cs b.1
   where
     one : (i : Step) → calls_apart (relocated i u a) ≡ calls_apart i
@@ -85,11 +84,6 @@ tested_code room cs k c vars arity b f o p r = record {
   where
     same : (rest : List Step) (x y : ℕ → Tree) (bs : Trees) → Alike rest cs none x y x y bs
     same rest x y bs = alike room rest cs none k (inside vars arity) x y x y bs f p refl (begun_below k b) (begun_held Tree Same k x y y b (λ n. refl))
-
--- the same inside of an environment, where one is wanted
-pub entered_code : (room : Option ℕ) (es out : List Emitted) (c : Clause) → MatchOption room (out ≡ es) (λ vars. out ≡ Allocate vars ∷ leaving es) → IsCodeOf c (steps_of es) → IsCodeOf c (steps_of out)
-entered_code None es out c e r = subst (λ out. IsCodeOf c (steps_of out)) (sym e) r
-entered_code (Some vars) es out c e r = subst (λ out. IsCodeOf c (steps_of out)) (sym e) (framed_code c es vars r)
 
 pub entered_paces : (room : Option ℕ) (es out : List Emitted) (arity : ℕ) → MatchOption room (out ≡ es) (λ vars. out ≡ Allocate vars ∷ leaving es) → Paces (steps_of es) (within room arity) → ArePaced arity out
 entered_paces None es out arity e p = inl (subst (λ out. Paces (steps_of out) (entry arity)) (sym e) p)

@@ -2,7 +2,7 @@
 -- code without them.
 use Rattle.std.proofs.Common.{◌≡◌, ℕ, Bool, true, false, ◌&&◌, ◌||◌, List, [], ◌∷◌, map, Option, Some, None, MatchOption, refl, ap, sym, ◌∙◌, subst}
 use Rattle.std.specs.List.{list_all}
-use Rattle.std.proofs.lemmas.Bool.{false≢true}
+use Rattle.std.proofs.lemmas.Bool.{false≢true, and_parts}
 use Rattle.ap_term.specs.Goals.{Clause}
 use Rattle.ap_instr.specs.declared.instruction.Slot.{Slot}
 use Rattle.ap_instr.specs.declared.instruction.Slot.TheVariants.{X}
@@ -20,7 +20,6 @@ use Rattle.ap_codegen.specs.Framed.{leaving}
 use Rattle.ap_codegen.specs.Grouped.{straight, IsGroupedCode, IsEnded}
 use Rattle.ap_codegen.specs.Paces.{Paces, PacesLeads, inside}
 use Rattle.ap_codegen.specs.Relocated.{Known, change_of, changes_of, step_in, olds, news, is_kept, may_drop, accepts, is_end, passed, all_kept, all_open, IsBegun, within}
-use Rattle.ap_codegen.proofs.Registers.{both_true}
 use Rattle.ap_codegen.proofs.Straight.{is_straight, Straight}
 use Rattle.ap_codegen.proofs.EndedLeads.{ended_more, ended_some}
 use Rattle.ap_codegen.proofs.FramedLeads.{framed_grouped}
@@ -46,7 +45,7 @@ ArePlain is = list_all is_plain is ≡ true
 plain_straight : (is : List Step) → ArePlain is → Straight is
 plain_straight [] h = h
 plain_straight (i ∷ is) h =
-    let b = both_true (is_plain i) (list_all is_plain is) h in
+    let b = and_parts (is_plain i) (list_all is_plain is) h in
     ap (λ c. c && list_all is_straight is) (one i b.0) ∙ plain_straight is b.1
   where
     one : (i : Step) → is_plain i ≡ true → is_straight i ≡ true
@@ -85,11 +84,11 @@ not_end (Dropped s) e = refl
 chosen_plain : (room : Option ℕ) (cs : List Chosen) (k : Known) → all_kept room k (changes_of cs) ≡ true → IsEnded (leads_of (map step_in cs)) → ArePlain (steps_of (map step_in cs))
 chosen_plain room [] k f h = absurd h
 chosen_plain room (c ∷ []) k f h =
-    let b = both_true (accepts room k (change_of c)) (is_end (change_of c) || all_kept room (passed k (change_of c)) []) f in
+    let b = and_parts (accepts room k (change_of c)) (is_end (change_of c) || all_kept room (passed k (change_of c)) []) f in
     ap (λ p. p && true) (accepted_plain room k c b.0)
 chosen_plain room (c ∷ d ∷ cs) k f h =
     let more : Bool = all_kept room (passed k (change_of c)) (changes_of (d ∷ cs)) in
-    let b = both_true (accepts room k (change_of c)) (is_end (change_of c) || more) f in
+    let b = and_parts (accepts room k (change_of c)) (is_end (change_of c) || more) f in
     ap (λ p. p && list_all is_plain (steps_of (map step_in (d ∷ cs)))) (accepted_plain room k c b.0)
     ∙ chosen_plain room (d ∷ cs) (passed k (change_of c)) (ap (λ e. e || more) (sym (not_end c h.0)) ∙ b.1) h.2
 

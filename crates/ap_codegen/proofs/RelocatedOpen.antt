@@ -1,6 +1,6 @@
 -- Steps behind a goal that test nothing and keep the rules of code ask for something, whatever places hold.
 use Rattle.std.proofs.Common.{◌≡◌, ℕ, ◌+◌, ◌-◌, ◌<◌, ◌==◌, Bool, true, false, not, ◌||◌, if◌then◌else◌, List, [], ◌∷◌, ◌++◌, refl, ap, sym, ◌∙◌, subst, arith}
-use Rattle.std.proofs.lemmas.Bool.{false≢true}
+use Rattle.std.proofs.lemmas.Bool.{false≢true, and_parts, or_right}
 use Rattle.std.proofs.lemmas.Bool.Decides.{Decides-eqb}
 use Rattle.ap_term.specs.Tree.{Tree, Trees, atom, node, none, more, count_trees}
 use Rattle.ap_instr.specs.declared.instruction.Slot.{Slot}
@@ -11,7 +11,6 @@ use Rattle.ap_instr.specs.Runs.{Runs, read, set_x, set_y, set, spread, applied, 
 use Rattle.ap_codecheck.specs.Shape.{Shape, is_set, write, passed, behind_argument, after}
 use Rattle.ap_codegen.specs.Paces.{Paces}
 use Rattle.ap_codegen.specs.Relocated.{all_open}
-use Rattle.ap_codegen.proofs.Registers.{both_true}
 
 -- registers that hold the same where something is set
 abbrev Agree : Shape → (ℕ → Tree) → (ℕ → Tree) → Type 0
@@ -52,10 +51,6 @@ agree_written (X n) s t x z a = λ w e. go w (w == n) e
 agree_read : (v : Slot) (s : Shape) (x z y : ℕ → Tree) → is_set s v ≡ true → Agree s x z → read v z y ≡ read v x y
 agree_read (X n) s x z y e a = a n e
 agree_read (Y n) s x z y e a = refl
-
-or_true : (b : Bool) → (b || true) ≡ true
-or_true true = refl
-or_true false = refl
 
 module _ (rest : List Step) where
   opens : (is : List Step) (s : Shape) → all_open true is ≡ true → Paces is s → (x y : ℕ → Tree) → Opens (is ++ rest) s x y
@@ -100,27 +95,27 @@ module _ (rest : List Step) where
   opens (i ∷ is) s f p x y = absurd p
 
   is_open : (asked : Bool) (is : List Step) (s : Shape) → all_open (asked || true) is ≡ true → Paces is s → s.pending ≡ 0 → IsOpen (is ++ rest)
-  is_open asked is s f p o x y = outside (is ++ rest) s x y o (opens is s (subst (λ b. all_open b is ≡ true) (or_true asked) f) p x y)
+  is_open asked is s f p o x y = outside (is ++ rest) s x y o (opens is s (subst (λ b. all_open b is ≡ true) (or_right asked true refl) f) p x y)
 
   -- no test comes behind a goal
   pub asks_openly : (asked : Bool) (is : List Step) (s : Shape) → all_open asked is ≡ true → Paces is s → AsksOpenly (is ++ rest)
   asks_openly asked [] s f p = absurd (false≢true f)
-  asks_openly asked (unify_variable v ∷ is) s f p = asks_openly (asked || false) is (behind_argument (write v s)) (both_true (not asked || true) (all_open (asked || false) is) f).1 p.2
-  asks_openly asked (unify_value v ∷ is) s f p = asks_openly (asked || false) is (behind_argument s) (both_true (not asked || true) (all_open (asked || false) is) f).1 p.3
-  asks_openly asked (unify_constant t ∷ is) s f p = asks_openly (asked || false) is (behind_argument s) (both_true (not asked || true) (all_open (asked || false) is) f).1 p.1
-  asks_openly asked (get_variable v a ∷ is) s f p = asks_openly (asked || false) is (write v s) (both_true (not asked || true) (all_open (asked || false) is) f).1 p.4
-  asks_openly asked (get_value v a ∷ is) s f p = asks_openly (asked || false) is s (both_true (not asked || false) (all_open (asked || false) is) f).1 p.5
-  asks_openly asked (get_constant t a ∷ is) s f p = asks_openly (asked || false) is s (both_true (not asked || false) (all_open (asked || false) is) f).1 p.3
-  asks_openly asked (get_structure l n a ∷ is) s f p = asks_openly (asked || false) is (after (GetStructure l n a) s) (both_true (not asked || false) (all_open (asked || false) is) f).1 p.3
-  asks_openly asked (put_variable v a ∷ is) s f p = asks_openly (asked || false) is (after (PutVariable v a) s) (both_true (not asked || true) (all_open (asked || false) is) f).1 p.3
-  asks_openly asked (put_value v a ∷ is) s f p = asks_openly (asked || false) is (write (X a) s) (both_true (not asked || true) (all_open (asked || false) is) f).1 p.4
-  asks_openly asked (put_constant t a ∷ is) s f p = asks_openly (asked || false) is (write (X a) s) (both_true (not asked || true) (all_open (asked || false) is) f).1 p.2
-  asks_openly asked (put_structure l n a ∷ is) s f p = asks_openly (asked || false) is (after (PutStructure l n a) s) (both_true (not asked || true) (all_open (asked || false) is) f).1 p.2
+  asks_openly asked (unify_variable v ∷ is) s f p = asks_openly (asked || false) is (behind_argument (write v s)) (and_parts (not asked || true) (all_open (asked || false) is) f).1 p.2
+  asks_openly asked (unify_value v ∷ is) s f p = asks_openly (asked || false) is (behind_argument s) (and_parts (not asked || true) (all_open (asked || false) is) f).1 p.3
+  asks_openly asked (unify_constant t ∷ is) s f p = asks_openly (asked || false) is (behind_argument s) (and_parts (not asked || true) (all_open (asked || false) is) f).1 p.1
+  asks_openly asked (get_variable v a ∷ is) s f p = asks_openly (asked || false) is (write v s) (and_parts (not asked || true) (all_open (asked || false) is) f).1 p.4
+  asks_openly asked (get_value v a ∷ is) s f p = asks_openly (asked || false) is s (and_parts (not asked || false) (all_open (asked || false) is) f).1 p.5
+  asks_openly asked (get_constant t a ∷ is) s f p = asks_openly (asked || false) is s (and_parts (not asked || false) (all_open (asked || false) is) f).1 p.3
+  asks_openly asked (get_structure l n a ∷ is) s f p = asks_openly (asked || false) is (after (GetStructure l n a) s) (and_parts (not asked || false) (all_open (asked || false) is) f).1 p.3
+  asks_openly asked (put_variable v a ∷ is) s f p = asks_openly (asked || false) is (after (PutVariable v a) s) (and_parts (not asked || true) (all_open (asked || false) is) f).1 p.3
+  asks_openly asked (put_value v a ∷ is) s f p = asks_openly (asked || false) is (write (X a) s) (and_parts (not asked || true) (all_open (asked || false) is) f).1 p.4
+  asks_openly asked (put_constant t a ∷ is) s f p = asks_openly (asked || false) is (write (X a) s) (and_parts (not asked || true) (all_open (asked || false) is) f).1 p.2
+  asks_openly asked (put_structure l n a ∷ is) s f p = asks_openly (asked || false) is (after (PutStructure l n a) s) (and_parts (not asked || true) (all_open (asked || false) is) f).1 p.2
   asks_openly asked (call g n ∷ is) s f p =
-      let d = (both_true (not asked || true) (all_open (asked || true) is) f).1 in
+      let d = (and_parts (not asked || true) (all_open (asked || true) is) f).1 in
       (is_open asked is (after (Call 0) s) d p.3 p.2, asks_openly (asked || true) is (after (Call 0) s) d p.3)
   asks_openly asked (builtin g n ∷ is) s f p =
-      let d = (both_true (not asked || true) (all_open (asked || true) is) f).1 in
+      let d = (and_parts (not asked || true) (all_open (asked || true) is) f).1 in
       (is_open asked is s d p.2 p.1, asks_openly (asked || true) is s d p.2)
   asks_openly asked (execute g n ∷ is) s f p = tt
   asks_openly asked (proceed ∷ is) s f p = tt

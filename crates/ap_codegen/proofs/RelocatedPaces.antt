@@ -1,6 +1,6 @@
 -- Code whose variables stand in other places keeps the rules of code one by one.
 use Rattle.std.proofs.Common.{◌≡◌, ◌≢◌, ℕ, ◌-◌, ◌<◌, nat_le, ◌==◌, Bool, true, false, ◌&&◌, if◌then◌else◌, is_some, List, [], ◌∷◌, Option, Some, None, ◌⊎◌, inl, inr, refl, ap, sym, ◌∙◌, subst, arith}
-use Rattle.std.proofs.lemmas.Bool.{false≢true}
+use Rattle.std.proofs.lemmas.Bool.{false≢true, and_parts}
 use Rattle.std.proofs.lemmas.Bool.Decides.{nat_tests}
 use Rattle.ap_instr.specs.declared.instruction.Slot.{Slot}
 use Rattle.ap_instr.specs.declared.instruction.Slot.TheVariants.{X, Y}
@@ -11,7 +11,7 @@ use Rattle.ap_codecheck.specs.Shape.{Shape, unset, is_set, write, with_target, p
 use Rattle.ap_codecheck.specs.Rules.{ArgumentsSet, IsRoomFor}
 use Rattle.ap_codegen.specs.Paces.{IsSlot, Paces}
 use Rattle.ap_codegen.specs.Relocated.{Change, kept, dropped, olds, news, Known, former, latter, is_same, all_same, is_within, has_room, set_former, set_latter, set_both, behind_call, all_kept}
-use Rattle.ap_codegen.proofs.Registers.{both_true, read_here, read_other, same_slot}
+use Rattle.ap_codegen.proofs.Registers.{read_here, read_other, same_slot}
 use Rattle.ap_codegen.proofs.RelocatedReads.{above_zero, Below, below_former, below_latter, below_both, below_call, Held, held_former, held_latter, held_both, held_call, same_held, one_same}
 
 -- what is set in the one code is set in the other
@@ -140,7 +140,7 @@ below_room n (Some m) e = grind (arith, nat_tests)
 
 slot_of : (room : Option ℕ) (u : Slot) (z : Shape) → has_room room u ≡ true → z.room ≡ room → IsSlot u z
 slot_of room (X n) z e r = above_zero n e
-slot_of room (Y n) z e r = let b = both_true (nat_le 1 n) (is_within n room) e in (above_zero n b.0, subst (IsRoomFor n) (sym r) (below_room n room b.1))
+slot_of room (Y n) z e r = let b = and_parts (nat_le 1 n) (is_within n room) e in (above_zero n b.0, subst (IsRoomFor n) (sym r) (below_room n room b.1))
 
 place_set : (k : Known) (v u : Slot) (s z : Shape) → is_same k v u ≡ true → Sets k s z → is_set s v ≡ true → is_set z u ≡ true
 place_set k v u s z f h e = read_set z u ∙ same_held Bool Implies k v u s.x s.y z.x z.y f h (sym (read_set s v) ∙ e)
@@ -174,9 +174,9 @@ module _ (room : Option ℕ) where
   relocated_paces (kept (get_variable v a) u a' ∷ cs) k s z f b h p =
       let j : Known = set_former k v (former k (X a)) in
       let i : Known = set_latter j u (latter k (X a')) in
-      let d = both_true ((has_room room u && nat_le 1 a') && is_same k (X a) (X a')) (all_kept room i cs) f in
-      let e = both_true (has_room room u && nat_le 1 a') (is_same k (X a) (X a')) d.0 in
-      let c = both_true (has_room room u) (nat_le 1 a') e.0 in
+      let d = and_parts ((has_room room u && nat_le 1 a') && is_same k (X a) (X a')) (all_kept room i cs) f in
+      let e = and_parts (has_room room u && nat_le 1 a') (is_same k (X a) (X a')) d.0 in
+      let c = and_parts (has_room room u) (nat_le 1 a') e.0 in
       let there : is_set z (X a') ≡ true = place_set k (X a) (X a') s z e.1 h.sets p.2 in
       let after_move : Sets j (write v s) z = moved_sets k v (X a) s z p.2 h.sets in
       let b1 : Below j = below_former k v (former k (X a)) (b.formers (X a)) b in (
@@ -188,18 +188,18 @@ module _ (room : Option ℕ) where
             (shift room k i s z (write v s) (write u z) p.3 refl refl refl (placed_sets j u (X a') (latter k (X a')) (write v s) z refl there after_move) h) p.4,
       )
   relocated_paces (kept (get_value v a) u a' ∷ cs) k s z f b h p =
-      let d = both_true ((has_room room u && nat_le 1 a') && (is_same k v u && is_same k (X a) (X a'))) (all_kept room k cs) f in
-      let e = both_true (has_room room u && nat_le 1 a') (is_same k v u && is_same k (X a) (X a')) d.0 in
-      let c = both_true (has_room room u) (nat_le 1 a') e.0 in
-      let g = both_true (is_same k v u) (is_same k (X a) (X a')) e.1 in
+      let d = and_parts ((has_room room u && nat_le 1 a') && (is_same k v u && is_same k (X a) (X a'))) (all_kept room k cs) f in
+      let e = and_parts (has_room room u && nat_le 1 a') (is_same k v u && is_same k (X a) (X a')) d.0 in
+      let c = and_parts (has_room room u) (nat_le 1 a') e.0 in
+      let g = and_parts (is_same k v u) (is_same k (X a) (X a')) e.1 in
       (slot_of room u z c.0 h.room, above_zero a' c.1, place_set k v u s z g.0 h.sets p.2, place_set k (X a) (X a') s z g.1 h.sets p.3, h.pending ∙ p.4, relocated_paces cs k s z d.1 b h p.5)
   relocated_paces (kept (get_constant t a) u a' ∷ cs) k s z f b h p =
-      let d = both_true (nat_le 1 a' && is_same k (X a) (X a')) (all_kept room k cs) f in
-      let e = both_true (nat_le 1 a') (is_same k (X a) (X a')) d.0 in
+      let d = and_parts (nat_le 1 a' && is_same k (X a) (X a')) (all_kept room k cs) f in
+      let e = and_parts (nat_le 1 a') (is_same k (X a) (X a')) d.0 in
       (above_zero a' e.0, place_set k (X a) (X a') s z e.1 h.sets p.1, h.pending ∙ p.2, relocated_paces cs k s z d.1 b h p.3)
   relocated_paces (kept (get_structure l n a) u a' ∷ cs) k s z f b h p =
-      let d = both_true (nat_le 1 a' && is_same k (X a) (X a')) (all_kept room k cs) f in
-      let e = both_true (nat_le 1 a') (is_same k (X a) (X a')) d.0 in (
+      let d = and_parts (nat_le 1 a' && is_same k (X a) (X a')) (all_kept room k cs) f in
+      let e = and_parts (nat_le 1 a') (is_same k (X a) (X a')) d.0 in (
         above_zero a' e.0,
         place_set k (X a) (X a') s z e.1 h.sets p.1,
         h.pending ∙ p.2,
@@ -209,8 +209,8 @@ module _ (room : Option ℕ) where
       let k1 : Known = set_both k v u in
       let k2 : Known = set_former k1 (X a) k.next in
       let k3 : Known = set_latter k2 (X a') k.next in
-      let d = both_true (has_room room u && nat_le 1 a') (all_kept room k3 cs) f in
-      let c = both_true (has_room room u) (nat_le 1 a') d.0 in
+      let d = and_parts (has_room room u && nat_le 1 a') (all_kept room k3 cs) f in
+      let c = and_parts (has_room room u) (nat_le 1 a') d.0 in
       let b1 : Below k1 = below_both k v u b in
       let b2 : Below k2 = below_former k1 (X a) k.next (omega arith) b1 in
       let b3 : Below k3 = below_latter k2 (X a') k.next (omega arith) b2 in
@@ -230,9 +230,9 @@ module _ (room : Option ℕ) where
   relocated_paces (kept (put_value v a) u a' ∷ cs) k s z f b h p =
       let j : Known = set_former k (X a) (former k v) in
       let i : Known = set_latter j (X a') (latter k u) in
-      let d = both_true ((has_room room u && nat_le 1 a') && is_same k v u) (all_kept room i cs) f in
-      let e = both_true (has_room room u && nat_le 1 a') (is_same k v u) d.0 in
-      let c = both_true (has_room room u) (nat_le 1 a') e.0 in
+      let d = and_parts ((has_room room u && nat_le 1 a') && is_same k v u) (all_kept room i cs) f in
+      let e = and_parts (has_room room u && nat_le 1 a') (is_same k v u) d.0 in
+      let c = and_parts (has_room room u) (nat_le 1 a') e.0 in
       let there : is_set z u ≡ true = place_set k v u s z e.1 h.sets p.2 in
       let after_move : Sets j (write (X a) s) z = moved_sets k (X a) v s z p.2 h.sets in
       let b1 : Below j = below_former k (X a) (former k v) (b.formers v) b in (
@@ -245,22 +245,22 @@ module _ (room : Option ℕ) where
       )
   relocated_paces (kept (put_constant t a) u a' ∷ cs) k s z f b h p =
       let i : Known = set_both k (X a) (X a') in
-      let d = both_true (nat_le 1 a') (all_kept room i cs) f in
+      let d = and_parts (nat_le 1 a') (all_kept room i cs) f in
       (above_zero a' d.0, h.pending ∙ p.1, relocated_paces cs i (write (X a) s) (write (X a') z) d.1 (below_both k (X a) (X a') b) (taken_shifted room k (X a) (X a') s z b h) p.2)
   relocated_paces (kept (put_structure l n a) u a' ∷ cs) k s z f b h p =
       let i : Known = set_both k (X a) (X a') in
-      let d = both_true (nat_le 1 a') (all_kept room i cs) f in
+      let d = and_parts (nat_le 1 a') (all_kept room i cs) f in
       (above_zero a' d.0, h.pending ∙ p.1, relocated_paces cs i (after (PutStructure l n a) s) (after (PutStructure l n a') z) d.1 (below_both k (X a) (X a') b) (built_shifted room k l n a a' s z b h) p.2)
   relocated_paces (kept (unify_variable v) u a ∷ cs) k s z f b h p =
       let i : Known = set_both k v u in
-      let d = both_true (has_room room u) (all_kept room i cs) f in (
+      let d = and_parts (has_room room u) (all_kept room i cs) f in (
         slot_of room u z d.0 h.room,
         subst (λ q. 0 < q) (sym h.pending) p.1,
         relocated_paces cs i (behind_argument (write v s)) (behind_argument (write u z)) d.1 (below_both k v u b) (behind_shifted room i (write v s) (write u z) p.1 (taken_shifted room k v u s z b h)) p.2,
       )
   relocated_paces (kept (unify_value v) u a ∷ cs) k s z f b h p =
-      let d = both_true (has_room room u && is_same k v u) (all_kept room k cs) f in
-      let e = both_true (has_room room u) (is_same k v u) d.0 in (
+      let d = and_parts (has_room room u && is_same k v u) (all_kept room k cs) f in
+      let e = and_parts (has_room room u) (is_same k v u) d.0 in (
         slot_of room u z e.0 h.room,
         place_set k v u s z e.1 h.sets p.1,
         subst (λ q. 0 < q) (sym h.pending) p.2,
@@ -269,8 +269,8 @@ module _ (room : Option ℕ) where
   relocated_paces (kept (unify_constant t) u a ∷ cs) k s z f b h p =
       (subst (λ q. 0 < q) (sym h.pending) p.0, relocated_paces cs k (behind_argument s) (behind_argument z) f b (behind_shifted room k s z p.0 h) p.1)
   relocated_paces (kept (call g n) u a ∷ cs) k s z f b h p =
-      let d = both_true (is_some room && all_same k n) (all_kept room (behind_call k) cs) f in
-      let e = both_true (is_some room) (all_same k n) d.0 in (
+      let d = and_parts (is_some room && all_same k n) (all_kept room (behind_call k) cs) f in
+      let e = and_parts (is_some room) (all_same k n) d.0 in (
         arguments_set k n s z e.1 h.sets p.0,
         ap is_some h.room ∙ e.0,
         h.pending ∙ p.2,
@@ -278,8 +278,8 @@ module _ (room : Option ℕ) where
             (shift room k (behind_call k) s z (after (Call 0) s) (after (Call 0) z) p.2 refl refl refl (held_call Bool Implies k s.x s.y z.x z.y unset unset h.sets) h) p.3,
       )
   relocated_paces (kept (builtin g n) u a ∷ cs) k s z f b h p =
-      let d = both_true (all_same k n) (all_kept room k cs) f in
+      let d = and_parts (all_same k n) (all_kept room k cs) f in
       (arguments_set k n s z d.0 h.sets p.0, h.pending ∙ p.1, relocated_paces cs k s z d.1 b h p.2)
-  relocated_paces (kept (execute g n) u a ∷ cs) k s z f b h p = (arguments_set k n s z (both_true (all_same k n) true f).0 h.sets p.0, h.pending ∙ p.1, no_changes cs p.2)
+  relocated_paces (kept (execute g n) u a ∷ cs) k s z f b h p = (arguments_set k n s z (and_parts (all_same k n) true f).0 h.sets p.0, h.pending ∙ p.1, no_changes cs p.2)
   relocated_paces (kept proceed u a ∷ cs) k s z f b h p = (h.pending ∙ p.0, no_changes cs p.1)
   relocated_paces (kept i u a ∷ cs) k s z f b h p = absurd p

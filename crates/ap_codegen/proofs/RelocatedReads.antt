@@ -1,6 +1,6 @@
 -- Code whose variables stand in other places asks for the same.
 use Rattle.std.proofs.Common.{◌≡◌, ◌≢◌, ℕ, zero, suc, ◌+◌, ◌<◌, ◌≤◌, nat_le, ◌==◌, Bool, true, false, ◌&&◌, List, [], ◌∷◌, ◌++◌, Option, is_some, ◌⊎◌, inl, inr, refl, ap, sym, ◌∙◌, subst, arith}
-use Rattle.std.proofs.lemmas.Bool.{false≢true}
+use Rattle.std.proofs.lemmas.Bool.{false≢true, and_parts}
 use Rattle.std.proofs.lemmas.Bool.Decides.{Decides-eqb, nat_tests}
 use Rattle.ap_term.specs.Tree.{Tree, Trees, node, none, more, count_trees}
 use Rattle.ap_instr.specs.declared.instruction.Slot.{Slot}
@@ -11,7 +11,7 @@ use Rattle.ap_instr.specs.Runs.{Runs, read, set_x, set_y, set, spread, applied, 
 use Rattle.ap_codecheck.specs.Shape.{Shape, write, passed, behind_argument, after}
 use Rattle.ap_codegen.specs.Paces.{Paces}
 use Rattle.ap_codegen.specs.Relocated.{Change, kept, dropped, olds, news, by, Known, former, latter, is_same, all_same, has_room, set_former, set_latter, set_both, behind_call, all_kept}
-use Rattle.ap_codegen.proofs.Registers.{both_true, read_here, read_other, same_slot}
+use Rattle.ap_codegen.proofs.Registers.{read_here, read_other, same_slot}
 
 pub above_zero : (n : ℕ) → nat_le 1 n ≡ true → 0 < n
 above_zero n e = grind (arith, nat_tests)
@@ -116,11 +116,11 @@ module _ (A : Type 0) (R : A → A → Type 0) where
   held_call k x y x' y' z z' h (Y n) (Y m) p q = h (Y n) (Y m) p q
 
   pub same_held : (k : Known) (v u : Slot) (x y x' y' : ℕ → A) → is_same k v u ≡ true → Held k x y x' y' → R (read v x y) (read u x' y')
-  same_held k v u x y x' y' e h = let b = both_true (nat_le 1 (former k v)) (former k v == latter k u) e in h v u (above_zero (former k v) b.0) ((Decides-eqb (former k v) (latter k u)).0 b.1)
+  same_held k v u x y x' y' e h = let b = and_parts (nat_le 1 (former k v)) (former k v == latter k u) e in h v u (above_zero (former k v) b.0) ((Decides-eqb (former k v) (latter k u)).0 b.1)
 
 pub one_same : (k : Known) (n a : ℕ) → 0 < a → a ≤ n → all_same k n ≡ true → is_same k (X a) (X a) ≡ true
 one_same k zero a p l e = absurd (omega arith)
-one_same k (suc n) a p l e = let b = both_true (all_same k n) (is_same k (X (suc n)) (X (suc n))) e in go (λ p l i. one_same k n a p l i) (a == suc n) refl b.0 b.1
+one_same k (suc n) a p l e = let b = and_parts (all_same k n) (is_same k (X (suc n)) (X (suc n))) e in go (λ p l i. one_same k n a p l i) (a == suc n) refl b.0 b.1
   where
     go : (0 < a → a ≤ n → all_same k n ≡ true → is_same k (X a) (X a) ≡ true) → (c : Bool) → (a == suc n) ≡ c → all_same k n ≡ true → is_same k (X (suc n)) (X (suc n)) ≡ true → is_same k (X a) (X a) ≡ true
     go ih true q i j = subst (λ a. is_same k (X a) (X a) ≡ true) (sym ((Decides-eqb a (suc n)).0 q)) j
@@ -156,12 +156,12 @@ module _ (room : Option ℕ) where
       → all_kept room k cs ≡ true → Paces (olds cs) s → s.pending ≡ count_trees ts → Below k → Held Tree Same k x y x' y' → Alike rest cs ts x y x' y' bs
   alike rest [] ts k s x y x' y' bs f p c b h = absurd (false≢true f)
   alike rest (kept (unify_variable v) u a ∷ cs) (more t ts) k s x y x' y' bs f p c b h =
-      let d = both_true (has_room room u) (all_kept room (set_both k v u) cs) f in
+      let d = and_parts (has_room room u) (all_kept room (set_both k v u) cs) f in
       alike rest cs ts (set_both k v u) (behind_argument (write v s)) (set_x v t x) (set_y v t y) (set_x u t x') (set_y u t y') bs d.1 p.2 (behind_pending (write v s) (count_trees ts) c) (below_both k v u b)
       (held_both Tree Same k v u t t x y x' y' b refl h)
   alike rest (kept (unify_value v) u a ∷ cs) (more t ts) k s x y x' y' bs f p c b h =
-      let d = both_true (has_room room u && is_same k v u) (all_kept room k cs) f in
-      let e = same_held Tree Same k v u x y x' y' (both_true (has_room room u) (is_same k v u) d.0).1 h in
+      let d = and_parts (has_room room u && is_same k v u) (all_kept room k cs) f in
+      let e = same_held Tree Same k v u x y x' y' (and_parts (has_room room u) (is_same k v u) d.0).1 h in
       let q = alike rest cs ts k (behind_argument s) x y x' y' bs d.1 p.3 (behind_pending s (count_trees ts) c) b h in
       (λ r. (sym e ∙ r.0, q.0 r.1), λ r. (e ∙ r.0, q.1 r.1))
   alike rest (kept (unify_constant t0) u a ∷ cs) (more t ts) k s x y x' y' bs f p c b h =
@@ -178,33 +178,33 @@ module _ (room : Option ℕ) where
       let n : ℕ = former k (X a) in
       let m : ℕ = latter k (X a') in
       let k1 : Known = set_former k v n in
-      let d = both_true ((has_room room u && nat_le 1 a') && is_same k (X a) (X a')) (all_kept room (set_latter k1 u m) cs) f in
+      let d = and_parts ((has_room room u && nat_le 1 a') && is_same k (X a) (X a')) (all_kept room (set_latter k1 u m) cs) f in
       let b1 : Below k1 = below_former k v n (b.formers (X a)) b in
       let h1 : Held Tree Same k1 (set_x v (x a) x) (set_y v (x a) y) x' y' = held_former Tree Same k v (X a) n (x a) x y x' y' refl refl h in
       alike rest cs none (set_latter k1 u m) (write v s) (set_x v (x a) x) (set_y v (x a) y) (set_x u (x' a') x') (set_y u (x' a') y') bs d.1 p.4 c (below_latter k1 u m (b.latters (X a')) b1)
       (held_latter Tree Same k1 u (X a') m (x' a') (set_x v (x a) x) (set_y v (x a) y) x' y' refl refl h1)
   alike rest (kept (get_value v a) u a' ∷ cs) none k s x y x' y' bs f p c b h =
-      let d = both_true ((has_room room u && nat_le 1 a') && (is_same k v u && is_same k (X a) (X a'))) (all_kept room k cs) f in
-      let z = both_true (is_same k v u) (is_same k (X a) (X a')) (both_true (has_room room u && nat_le 1 a') (is_same k v u && is_same k (X a) (X a')) d.0).1 in
+      let d = and_parts ((has_room room u && nat_le 1 a') && (is_same k v u && is_same k (X a) (X a'))) (all_kept room k cs) f in
+      let z = and_parts (is_same k v u) (is_same k (X a) (X a')) (and_parts (has_room room u && nat_le 1 a') (is_same k v u && is_same k (X a) (X a')) d.0).1 in
       let e = same_held Tree Same k v u x y x' y' z.0 h in
       let g = same_held Tree Same k (X a) (X a') x y x' y' z.1 h in
       let q = alike rest cs none k s x y x' y' bs d.1 p.5 c b h in
       (λ r. (sym e ∙ r.0 ∙ g, q.0 r.1), λ r. (e ∙ r.0 ∙ sym g, q.1 r.1))
   alike rest (kept (get_constant t0 a) u a' ∷ cs) none k s x y x' y' bs f p c b h =
-      let d = both_true (nat_le 1 a' && is_same k (X a) (X a')) (all_kept room k cs) f in
-      let g = same_held Tree Same k (X a) (X a') x y x' y' (both_true (nat_le 1 a') (is_same k (X a) (X a')) d.0).1 h in
+      let d = and_parts (nat_le 1 a' && is_same k (X a) (X a')) (all_kept room k cs) f in
+      let g = same_held Tree Same k (X a) (X a') x y x' y' (and_parts (nat_le 1 a') (is_same k (X a) (X a')) d.0).1 h in
       let q = alike rest cs none k s x y x' y' bs d.1 p.3 c b h in
       (λ r. (sym g ∙ r.0, q.0 r.1), λ r. (g ∙ r.0, q.1 r.1))
   alike rest (kept (get_structure l n a) u a' ∷ cs) none k s x y x' y' bs f p c b h =
-      let d = both_true (nat_le 1 a' && is_same k (X a) (X a')) (all_kept room k cs) f in
-      let g = same_held Tree Same k (X a) (X a') x y x' y' (both_true (nat_le 1 a') (is_same k (X a) (X a')) d.0).1 h in
+      let d = and_parts (nat_le 1 a' && is_same k (X a) (X a')) (all_kept room k cs) f in
+      let g = same_held Tree Same k (X a) (X a') x y x' y' (and_parts (nat_le 1 a') (is_same k (X a) (X a')) d.0).1 h in
       let q : (ts : Trees) → n ≡ count_trees ts → Alike rest cs ts x y x' y' bs = λ ts m. alike rest cs ts k (after (GetStructure l n a) s) x y x' y' bs d.1 p.3 m b h in
       (λ r. (r.0, r.1, sym g ∙ r.2, (q r.0 (sym r.1)).0 r.3), λ r. (r.0, r.1, g ∙ r.2, (q r.0 (sym r.1)).1 r.3))
   alike rest (kept (put_variable v a) u a' ∷ cs) none k s x y x' y' bs f p c b h =
       let k1 : Known = set_both k v u in
       let k2 : Known = set_former k1 (X a) k.next in
       let k3 : Known = set_latter k2 (X a') k.next in
-      let d = both_true (has_room room u && nat_le 1 a') (all_kept room k3 cs) f in
+      let d = and_parts (has_room room u && nat_le 1 a') (all_kept room k3 cs) f in
       let b1 : Below k1 = below_both k v u b in
       let b2 : Below k2 = below_former k1 (X a) k.next (omega arith) b1 in
       let b3 : Below k3 = below_latter k2 (X a') k.next (omega arith) b2 in
@@ -218,7 +218,7 @@ module _ (room : Option ℕ) where
       let n : ℕ = former k v in
       let m : ℕ = latter k u in
       let k1 : Known = set_former k (X a) n in
-      let d = both_true ((has_room room u && nat_le 1 a') && is_same k v u) (all_kept room (set_latter k1 (X a') m) cs) f in
+      let d = and_parts ((has_room room u && nat_le 1 a') && is_same k v u) (all_kept room (set_latter k1 (X a') m) cs) f in
       let b1 : Below k1 = below_former k (X a) n (b.formers v) b in
       let t : Tree = read v x y in
       let t' : Tree = read u x' y' in
@@ -226,24 +226,24 @@ module _ (room : Option ℕ) where
       alike rest cs none (set_latter k1 (X a') m) (write (X a) s) (set x a t) y (set x' a' t') y' bs d.1 p.4 c (below_latter k1 (X a') m (b.latters u) b1)
       (held_latter Tree Same k1 (X a') u m t' (set x a t) y x' y' refl refl h1)
   alike rest (kept (put_constant t a) u a' ∷ cs) none k s x y x' y' bs f p c b h =
-      let d = both_true (nat_le 1 a') (all_kept room (set_both k (X a) (X a')) cs) f in
+      let d = and_parts (nat_le 1 a') (all_kept room (set_both k (X a) (X a')) cs) f in
       alike rest cs none (set_both k (X a) (X a')) (write (X a) s) (set x a t) y (set x' a' t) y' bs d.1 p.2 c (below_both k (X a) (X a') b) (held_both Tree Same k (X a) (X a') t t x y x' y' b refl h)
   alike rest (kept (put_structure l n a) u a' ∷ cs) none k s x y x' y' bs f p c b h =
-      let d = both_true (nat_le 1 a') (all_kept room (set_both k (X a) (X a')) cs) f in
+      let d = and_parts (nat_le 1 a') (all_kept room (set_both k (X a) (X a')) cs) f in
       let q : (ts : Trees) → n ≡ count_trees ts → Alike rest cs ts (set x a (node l ts)) y (set x' a' (node l ts)) y' bs =
       λ ts m. alike rest cs ts (set_both k (X a) (X a')) (after (PutStructure l n a) s) (set x a (node l ts)) y (set x' a' (node l ts)) y' bs d.1 p.2 m (below_both k (X a) (X a') b)
       (held_both Tree Same k (X a) (X a') (node l ts) (node l ts) x y x' y' b refl h) in
       (λ r. (r.0, r.1, (q r.0 (sym r.1)).0 r.2), λ r. (r.0, r.1, (q r.0 (sym r.1)).1 r.2))
   alike rest (kept (call g n) u a ∷ cs) none k s x y x' y' bs f p c b h =
-      let d = both_true (is_some room && all_same k n) (all_kept room (behind_call k) cs) f in
-      let e : spread x' 1 n ≡ spread x 1 n = spread_same k n 1 n x y x' y' (omega arith) (omega arith) (both_true (is_some room) (all_same k n) d.0).1 h in
+      let d = and_parts (is_some room && all_same k n) (all_kept room (behind_call k) cs) f in
+      let e : spread x' 1 n ≡ spread x 1 n = spread_same k n 1 n x y x' y' (omega arith) (omega arith) (and_parts (is_some room) (all_same k n) d.0).1 h in
       let q : (ds : Trees) → Alike rest cs none lost y lost y' ds = λ ds. alike rest cs none (behind_call k) (after (Call 0) s) lost y lost y' ds d.1 p.3 c (below_call k b) (held_call Tree Same k x y x' y' lost lost h) in
       (λ r. (r.0, r.1 ∙ ap (λ ts. more (applied g ts) r.0) e, (q r.0).0 r.2), λ r. (r.0, r.1 ∙ ap (λ ts. more (applied g ts) r.0) (sym e), (q r.0).1 r.2))
   alike rest (kept (execute g n) u a ∷ cs) none k s x y x' y' bs f p c b h =
-      let e : spread x' 1 n ≡ spread x 1 n = spread_same k n 1 n x y x' y' (omega arith) (omega arith) (both_true (all_same k n) true f).0 h in
+      let e : spread x' 1 n ≡ spread x 1 n = spread_same k n 1 n x y x' y' (omega arith) (omega arith) (and_parts (all_same k n) true f).0 h in
       (λ r. r ∙ ap (λ ts. more (applied g ts) none) e, λ r. r ∙ ap (λ ts. more (applied g ts) none) (sym e))
   alike rest (kept (builtin g n) u a ∷ cs) none k s x y x' y' bs f p c b h =
-      let d = both_true (all_same k n) (all_kept room k cs) f in
+      let d = and_parts (all_same k n) (all_kept room k cs) f in
       let e : spread x' 1 n ≡ spread x 1 n = spread_same k n 1 n x y x' y' (omega arith) (omega arith) d.0 h in
       let q : (ds : Trees) → Alike rest cs none x y x' y' ds = λ ds. alike rest cs none k s x y x' y' ds d.1 p.2 c b h in
       (λ r. (r.0, r.1 ∙ ap (λ ts. more (applied g ts) r.0) e, (q r.0).0 r.2), λ r. (r.0, r.1 ∙ ap (λ ts. more (applied g ts) r.0) (sym e), (q r.0).1 r.2))

@@ -1,7 +1,7 @@
 -- Steps that pass over none are the clause's code with its groups where they are its code without labels.
 use Rattle.std.proofs.Common.{◌≡◌, true, ◌&&◌, List, [], ◌∷◌, ◌++◌, refl, ap, sym, ◌∙◌, subst}
 use Rattle.std.specs.List.{list_all}
-use Rattle.std.proofs.lemmas.Bool.{false≢true}
+use Rattle.std.proofs.lemmas.Bool.{false≢true, and_parts}
 use Rattle.ap_term.specs.Goals.{Clause}
 use Rattle.ap_instr.specs.Step.{Step, jump, check_ground, check_indep}
 use Rattle.ap_instr.specs.Runs.{Reads, AsksOpenly}
@@ -10,7 +10,6 @@ use Rattle.ap_codegen.specs.declared.steps.Step.TheVariants.{Jump, CheckGround, 
 use Rattle.ap_codegen.specs.Emitted.{step_of, steps_of, Lead, lead_of, leads_of}
 use Rattle.ap_codegen.specs.CodeOf.{calls_apart, IsCodeOf}
 use Rattle.ap_codegen.specs.Grouped.{passed_over, flow, straight, is_check, AreTurns, IsGroupedCode}
-use Rattle.ap_codegen.proofs.Registers.{both_true}
 use Rattle.ap_codegen.proofs.Straight.{is_straight, Straight}
 
 -- ---- what runs
@@ -35,7 +34,7 @@ checks_nothing _ e f = false≢true f
 straight_turns : (is : List Step) (rest : List Lead) → Straight is → AreTurns (straight is) rest
 straight_turns [] rest s = tt
 straight_turns (i ∷ is) rest s =
-    let b = both_true (is_straight i) (list_all is_straight is) s in
+    let b = and_parts (is_straight i) (list_all is_straight is) s in
     (λ e. absurd (checks_nothing i b.0 e), straight_turns is rest b.1)
 
 straight_apart : (is : List Step) → list_all (λ l. calls_apart l.0) (straight is) ≡ list_all calls_apart is
@@ -65,7 +64,7 @@ grouped_straight c is k = record {
 pub straight_leads : (es : List Emitted) → Straight (steps_of es) → leads_of es ≡ straight (steps_of es)
 straight_leads [] s = refl
 straight_leads (e ∷ es) s =
-    let b = both_true (is_straight (step_of e)) (list_all is_straight (steps_of es)) s in
+    let b = and_parts (is_straight (step_of e)) (list_all is_straight (steps_of es)) s in
     ap (λ l. l ∷ leads_of es) (one e b.0) ∙ ap (λ ls. (step_of e, 0) ∷ ls) (straight_leads es b.1)
   where
     one : (e : Emitted) → is_straight (step_of e) ≡ true → lead_of e ≡ (step_of e, 0)

@@ -1,6 +1,6 @@
 -- Steps with numbers of tables keep the rules of code.
-use Rattle.std.proofs.Common.{◌≡◌, ℕ, ◌+◌, ◌<◌, nat_lt, ◌==◌, Bool, true, false, if◌then◌else◌, is_some, ℤ, List, [], ◌∷◌, ◌++◌, inl, inr, Option, Some, None, refl, ap, sym, ◌∙◌, subst, arith}
-use Rattle.std.specs.List.{AllZip, slice_get}
+use Rattle.std.proofs.Common.{[], ◌≡◌, ℕ, ◌+◌, ◌<◌, nat_lt, ◌==◌, Bool, true, false, is_some, ℤ, List, ◌∷◌, ◌++◌, Option, Some, None, refl, ap, sym, ◌∙◌, subst, arith}
+use Rattle.std.specs.List.{slice_get}
 use Rattle.std.proofs.lemmas.Bool.{false≢true}
 use Rattle.std.proofs.lemmas.Bool.Decides.{nat_tests}
 use Rattle.std.proofs.lemmas.Option.{slice_get_within}
@@ -11,16 +11,12 @@ use Rattle.ap_instr.specs.declared.instruction.Instr.TheVariants.{GetVariable, G
 use Rattle.ap_instr.specs.declared.compiled.Predicate.{Predicate}
 use Rattle.ap_instr.specs.Code.{Compiled}
 use Rattle.ap_instr.specs.Step.{Step, get_constant, put_constant, unify_constant, call, execute, proceed, push, with_integer, with_predicate, step_of as said_by, steps_of as said}
-use Rattle.ap_codecheck.specs.Shape.{Shape, entry, passed, after}
+use Rattle.ap_codecheck.specs.Shape.{Shape, passed, after}
 use Rattle.ap_codecheck.specs.Rules.{ReadsSet, HasRoom, FitsEnvironment, IsInTurn, FitsGroup, GoesOn, arity_in, ArgumentsSet, IsNumbered as IsFromOne}
 use Rattle.ap_codecheck.specs.Walk.{is_inner, elsewhere, Walks}
-use Rattle.ap_codegen.specs.declared.steps.Step.{Step as Emitted}
-use Rattle.ap_codegen.specs.declared.steps.Step.TheVariants.{Allocate as EnterStep, Deallocate as LeaveStep}
-use Rattle.ap_codegen.specs.Emitted.{step_of, steps_of}
 use Rattle.ap_codegen.specs.Temporary.{ends}
-use Rattle.ap_codegen.specs.Framed.{leaving}
-use Rattle.ap_codegen.specs.Paces.{IsSlot, PacesTo, Paces, inside, ArePaced}
-use Rattle.ap_codegen.specs.Assembled.{frame_of, IsSaid, IsAlone, AreAlone}
+use Rattle.ap_codegen.specs.Paces.{IsSlot, PacesTo, Paces, inside}
+use Rattle.ap_codegen.specs.Assembled.{IsAlone, AreAlone}
 
 pub room_of : (v : Slot) (s : Shape) → IsSlot v s → HasRoom v s
 room_of (X n) s i = tt
@@ -281,73 +277,7 @@ plain_alone code (i ∷ is) s p = (alone_walk (λ z. ⊥) code i (said code is) 
 
 -- ---- clauses inside an environment
 
-leaves : (i : Instr) → frame_of i ≡ Some None → i ≡ Deallocate
-leaves Deallocate e = refl
-leaves (Allocate n) e = cc
-leaves _ e = cc
-
-none_left : (code : Compiled) (fs : List Emitted) (is : List Instr) → AllZip (IsSaid code) (leaving fs) is → steps_of fs ≡ [] → is ≡ []
-none_left code [] [] h e = refl
-none_left code [] (i ∷ is) h e = absurd h
-none_left code (f ∷ fs) is h e = cc
-
--- the walk and what each instruction keeps by itself
-abbrev pub Goes : Compiled → List Instr → Shape → Type 0
-Goes code is s = ((at : ℕ) (later : List Instr) → Walks code at 0 (is ++ later) s) × AreAlone code is
-
 pub turn_end : (K : Shape → Type 0) (t : Step) (ts : List Step) (s : Shape) → ends t ≡ true → PacesTo K (t ∷ ts) s → false ≡ nat_lt 0 s.pending
 turn_end K (execute q k) ts s e p = turn_none s p.1
 turn_end K proceed ts s e p = turn_none s p.0
 turn_end K _ ts s e p = absurd (false≢true e)
-
-pub left_walk : (code : Compiled) (n : ℕ) (fs : List Emitted) (is : List Instr) (s : Shape) → AllZip (IsSaid code) (leaving fs) is → s.room ≡ Some n → s.group ≡ None → Paces (steps_of fs) s → Goes code is s
-left_walk code n [] is s h r g p = absurd p
-left_walk code n (f ∷ fs) is s h r g p = go (ends (step_of f)) refl is h (λ js z k q e d. left_walk code n fs js z k q e d)
-  where
-    go : (b : Bool) → ends (step_of f) ≡ b → (is : List Instr) → AllZip (IsSaid code) (if b then LeaveStep ∷ f ∷ leaving fs else f ∷ leaving fs) is
-        → ((js : List Instr) (z : Shape) → AllZip (IsSaid code) (leaving fs) js → z.room ≡ Some n → z.group ≡ None → Paces (steps_of fs) z → Goes code js z) → Goes code is s
-    go true e [] h ih = absurd h
-    go true e (j ∷ []) h ih = absurd h.1
-    go true e (j ∷ i ∷ is) h ih =
-        let out : j ≡ Deallocate = leaves j h.0.frame in
-        let q : Paces (said_by code i ∷ steps_of fs) s = subst (λ t. Paces (t ∷ steps_of fs) s) (sym h.1.0.says) p in
-        let d = last_walk (λ z. ⊥) code i (steps_of fs) s (after Deallocate s) (ap ends h.1.0.says ∙ e) (λ w k. k) refl refl q in
-        let none : is ≡ [] = none_left code fs is h.1.1 d.alone in
-        let turn : false ≡ nat_lt 0 s.pending = turn_end (λ z. ⊥) (step_of f) (steps_of fs) s e p in
-        subst (λ j. Goes code (j ∷ i ∷ is) s) (sym out) (
-          λ at later.
-              here code Deallocate at (i ∷ (is ++ later)) s tt (ap is_some r) turn (record { group = subst (FitsGroup Deallocate) (sym g) tt; on = tt; alone = refl }) (λ q1.
-              here code i (at + 1) (is ++ later) (after Deallocate s) d.reads d.fits d.turn (outside_walk (λ z. ⊥) code i (at + 1) (steps_of fs) s (after Deallocate s) g q) (λ h. absurd (false≢true (sym d.last ∙ h)))),
-          ((tt, tt, λ q. tt), (alone_walk (λ z. ⊥) code i (steps_of fs) s q, subst (AreAlone code) (sym none) tt)),
-        )
-    go false e [] h ih = absurd h
-    go false e (i ∷ is) h ih =
-        let q : Paces (said_by code i ∷ steps_of fs) s = subst (λ t. Paces (t ∷ steps_of fs) s) (sym h.0.says) p in
-        let d = inner_walk (λ z. ⊥) code i (steps_of fs) s (ap ends h.0.says ∙ e) q in
-        let k = ih is (after i s) h.1 (same_room (λ z. ⊥) code i (steps_of fs) s q ∙ r) (same_group (λ z. ⊥) code i (steps_of fs) s q ∙ g) d.next in
-        (λ at later. here code i at (is ++ later) s d.reads d.fits d.turn (outside_walk (λ z. ⊥) code i at (steps_of fs) s s g q) (λ q1. k.0 (at + 1) later), (alone_walk (λ z. ⊥) code i (steps_of fs) s q, k.1))
-
--- ---- the instructions of a clause
-
-pub zip_said : (code : Compiled) (es : List Emitted) (is : List Instr) → AllZip (IsSaid code) es is → said code is ≡ steps_of es
-zip_said code [] [] h = refl
-zip_said code [] (i ∷ is) h = absurd h
-zip_said code (e ∷ es) [] h = absurd h
-zip_said code (e ∷ es) (i ∷ is) h = ap (λ t. t ∷ said code is) h.0.says ∙ ap (λ ts. step_of e ∷ ts) (zip_said code es is h.1)
-
-pub goes : (code : Compiled) (arity : ℕ) (es : List Emitted) (is : List Instr) → AllZip (IsSaid code) es is → ArePaced arity es → Goes code is (entry arity)
-goes code arity es is h (inl p) =
-    let q : Paces (said code is) (entry arity) = subst (λ ts. Paces ts (entry arity)) (sym (zip_said code es is h)) p in
-    (λ at later. plain_walk code at is later (entry arity) refl refl q, plain_alone code is (entry arity) q)
-goes code arity es is h (inr (vars, fs, e, p)) = inside_goes is (subst (λ es. AllZip (IsSaid code) es is) e h)
-  where
-    enters : (i : Instr) → frame_of i ≡ Some (Some vars) → i ≡ Allocate vars
-    enters (Allocate n) d = let k : n ≡ vars = cc in ap Allocate k
-    enters Deallocate d = cc
-    enters _ d = cc
-
-    inside_goes : (is : List Instr) → AllZip (IsSaid code) (EnterStep vars ∷ leaving fs) is → Goes code is (entry arity)
-    inside_goes [] h = absurd h
-    inside_goes (i ∷ is) h =
-        let k = left_walk code vars fs is (inside vars arity) h.1 refl refl p in
-        subst (λ i. Goes code (i ∷ is) (entry arity)) (sym (enters i h.0.frame)) (λ at later. here code (Allocate vars) at (is ++ later) (entry arity) tt refl refl (record { group = tt; on = tt; alone = refl }) (λ q1. k.0 (at + 1) later), ((tt, tt, λ q. tt), k.1))

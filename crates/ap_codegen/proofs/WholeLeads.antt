@@ -1,27 +1,26 @@
--- The code of a whole clause leads as the clause's leads say, with its groups or with them one after another.
-use Rattle.std.proofs.Common.{◌≡◌, ℕ, suc, ◌+◌, ◌-◌, ◌<◌, ◌≤◌, ◌==◌, Bool, true, false, ◌&&◌, not, if◌then◌else◌, List, [], ◌∷◌, ◌++◌, map, length, drop, get_or, refl, ap, sym, ◌∙◌, subst, arith, append_assoc}
+-- The code of a whole clause leads as the clause's leads say.
+use Rattle.std.proofs.Common.{[], ◌≡◌, ℕ, suc, ◌+◌, ◌-◌, ◌<◌, ◌≤◌, ◌==◌, Bool, true, false, ◌&&◌, not, if◌then◌else◌, List, ◌∷◌, ◌++◌, map, length, drop, get_or, refl, ap, sym, ◌∙◌, subst, arith, append_assoc}
+use Rattle.std.proofs.lemmas.Bool.{and_parts}
 use Rattle.std.specs.List.{list_all}
 use Rattle.std.proofs.lemmas.Bool.Decides.{Decides-eqb}
 use Rattle.std.proofs.lemmas.List.{drop_more, drop_all, length-drop}
 use Rattle.ap_term.specs.declared.clauses.Part.{Part as Held}
-use Rattle.ap_term.specs.Tree.{Tree, Trees, none, more, count_trees}
+use Rattle.ap_term.specs.Tree.{Tree, Trees, none, more, count_trees, append_trees}
 use Rattle.ap_term.specs.Vars.{add_vars, add_all_vars}
 use Rattle.ap_term.specs.GoalView.{part_of}
 use Rattle.ap_term.specs.Goals.{Part, call as goal, group as parallel, calls, Clause, plain_goals}
-use Rattle.ap_term.specs.WellFormed.{callable, all_callable, numbered, numbered_all, well_formed_part, IsClause}
+use Rattle.ap_term.specs.WellFormed.{callable, all_callable, numbered, numbered_all, numbered_check, well_formed_part, IsClause}
 use Rattle.ap_instr.specs.Step.{Step, execute, proceed}
 use Rattle.ap_instr.specs.Runs.{arguments}
 use Rattle.ap_codegen.specs.declared.steps.Step.{Step as Emitted}
 use Rattle.ap_codegen.specs.declared.steps.Step.TheVariants.{Proceed}
 use Rattle.ap_codegen.specs.Emitted.{Lead, steps_of, leads_of}
 use Rattle.ap_codegen.specs.Sequential.{sequential}
-use Rattle.ap_codegen.specs.Permanent.{name, is_builtin, goal_code, asking, is_last_call, body_code, gets, clause_code}
+use Rattle.ap_codegen.specs.Permanent.{name, is_builtin, goal_code, asking, gets}
 use Rattle.ap_codegen.specs.Grouped.{straight, IsGroupedCode, is_last_part, part_leads, see_part, ends_body, body_leads, clause_leads, IsWritten}
-use Rattle.ap_codegen.proofs.Registers.{both_true}
 use Rattle.ap_codegen.proofs.Open.{quiet_gets}
-use Rattle.ap_codegen.proofs.BodyTurns.{goals_callable, goals_numbered}
 use Rattle.ap_codegen.proofs.PartTurns.{clause_grouped}
-use Rattle.ap_codegen.proofs.PartLeads.{Simple, simple_both, quiet_simple, goal_simple, asked_simple, straight_both, simple_written, both_written}
+use Rattle.ap_codegen.proofs.PartLeads.{simple_both, quiet_simple, goal_simple, asked_simple, simple_written, both_written}
 
 -- ---- a body's parts in turn
 
@@ -90,37 +89,45 @@ parts_proceed ps i es new s0 w l d a =
     let k : body_leads (map part_of (drop i ps)) s0 ≡ straight (proceed ∷ []) = ap (λ qs. body_leads (map part_of qs) s0) (drop_all i ps l) in
     subst (λ es. IsWritten es w) (sym d) (a (Proceed ∷ []) (subst (IsWritten (Proceed ∷ [])) (sym k) (simple_written (Proceed ∷ []) (proceed ∷ []) refl refl)))
 
--- ---- goals alone, one after another
+-- ---- a clause whose groups are their goals one after another
 
-plain_leads : (gs : Trees) (seen : List ℕ) → body_leads (calls gs) seen ≡ straight (body_code gs seen)
-plain_leads none seen = refl
-plain_leads (more g gs) seen = ap (λ l. leads_if l) (same gs) ∙ go (plain_leads gs (add_vars g seen)) (is_last_call g gs)
+append_callable : (ts us : Trees) → all_callable ts ≡ true → all_callable us ≡ true → all_callable (append_trees ts us) ≡ true
+append_callable none us h k = k
+append_callable (more t ts) us h k =
+    let b = and_parts (callable t) (all_callable ts) h in
+    ap (λ c. c && all_callable (append_trees ts us)) b.0 ∙ append_callable ts us b.1 k
+
+goals_callable : (n : ℕ) (ps : List Part) → list_all (well_formed_part n) ps ≡ true → all_callable (plain_goals ps) ≡ true
+goals_callable n [] h = refl
+goals_callable n (goal t ∷ ps) h =
+    let b = and_parts (well_formed_part n (goal t)) (list_all (well_formed_part n) ps) h in
+    let d = and_parts (callable t) (numbered n t) b.0 in
+    ap (λ c. c && all_callable (plain_goals ps)) d.0 ∙ goals_callable n ps b.1
+goals_callable n (parallel cs ts ∷ ps) h =
+    let b = and_parts (well_formed_part n (parallel cs ts)) (list_all (well_formed_part n) ps) h in
+    let d = and_parts (list_all (numbered_check n) cs) _ b.0 in
+    let e = and_parts _ (all_callable ts && numbered_all n ts) d.1 in
+    let f = and_parts (all_callable ts) (numbered_all n ts) e.1 in
+    append_callable ts (plain_goals ps) f.0 (goals_callable n ps b.1)
+
+goals_numbered : (n : ℕ) (ps : List Part) → list_all (well_formed_part n) ps ≡ true → numbered_all n (plain_goals ps) ≡ true
+goals_numbered n [] h = refl
+goals_numbered n (goal t ∷ ps) h =
+    let b = and_parts (well_formed_part n (goal t)) (list_all (well_formed_part n) ps) h in
+    let d = and_parts (callable t) (numbered n t) b.0 in
+    ap (λ c. c && numbered_all n (plain_goals ps)) d.1 ∙ goals_numbered n ps b.1
+goals_numbered n (parallel cs ts ∷ ps) h =
+    let b = and_parts (well_formed_part n (parallel cs ts)) (list_all (well_formed_part n) ps) h in
+    let d = and_parts (list_all (numbered_check n) cs) _ b.0 in
+    let e = and_parts _ (all_callable ts && numbered_all n ts) d.1 in
+    let f = and_parts (all_callable ts) (numbered_all n ts) e.1 in
+    append_numbered ts (plain_goals ps) f.1 (goals_numbered n ps b.1)
   where
-    leads_if : Bool → List Lead
-    leads_if l = if l then straight (goal_code g seen ++ execute (name g) (count_trees (arguments g)) ∷ []) else straight (goal_code g seen ++ asking g ∷ []) ++ body_leads (calls gs) (add_vars g seen)
-
-    same : (gs : Trees) → is_last_part g (calls gs) ≡ is_last_call g gs
-    same (more t ts) = refl
-    same none = one (is_builtin g)
-      where
-        one : (b : Bool) → (if b then false else true) ≡ not b
-        one true = refl
-        one false = refl
-
-    go : body_leads (calls gs) (add_vars g seen) ≡ straight (body_code gs (add_vars g seen)) → (l : Bool) → leads_if l ≡ straight (if l then goal_code g seen ++ execute (name g) (count_trees (arguments g)) ∷ [] else goal_code g seen ++ (asking g ∷ body_code gs (add_vars g seen)))
-    go e true = refl
-    go e false =
-        ap (λ ls. straight (goal_code g seen ++ asking g ∷ []) ++ ls) e
-        ∙ sym (straight_both (goal_code g seen ++ asking g ∷ []) (body_code gs (add_vars g seen)))
-        ∙ ap straight (append_assoc (goal_code g seen) (asking g ∷ []) (body_code gs (add_vars g seen)))
-
-body_simple : (gs : Trees) (seen : List ℕ) → Simple (body_code gs seen)
-body_simple none seen = refl
-body_simple (more g gs) seen = go (is_last_call g gs) (body_simple gs (add_vars g seen))
-  where
-    go : (l : Bool) → Simple (body_code gs (add_vars g seen)) → Simple (if l then goal_code g seen ++ execute (name g) (count_trees (arguments g)) ∷ [] else goal_code g seen ++ (asking g ∷ body_code gs (add_vars g seen)))
-    go true s = simple_both (goal_code g seen) (execute (name g) (count_trees (arguments g)) ∷ []) (goal_simple g seen) refl
-    go false s = asked_simple g seen (body_code gs (add_vars g seen)) s
+    append_numbered : (ts us : Trees) → numbered_all n ts ≡ true → numbered_all n us ≡ true → numbered_all n (append_trees ts us) ≡ true
+    append_numbered none us h k = k
+    append_numbered (more t ts) us h k =
+        let b = and_parts (numbered n t) (numbered_all n ts) h in
+        ap (λ c. c && numbered_all n (append_trees ts us)) b.0 ∙ append_numbered ts us b.1 k
 
 pub sequential_clause : (c : Clause) → IsClause c → IsClause (sequential c)
 sequential_clause c i = record { few = i.few; head = i.head; body = go (plain_goals c.body) (goals_callable c.vars c.body i.body) (goals_numbered c.vars c.body i.body) }
@@ -128,23 +135,12 @@ sequential_clause c i = record { few = i.few; head = i.head; body = go (plain_go
     go : (gs : Trees) → all_callable gs ≡ true → numbered_all c.vars gs ≡ true → list_all (well_formed_part c.vars) (calls gs) ≡ true
     go none h k = refl
     go (more g gs) h k =
-        let a = both_true (callable g) (all_callable gs) h in
-        let b = both_true (numbered c.vars g) (numbered_all c.vars gs) k in
+        let a = and_parts (callable g) (all_callable gs) h in
+        let b = and_parts (numbered c.vars g) (numbered_all c.vars gs) k in
         ap (λ d. (d && numbered c.vars g) && list_all (well_formed_part c.vars) (calls gs)) a.0 ∙ ap (λ d. d && list_all (well_formed_part c.vars) (calls gs)) b.0 ∙ go gs a.1 b.1
-
-pub sequential_written : (c : Clause) (es : List Emitted) → steps_of es ≡ clause_code c.head (plain_goals c.body) → IsWritten es (clause_leads (sequential c))
-sequential_written c es e =
-    let head : List Step = gets (arguments c.head) 1 [] (count_trees (arguments c.head) + 1) in
-    let seen : List ℕ = add_all_vars (arguments c.head) [] in
-    let body : List Step = body_code (plain_goals c.body) seen in
-    subst (IsWritten es) (straight_both head body ∙ ap (λ ls. straight head ++ ls) (sym (plain_leads (plain_goals c.body) seen)))
-    (simple_written es (head ++ body) e (simple_both head body (quiet_simple head (quiet_gets (arguments c.head) 1 [] (count_trees (arguments c.head) + 1))) (body_simple (plain_goals c.body) seen)))
 
 pub written_grouped : (c : Clause) (es : List Emitted) → IsClause c → IsWritten es (clause_leads c) → IsGroupedCode c (leads_of es)
 written_grouped c es i w = subst (IsGroupedCode c) (sym w.0) (clause_grouped c i)
-
-pub sequential_grouped : (c : Clause) (es : List Emitted) → IsClause c → IsWritten es (clause_leads (sequential c)) → IsGroupedCode (sequential c) (leads_of es)
-sequential_grouped c es i w = written_grouped (sequential c) es (sequential_clause c i) w
 
 -- ---- a whole clause with groups
 

@@ -1,10 +1,10 @@
 -- Code as it is put together: what its tables hold so far, and what it says wherever they hold that.
-use Rattle.std.specs.Prelude.{◌≡◌, ℕ, ◌+◌, ◌<◌, ◌≤◌, ◌⊎◌, Bool, true, false, ◌==◌, if◌then◌else◌, ℤ, List, [], ◌∷◌, ◌++◌, length, drop, slice_get, Option, Some, None}
+use Rattle.std.specs.Prelude.{◌≡◌, ℕ, ◌+◌, ◌<◌, ◌≤◌, ◌⊎◌, Bool, true, false, ◌==◌, if◌then◌else◌, ℤ, List, [], ◌∷◌, ◌++◌, length, drop, slice_get, Some}
 use Rattle.std.specs.List.{filter, flat_map}
 use Rattle.ap_term.specs.Tree.{Tree, atom, node, count_trees}
 use Rattle.ap_term.specs.Goals.{Clause, Program}
 use Rattle.ap_instr.specs.declared.instruction.Instr.{Instr}
-use Rattle.ap_instr.specs.declared.instruction.Instr.TheVariants.{Allocate, Deallocate, Fail, Try, Retry, Trust}
+use Rattle.ap_instr.specs.declared.instruction.Instr.TheVariants.{Fail, Try, Retry, Trust}
 use Rattle.ap_instr.specs.declared.compiled.Predicate.{Predicate}
 use Rattle.ap_instr.specs.Code.{Compiled}
 use Rattle.ap_instr.specs.Step.{step_of as said_by}
@@ -15,9 +15,6 @@ use Rattle.ap_codecheck.specs.Shape.{entry}
 use Rattle.ap_codecheck.specs.Paths.{IsPlaceOf}
 use Rattle.ap_codecheck.specs.Walk.{Walks, IsLaid}
 use Rattle.ap_codecheck.specs.Rules.{InRange, GoesInside, CallsKnown, IsSound}
-use Rattle.ap_codegen.specs.declared.steps.Step.{Step as Emitted}
-use Rattle.ap_codegen.specs.declared.steps.Step.TheVariants.{Allocate as EnterStep, Deallocate as LeaveStep}
-use Rattle.ap_codegen.specs.Emitted.{step_of}
 use Rattle.ap_instr.specs.StandsFor.{ReadsAt, IsOfClauses, IsOfBuiltin, StandsFor}
 use Rattle.ap_codegen.specs.CodeOf.{calls_apart}
 
@@ -38,22 +35,6 @@ pub record Grows (s t : Numbered) : Type 0 where
 pub record Holds (t : Numbered) (code : Compiled) : Type 0 where
   pub integers : Keeps t.integers code.integers
   pub predicates : (i : ℕ) (k : ℕ × ℕ) → slice_get t.predicates i ≡ Some k → (q : Predicate) × (slice_get code.predicates i ≡ Some q) × (q.name ≡ k.0) × (q.arity ≡ k.1)
-
--- what an instruction does with an environment: make one for so many variables, or give it back
-abbrev pub frame_of : Instr → Option (Option ℕ)
-frame_of (Allocate n) = Some (Some n)
-frame_of Deallocate = Some None
-frame_of _ = None
-
-abbrev pub frame_in : Emitted → Option (Option ℕ)
-frame_in (EnterStep n) = Some (Some n)
-frame_in LeaveStep = Some None
-frame_in _ = None
-
--- the instruction says the step
-pub record IsSaid (code : Compiled) (e : Emitted) (i : Instr) : Type 0 where
-  pub says : said_by code i ≡ step_of e
-  pub frame : frame_of i ≡ frame_in e
 
 -- the rules that an instruction keeps by itself, in any predicate
 abbrev pub IsAlone : Compiled → Instr → Type 0

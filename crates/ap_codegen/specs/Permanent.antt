@@ -1,13 +1,13 @@
 -- The instructions of a clause each of whose variables has a place of its own in the environment: variable v in Y v.
 -- Temporaries stand in the X registers behind the arguments. Each is used again once what stood there is done with, so
 -- that there are as many as structures that wait for others: a list takes a few, however long it is.
-use Rattle.std.specs.Prelude.{ℕ, zero, suc, ◌+◌, Bool, false, not, ◌&&◌, ◌||◌, ◌==◌, is_some, if◌then◌else◌, List, [], ◌∷◌, ◌++◌}
+use Rattle.std.specs.Prelude.{[], ℕ, zero, suc, ◌+◌, Bool, false, not, ◌&&◌, ◌||◌, ◌==◌, is_some, if◌then◌else◌, List, ◌∷◌, ◌++◌}
 use Rattle.ap_term.specs.declared.fixed.TheConstants.{TRUE, FAIL}
 use Rattle.ap_term.specs.Tree.{Tree, Trees, var, int, atom, node, none, more, count_trees}
-use Rattle.ap_term.specs.Vars.{has, add_vars, add_all_vars}
+use Rattle.ap_term.specs.Vars.{has, add_vars}
 use Rattle.ap_term.specs.Builtins.{relation_named}
 use Rattle.ap_instr.specs.declared.instruction.Slot.TheVariants.{X, Y}
-use Rattle.ap_instr.specs.Step.{Step, get_variable, get_value, get_constant, get_structure, put_variable, put_value, put_constant, put_structure, unify_variable, unify_value, unify_constant, call, execute, builtin, proceed}
+use Rattle.ap_instr.specs.Step.{Step, get_variable, get_value, get_constant, get_structure, put_variable, put_value, put_constant, put_structure, unify_variable, unify_value, unify_constant, call, builtin}
 use Rattle.ap_instr.specs.Runs.{arguments}
 
 abbrev pub name : Tree → ℕ
@@ -102,20 +102,8 @@ see_puts (more t ts) seen = see_puts ts (see_built t seen)
 abbrev pub goal_code : Tree → List ℕ → List Step
 goal_code g seen = puts (arguments g) 1 seen (count_trees (arguments g) + 1)
 
--- whether a goal is a call with no goal behind it
-abbrev pub is_last_call : Tree → Trees → Bool
-is_last_call g none = not (is_builtin g)
-is_last_call g (more t ts) = false
-
 abbrev pub asking : Tree → Step
 asking g = if is_builtin g then builtin (name g) (count_trees (arguments g)) else call (name g) (count_trees (arguments g))
-
-abbrev pub body_code : Trees → List ℕ → List Step
-body_code none seen = proceed ∷ []
-body_code (more g gs) seen =
-    if is_last_call g gs
-    then goal_code g seen ++ execute (name g) (count_trees (arguments g)) ∷ []
-    else goal_code g seen ++ (asking g ∷ body_code gs (add_vars g seen))
 
 -- an argument of a structure of the head; one that is a structure is taken into X m
 abbrev pub take : Tree → List ℕ → ℕ → Step
@@ -165,7 +153,3 @@ abbrev mutual
 abbrev pub gets : Trees → ℕ → List ℕ → ℕ → List Step
 gets none a seen m = []
 gets (more t ts) a seen m = get t a seen m ++ gets ts (a + 1) (add_vars t seen) m
-
--- the code of a clause but for its environment
-abbrev pub clause_code : Tree → Trees → List Step
-clause_code head goals = gets (arguments head) 1 [] (count_trees (arguments head) + 1) ++ body_code goals (add_all_vars (arguments head) [])

@@ -17,13 +17,6 @@ use crate::steps::{Step, add};
 use ap_term::{Args, Check, NoMemory, Term};
 use std::alloc::Global;
 
-/// How the code has groups: their goals side by side, or one after another as if there were no groups.
-#[derive(Clone, Copy)]
-pub enum Groups {
-    SideBySide,
-    InTurn,
-}
-
 /// The instruction of a check, which passes over so many others where it doesn't hold.
 fn check_step(check: Check, n: u32) -> Result<Step, NoMemory>
     ensures { IfOk result (λ step. lead_of step ≡ (check_step check, n)) }

@@ -21,4 +21,4 @@ mod steps;
 mod tables;
 mod temporary;
 
-pub use programs::{compile, compile_in_turn};
+pub use programs::compile;

@@ -13,12 +13,10 @@ ghost use Rattle.ap_codegen.specs.Assembled.{Grows, Holds, AreInstructionsOf, Ar
 ghost use Rattle.ap_codegen.specs.Index.{clauses_at, Indexes};
 ghost use Rattle.ap_codegen.specs.Permanent.{is_builtin_key};
 ghost use Rattle.ap_codegen.specs.Heads.{with_key, with_heads};
-ghost use Rattle.ap_codegen.specs.Sequential.{read_as, read_program, sequential_program, sequential_query};
 
 use crate::asking::asked_program;
 use crate::assembly::assemble;
 use crate::builtin_goals::{builtin_named, is_apart};
-use crate::groups::Groups;
 use crate::index::{Index, index_of};
 use crate::layout::{first_place, lay, lay_builtin};
 use crate::permanent::{above, count};
@@ -33,13 +31,12 @@ fn clause_code(
     alloc: Global,
     tables: &mut Tables,
     clause: &Clause,
-    groups: Groups,
     start: u32,
 ) -> Result<Vec<Instr>, NoMemory>
     ensures grows { OnOk result (Grows tables.old tables.new) }
-    ensures code { IfOk result (λ is. (code : Compiled) → Holds tables.new code → AreInstructionsOf code start (read_as groups clause.now) is.items) }
+    ensures code { IfOk result (λ is. (code : Compiled) → Holds tables.new code → AreInstructionsOf code start clause.now is.items) }
 {
-    let steps = clause_steps(alloc, clause, groups)?;
+    let steps = clause_steps(alloc, clause)?;
     let out = assemble(alloc, tables, steps.as_slice(), start)?;
     Ok(out)
 }
@@ -49,17 +46,16 @@ fn clause_codes(
     alloc: Global,
     tables: &mut Tables,
     clauses: &[&Clause],
-    groups: Groups,
     first: u32,
 ) -> Result<Vec<Vec<Instr>>, NoMemory>
     ensures grows { OnOk result (Grows tables.old tables.new) }
     ensures count { IfOk result (λ codes. length codes.items ≡ length clauses.now) }
-    ensures codes { IfOk result (λ codes. (code : Compiled) → Holds tables.new code → AreCoded code first (map (λ v. v.items) codes.items) (map (λ c. read_as groups c.now) clauses.now)) }
+    ensures codes { IfOk result (λ codes. (code : Compiled) → Holds tables.new code → AreCoded code first (map (λ v. v.items) codes.items) (map (λ c. c.now) clauses.now)) }
 {
     let mut codes = Vec::new(alloc);
     let mut at = first;
     for clause in clauses {
-        let code = clause_code(alloc, tables, clause, groups, at)?;
+        let code = clause_code(alloc, tables, clause, at)?;
         at = above(at, code.len())?;
         codes.push(code)?;
     }
@@ -73,16 +69,15 @@ fn predicate_codes(
     index: &Index,
     name: u32,
     arity: u8,
-    groups: Groups,
     start: u32,
 ) -> Result<Vec<Vec<Instr>>, NoMemory>
     ensures grows { OnOk result (Grows tables.old tables.new) }
-    ensures codes { IfOk result (λ codes. (code : Compiled) → Holds tables.new code → AreCoded code (start + chosen (length codes.items)) (map (λ v. v.items) codes.items) (read_program groups (clauses_at index.now (name, arity)))) }
+    ensures codes { IfOk result (λ codes. (code : Compiled) → Holds tables.new code → AreCoded code (start + chosen (length codes.items)) (map (λ v. v.items) codes.items) (clauses_at index.now (name, arity))) }
 {
     match index.get(&(name, arity)) {
         Some(own) => {
             let first = first_place(start, own.len())?;
-            let codes = clause_codes(alloc, tables, own.as_slice(), groups, first)?;
+            let codes = clause_codes(alloc, tables, own.as_slice(), first)?;
             Ok(codes)
         }
         None => Ok(Vec::new(alloc)),
@@ -96,18 +91,17 @@ fn lay_predicate(
     index: &Index,
     name: u32,
     arity: u8,
-    groups: Groups,
     out: &mut Vec<Instr>,
 ) -> Result<(), NoMemory>
     ensures grows { OnOk result (Grows tables.old tables.new) }
-    ensures block { OnOk result ((p : Clauses) → Indexes index.now p → (own : List Instr) × (out.new.items ≡ out.old.items ++ own) × IsBlock tables.new out.old.items own (name, arity) (read_program groups p)) }
+    ensures block { OnOk result ((p : Clauses) → Indexes index.now p → (own : List Instr) × (out.new.items ≡ out.old.items ++ own) × IsBlock tables.new out.old.items own (name, arity) p) }
 {
     if let Some(builtin) = builtin_named(Atom::at(name), arity) {
         lay_builtin(builtin, out)?;
         return Ok(());
     }
     let start = above(0, out.len())?;
-    let codes = predicate_codes(alloc, tables, index, name, arity, groups, start)?;
+    let codes = predicate_codes(alloc, tables, index, name, arity, start)?;
     lay(codes.as_slice(), out)?;
     Ok(())
 }
@@ -127,24 +121,15 @@ fn add_predicate(
     name: u32,
     arity: u8,
     is_listed: bool,
-    groups: Groups,
     made: &mut Made,
 ) -> Result<(), NoMemory>
     ensures grows { OnOk result (Grows tables.old tables.new) }
     ensures count { OnOk result (length made.new.predicates.items ≡ length made.old.predicates.items + 1) }
     ensures listed { OnOk result ((m : ℕ) → is_listed ≡ nat_lt (length made.old.predicates.items) m → filter (λ q. q.is_listed) made.old.predicates.items ≡ take m made.old.predicates.items → filter (λ q. q.is_listed) made.new.predicates.items ≡ take m made.new.predicates.items) }
-    ensures made { OnOk result ((p : Clauses) → Indexes index.now p → slice_get tables.old.predicates (length made.old.predicates.items) ≡ Some (name, arity) → IsMade tables.old made.old.instructions.items made.old.predicates.items (read_program groups p) → IsMade tables.new made.new.instructions.items made.new.predicates.items (read_program groups p)) }
+    ensures made { OnOk result ((p : Clauses) → Indexes index.now p → slice_get tables.old.predicates (length made.old.predicates.items) ≡ Some (name, arity) → IsMade tables.old made.old.instructions.items made.old.predicates.items p → IsMade tables.new made.new.instructions.items made.new.predicates.items p) }
 {
     let start = above(0, made.instructions.len())?;
-    lay_predicate(
-        alloc,
-        tables,
-        index,
-        name,
-        arity,
-        groups,
-        &mut made.instructions,
-    )?;
+    lay_predicate(alloc, tables, index, name, arity, &mut made.instructions)?;
     let end = above(0, made.instructions.len())?;
     made.predicates.push(Predicate {
         name: Atom::at(name),
@@ -198,14 +183,13 @@ fn predicates(
     alloc: Global,
     tables: &mut Tables,
     index: &Index,
-    groups: Groups,
     listed: usize,
 ) -> Result<Made, NoMemory>
     ensures grows { OnOk result (Grows tables.old tables.new) }
     ensures all { IfOk result (λ made. slice_get tables.new.predicates (length made.predicates.items) ≡ None) }
     ensures once { IfOk result (λ made. IsDistinct is_key tables.new.predicates) }
     ensures listed { IfOk result (λ made. filter (λ q. q.is_listed) made.predicates.items ≡ take listed made.predicates.items) }
-    ensures made { IfOk result (λ made. (p : Clauses) → Indexes index.now p → IsMade tables.new made.instructions.items made.predicates.items (read_program groups p)) }
+    ensures made { IfOk result (λ made. (p : Clauses) → Indexes index.now p → IsMade tables.new made.instructions.items made.predicates.items p) }
 {
     let mut made = Made {
         instructions: Vec::new(alloc),
@@ -216,9 +200,7 @@ fn predicates(
             return Ok(made);
         };
         let is_listed = number < listed;
-        add_predicate(
-            alloc, tables, index, name, arity, is_listed, groups, &mut made,
-        )?;
+        add_predicate(alloc, tables, index, name, arity, is_listed, &mut made)?;
     }
     Err(NoMemory)
 }
@@ -229,9 +211,8 @@ fn compile_clauses(
     clauses: &[Clause],
     own: &[Clause],
     arity: u8,
-    groups: Groups,
 ) -> Result<Code, NoMemory>
-    ensures { IfOk result (λ code. StandsBeside code (QUERY, arity) (read_program groups own.now) (read_program groups clauses.now)) }
+    ensures { IfOk result (λ code. StandsBeside code (QUERY, arity) own.now clauses.now) }
 {
     let mut tables = Tables::new(alloc);
     add_heads(&mut tables, own)?;
@@ -242,24 +223,19 @@ fn compile_clauses(
     let Made {
         instructions,
         predicates,
-    } = predicates(alloc, &mut tables, &index, groups, listed)?;
+    } = predicates(alloc, &mut tables, &index, listed)?;
     let integers = Vec::from_slice(alloc, tables.integers())?;
     Ok(Code::new(instructions, integers, predicates, Some(query)))
 }
 
-/// Code for a program beside a query, with groups as they are told.
-fn compile_as(
-    alloc: Global,
-    program: &Program,
-    query: &Query,
-    groups: Groups,
-) -> Result<Code, NoMemory>
-    ensures { IfOk result (λ code. StandsBeside code (QUERY, query.now.question.vars) (read_program groups program.now) (read_program groups (joined program.now (asked_query query.now)))) }
+/// Code for a program and the clauses of a query.
+fn compile_beside(alloc: Global, program: &Program, query: &Query) -> Result<Code, NoMemory>
+    ensures { IfOk result (λ code. StandsBeside code (QUERY, query.now.question.vars) program.now (joined program.now (asked_query query.now))) }
 {
     let own = program.as_slice();
     let all = asked_program(alloc, own, query)?;
     let arity = query.question().vars() as u8;
-    let code = compile_clauses(alloc, all.as_slice(), own, arity, groups)?;
+    let code = compile_clauses(alloc, all.as_slice(), own, arity)?;
     Ok(code)
 }
 
@@ -272,15 +248,6 @@ pub fn compile(alloc: Global, program: &Program, query: &Query) -> Result<Code, 
     ensures stands { IfOk result (λ code. StandsForQuery code program.now query.now) }
     ensures sound { IfOk result (λ code. IsSound code) }
 {
-    let code = compile_as(alloc, program, query, Groups::SideBySide)?;
-    Ok(code)
-}
-
-/// The same with each group compiled as its goals one after another.
-pub fn compile_in_turn(alloc: Global, program: &Program, query: &Query) -> Result<Code, NoMemory>
-    ensures stands { IfOk result (λ code. StandsForQuery code (sequential_program program.now) (sequential_query query.now)) }
-    ensures sound { IfOk result (λ code. IsSound code) }
-{
-    let code = compile_as(alloc, program, query, Groups::InTurn)?;
+    let code = compile_beside(alloc, program, query)?;
     Ok(code)
 }

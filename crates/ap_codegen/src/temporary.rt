@@ -7,14 +7,12 @@ ghost use Rattle.ap_instr.specs.Runs.{arguments};
 ghost use Rattle.ap_codegen.specs.Emitted.{step_of, steps_of, leads_of};
 ghost use Rattle.ap_codegen.specs.Temporary.{ends};
 ghost use Rattle.ap_codegen.specs.CodeOf.{IsCodeOf};
-ghost use Rattle.ap_codegen.specs.Sequential.{read_as};
 ghost use Rattle.ap_codegen.specs.Framed.{leaving};
 ghost use Rattle.ap_codegen.specs.Grouped.{IsEnded, IsGroupedCode};
 ghost use Rattle.ap_codegen.specs.Paces.{Paces, ArePaced, PacesLeads, ArePacedLeads, inside};
 
-use crate::bodies::written_code;
+use crate::bodies::grouped_code;
 use crate::choosing::choose;
-use crate::groups::Groups;
 use crate::relocating::tested;
 use crate::steps::Step;
 use ap_instr::{Builtin, Slot};
@@ -136,12 +134,12 @@ fn located(alloc: Global, steps: &[Step], vars: u8) -> Result<Vec<Step>, NoMemor
     Ok(framed)
 }
 
-/// The code of a clause, with its groups or with its goals one after another.
-pub fn clause_steps(alloc: Global, clause: &Clause, groups: Groups) -> Result<Vec<Step>, NoMemory>
-    ensures code { IfOk result (λ code. IsGroupedCode (read_as groups clause.now) (leads_of code.items)) }
-    ensures paced { IfOk result (λ code. ArePacedLeads (count_trees (arguments (read_as groups clause.now).head)) code.items) }
+/// The code of a clause.
+pub fn clause_steps(alloc: Global, clause: &Clause) -> Result<Vec<Step>, NoMemory>
+    ensures code { IfOk result (λ code. IsGroupedCode clause.now (leads_of code.items)) }
+    ensures paced { IfOk result (λ code. ArePacedLeads (count_trees (arguments clause.now.head)) code.items) }
 {
-    let steps = written_code(alloc, clause, groups)?;
+    let steps = grouped_code(alloc, clause)?;
     let code = located(alloc, steps.as_slice(), clause.vars() as u8)?;
     Ok(code)
 }

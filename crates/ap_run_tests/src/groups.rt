@@ -13,7 +13,8 @@ const ENDLESS: &str = "t :- f & l. l :- l. f :- fail.";
 
 const PLAIN: &str = "q(X,Y) :- a(X), a(Y). a(1). a(2).";
 
-const MANY: &str =
+/// A group of as many goals as it can have.
+pub(crate) const MANY: &str =
     "p :- a & a & a & a & a & a & a & a & a & a & a & a & a & a & a & a & a & a & a & a & a & a & a & a & a & a & a & a & a & a & a & a. a.";
 
 pub(crate) static GROUPS: [Command; 13] = [

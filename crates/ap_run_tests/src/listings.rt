@@ -7,6 +7,7 @@
 // are pushed by their numbers, to the same goals one after another.
 
 use crate::cases::{Command, check_all};
+use crate::groups::MANY;
 use ap_top::Status;
 use std::test::Fail;
 
@@ -176,7 +177,118 @@ const APART_LISTED: &str = "s/0:
   execute c/2
 ";
 
-const LISTINGS: [Command; 9] = [
+/// The sum of a list by halves. Only the halves may share a variable, so that they alone are checked, behind the call that makes them;
+/// the sums are made on both ways.
+const HALVES: &str = "total([], 0).
+    total([E|L], S) :- deal(L, A, B), total(A, SA), total(B, SB), S is SA + SB + E.
+    deal([], [], []).
+    deal([E|L], [E|A], B) :- deal(L, B, A).";
+
+const HALVES_LISTED: &str = "total/2:
+  try @2
+  trust @5
+  get_constant [] A1
+  get_integer 0 A2
+  proceed
+  allocate 7
+  get_list A1
+  unify_variable Y1
+  unify_variable Y2
+  get_variable Y3 A2
+  put_value Y2 A1
+  put_variable Y4 A2
+  put_variable Y5 A3
+  call deal/3
+  check_indep Y4 Y5 @24
+  alloc_parcall 2
+  put_value Y4 A1
+  put_variable Y6 A2
+  push_goal 1 total/2
+  put_value Y5 A1
+  put_variable Y7 A2
+  push_goal 2 total/2
+  wait_all
+  jump @30
+  put_value Y4 A1
+  put_variable Y6 A2
+  call total/2
+  put_value Y5 A1
+  put_variable Y7 A2
+  call total/2
+  put_value Y3 A1
+  put_structure +/2 A3
+  unify_value Y6
+  unify_value Y7
+  put_structure +/2 A2
+  unify_value X3
+  unify_value Y1
+  builtin is
+  deallocate
+  proceed
+deal/3:
+  try @2
+  trust @6
+  get_constant [] A1
+  get_constant [] A2
+  get_constant [] A3
+  proceed
+  get_list A1
+  unify_variable X4
+  unify_variable X1
+  get_list A2
+  unify_value X4
+  unify_variable X5
+  put_value X3 A2
+  put_value X5 A3
+  execute deal/3
+";
+
+/// As many goals as a group can have.
+const MANY_LISTED: &str = "p/0:
+  allocate 0
+  alloc_parcall 32
+  push_goal 1 a/0
+  push_goal 2 a/0
+  push_goal 3 a/0
+  push_goal 4 a/0
+  push_goal 5 a/0
+  push_goal 6 a/0
+  push_goal 7 a/0
+  push_goal 8 a/0
+  push_goal 9 a/0
+  push_goal 10 a/0
+  push_goal 11 a/0
+  push_goal 12 a/0
+  push_goal 13 a/0
+  push_goal 14 a/0
+  push_goal 15 a/0
+  push_goal 16 a/0
+  push_goal 17 a/0
+  push_goal 18 a/0
+  push_goal 19 a/0
+  push_goal 20 a/0
+  push_goal 21 a/0
+  push_goal 22 a/0
+  push_goal 23 a/0
+  push_goal 24 a/0
+  push_goal 25 a/0
+  push_goal 26 a/0
+  push_goal 27 a/0
+  push_goal 28 a/0
+  push_goal 29 a/0
+  push_goal 30 a/0
+  push_goal 31 a/0
+  push_goal 32 a/0
+  wait_all
+  deallocate
+  proceed
+a/0:
+  proceed
+";
+
+const LISTINGS: [Command; 11] = [
+    (CODE, HALVES, "", HALVES_LISTED, Status::Done),
+    (CODE, MANY, "", MANY_LISTED, Status::Done),
     (CODE, PAIRS, "", PAIRS_LISTED, Status::Done),
     (CODE, COPIES, "", COPIES_LISTED, Status::Done),
     (CODE, APART, "", APART_LISTED, Status::Done),

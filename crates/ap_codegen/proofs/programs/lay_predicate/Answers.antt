@@ -1,12 +1,9 @@
-use Rattle.std.proofs.Common.{◌≡◌, ℕ, ◌+◌, false, List, [], ◌∷◌, Vec, Global, map, length, ap, sym, ◌∙◌, subst, rules}
-use Rattle.ap_term.specs.Goals.{Clause}
+use Rattle.std.proofs.Common.{[], ◌≡◌, ◌+◌, false, List, ◌∷◌, Vec, Global, map, length, ap, sym, ◌∙◌, subst, rules}
 use Rattle.ap_instr.specs.declared.instruction.Instr.{Instr}
 use Rattle.ap_instr.specs.declared.instruction.Instr.TheVariants.{Proceed, Builtin}
 use Rattle.ap_codegen.specs.Permanent.{is_builtin_key}
-use Rattle.ap_codegen.specs.Assembled.{AreCoded, chosen, clauses_for}
+use Rattle.ap_codegen.specs.Assembled.{AreCoded, chosen}
 use Rattle.ap_codegen.specs.Index.{clauses_at}
-use Rattle.ap_codegen.specs.Sequential.{read_program}
-use Rattle.ap_codegen.proofs.ReadAs.{clauses_read}
 use Rattle.ap_codegen.proofs.Blocks.{clauses_block, builtin_block}
 use Rattle.ap_codegen.proofs.Making.{length_codes, laid_is}
 use Rattle.ap_codegen.proofs.programs.lay_predicate.Goals as goal
@@ -16,7 +13,7 @@ returns-in-Some-clause-block c p indexed =
     let named = rw c.in-Some.is at c.builtin_named.ensures in (
       Builtin c.in-Some.builtin ∷ Proceed ∷ [],
       c.in_ok-lay_builtin.ensures,
-      builtin_block c.args.tables.now c.args.out.now.items c.in-Some.builtin (c.args.name, c.args.arity) (read_program c.args.groups p) (named.1 ∙ c.at.ensures) named.2,
+      builtin_block c.args.tables.now c.args.out.now.items c.in-Some.builtin (c.args.name, c.args.arity) p (named.1 ∙ c.at.ensures) named.2,
     )
 
 pub returns-clause-block : goal.returns-clause-block
@@ -26,9 +23,9 @@ returns-clause-block c p indexed =
     let start : c.in_ok-start.start ≡ length c.args.out.now.items = search rules in
     let first : c.in_ok-start.start + chosen (length c.in_ok-codes.codes.items) ≡ length c.args.out.now.items + chosen (length codes) =
     ap (λ n. n + chosen (length c.in_ok-codes.codes.items)) start ∙ ap (λ n. length c.args.out.now.items + chosen n) (sym (length_codes (λ (v : Vec Instr Global). v.items) c.in_ok-codes.codes.items)) in
-    let same = ap (read_program c.args.groups) (indexed (c.args.name, c.args.arity)) ∙ sym (clauses_read c.args.groups (c.args.name, c.args.arity) p) in (
+    let same = indexed (c.args.name, c.args.arity) in (
       _,
       laid_is (λ (v : Vec Instr Global). v.items) c.as_slice.result.now c.in_ok-codes.codes.items c.args.out.now.items c.lay.new.out.items c.as_slice.ensures.value c.in_ok-lay.ensures,
-      clauses_block c.predicate_codes.new.tables c.args.out.now.items codes (c.args.name, c.args.arity) (read_program c.args.groups p)
-          (λ code h. subst (AreCoded code (length c.args.out.now.items + chosen (length codes)) codes) same (subst (λ n. AreCoded code n codes (read_program c.args.groups (clauses_at c.args.index.now (c.args.name, c.args.arity)))) first (c.in_ok-codes.ensures.codes code h))) away,
+      clauses_block c.predicate_codes.new.tables c.args.out.now.items codes (c.args.name, c.args.arity) p
+          (λ code h. subst (AreCoded code (length c.args.out.now.items + chosen (length codes)) codes) same (subst (λ n. AreCoded code n codes (clauses_at c.args.index.now (c.args.name, c.args.arity))) first (c.in_ok-codes.ensures.codes code h))) away,
     )

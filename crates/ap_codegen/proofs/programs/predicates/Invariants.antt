@@ -3,7 +3,6 @@ use Rattle.std.specs.List.{filter}
 use Rattle.ap_term.specs.Goals.{Program}
 use Rattle.ap_codegen.specs.Assembled.{Grows, IsMade}
 use Rattle.ap_codegen.specs.Index.{Indexes}
-use Rattle.ap_codegen.specs.Sequential.{read_program}
 use Rattle.ap_codegen.proofs.programs.predicates.Given as goal
 
 abbrev pub invariant-loop-number : goal.invariant-loop-number
@@ -11,4 +10,4 @@ invariant-loop-number l =
     Grows l.fn.tables l.tables
     × (length l.made.predicates.items ≡ l.number)
     × (filter (λ q. q.is_listed) l.made.predicates.items ≡ take l.listed l.made.predicates.items)
-    × ((p : Program) → Indexes l.index p → IsMade l.tables l.made.instructions.items l.made.predicates.items (read_program l.groups p))
+    × ((p : Program) → Indexes l.index p → IsMade l.tables l.made.instructions.items l.made.predicates.items p)

@@ -1,30 +1,23 @@
-use Rattle.std.proofs.Common.{◌≡◌, ◌∷◌, ◌⊎◌, ℕ, List, refl, sym, ◌∙◌, subst}
+use Rattle.std.proofs.Common.{◌≡◌, ◌∷◌, ◌⊎◌, ℕ, List, sym, subst}
 use Rattle.ap_term.specs.Tree.{count_trees}
 use Rattle.ap_term.specs.Goals.{Clause}
 use Rattle.ap_instr.specs.Runs.{arguments}
 use Rattle.ap_codegen.specs.declared.steps.Step.{Step as Emitted}
 use Rattle.ap_codegen.specs.declared.steps.Step.TheVariants.{Allocate}
-use Rattle.ap_codegen.specs.declared.groups.Groups.{Groups}
-use Rattle.ap_codegen.specs.declared.groups.Groups.TheVariants.{SideBySide, InTurn}
 use Rattle.ap_codegen.specs.Emitted.{leads_of}
 use Rattle.ap_codegen.specs.Framed.{leaving}
 use Rattle.ap_codegen.specs.Grouped.{IsGroupedCode, clause_leads}
 use Rattle.ap_codegen.specs.Said.{AreNumbered}
-use Rattle.ap_codegen.specs.Sequential.{read_as}
 use Rattle.ap_codegen.specs.Paces.{ArePaced, PacesLeads, inside}
 use Rattle.ap_codegen.proofs.LocatedLeads.{written_ended, written_led, located_paced}
 use Rattle.ap_codegen.proofs.temporary.clause_steps.Goals as goal
 
-same_vars : (g : Groups) (c : Clause) → c.vars ≡ (read_as g c).vars
-same_vars SideBySide c = refl
-same_vars InTurn c = refl
-
 pub returns-clause-code : goal.returns-clause-code
 returns-clause-code c =
-    let k : Clause = read_as c.args.groups c.args.clause.now in
+    let k : Clause = c.args.clause.now in
     let es : List Emitted = c.as_slice.result.now in
     let own : es ≡ c.in_ok-steps.steps.items = c.as_slice.ensures.value in
-    let vars : c.vars.result ≡ k.vars = c.vars.ensures.vars ∙ same_vars c.args.groups c.args.clause.now in
+    let vars : c.vars.result ≡ k.vars = c.vars.ensures.vars in
     let arity : ℕ = count_trees (arguments k.head) in
     let e : leads_of es ≡ clause_leads k = subst (λ fs. leads_of fs ≡ clause_leads k) (sym own) c.in_ok-steps.ensures.leads in
     c.in_ok-code.ensures.grouped k arity (written_ended k es e) (subst (λ n. PacesLeads 0 (leads_of es) (inside n arity)) (sym vars) (written_led k es c.in_ok-steps.ensures.kept e))
@@ -32,10 +25,10 @@ returns-clause-code c =
 
 pub returns-clause-paced : goal.returns-clause-paced
 returns-clause-paced c =
-    let k : Clause = read_as c.args.groups c.args.clause.now in
+    let k : Clause = c.args.clause.now in
     let es : List Emitted = c.as_slice.result.now in
     let own : es ≡ c.in_ok-steps.steps.items = c.as_slice.ensures.value in
-    let vars : c.vars.result ≡ k.vars = c.vars.ensures.vars ∙ same_vars c.args.groups c.args.clause.now in
+    let vars : c.vars.result ≡ k.vars = c.vars.ensures.vars in
     let arity : ℕ = count_trees (arguments k.head) in
     let e : leads_of es ≡ clause_leads k = subst (λ fs. leads_of fs ≡ clause_leads k) (sym own) c.in_ok-steps.ensures.leads in
     let placed = c.in_ok-code.ensures.led arity (written_ended k es e) (subst (λ n. PacesLeads 0 (leads_of es) (inside n arity)) (sym vars) (written_led k es c.in_ok-steps.ensures.kept e)) in
