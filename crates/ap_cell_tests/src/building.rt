@@ -115,3 +115,19 @@ pub(crate) fn deep(
     }
     put(cells, cell)
 }
+
+/// A term of so many levels, each of which has the one below twice, over a leaf.
+pub(crate) fn shared(
+    cells: &mut Cells,
+    name: u32,
+    levels: usize,
+    leaf: Cell,
+) -> Result<usize, NoMemory> {
+    let mut place = put(cells, leaf)?;
+    for _ in 0..levels {
+        let first = put(cells, Cell::Same(place))?;
+        put(cells, Cell::Same(place))?;
+        place = put(cells, Cell::Node(Atom::at(name), first, 2))?;
+    }
+    Ok(place)
+}

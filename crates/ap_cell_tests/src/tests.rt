@@ -1,7 +1,7 @@
 //! What no clause says: that calls answer where memory is ample, and that deep terms need no deep recursion. The answers
 //! are compared with those that the definitions' own functions give, and with answers known by hand.
 
-use crate::building::{Step, deep, put, term};
+use crate::building::{Step, deep, put, shared, term};
 use crate::calls::{
     are_identical, are_independent, has_value, is_ground, is_unified, may_be_unified, parcel_of,
     term_at, value,
@@ -336,5 +336,64 @@ fn deep_terms_need_no_deep_stack(rt: HostRuntime) -> Result<(), Fail> {
     assert!(rt; are_deep_sums(rt.alloc(), true)?);
     assert!(rt; are_deep_sums(rt.alloc(), false)?);
     assert!(rt; is_deep_term(rt.alloc())?);
+    Ok(())
+}
+
+/// Levels of terms that are shared: as trees the last ones are larger than any memory.
+const LEVELS: [usize; 4] = [1, 10, 18, 100];
+
+/// Whether two shared terms of variables, apart from one another, have what they should, and are one once they are unified.
+fn become_one(alloc: Global, cells: &mut Cells, levels: usize) -> Result<bool, Fail> {
+    let a = shared(cells, F, levels, Cell::Free)?;
+    let b = shared(cells, F, levels, Cell::Free)?;
+    let mut work = Work::new(alloc);
+    let is_apart = !are_identical(alloc, cells, a, b)?
+        && are_independent(alloc, cells, a, b)?
+        && !are_independent(alloc, cells, a, a)?
+        && !is_ground(alloc, cells, a)?;
+    let is_one = is_unified(cells, a, b, &mut work)?
+        && are_identical(alloc, cells, a, b)?
+        && !are_independent(alloc, cells, a, b)?;
+    Ok(is_apart && is_one)
+}
+
+/// Whether shared terms of integers are ground, and the same or not the same by their leaves.
+fn differ_by_leaves(alloc: Global, cells: &mut Cells, levels: usize) -> Result<bool, Fail> {
+    let ones = shared(cells, F, levels, Cell::Int(1))?;
+    let others = shared(cells, F, levels, Cell::Int(1))?;
+    let twos = shared(cells, F, levels, Cell::Int(2))?;
+    let mut work = Work::new(alloc);
+    Ok(
+        is_ground(alloc, cells, ones)?
+            && are_identical(alloc, cells, ones, others)?
+            && !are_identical(alloc, cells, ones, twos)?
+            && may_be_unified(cells, ones, others, &mut work)?
+            && !may_be_unified(cells, ones, twos, &mut work)?,
+    )
+}
+
+/// Whether a variable doesn't unify with a term in which it stands behind a shared one, and another one does.
+fn stands_behind(alloc: Global, cells: &mut Cells, levels: usize) -> Result<bool, Fail> {
+    let x = shared(cells, F, levels, Cell::Free)?;
+    let first = put(cells, Cell::Same(x))?;
+    let z = put(cells, Cell::Free)?;
+    let whole = put(cells, Cell::Node(Atom::at(G), first, 2))?;
+    let other = put(cells, Cell::Free)?;
+    let mut work = Work::new(alloc);
+    Ok(
+        !may_be_unified(cells, z, whole, &mut work)?
+            && may_be_unified(cells, other, whole, &mut work)?,
+    )
+}
+
+#[test]
+fn shared_terms_are_gone_through_once(rt: HostRuntime) -> Result<(), Fail> {
+    let alloc = rt.alloc();
+    for levels in LEVELS {
+        let mut cells = Cells::new(alloc);
+        assert!(rt; become_one(alloc, &mut cells, levels)?, "{levels}");
+        assert!(rt; differ_by_leaves(alloc, &mut cells, levels)?, "{levels}");
+        assert!(rt; stands_behind(alloc, &mut cells, levels)?, "{levels}");
+    }
     Ok(())
 }
