@@ -77,6 +77,11 @@ impl Search {
         self.spent
     }
 
+    /// Counts the cells of its store, by which it is known how much a copy has cost.
+    pub fn cells(&self) -> usize {
+        self.cells.len()
+    }
+
     /// Leaves so many calls to make.
     pub fn grant(&mut self, rest: u64)
         requires { self.old.spent + rest < 2 ^ 64 }

@@ -1,6 +1,7 @@
 //! What all workers share beside the board. No clause rests on it.
 
 use crossbeam_utils::atomic::AtomicCell;
+use crossbeam_utils::sync::{EventCount, Key};
 
 /// How many goals are wanted, and whether the query's search has ended.
 #[derive(Drop)]
@@ -10,6 +11,8 @@ pub struct Common {
     /// Workers for which nothing was offered yet.
     fresh: AtomicCell<i64>,
     done: AtomicCell<bool>,
+    /// Wakes those that sleep: what they look for changes first, and then they are told.
+    news: EventCount,
 }
 
 impl Common {
@@ -19,6 +22,7 @@ impl Common {
             demand: AtomicCell::new(0),
             fresh: AtomicCell::new(i64::from(workers.saturating_sub(1))),
             done: AtomicCell::new(false),
+            news: EventCount::new(),
         }
     }
 
@@ -30,16 +34,27 @@ impl Common {
     /// Notes that the query's search has ended.
     pub fn end(&self) {
         self.done.store(true);
+        self.news.notify_all();
+    }
+
+    /// Announces that a worker is about to sleep. It looks once more for what it may do before it does.
+    pub fn prepare_wait(&self) -> Key<'_> {
+        self.news.prepare_wait()
+    }
+
+    /// Wakes one worker that sleeps, as a goal was offered.
+    pub(crate) fn tell_one(&self) {
+        self.news.notify_one();
+    }
+
+    /// Wakes all that sleep, as a goal has ended or was asked to stop.
+    pub(crate) fn tell_all(&self) {
+        self.news.notify_all();
     }
 
     /// Tells whether someone looks for a goal.
     pub fn wants(&self) -> bool {
         self.demand.load() > 0
-    }
-
-    /// Tells whether nothing was offered yet for one of the others.
-    pub fn has_fresh(&self) -> bool {
-        self.fresh.load() > 0
     }
 
     /// Tells whether nothing was offered yet for one of the others, which is then answered for.

@@ -4,6 +4,7 @@ ghost use Rattle.std.specs.Prelude.{◌≡◌, ◌<◌, All, length, IfOk};
 ghost use Rattle.ap_board.specs.Seats.{IsNewSeat};
 ghost use Rattle.ap_post.specs.Posts.{IsNew};
 
+use crate::bar::Bar;
 use crate::common::Common;
 use crate::job::Job;
 use crate::outcome::Outcome;
@@ -71,6 +72,7 @@ pub fn open_posts<'a, 'b>(
             return Err(NoMemory);
         };
         let thieves = ends_of_others(alloc, &mut ends, stacks.len())?;
+        let bar = Bar::new(thieves.len());
         posts.push(Post {
             board,
             common,
@@ -79,6 +81,7 @@ pub fn open_posts<'a, 'b>(
             thieves,
             next: 0,
             looks: AtomicCell::new(false),
+            bar,
         })?;
     }
     Ok(posts)

@@ -16,6 +16,8 @@ pub struct Job<'a> {
     pub rest: u64,
     /// The goal's place in its group, from 1.
     pub place: usize,
+    /// How many frames are open around the goal: so often its answer is copied.
+    pub depth: usize,
     pub ghost known: { arity_at sound.now predicate ≡ Some (count_trees tuple) },
     pub ghost goal: { sound.now.query ≢ Some predicate },
 }

@@ -8,6 +8,7 @@
 //! is collected is an outcome of just the goal that was offered.
 #![tactic(auto)]
 
+mod bar;
 mod common;
 mod fits;
 mod fresh;
@@ -17,6 +18,7 @@ mod post;
 mod sending;
 mod taking;
 
+pub use bar::Bar;
 pub use common::Common;
 pub use fresh::open_posts;
 pub use job::Job;

@@ -3,6 +3,7 @@
 ghost use Rattle.std.specs.Prelude.{◌≡◌, ◌+◌, ◌≤◌, ℕ, [], length, IfOk, OnErr};
 ghost use Rattle.ap_post.specs.Posted.{posted};
 
+use crate::bar::Bar;
 use crate::common::Common;
 use crate::job::Job;
 use crate::outcome::Outcome;
@@ -26,6 +27,8 @@ pub struct Post<'a, 'b> {
     pub(crate) next: u64,
     /// Whether it looks for a goal of another worker, as the others know.
     pub(crate) looks: AtomicCell<bool>,
+    /// What it has saved for forks.
+    pub(crate) bar: Bar,
     ghost table: { desk.0 ≡ board.now.table.shared.table_id },
     pub ghost fresh: { (f : ℕ) → next ≤ f → length (posted desk.1 desk.4 f) ≡ 0 },
 }
@@ -78,9 +81,14 @@ impl<'a, 'b> Post<'a, 'b> {
         }
     }
 
-    /// Tells whether another worker looks for a goal, or had none yet.
-    pub fn wants_goals(&self) -> bool {
-        self.common.has_fresh() || self.common.wants()
+    /// Tells whether a group within so many open frames may be forked: there are other workers, and it is worth it.
+    pub fn may_fork(&self, depth: usize) -> bool {
+        !self.thieves.is_empty() && self.bar.allows(depth)
+    }
+
+    /// Gives what tells which groups are worth a fork.
+    pub fn bar(&self) -> &Bar {
+        &self.bar
     }
 
     /// Tells whether a goal is to be offered: to a worker that had none yet, which is then answered for, or to one that looks for one.
@@ -91,6 +99,11 @@ impl<'a, 'b> Post<'a, 'b> {
     /// Tells whether the query's search has ended.
     pub fn is_done(&self) -> bool {
         self.common.is_done()
+    }
+
+    /// Gives what all workers share.
+    pub fn common(&self) -> &'b Common {
+        self.common
     }
 
     /// Notes that the query's search has ended.

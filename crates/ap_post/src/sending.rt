@@ -27,6 +27,7 @@ impl<'a, 'b> Post<'a, 'b> {
         // Where the stack has no room nobody finds the goal, and its owner takes it back.
         let _pushed = self.goals.push(self.desk.note(newest).ticket);
         self.common.fall();
+        self.common.tell_one();
         true
     }
 
@@ -142,6 +143,7 @@ impl<'a, 'b> Post<'a, 'b> {
             return;
         }
         let _at_work = self.desk.stop(self.board, k);
+        self.common.tell_all();
     }
 
     // Takes a note's goal back and drops it, or asks its taker to stop.

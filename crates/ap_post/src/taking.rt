@@ -77,5 +77,6 @@ impl<'a, 'b> Post<'a, 'b> {
         ensures asked { KeptBelow (asked_in self.old) (length (jobs_in self.new)) (asked_in self.new) }
     {
         self.desk.finish(self.board, outcome);
+        self.common.tell_all();
     }
 }

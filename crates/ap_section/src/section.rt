@@ -43,6 +43,11 @@ impl Section {
         self.search.rest()
     }
 
+    /// Counts the cells of its store, by which it is known how much a copy has cost.
+    pub fn cells(&self) -> usize {
+        self.search.cells()
+    }
+
     /// Copies out the tuple of the answer at which it stands.
     pub fn answer(&self) -> Result<Parcelled, NoMemory>
         ensures tuple { IfOk result (λ parcel. SameUpToNames parcel (tuple_of (machine_in (view_of self.now)))) }

@@ -19,10 +19,15 @@ use ap_section::Section;
 use ap_term::NoMemory;
 
 /// For how many steps a section has to wait at its frame before goals of it are offered.
-const OLD: u64 = 8;
+const OLD: u64 = 2;
 
 /// The goal of a slot of a section's newest frame as a job. None where it asks the query, as no goal does.
-fn job_of<'a>(sound: &'a Sound, section: &Section, i: usize) -> Result<Option<Job<'a>>, NoMemory>
+fn job_of<'a>(
+    sound: &'a Sound,
+    section: &Section,
+    i: usize,
+    depth: usize,
+) -> Result<Option<Job<'a>>, NoMemory>
     requires ready { IsReady sound.now section.now }
     requires at { IsAtFrame (view_of section.now) }
     requires place { IsPlaceIn i (view_of section.now) }
@@ -39,6 +44,7 @@ fn job_of<'a>(sound: &'a Sound, section: &Section, i: usize) -> Result<Option<Jo
         tuple,
         rest: section.rest(),
         place: i,
+        depth,
     }))
 }
 
@@ -52,7 +58,13 @@ impl<'a> Stack<'a> {
         ensures none { result ≡ Ok false → (self.new.tends ≡ true) × (section_in self.new ≡ section_in self.old) }
     {
         sharing_law();
-        let Some(job) = job_of(self.sound, &self.newest, i)? else {
+        let Some(job) = job_of(
+            self.sound,
+            &self.newest,
+            i,
+            self.around_goal(self.outer.len()),
+        )?
+        else {
             return Ok(false);
         };
         if !post.offer(job, self.frame) {
@@ -71,7 +83,7 @@ impl<'a> Stack<'a> {
         ensures tends { self.new.tends ≡ self.old.tends }
     {
         sharing_law();
-        let Some(job) = job_of(self.sound, &self.outer[k].section, i)? else {
+        let Some(job) = job_of(self.sound, &self.outer[k].section, i, self.around_goal(k))? else {
             return Ok(false);
         };
         if !post.offer(job, self.outer[k].frame) {

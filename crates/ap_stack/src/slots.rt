@@ -55,6 +55,7 @@ impl<'a> Stack<'a> {
         self.outer.reserve(1)?;
         let frame = post.number()?;
         self.newest.start_slot(i);
+        post.bar().began(section.cells());
         self.push(section, i, 0, frame);
         Ok(())
     }
@@ -95,6 +96,7 @@ impl<'a> Stack<'a> {
         let place = done.place;
         let cost = done.section.spent().saturating_sub(done.since);
         self.newest.put_answer(place, done.section, cost, has_more);
+        post.bar().ended(cost);
         self.restart_behind(post, place);
         Step::Finished(place)
     }
@@ -131,6 +133,7 @@ impl<'a> Stack<'a> {
         };
         let cost = done.section.spent().saturating_sub(done.since);
         self.newest.put_failed(done.place, cost);
+        post.bar().ended(cost);
         Step::Finished(done.place)
     }
 

@@ -77,11 +77,19 @@ pub struct Stack<'a> {
     pub(crate) turns: u64,
     /// No goal of a frame before this one is ready.
     pub(crate) oldest: usize,
+    /// How many frames are open around the search's goal.
+    pub(crate) around: usize,
 }
 
 impl<'a> Stack<'a> {
-    /// The search of a section that begins, under a number that no frame had.
-    pub fn new(alloc: Global, sound: &'a Sound, newest: Section, frame: u64) -> Stack<'a>
+    /// The search of a section that begins, under a number that no frame had; so many frames are open around its goal.
+    pub fn new(
+        alloc: Global,
+        sound: &'a Sound,
+        newest: Section,
+        frame: u64,
+        around: usize,
+    ) -> Stack<'a>
         ensures sound { result.sound.now ≡ sound.now }
         ensures alone { result.outer.items ≡ [] }
         ensures newest { result.newest ≡ newest }
@@ -98,7 +106,18 @@ impl<'a> Stack<'a> {
             first: frame,
             turns: 0,
             oldest: 0,
+            around,
         }
+    }
+
+    /// Counts the frames that are open around the newest section.
+    pub(crate) fn depth(&self) -> usize {
+        self.around.saturating_add(self.outer.len())
+    }
+
+    /// Counts the frames that are open around a goal of the section with so many before it.
+    pub(crate) fn around_goal(&self, before: usize) -> usize {
+        self.around.saturating_add(before).saturating_add(1)
     }
 
     /// Tells the number of its outermost frame.

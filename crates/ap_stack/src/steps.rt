@@ -26,7 +26,11 @@ impl<'a> Stack<'a> {
         ensures step { IfOk result (λ step. IsStep post.new self.new step) }
     {
         sharing_law();
-        match self.newest.settle(alloc)? {
+        let before = self.newest.cells();
+        let settled = self.newest.settle(alloc)?;
+        post.bar()
+            .joined(self.newest.cells().saturating_sub(before));
+        match settled {
             Settled::Open => {
                 // It finds out anew where it stands.
                 self.tends = false;
@@ -120,19 +124,21 @@ impl<'a> Stack<'a> {
         ensures step { IfOk result (λ step. IsStep post.new self.new step) }
     {
         sharing_law();
-        let mut wish = Wish {
-            wanted: post.wants_goals(),
-        };
-        match self
+        let mut wish = Wish::new(post.may_fork(self.depth()));
+        let before = self.newest.spent();
+        let turn = self
             .newest
-            .advance(self.sound, CALLS, &mut wish, &mut self.share)?
-        {
+            .advance(self.sound, CALLS, &mut wish, &mut self.share)?;
+        let calls = self.newest.spent().saturating_sub(before);
+        post.bar().went(calls, wish.has_passed());
+        match turn {
             Turn::Answer => Ok(self.answered(post)),
             Turn::Failed => Ok(self.failed(post)),
             Turn::Spent => Ok(self.spent_all(post)),
             Turn::More | Turn::Stopped => Ok(Step::Went),
             Turn::Fork => {
                 self.tends = true;
+                post.bar().forked();
                 Ok(Step::Went)
             }
         }

@@ -1,12 +1,28 @@
 //! What a section is told while it goes on.
 
 use ap_machine::Hook;
+use std::cell::Cell;
 
 /// A hook that never asks to stop, since a search looks up after some calls anyway.
 #[derive(Drop)]
 pub(crate) struct Wish {
-    /// Whether another worker looks for a goal.
-    pub(crate) wanted: bool,
+    /// Whether a group is to be forked.
+    wanted: bool,
+    /// Whether there was one that wasn't to be.
+    passed: Cell<bool>,
+}
+
+impl Wish {
+    pub(crate) fn new(wanted: bool) -> Wish {
+        Wish {
+            wanted,
+            passed: Cell::new(false),
+        }
+    }
+
+    pub(crate) fn has_passed(&self) -> bool {
+        self.passed.get()
+    }
 }
 
 impl Hook for Wish {
@@ -17,6 +33,9 @@ impl Hook for Wish {
     }
 
     fn wants(&self) -> bool {
+        if !self.wanted {
+            self.passed.set(true);
+        }
         self.wanted
     }
 }

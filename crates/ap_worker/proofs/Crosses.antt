@@ -25,6 +25,7 @@ use Rattle.ap_ledger.proofs.share.Share.TheSendSync as share
 use Rattle.ap_machine.proofs.state.Search.TheSendSync as machine
 use Rattle.ap_section.proofs.section.Section.TheLaws.TheKnot as knot
 use Rattle.ap_section.specs.contracts.section.Section as Section
+use Rattle.ap_post.proofs.bar.Bar.TheSendSync as bar
 use Rattle.ap_post.proofs.common.Common.TheSendSync as common
 use Rattle.ap_post.specs.contracts.job.Job as Job
 use Rattle.ap_post.specs.contracts.outcome.Outcome as Outcome
@@ -65,7 +66,7 @@ post-send a b = struct_send (shape (Post.the_type a b)) (
     search (sendable, common.the_sync) depth 20,
     (
       search (sendable, desk.the_send, job-send, outcome-send) depth 20,
-      (goals-send, (search (sendable, crosses, thief.the_send) depth 20, (search sendable, (search (sendable, crosses) depth 20, tt)))),
+      (goals-send, (search (sendable, crosses, thief.the_send) depth 20, (search sendable, (search (sendable, crosses) depth 20, (search (sendable, crosses, bar.the_send) depth 20, tt))))),
     ),
   ),
 )

@@ -1,7 +1,7 @@
 //! Workers that serve the one that leads.
 
 ghost use Rattle.std.specs.Prelude.{All};
-ghost use Rattle.ap_worker.specs.Workers.{IsIdle};
+ghost use Rattle.ap_worker.specs.Workers.{IsIdle, IsStaffed};
 
 use crate::worker::Worker;
 use ap_outside::Gate;
@@ -11,19 +11,41 @@ use std::sync::Wait;
 use std::thread;
 use std::thread::Threads;
 
+/// How often a worker looks for a goal, and yields, before it sleeps.
+const LOOKS: u32 = 400;
+
+/// Sleeps until there is news, unless there is something to do, or the query's search has ended.
+fn sleep<R: Wait, G: Gate>(rt: &R, alloc: Global, gate: &G, worker: &mut Worker<'_, '_>)
+    requires { IsStaffed worker.old }
+    ensures { IsStaffed worker.new }
+{
+    let key = worker.common().prepare_wait();
+    if worker.is_done() || worker.serve_once(alloc, gate) {
+        drop(key);
+        return;
+    }
+    key.wait(rt);
+}
+
 /// Runs goals of others until the query's search has ended.
 fn serve<R: Wait, G: Gate>(rt: &R, alloc: Global, gate: &G, worker: &mut Worker<'_, '_>)
     requires { IsIdle worker.old }
 {
     let backoff = Backoff::new();
+    let mut looks = 0;
     for _ in rt.forever() {
         if worker.is_done() {
             break;
         }
         if worker.serve_once(alloc, gate) {
             backoff.reset();
-        } else {
+            looks = 0;
+        } else if looks < LOOKS {
             backoff.snooze();
+            looks += 1;
+        } else {
+            sleep(rt, alloc, gate, worker);
+            looks = 0;
         }
     }
 }

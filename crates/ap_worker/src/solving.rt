@@ -94,7 +94,7 @@ fn leading<'a, 'b>(
     ensures query { IfOk result (λ lead. (code_in lead.query ≡ sound.now) × (section_in lead.query ≡ view_of section)) }
 {
     let frame = worker.post.number()?;
-    let query = Stack::new(alloc, sound, section, frame);
+    let query = Stack::new(alloc, sound, section, frame, 0);
     Ok(Lead { worker, query })
 }
 

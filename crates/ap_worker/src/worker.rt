@@ -14,7 +14,7 @@ ghost use Rattle.ap_worker.specs.Workers.{IsIdle, IsStaffed, IsShort, IsOff, IsA
 use crate::taken::Taken;
 use ap_open::outcome_law;
 use ap_outside::{Gate, Spot};
-use ap_post::{Ending, Job, Outcome, Post};
+use ap_post::{Common, Ending, Job, Outcome, Post};
 use ap_section::Section;
 use ap_stack::{Stack, Step};
 use ap_term::NoMemory;
@@ -106,8 +106,9 @@ impl<'a, 'b> Worker<'a, 'b> {
     {
         outcome_law();
         let section = Section::start(alloc, job.sound, &job.tuple, job.predicate, job.rest)?;
+        self.post.bar().took(section.cells());
         let frame = self.post.number()?;
-        let stack = Stack::new(alloc, job.sound, section, frame);
+        let stack = Stack::new(alloc, job.sound, section, frame, job.depth);
         self.taken.push_reserved(Taken {
             stack,
             place: job.place,
@@ -247,6 +248,11 @@ impl<'a, 'b> Worker<'a, 'b> {
             return true;
         }
         self.help(alloc, gate)
+    }
+
+    /// What it shares with the others.
+    pub(crate) fn common(&self) -> &'b Common {
+        self.post.common()
     }
 
     /// Whether the query's search has ended.

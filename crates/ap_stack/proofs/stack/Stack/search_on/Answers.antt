@@ -8,8 +8,8 @@ use Rattle.ap_stack.proofs.Waiting.{at-frame}
 use Rattle.ap_stack.proofs.Moves.{moved-alone, goes-then}
 use Rattle.ap_stack.proofs.stack.Stack.search_on.Goals as goal
 
-pub returns-in_err-advance-clause-goes : goal.returns-in_err-advance-clause-goes
-returns-in_err-advance-clause-goes c =
+pub returns-in_err-turn-clause-goes : goal.returns-in_err-turn-clause-goes
+returns-in_err-turn-clause-goes c =
     let p = c.args.post.now in
     let s = c.args.self.now in
     let good = c.requires.good in
@@ -58,5 +58,5 @@ returns-in-Fork-clause-goes c =
     let good = c.requires.good in
     let x = view_of c.advance.new.self in
     let t : Stack = record s { newest = c.advance.new.self; share = c.advance.new.share; tends = true } in
-    let at = at-frame (code_in s) 0 (section_in s) x (subst (Ends (code_in s) _ (section_in s) x) c.in-Fork.is c.in_ok-advance.ensures.end) in
+    let at = at-frame (code_in s) 0 (section_in s) x (subst (Ends (code_in s) _ (section_in s) x) c.in-Fork.is c.in_ok-turn.ensures.end) in
     moved-alone p s t refl refl refl refl c.sharing_law.ensures good (good.none_out c.requires.runs) c.advance.ensures.ready (λ h. at) c.advance.ensures.goes

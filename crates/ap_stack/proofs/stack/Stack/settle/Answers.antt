@@ -8,14 +8,14 @@ use Rattle.ap_stack.specs.Stacks.{code_in, section_in}
 use Rattle.ap_stack.proofs.Moves.{moved-alone}
 use Rattle.ap_stack.proofs.stack.Stack.settle.Goals as goal
 
-pub returns-in_err-settle-clause-goes : goal.returns-in_err-settle-clause-goes
-returns-in_err-settle-clause-goes c =
+pub returns-in_err-settled-clause-goes : goal.returns-in_err-settled-clause-goes
+returns-in_err-settled-clause-goes c =
     let p = c.args.post.now in
     let s = c.args.self.now in
     let code = code_in s in
     let good = c.requires.good in
     let t : Stack = record s { newest = c.settle.new.self } in
-    moved-alone p s t refl refl refl refl c.sharing_law.ensures good c.requires.none (c.settle.ensures.ready code good.ready) (λ h. c.in_err-settle.ensures.err.0) (c.settle.ensures.goes code good.ready)
+    moved-alone p s t refl refl refl refl c.sharing_law.ensures good c.requires.none (c.settle.ensures.ready code good.ready) (λ h. c.in_err-settled.ensures.err.0) (c.settle.ensures.goes code good.ready)
 
 pub spent_all-requires-clause-good : goal.spent_all-requires-clause-good
 spent_all-requires-clause-good c =
@@ -25,7 +25,7 @@ spent_all-requires-clause-good c =
     let good = c.requires.good in
     let x = view_of c.settle.new.self in
     let t : Stack = record s { newest = c.settle.new.self } in
-    let settled = subst (IsSettled (section_in s) x) c.in-Spent.is c.in_ok-settle.ensures.settled in
+    let settled = subst (IsSettled (section_in s) x) c.in-Spent.is c.in_ok-settled.ensures.settled in
     let at : IsAtFrame x = subst IsAtFrame (sym settled.1) (good.at_frame c.requires.tends) in
     (moved-alone p s t refl refl refl refl c.sharing_law.ensures good c.requires.none (c.settle.ensures.ready code good.ready) (λ h. at) (c.settle.ensures.goes code good.ready)).good
 
@@ -37,7 +37,7 @@ redo_slot-requires-clause-good c =
     let good = c.requires.good in
     let x = view_of c.settle.new.self in
     let t : Stack = record s { newest = c.settle.new.self } in
-    let settled = subst (IsSettled (section_in s) x) c.in-Redo.is c.in_ok-settle.ensures.settled in
+    let settled = subst (IsSettled (section_in s) x) c.in-Redo.is c.in_ok-settled.ensures.settled in
     let at : IsAtFrame x = subst IsAtFrame (sym settled.0) (good.at_frame c.requires.tends) in
     (moved-alone p s t refl refl refl refl c.sharing_law.ensures good c.requires.none (c.settle.ensures.ready code good.ready) (λ h. at) (c.settle.ensures.goes code good.ready)).good
 
