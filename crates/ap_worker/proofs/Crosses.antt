@@ -48,7 +48,7 @@ pub open-send : IsSend (Open.the_field).row
 open-send = search (sendable, crosses, section-send) depth 20
 
 pub stack-send : (a : NamedLft) → IsSend (Stack.the_field a).row
-stack-send a = search (sendable, crosses, sound.the_sync, share.the_send, section-send, open-send) depth 20
+stack-send a = search (sendable, crosses, sound.the_sync, share.the_send, section-send, open-send) depth 24
 
 pub taken-send : (a : NamedLft) → IsSend (Taken.the_field a).row
 taken-send a = search (sendable, crosses, stack-send) depth 20
