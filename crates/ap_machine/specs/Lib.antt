@@ -6,6 +6,7 @@ pub mod Lasting
 pub mod Back
 pub mod Goal
 pub mod Stands
+pub mod Lent
 pub mod Due
 pub mod Advanced
 pub mod Ends

@@ -16,6 +16,8 @@ mod group;
 mod rejoin;
 mod start;
 mod state;
+mod tuple;
 
 pub use advance::{Hook, Turn};
 pub use state::Search;
+pub use tuple::Tuple;

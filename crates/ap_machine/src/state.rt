@@ -10,7 +10,9 @@ ghost use Rattle.ap_standing.specs.Machine.{failed};
 ghost use Rattle.ap_standing.specs.Holds.{Holds};
 ghost use Rattle.ap_machine.specs.View.{now_of, IsFor};
 ghost use Rattle.ap_machine.specs.Stands.{IsAtAnswer, tuple_of};
+ghost use Rattle.ap_machine.specs.Lent.{terms_of};
 
+use crate::tuple::Tuple;
 use ap_arith::Pending;
 use ap_cells::{CellMark, Cells};
 use ap_checks::Comparison;
@@ -148,6 +150,19 @@ impl Search {
         ensures left { IsAtAnswer self.old.machine → (code : Compiled) (s : Tracked) (ss : List Tracked) → Holds code self.old.machine (s ∷ ss) → Holds code self.new.machine ss }
     {
         self.next = Now::Failed;
+    }
+
+    /// Lends the tuple of the answer at which it stands.
+    pub fn tuple(&self) -> Tuple<'_>
+        ensures cells { result.cells.now.cells ≡ self.now.machine.cells }
+        ensures roots { result.roots.now ≡ self.now.machine.roots }
+        ensures tuple { terms_of result ≡ tuple_of self.now.machine }
+        ensures answered { IsAtAnswer self.now.machine → (code : Compiled) (s : Tracked) (ss : List Tracked) → Holds code self.now.machine (s ∷ ss) → SameUpToNames (terms_of result) s.tuple }
+    {
+        Tuple {
+            cells: &self.cells,
+            roots: &self.roots,
+        }
     }
 
     /// The tuple of the answer at which it stands.

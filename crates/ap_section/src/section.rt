@@ -7,6 +7,7 @@ ghost use Rattle.ap_instr.specs.Code.{Compiled};
 ghost use Rattle.ap_tie.specs.Sections.{machine_in};
 ghost use Rattle.ap_tie.specs.Tied.{IsAtAnswer};
 ghost use Rattle.ap_machine.specs.Stands.{tuple_of};
+ghost use Rattle.ap_machine.specs.Lent.{terms_of};
 ghost use Rattle.ap_tied.specs.Settling.{IsAnswerIn};
 ghost use Rattle.ap_section.specs.Views.{view_of, spent_in, budget_in};
 ghost use Rattle.ap_section.specs.Ready.{IsReady};
@@ -14,7 +15,7 @@ ghost use Rattle.ap_section.specs.Ends.{HasNext, HasNothing, left_behind};
 
 use ap_copy::Parcelled;
 use ap_frames::Frame;
-use ap_machine::Search;
+use ap_machine::{Search, Tuple};
 use ap_term::NoMemory;
 use std::alloc::Global;
 
@@ -46,6 +47,15 @@ impl Section {
     /// Counts the cells of its store, by which it is known how much a copy has cost.
     pub fn cells(&self) -> usize {
         self.search.cells()
+    }
+
+    /// Lends the tuple of the answer at which it stands.
+    pub fn tuple(&self) -> Tuple<'_>
+        ensures tuple { terms_of result ≡ tuple_of (machine_in (view_of self.now)) }
+        ensures answered { IsAnswerIn (view_of self.now) (terms_of result) }
+        ensures width { length result.roots.now ≡ length (machine_in (view_of self.now)).roots }
+    {
+        self.search.tuple()
     }
 
     /// Copies out the tuple of the answer at which it stands.

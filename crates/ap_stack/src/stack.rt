@@ -1,9 +1,12 @@
 //! The open sections of a search, one for another.
 
-ghost use Rattle.std.specs.Prelude.{◌≡◌, ◌<◌, true, false, [], ◌∷◌, ◌++◌, IfOk, IfSome, IfNone};
+ghost use Rattle.std.specs.Prelude.{◌≡◌, ◌<◌, true, false, [], ◌∷◌, ◌++◌, IfSome, IfNone};
 ghost use Rattle.std.specs.Prelude.{vec_len, vec_capacity};
 ghost use Rattle.ap_instr.specs.Code.{Compiled};
 ghost use Rattle.ap_tied.specs.Settling.{IsAnswerIn};
+ghost use Rattle.ap_machine.specs.Stands.{tuple_of};
+ghost use Rattle.ap_machine.specs.Lent.{terms_of};
+ghost use Rattle.ap_tie.specs.Sections.{machine_in};
 ghost use Rattle.ap_section.specs.Ends.{left_behind};
 ghost use Rattle.ap_section.specs.Ready.{IsReady};
 ghost use Rattle.ap_post.specs.declared.post.Post.{Post as Posting};
@@ -11,10 +14,9 @@ ghost use Rattle.ap_post.specs.Posts.{posted_in};
 ghost use Rattle.ap_stack.specs.Stacks.{IsGood, section_in, spent_outside};
 
 use ap_codecheck::Sound;
-use ap_copy::Parcelled;
 use ap_ledger::Share;
+use ap_machine::Tuple;
 use ap_section::Section;
-use ap_term::NoMemory;
 use std::alloc::Global;
 use std::mem;
 
@@ -180,11 +182,12 @@ impl<'a> Stack<'a> {
         }
     }
 
-    /// Copies out the tuple of the answer at which the newest section stands.
-    pub fn answer(&self) -> Result<Parcelled, NoMemory>
-        ensures tuple { IfOk result (λ parcel. IsAnswerIn (section_in self.now) parcel) }
+    /// Lends the tuple of the answer at which the newest section stands.
+    pub fn tuple(&self) -> Tuple<'_>
+        ensures tuple { terms_of result ≡ tuple_of (machine_in (section_in self.now)) }
+        ensures answered { IsAnswerIn (section_in self.now) (terms_of result) }
     {
-        self.newest.answer()
+        self.newest.tuple()
     }
 
     /// Leaves the answer at which the newest section stands; it goes on behind it.

@@ -1,6 +1,5 @@
 pub mod Uncalled
 pub mod Sources
-pub mod Widths
 pub mod Outputs
 pub mod Printing
 pub mod Pieces

@@ -2,18 +2,20 @@
 
 ghost use Rattle.std.specs.Prelude.{◌≡◌, ℕ, List, ◌≤◌, ◌^◌, length, IfOk};
 ghost use Rattle.ap_outside.specs.Halting.{Finishes, SinkCount};
-ghost use Rattle.ap_term.specs.Tree.{Trees, count_trees};
+ghost use Rattle.ap_term.specs.Tree.{Trees};
+ghost use Rattle.ap_machine.specs.Lent.{terms_of};
 ghost use Rattle.ap_worker.specs.Ends.{end_of};
 ghost use Rattle.ap_worker.specs.Sought.{MayBeAsked};
 ghost use Rattle.ap_top.specs.Output.{line_of, fault_line, end_line, is_spent, IsQueryBlock};
 ghost use Rattle.ap_top.specs.Lines.{line_same};
 
 use ap_grouping::group_query;
+use ap_lines::answer_line;
+use ap_machine::Tuple;
 use ap_mel::Kind;
 use ap_outside::{Gate, Halt, Sink, put_line};
-use ap_term::{Args, Atoms, Fault, NoMemory, Program, Query};
+use ap_term::{Atoms, Fault, NoMemory, Program, Query};
 use ap_worker::{Answers, Crew, End, solve};
-use ap_writer::answer_line;
 use std::alloc::Global;
 use std::sync::Wait;
 use std::thread::Threads;
@@ -65,11 +67,16 @@ fn is_spent(end: End) -> bool
 }
 
 // The line of an answer, with its line feed.
-fn make_line(alloc: Global, query: &Query, tuple: &Args, atoms: &Atoms) -> Result<Vec<u8>, NoMemory>
-    requires { count_trees tuple.now ≡ length query.now.names }
-    ensures { IfOk result (λ line. line.items ≡ line_of atoms.now query.now tuple.now) }
+fn make_line(
+    alloc: Global,
+    query: &Query,
+    tuple: &Tuple<'_>,
+    atoms: &Atoms,
+) -> Result<Vec<u8>, NoMemory>
+    requires { length tuple.now.roots.now ≡ length query.now.names }
+    ensures { IfOk result (λ line. line.items ≡ line_of atoms.now query.now (terms_of tuple.now)) }
 {
-    let mut line = answer_line(alloc, query, tuple.as_slice(), atoms)?;
+    let mut line = answer_line(alloc, query, tuple.cells, tuple.roots, atoms)?;
     line.push(b'\n')?;
     Ok(line)
 }
@@ -86,7 +93,7 @@ impl Answers for Lines<'_> {
 
     ghost line = { λ a. line_of a.atoms.now a.query.now };
 
-    fn line(&self, alloc: Global, tuple: &Args) -> Result<Vec<u8>, NoMemory> {
+    fn line(&self, alloc: Global, tuple: &Tuple<'_>) -> Result<Vec<u8>, NoMemory> {
         make_line(alloc, self.query, tuple, self.atoms)
     }
 

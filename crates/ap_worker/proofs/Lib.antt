@@ -8,6 +8,5 @@ mod Helping
 mod Idle
 mod Leading
 mod Past
-mod Spans
 mod Staffed
 mod Taking

@@ -24,7 +24,6 @@ use crate::answers::Answers;
 use crate::bounds::Bounds;
 use crate::emission::{End, Ended};
 use crate::lead::Lead;
-use crate::parcels::terms_of;
 use ap_open::{block_law, outcome_law, solving_law};
 use ap_outside::{Gate, Halt, Sink, put_line};
 use ap_stack::{Ending, Stack, Step};
@@ -63,14 +62,9 @@ fn put_answer<A: Answers, K: Sink>(
     ensures same { (code_in query.new ≡ code_in query.old) × (query.new.outer ≡ query.old.outer) × (query.new.frame ≡ query.old.frame) × (query.new.first ≡ query.old.first) × (query.new.tends ≡ query.old.tends) }
     ensures good { (p : Posting) → IsGood p query.old → query.old.tends ≡ false → IsGood p query.new }
 {
-    let Ok(parcel) = query.answer() else {
-        return Err(Halt::NoMemory);
-    };
-    let Ok(tuple) = terms_of(alloc, &parcel) else {
-        return Err(Halt::NoMemory);
-    };
-    // Each answer has a term for each of the query's variables.
-    if tuple.len() != width {
+    let tuple = query.tuple();
+    // Each answer has a place for each of the query's variables.
+    if tuple.roots.len() != width {
         return Err(Halt::NoMemory);
     }
     let Ok(line) = answers.line(alloc, &tuple) else {

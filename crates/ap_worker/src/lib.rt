@@ -3,7 +3,7 @@
 //! The worker that leads searches the query; the others take goals that are offered, and each helps while its own searches wait.
 //!
 //! Stands on `ap_stack` for the open sections of a search, on `ap_post` for goals that workers offer and take, on `ap_open` for what
-//! searches that run one another's goals are to the query's, on `ap_codegen` and `ap_codecheck` for code, on `ap_copy` for parcels, on
+//! searches that run one another's goals are to the query's, on `ap_codegen` and `ap_codecheck` for code, on
 //! `ap_outside` for sinks. The one contract used above is that of `solve`: what it puts for a query beside a program, with their
 //! groups, is a block of them without, for any number of workers.
 #![tactic(auto)]
@@ -14,7 +14,6 @@ mod crew;
 mod emission;
 mod found;
 mod lead;
-mod parcels;
 mod serving;
 mod solving;
 mod taken;
@@ -23,5 +22,4 @@ mod worker;
 pub use answers::Answers;
 pub use crew::Crew;
 pub use emission::{End, Ended};
-pub use parcels::terms_of;
 pub use solving::solve;
