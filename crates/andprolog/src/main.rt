@@ -55,11 +55,16 @@ fn run_args<R: Threads + Wait + RandomSource + Sync>(
     Ok(run_words(rt, threads, &words))
 }
 
-fn main(rt: HostRuntime) -> ExitCode {
-    match run_args(&rt, &rt, rt.alloc()) {
-        Ok(status) => code_of(status),
-        Err(error) if error.kind() == io::ErrorKind::OutOfMemory => code_of(Status::NoMemory),
+// How the run over the process's words and streams ends.
+fn run_process<R: Threads + Wait + RandomSource + Sync>(rt: &HostRuntime, threads: &R) -> Status {
+    match run_args(rt, threads, rt.alloc()) {
+        Ok(status) => status,
+        Err(error) if error.kind() == io::ErrorKind::OutOfMemory => Status::NoMemory,
         // A word that is no text: no command line has one.
-        Err(_) => code_of(run_words(&rt, &rt, &[])),
+        Err(_) => run_words(rt, threads, &[]),
     }
+}
+
+fn main(rt: HostRuntime) -> ExitCode {
+    code_of(run_process(&rt, &rt))
 }

@@ -5,7 +5,8 @@ use ap_outside::{
     Source, Spot, StdFiles, StdSink, StdSource, SteadySink, put_line, put_lines,
 };
 use std::alloc::Global;
-use std::fs;
+use std::io::Read;
+use std::{fs, io};
 use std::test::Fail;
 
 /// Whether a read answers so, and leaves that content.
@@ -90,6 +91,38 @@ fn a_source_in_memory_answers_as_it_was_told(rt: HostRuntime) -> Result<(), Fail
 fn a_reader_is_a_source(rt: HostRuntime) -> Result<(), Fail> {
     let mut source = StdSource::new(b"abcd".as_slice());
     for wanted in [Some("abc"), Some("d"), Some("")] {
+        assert!(rt; is_taken(&mut source, wanted));
+    }
+    Ok(())
+}
+
+/// A reader that a signal interrupts before each read, and that fails at its end.
+#[derive(Drop)]
+struct Interrupted {
+    bytes: &'static [u8],
+    is_next: bool,
+}
+
+impl Read for Interrupted {
+    fn read(&mut self, buf: &mut [u8]) -> io::Result<usize> {
+        self.is_next = !self.is_next;
+        if self.is_next {
+            return Err(io::ErrorKind::Interrupted.into());
+        }
+        if self.bytes.is_empty() {
+            return Err(io::ErrorKind::BrokenPipe.into());
+        }
+        self.bytes.read(buf)
+    }
+}
+
+#[test]
+fn an_interrupted_read_is_tried_again(rt: HostRuntime) -> Result<(), Fail> {
+    let mut source = StdSource::new(Interrupted {
+        bytes: b"abcd",
+        is_next: false,
+    });
+    for wanted in [Some("abc"), Some("d"), None] {
         assert!(rt; is_taken(&mut source, wanted));
     }
     Ok(())

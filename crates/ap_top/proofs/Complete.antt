@@ -9,7 +9,7 @@ use Rattle.ap_patterns.specs.declared.entries.Entries.{Entries}
 use Rattle.ap_top.specs.Words.{Asked, Shown}
 use Rattle.ap_top.specs.Status.{status_of, tally}
 use Rattle.ap_top.specs.Counts.{RunSinkCount}
-use Rattle.ap_top.specs.Ends.{SourceEnds, TextEnds, FileEnds, RunEnds, IsFile, IsAnswering, NamesProgram, IsShowing, ShowsProgram, CodesProgram}
+use Rattle.ap_top.specs.Ends.{SourceEnds, TextEnds, FileEnds, WordsEnd, IsFile, IsAnswering, NamesProgram, IsShowing, ShowsProgram, CodesProgram}
 use Rattle.ap_top.specs.Patterns.{AreEntries}
 use Rattle.ap_top.specs.Shows.{ProgramShows, TextShows, FileShows}
 use Rattle.ap_top.specs.Codes.{TextCodes, FileCodes}
@@ -25,9 +25,9 @@ answers_tally spent true s e = subst IsAnswering (sym e) tt
 answers_tally true false s e = subst IsAnswering (sym e) tt
 answers_tally false false s e = subst IsAnswering (sym e) tt
 
-module _ (source : Option (List ℕ)) (SourceRose : Type 0) (calm : SourceRose → ⊥) where
+module _ (source : Option (List ℕ)) (SourceRose : List ℕ → Type 0) (calm : (taken : List ℕ) → SourceRose taken → ⊥) where
   source_answers : (what : Asked) (program : Program) (table : List (List ℕ)) (s : Status) (ls : List (List ℕ)) → SourceEnds what program table source SourceRose s ls → IsAnswering s
-  source_answers what program table _ ls (SourceEnds.fault i t b _ r k l o e) = absurd (calm r)
+  source_answers what program table _ ls (SourceEnds.fault i t b _ r l o e) = absurd (calm i r)
   source_answers what program table _ ls (SourceEnds.too_long i _ t l e) = tt
   source_answers what program table _ ls (SourceEnds.read i t s _ told l o e) = answers_tally t.spent t.refused s e
 
@@ -50,7 +50,7 @@ module _ (source : Option (List ℕ)) (SourceRose : Type 0) (calm : SourceRose �
         let same : bytes ≡ other = one_content bytes other (sym is ∙ has.1 ∙ ap Some has.2) in
         text_answers what other program table (subst (λ b. AcceptsProgram b fixed_names program table) same h) s ls ends
 
-    pub run_answers : (words : List (List ℕ)) (entries : Option (List (List ℕ × List ℕ))) → NamesProgram words entries → (s : Status) (ls : List (List ℕ)) → RunEnds words entries source FilesRose SourceRose s ls
+    pub run_answers : (words : List (List ℕ)) (entries : Option (List (List ℕ × List ℕ))) → NamesProgram words entries → (s : Status) (ls : List (List ℕ)) → WordsEnd words entries source FilesRose SourceRose s ls
         → IsAnswering s
     run_answers words entries names s ls ends =
         file_answers names.what entries names.bytes names.program names.table names.file names.short names.accepted s ls (run_ends entries source FilesRose SourceRose words names.what names.command s ls ends)
@@ -82,8 +82,8 @@ module _ (FilesRose : Type 0) (quiet : FilesRose → ⊥) where
       let same : bytes ≡ other = one_content bytes other (sym f ∙ has.1 ∙ ap Some has.2) in
       text_shows what other program table E (subst (λ b. AcceptsProgram b fixed_names program table) same h) is s ls ends
 
-  pub run_shows : (source : Option (List ℕ)) (SourceRose : Type 0) (words : List (List ℕ)) (entries : Option (List (List ℕ × List ℕ))) → ShowsProgram words entries → (s : Status) (ls : List (List ℕ))
-      → RunEnds words entries source FilesRose SourceRose s ls → IsShowing s
+  pub run_shows : (source : Option (List ℕ)) (SourceRose : List ℕ → Type 0) (words : List (List ℕ)) (entries : Option (List (List ℕ × List ℕ))) → ShowsProgram words entries → (s : Status) (ls : List (List ℕ))
+      → WordsEnd words entries source FilesRose SourceRose s ls → IsShowing s
   run_shows source SourceRose words entries names s ls ends =
       file_shows names.what entries names.bytes names.program names.table names.calls names.file names.short names.accepted names.entry s ls (show_ends entries source FilesRose SourceRose words names.what names.command s ls ends)
 
@@ -107,8 +107,8 @@ module _ (FilesRose : Type 0) (quiet : FilesRose → ⊥) where
       let same : bytes ≡ other = one_content bytes other (sym f ∙ has.1 ∙ ap Some has.2) in
       text_codes other program table (subst (λ b. AcceptsProgram b fixed_names program table) same h) s ls ends
 
-  pub run_codes : (source : Option (List ℕ)) (SourceRose : Type 0) (words : List (List ℕ)) (entries : Option (List (List ℕ × List ℕ))) → CodesProgram words entries → (s : Status) (ls : List (List ℕ))
-      → RunEnds words entries source FilesRose SourceRose s ls → IsShowing s
+  pub run_codes : (source : Option (List ℕ)) (SourceRose : List ℕ → Type 0) (words : List (List ℕ)) (entries : Option (List (List ℕ × List ℕ))) → CodesProgram words entries → (s : Status) (ls : List (List ℕ))
+      → WordsEnd words entries source FilesRose SourceRose s ls → IsShowing s
   run_codes source SourceRose words entries names s ls ends =
       file_codes names.wanted entries names.bytes names.program names.table names.file names.short names.accepted s ls (code_ends entries source FilesRose SourceRose words names.wanted names.command s ls ends)
 

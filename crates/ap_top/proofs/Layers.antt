@@ -23,7 +23,7 @@ use Rattle.ap_top.specs.Words.{Asked}
 use Rattle.ap_top.specs.Output.{IsOutput, judged}
 use Rattle.ap_top.specs.Refusals.{refusal_line}
 use Rattle.ap_top.specs.Status.{status_of}
-use Rattle.ap_top.specs.Ends.{SourceEnds, TextEnds, FileEnds, AskedEnds, RunEnds, Whole, SaysNoMemory, IsTold, IsTaken}
+use Rattle.ap_top.specs.Ends.{SourceEnds, TextEnds, FileEnds, AskedEnds, WordsEnd, Whole, SaysNoMemory, IsTold, IsTaken}
 use Rattle.ap_top.specs.declared.status.Tally.{Tally}
 use Rattle.ap_top.specs.declared.status.Status.{Status}
 use Rattle.ap_top.specs.declared.status.Status.TheVariants as status
@@ -43,7 +43,7 @@ taken_first (Some u) None bytes f = absurd f
 taken_first (Some u) (Some v) bytes f = (v, f)
 
 module _ (what : Asked) (program : Program) (table : List (List ℕ)) where
-  pub source_too_long : (a b : Option (List ℕ)) (bytes : List ℕ) (Rose : Type 0) → Consumes a b bytes → 16777216 < length bytes →
+  pub source_too_long : (a b : Option (List ℕ)) (bytes : List ℕ) (Rose : List ℕ → Type 0) → Consumes a b bytes → 16777216 < length bytes →
       (s : Status) (ls : List (List ℕ)) → (s ≡ status.QueriesTooLong) × (ls ≡ codes "refused: queries too long\n" ∷ []) → SourceEnds what program table a Rose s ls
   source_too_long None b bytes Rose f long s ls h = subst (λ t. SourceEnds what program table None Rose t ls) (sym h.0) (SourceEnds.too_long bytes ls tt long h.1)
   source_too_long (Some u) None bytes Rose f long s ls h = absurd f
@@ -66,10 +66,10 @@ finishes_after P E F goes stops a b c (Ok t) puts more = puts_then a b c P (E t)
 finishes_after P E F goes stops a b c (Err e) puts more =
     halts_after P E F (λ ps qs p any. ([], (any.0, subst (F any.0) (sym (append-nil (ps ++ qs))) (goes any.0 ps qs p any.1)))) stops a b c e puts more
 
-module _ (what : Asked) (program : Program) (table : List (List ℕ)) (source : Option (List ℕ)) (Rose : Type 0) (taken : List ℕ) (rose : Rose) (told : IsTaken source taken) (short : length taken ≤ 16777216) where
+module _ (what : Asked) (program : Program) (table : List (List ℕ)) (source : Option (List ℕ)) (Rose : List ℕ → Type 0) (taken : List ℕ) (rose : Rose taken) (short : length taken ≤ 16777216) where
   fault_behind : (t : Tally) (s : Status) (ps qs : List (List ℕ)) → IsOutput what.budget what.answers program table taken (judged false taken) t ps → (s ≡ status.SourceFault) × (qs ≡ codes "fault: source\n" ∷ [])
       → SourceEnds what program table source Rose s (ps ++ qs)
-  fault_behind t s ps qs out h = subst (λ u. SourceEnds what program table source Rose u (ps ++ qs)) (sym h.0) (SourceEnds.fault taken t ps (ps ++ qs) rose told short out (ap (λ ls. ps ++ ls) h.1))
+  fault_behind t s ps qs out h = subst (λ u. SourceEnds what program table source Rose u (ps ++ qs)) (sym h.0) (SourceEnds.fault taken t ps (ps ++ qs) rose short out (ap (λ ls. ps ++ ls) h.1))
 
   fault_front : (t : Tally) (ps : List (List ℕ)) → IsOutput what.budget what.answers program table taken (judged false taken) t ps → PrefixOf (AnyOf (SourceEnds what program table source Rose)) ps
   fault_front t ps out = (codes "fault: source\n" ∷ [], (status.SourceFault, fault_behind t status.SourceFault ps (codes "fault: source\n" ∷ []) out (refl, refl)))
@@ -88,11 +88,11 @@ module _ (what : Asked) (program : Program) (table : List (List ℕ)) (source : 
       finishes_after (IsOutput what.budget what.answers program table taken (judged false taken) t) (λ s put. (s ≡ status.SourceFault) × (put ≡ codes "fault: source\n" ∷ [])) (SourceEnds what program table source Rose)
       (λ s ps qs out h. fault_behind t s ps qs out h) (λ ps out. inr (fault_front t ps out)) a b c r puts more
 
-module _ (what : Asked) (bytes : List ℕ) (source : Option (List ℕ)) (Rose : Type 0) (names : List (List ℕ)) (r : Refusal) (same : names ≡ fixed_names) (h : RefusesProgram bytes fixed_names r) where
+module _ (what : Asked) (bytes : List ℕ) (source : Option (List ℕ)) (Rose : List ℕ → Type 0) (names : List (List ℕ)) (r : Refusal) (same : names ≡ fixed_names) (h : RefusesProgram bytes fixed_names r) where
   pub text_refused : (ls : List (List ℕ)) → ls ≡ refusal_line names r ∷ [] → TextEnds what bytes source Rose status.ProgramRefused ls
   text_refused ls is = TextEnds.refused r ls h (is ∙ ap (λ t. refusal_line t r ∷ []) same)
 
-module _ (what : Asked) (entries : Option (List (List ℕ × List ℕ))) (source : Option (List ℕ)) (FilesRose SourceRose : Type 0) where
+module _ (what : Asked) (entries : Option (List (List ℕ × List ℕ))) (source : Option (List ℕ)) (FilesRose : Type 0) (SourceRose : List ℕ → Type 0) where
   pub file_fault : FilesRose → (s : Status) (ls : List (List ℕ)) → (s ≡ status.FileFault) × (ls ≡ codes "fault: file\n" ∷ []) → FileEnds what entries source FilesRose SourceRose s ls
   file_fault rose s ls h = subst (λ t. FileEnds what entries source FilesRose SourceRose t ls) (sym h.0) (FileEnds.fault ls rose h.1)
 
@@ -100,7 +100,7 @@ module _ (what : Asked) (entries : Option (List (List ℕ × List ℕ))) (source
       → FileEnds what entries source FilesRose SourceRose s ls
   file_too_long has s ls h = subst (λ t. FileEnds what entries source FilesRose SourceRose t ls) (sym h.0) (FileEnds.too_long ls has h.1)
 
-pub file_read : (what : Asked) (entries : Option (List (List ℕ × List ℕ))) (source : Option (List ℕ)) (FilesRose SourceRose : Type 0) (bytes : List ℕ) → HasContent entries what.file (λ content. bytes ≡ content) →
+pub file_read : (what : Asked) (entries : Option (List (List ℕ × List ℕ))) (source : Option (List ℕ)) (FilesRose : Type 0) (SourceRose : List ℕ → Type 0) (bytes : List ℕ) → HasContent entries what.file (λ content. bytes ≡ content) →
     length bytes ≤ 16777216 → (s : Status) (ls : List (List ℕ)) → TextEnds what bytes source SourceRose s ls → FileEnds what entries source FilesRose SourceRose s ls
 file_read what None source FilesRose SourceRose bytes has short s ls h = FileEnds.read bytes s ls tt short h
 file_read what (Some entries) source FilesRose SourceRose bytes has short s ls h = FileEnds.read bytes s ls (has.0, has.1, sym has.2) short h
@@ -110,22 +110,22 @@ file_read what (Some entries) source FilesRose SourceRose bytes has short s ls h
 abbrev IsOther : Status → Type 0
 IsOther s = (s ≢ status.FileFault) × (s ≢ status.SinkFault) × (s ≢ status.Usage)
 
-source_status : (what : Asked) (program : Program) (table : List (List ℕ)) (source : Option (List ℕ)) (Rose : Type 0) (s : Status) (ls : List (List ℕ)) → SourceEnds what program table source Rose s ls → IsOther s
-source_status what program table source Rose _ ls (SourceEnds.fault i t b _ r k l o e) = (λ f. cc, λ f. cc, λ f. cc)
+source_status : (what : Asked) (program : Program) (table : List (List ℕ)) (source : Option (List ℕ)) (Rose : List ℕ → Type 0) (s : Status) (ls : List (List ℕ)) → SourceEnds what program table source Rose s ls → IsOther s
+source_status what program table source Rose _ ls (SourceEnds.fault i t b _ r l o e) = (λ f. cc, λ f. cc, λ f. cc)
 source_status what program table source Rose _ ls (SourceEnds.too_long i _ t l e) = (λ f. cc, λ f. cc, λ f. cc)
 source_status what program table source Rose _ ls (SourceEnds.read i t s _ told l o e) = let calm = tally_calm t.spent t.refused s e in (calm.0, calm.1, calm.3)
 
-pub text_status : (what : Asked) (bytes : List ℕ) (source : Option (List ℕ)) (Rose : Type 0) (s : Status) (ls : List (List ℕ)) → TextEnds what bytes source Rose s ls → IsOther s
+pub text_status : (what : Asked) (bytes : List ℕ) (source : Option (List ℕ)) (Rose : List ℕ → Type 0) (s : Status) (ls : List (List ℕ)) → TextEnds what bytes source Rose s ls → IsOther s
 text_status what bytes source Rose _ ls (TextEnds.refused r _ n e) = (λ f. cc, λ f. cc, λ f. cc)
 text_status what bytes source Rose _ ls (TextEnds.accepted program table s _ r p) = source_status what program table source Rose s ls p
 
-file_status : (what : Asked) (entries : Option (List (List ℕ × List ℕ))) (source : Option (List ℕ)) (FilesRose SourceRose : Type 0) (s : Status) (ls : List (List ℕ)) → FileEnds what entries source FilesRose SourceRose s ls
+file_status : (what : Asked) (entries : Option (List (List ℕ × List ℕ))) (source : Option (List ℕ)) (FilesRose : Type 0) (SourceRose : List ℕ → Type 0) (s : Status) (ls : List (List ℕ)) → FileEnds what entries source FilesRose SourceRose s ls
     → (s ≢ status.SinkFault) × (s ≢ status.Usage)
 file_status what entries source FilesRose SourceRose _ ls (FileEnds.fault _ r e) = (λ f. cc, λ f. cc)
 file_status what entries source FilesRose SourceRose _ ls (FileEnds.too_long _ r e) = (λ f. cc, λ f. cc)
 file_status what entries source FilesRose SourceRose _ ls (FileEnds.read bytes s _ c l t) = let other = text_status what bytes source SourceRose s ls t in (other.1, other.2)
 
-module _ (r : Reading) (entries : Option (List (List ℕ × List ℕ))) (source : Option (List ℕ)) (FilesRose SourceRose : Type 0) where
+module _ (r : Reading) (entries : Option (List (List ℕ × List ℕ))) (source : Option (List ℕ)) (FilesRose : Type 0) (SourceRose : List ℕ → Type 0) where
   asked_status : (s : Status) (ls : List (List ℕ)) → AskedEnds r entries source FilesRose SourceRose s ls → s ≢ status.SinkFault
   asked_status _ ls (AskedEnds.unasked _ e l) = λ f. cc
   asked_status _ ls (AskedEnds.helped _ e l) = λ f. cc
@@ -146,12 +146,12 @@ module _ (r : Reading) (entries : Option (List (List ℕ × List ℕ))) (source 
   asked_usage _ ls (AskedEnds.loaded seed size workers s _ e ends) is = absurd ((load_calm seed size s ls ends).3 is)
 
 -- no run that ends by itself has the status of a sink's fault
-pub run_status : (words : List (List ℕ)) (entries : Option (List (List ℕ × List ℕ))) (source : Option (List ℕ)) (FilesRose SourceRose : Type 0) (s : Status) (ls : List (List ℕ)) → RunEnds words entries source FilesRose SourceRose s ls → s ≢ status.SinkFault
-run_status words entries source FilesRose SourceRose _ ls (RunEnds.read r s _ is ends) = asked_status r entries source FilesRose SourceRose s ls ends
+pub run_status : (words : List (List ℕ)) (entries : Option (List (List ℕ × List ℕ))) (source : Option (List ℕ)) (FilesRose : Type 0) (SourceRose : List ℕ → Type 0) (s : Status) (ls : List (List ℕ)) → WordsEnd words entries source FilesRose SourceRose s ls → s ≢ status.SinkFault
+run_status words entries source FilesRose SourceRose _ ls (WordsEnd.read r s _ is ends) = asked_status r entries source FilesRose SourceRose s ls ends
 
-pub run_usage : (words : List (List ℕ)) (entries : Option (List (List ℕ × List ℕ))) (source : Option (List ℕ)) (FilesRose SourceRose : Type 0) (s : Status) (ls : List (List ℕ)) → RunEnds words entries source FilesRose SourceRose s ls
+pub run_usage : (words : List (List ℕ)) (entries : Option (List (List ℕ × List ℕ))) (source : Option (List ℕ)) (FilesRose : Type 0) (SourceRose : List ℕ → Type 0) (s : Status) (ls : List (List ℕ)) → WordsEnd words entries source FilesRose SourceRose s ls
     → s ≡ status.Usage → IsRead words usage
-run_usage words entries source FilesRose SourceRose _ ls (RunEnds.read r s _ read ends) is = subst (IsRead words) (asked_usage r entries source FilesRose SourceRose s ls ends is) read
+run_usage words entries source FilesRose SourceRose _ ls (WordsEnd.read r s _ read ends) is = subst (IsRead words) (asked_usage r entries source FilesRose SourceRose s ls ends is) read
 
 pub given_up_usage : {A : Type 0} (s : Status) → (s ≡ status.NoMemory) ⊎ (s ≡ status.SinkFault) → s ≡ status.Usage → A
 given_up_usage s (inl memory) is = let clash : status.NoMemory ≡ status.Usage = sym memory ∙ is in cc

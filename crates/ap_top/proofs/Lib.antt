@@ -14,3 +14,4 @@ pub mod Readings
 pub mod Complete
 pub mod Grouped
 pub mod Grown
+pub mod Weaker

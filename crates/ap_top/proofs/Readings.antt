@@ -7,12 +7,12 @@ use Rattle.ap_words.proofs.Readings.{asks_alone}
 use Rattle.ap_top.specs.Words.{Asked, IsCode, IsCommand, IsShow, Shown}
 use Rattle.ap_top.specs.Shows.{FileShows}
 use Rattle.ap_top.specs.Codes.{FileCodes}
-use Rattle.ap_top.specs.Ends.{AskedEnds, FileEnds, RunEnds}
+use Rattle.ap_top.specs.Ends.{AskedEnds, FileEnds, WordsEnd}
 use Rattle.ap_top.specs.TextLines.{text_lines}
 use Rattle.ap_top.specs.declared.status.Status.{Status}
 use Rattle.ap_top.specs.declared.status.Status.TheVariants as status
 
-module _ (entries : Option (List (List ℕ × List ℕ))) (source : Option (List ℕ)) (FilesRose SourceRose : Type 0) (r : Reading) where
+module _ (entries : Option (List (List ℕ × List ℕ))) (source : Option (List ℕ)) (FilesRose : Type 0) (SourceRose : List ℕ → Type 0) (r : Reading) where
   pub usage_ends : r ≡ usage → (s : Status) (ls : List (List ℕ)) → (s ≡ status.Usage) × (ls ≡ codes "usage: andprolog run FILE | show FILE | code FILE | load SEED SIZE\n" ∷ []) → AskedEnds r entries source FilesRose SourceRose s ls
   usage_ends is s ls h = subst (λ t. AskedEnds r entries source FilesRose SourceRose t ls) (sym h.0) (AskedEnds.unasked ls is h.1)
 
@@ -22,7 +22,7 @@ module _ (entries : Option (List (List ℕ × List ℕ))) (source : Option (List
   pub version_ends : r ≡ version → (s : Status) (ls : List (List ℕ)) → (s ≡ status.Done) × (ls ≡ text_lines VERSION_LINE.now) → AskedEnds r entries source FilesRose SourceRose s ls
   version_ends is s ls h = subst (λ t. AskedEnds r entries source FilesRose SourceRose t ls) (sym h.0) (AskedEnds.versioned ls is h.1)
 
-module _ (entries : Option (List (List ℕ × List ℕ))) (source : Option (List ℕ)) (FilesRose SourceRose : Type 0) where
+module _ (entries : Option (List (List ℕ × List ℕ))) (source : Option (List ℕ)) (FilesRose : Type 0) (SourceRose : List ℕ → Type 0) where
   ran_alone : (r : Reading) (what : Asked) → r ≡ asks (runs what) → (s : Status) (ls : List (List ℕ)) → AskedEnds r entries source FilesRose SourceRose s ls → FileEnds what entries source FilesRose SourceRose s ls
   ran_alone r what is _ ls (AskedEnds.unasked _ e l) = let f : usage ≡ asks (runs what) = sym e ∙ is in cc
   ran_alone r what is _ ls (AskedEnds.helped _ e l) = let f : help ≡ asks (runs what) = sym e ∙ is in cc
@@ -60,11 +60,11 @@ module _ (entries : Option (List (List ℕ × List ℕ))) (source : Option (List
   coded_alone r what is _ ls (AskedEnds.loaded seed size workers s _ e ends) = let f : asks (loads seed size workers) ≡ asks (codes_of what) = sym e ∙ is in cc
 
   module _ (words : List (List ℕ)) where
-    pub run_ends : (what : Asked) → IsCommand words what → (s : Status) (ls : List (List ℕ)) → RunEnds words entries source FilesRose SourceRose s ls → FileEnds what entries source FilesRose SourceRose s ls
-    run_ends what is _ ls (RunEnds.read r s _ read ends) = ran_alone r what (asks_alone words (runs what) r is read) s ls ends
+    pub run_ends : (what : Asked) → IsCommand words what → (s : Status) (ls : List (List ℕ)) → WordsEnd words entries source FilesRose SourceRose s ls → FileEnds what entries source FilesRose SourceRose s ls
+    run_ends what is _ ls (WordsEnd.read r s _ read ends) = ran_alone r what (asks_alone words (runs what) r is read) s ls ends
 
-    pub show_ends : (what : Shown) → IsShow words what → (s : Status) (ls : List (List ℕ)) → RunEnds words entries source FilesRose SourceRose s ls → FileShows what entries FilesRose s ls
-    show_ends what is _ ls (RunEnds.read r s _ read ends) = shown_alone r what (asks_alone words (shows what) r is read) s ls ends
+    pub show_ends : (what : Shown) → IsShow words what → (s : Status) (ls : List (List ℕ)) → WordsEnd words entries source FilesRose SourceRose s ls → FileShows what entries FilesRose s ls
+    show_ends what is _ ls (WordsEnd.read r s _ read ends) = shown_alone r what (asks_alone words (shows what) r is read) s ls ends
 
-    pub code_ends : (file : List ℕ) → IsCode words file → (s : Status) (ls : List (List ℕ)) → RunEnds words entries source FilesRose SourceRose s ls → FileCodes file entries FilesRose s ls
-    code_ends file is _ ls (RunEnds.read r s _ read ends) = coded_alone r file (asks_alone words (codes_of file) r is read) s ls ends
+    pub code_ends : (file : List ℕ) → IsCode words file → (s : Status) (ls : List (List ℕ)) → WordsEnd words entries source FilesRose SourceRose s ls → FileCodes file entries FilesRose s ls
+    code_ends file is _ ls (WordsEnd.read r s _ read ends) = coded_alone r file (asks_alone words (codes_of file) r is read) s ls ends

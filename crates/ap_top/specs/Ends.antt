@@ -1,6 +1,7 @@
 -- Which lines go with which status: from the source's bytes up to the command line. `SourceRose` and `FilesRose` say
 -- that the count of faults of that object rose in the run.
 use Rattle.std.specs.Prelude.{◌≡◌, true, false, ◌<◌, ◌≤◌, ℕ, List, [], ◌∷◌, ◌++◌, length, Option, None, Some, codes, ⊤, ◌⊎◌}
+use Rattle.std.specs.Io.KnownBytes.{Consumes}
 use Rattle.ap_outside.specs.Files.{HasContent, content_of}
 use Rattle.ap_outside.specs.Halting.{AnyOf}
 use Rattle.ap_outside.specs.Pieces.{FrontOf, CutOf}
@@ -35,44 +36,52 @@ abbrev pub IsTaken : Option (List ℕ) → List ℕ → Type 0
 IsTaken None bytes = ⊤
 IsTaken (Some told) bytes = (rest : List ℕ) × (told ≡ bytes ++ rest)
 
--- A source, over an accepted program and its table of names: what was taken before a fault is answered as far as its
--- pieces had ended.
-pub data SourceEnds (what : Asked) (program : Program) (table : List (List ℕ)) (source : Option (List ℕ)) (SourceRose : Type 0) : Status → List (List ℕ) → Type 0 where
-  fault : (taken : List ℕ) (t : Tally) (blocks lines : List (List ℕ)) → SourceRose → IsTaken source taken → length taken ≤ 16777216
+-- the source failed when these bytes were taken: they and what is left make up what was left before
+abbrev pub FailsBehind : Option (List ℕ) → Option (List ℕ) → Type 0 → List ℕ → Type 0
+FailsBehind before left SourceRose taken = SourceRose × Consumes before left taken
+
+-- A source, over an accepted program and its table of names: what was taken before a fault (`Fails` tells of what) is
+-- answered as far as its pieces had ended.
+pub data SourceEnds (what : Asked) (program : Program) (table : List (List ℕ)) (source : Option (List ℕ)) (Fails : List ℕ → Type 0) : Status → List (List ℕ) → Type 0 where
+  fault : (taken : List ℕ) (t : Tally) (blocks lines : List (List ℕ)) → Fails taken → length taken ≤ 16777216
       → IsOutput what.budget what.answers program table taken (judged false taken) t blocks → lines ≡ blocks ++ codes "fault: source\n" ∷ []
-      → SourceEnds what program table source SourceRose SourceFault lines
+      → SourceEnds what program table source Fails SourceFault lines
   too_long : (input : List ℕ) (lines : List (List ℕ)) → IsTold source input → 16777216 < length input → lines ≡ codes "refused: queries too long\n" ∷ []
-      → SourceEnds what program table source SourceRose QueriesTooLong lines
+      → SourceEnds what program table source Fails QueriesTooLong lines
   read : (input : List ℕ) (t : Tally) (status : Status) (lines : List (List ℕ)) → IsTold source input → length input ≤ 16777216
-      → IsOutput what.budget what.answers program table input (judged true input) t lines → status ≡ status_of t → SourceEnds what program table source SourceRose status lines
+      → IsOutput what.budget what.answers program table input (judged true input) t lines → status ≡ status_of t → SourceEnds what program table source Fails status lines
 
 -- the bytes of a file
-pub data TextEnds (what : Asked) (bytes : List ℕ) (source : Option (List ℕ)) (SourceRose : Type 0) : Status → List (List ℕ) → Type 0 where
-  refused : (r : Refusal) (lines : List (List ℕ)) → RefusesProgram bytes fixed_names r → lines ≡ refusal_line fixed_names r ∷ [] → TextEnds what bytes source SourceRose ProgramRefused lines
+pub data TextEnds (what : Asked) (bytes : List ℕ) (source : Option (List ℕ)) (Fails : List ℕ → Type 0) : Status → List (List ℕ) → Type 0 where
+  refused : (r : Refusal) (lines : List (List ℕ)) → RefusesProgram bytes fixed_names r → lines ≡ refusal_line fixed_names r ∷ [] → TextEnds what bytes source Fails ProgramRefused lines
   accepted : (program : Program) (table : List (List ℕ)) (status : Status) (lines : List (List ℕ)) → AcceptsProgram bytes fixed_names program table
-      → SourceEnds what program table source SourceRose status lines → TextEnds what bytes source SourceRose status lines
+      → SourceEnds what program table source Fails status lines → TextEnds what bytes source Fails status lines
 
 -- the file that was asked for
-pub data FileEnds (what : Asked) (entries : Option (List (List ℕ × List ℕ))) (source : Option (List ℕ)) (FilesRose SourceRose : Type 0) : Status → List (List ℕ) → Type 0 where
-  fault : (lines : List (List ℕ)) → FilesRose → lines ≡ codes "fault: file\n" ∷ [] → FileEnds what entries source FilesRose SourceRose FileFault lines
+pub data FileEnds (what : Asked) (entries : Option (List (List ℕ × List ℕ))) (source : Option (List ℕ)) (FilesRose : Type 0) (Fails : List ℕ → Type 0) : Status → List (List ℕ) → Type 0 where
+  fault : (lines : List (List ℕ)) → FilesRose → lines ≡ codes "fault: file\n" ∷ [] → FileEnds what entries source FilesRose Fails FileFault lines
   too_long : (lines : List (List ℕ)) → HasContent entries what.file (λ content. 16777216 < length content) → lines ≡ codes "refused: too long\n" ∷ []
-      → FileEnds what entries source FilesRose SourceRose ProgramRefused lines
+      → FileEnds what entries source FilesRose Fails ProgramRefused lines
   read : (bytes : List ℕ) (status : Status) (lines : List (List ℕ)) → HasContent entries what.file (λ content. content ≡ bytes) → length bytes ≤ 16777216
-      → TextEnds what bytes source SourceRose status lines → FileEnds what entries source FilesRose SourceRose status lines
+      → TextEnds what bytes source Fails status lines → FileEnds what entries source FilesRose Fails status lines
 
 -- what a command line is read as
-pub data AskedEnds (r : Reading) (entries : Option (List (List ℕ × List ℕ))) (source : Option (List ℕ)) (FilesRose SourceRose : Type 0) : Status → List (List ℕ) → Type 0 where
-  unasked : (lines : List (List ℕ)) → r ≡ usage → lines ≡ codes "usage: andprolog run FILE | show FILE | code FILE | load SEED SIZE\n" ∷ [] → AskedEnds r entries source FilesRose SourceRose Usage lines
-  helped : (lines : List (List ℕ)) → r ≡ help → lines ≡ text_lines HELP.now → AskedEnds r entries source FilesRose SourceRose Done lines
-  versioned : (lines : List (List ℕ)) → r ≡ version → lines ≡ text_lines VERSION_LINE.now → AskedEnds r entries source FilesRose SourceRose Done lines
-  ran : (what : Asked) (status : Status) (lines : List (List ℕ)) → r ≡ asks (runs what) → FileEnds what entries source FilesRose SourceRose status lines → AskedEnds r entries source FilesRose SourceRose status lines
-  shown : (what : Shown) (status : Status) (lines : List (List ℕ)) → r ≡ asks (shows what) → FileShows what entries FilesRose status lines → AskedEnds r entries source FilesRose SourceRose status lines
-  coded : (file : List ℕ) (status : Status) (lines : List (List ℕ)) → r ≡ asks (codes_of file) → FileCodes file entries FilesRose status lines → AskedEnds r entries source FilesRose SourceRose status lines
-  loaded : (seed size workers : ℕ) (status : Status) (lines : List (List ℕ)) → r ≡ asks (loads seed size workers) → LoadEnds seed size status lines → AskedEnds r entries source FilesRose SourceRose status lines
+pub data AskedEnds (r : Reading) (entries : Option (List (List ℕ × List ℕ))) (source : Option (List ℕ)) (FilesRose : Type 0) (Fails : List ℕ → Type 0) : Status → List (List ℕ) → Type 0 where
+  unasked : (lines : List (List ℕ)) → r ≡ usage → lines ≡ codes "usage: andprolog run FILE | show FILE | code FILE | load SEED SIZE\n" ∷ [] → AskedEnds r entries source FilesRose Fails Usage lines
+  helped : (lines : List (List ℕ)) → r ≡ help → lines ≡ text_lines HELP.now → AskedEnds r entries source FilesRose Fails Done lines
+  versioned : (lines : List (List ℕ)) → r ≡ version → lines ≡ text_lines VERSION_LINE.now → AskedEnds r entries source FilesRose Fails Done lines
+  ran : (what : Asked) (status : Status) (lines : List (List ℕ)) → r ≡ asks (runs what) → FileEnds what entries source FilesRose Fails status lines → AskedEnds r entries source FilesRose Fails status lines
+  shown : (what : Shown) (status : Status) (lines : List (List ℕ)) → r ≡ asks (shows what) → FileShows what entries FilesRose status lines → AskedEnds r entries source FilesRose Fails status lines
+  coded : (file : List ℕ) (status : Status) (lines : List (List ℕ)) → r ≡ asks (codes_of file) → FileCodes file entries FilesRose status lines → AskedEnds r entries source FilesRose Fails status lines
+  loaded : (seed size workers : ℕ) (status : Status) (lines : List (List ℕ)) → r ≡ asks (loads seed size workers) → LoadEnds seed size status lines → AskedEnds r entries source FilesRose Fails status lines
 
 -- a command line
-pub data RunEnds (words : List (List ℕ)) (entries : Option (List (List ℕ × List ℕ))) (source : Option (List ℕ)) (FilesRose SourceRose : Type 0) : Status → List (List ℕ) → Type 0 where
-  read : (r : Reading) (status : Status) (lines : List (List ℕ)) → IsRead words r → AskedEnds r entries source FilesRose SourceRose status lines → RunEnds words entries source FilesRose SourceRose status lines
+pub data WordsEnd (words : List (List ℕ)) (entries : Option (List (List ℕ × List ℕ))) (source : Option (List ℕ)) (FilesRose : Type 0) (Fails : List ℕ → Type 0) : Status → List (List ℕ) → Type 0 where
+  read : (r : Reading) (status : Status) (lines : List (List ℕ)) → IsRead words r → AskedEnds r entries source FilesRose Fails status lines → WordsEnd words entries source FilesRose Fails status lines
+
+-- the same, where the source's count rose and what was taken is some beginning of it
+abbrev pub RunEnds : List (List ℕ) → Option (List (List ℕ × List ℕ)) → Option (List ℕ) → Type 0 → Type 0 → Status → List (List ℕ) → Type 0
+RunEnds words entries source FilesRose SourceRose status lines = WordsEnd words entries source FilesRose (λ taken. SourceRose × IsTaken source taken) status lines
 
 -- the line that says that memory was wanting, or nothing, where memory was wanting for that too
 abbrev pub SaysNoMemory : List (List ℕ) → Type 0

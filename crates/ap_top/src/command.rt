@@ -7,7 +7,7 @@ ghost use Rattle.ap_outside.specs.Halting.{Finishes, SinkCount};
 ghost use Rattle.ap_words.specs.Asked.{asked_of, run_of, runs};
 ghost use Rattle.ap_words.specs.Reading.{InRange, IsRead, asks, reading_of, usage};
 ghost use Rattle.ap_top.specs.Words.{Asked, IsCommand};
-ghost use Rattle.ap_top.specs.Ends.{AskedEnds, IsAnswering, NamesProgram, ShowsProgram, CodesProgram, IsShowing, SaysNoMemory, SourceEnds, TextEnds, FileEnds, RunEnds, Whole};
+ghost use Rattle.ap_top.specs.Ends.{AskedEnds, FailsBehind, IsAnswering, NamesProgram, ShowsProgram, CodesProgram, IsShowing, SaysNoMemory, SourceEnds, TextEnds, FileEnds, RunEnds, WordsEnd, Whole};
 ghost use Rattle.ap_top.specs.Unasked.{LeavesQuery};
 ghost use Rattle.ap_top.specs.Counts.{EndsSource, RunEndsSource, SourceCount, FilesCount, RunSinkCount, RunSourceCount, RunFilesCount};
 
@@ -44,7 +44,7 @@ fn run_source<R: Threads + Wait + Sync, G: Gate, S: Source, K: Sink>(
 ) -> Result<Status, Halt>
     requires budget { command.now.budget ≤ 2 ^ 54 }
     requires query { LeavesQuery program.now atoms.old }
-    ensures lines { Finishes (K.pieces out.old) (K.pieces out.new) (SourceEnds (run_of command.now) program.now atoms.old (S.left queries.old) (Rises (S.faults queries.old) (S.faults queries.new))) result }
+    ensures lines { Finishes (K.pieces out.old) (K.pieces out.new) (SourceEnds (run_of command.now) program.now atoms.old (S.left queries.old) (FailsBehind (S.left queries.old) (S.left queries.new) (Rises (S.faults queries.old) (S.faults queries.new)))) result }
     ensures sink { SinkCount (K.faults out.old) (K.faults out.new) result }
     ensures source { SourceCount (S.faults queries.old) (S.faults queries.new) result }
     ensures end { EndsSource (S.left queries.new) result }
@@ -82,7 +82,7 @@ fn run_text<R: Threads + Wait + Sync, G: Gate, S: Source, K: Sink>(
     out: &mut K,
 ) -> Result<Status, Halt>
     requires { command.now.budget ≤ 2 ^ 54 }
-    ensures lines { Finishes (K.pieces out.old) (K.pieces out.new) (TextEnds (run_of command.now) text.now (S.left queries.old) (Rises (S.faults queries.old) (S.faults queries.new))) result }
+    ensures lines { Finishes (K.pieces out.old) (K.pieces out.new) (TextEnds (run_of command.now) text.now (S.left queries.old) (FailsBehind (S.left queries.old) (S.left queries.new) (Rises (S.faults queries.old) (S.faults queries.new)))) result }
     ensures sink { SinkCount (K.faults out.old) (K.faults out.new) result }
     ensures source { SourceCount (S.faults queries.old) (S.faults queries.new) result }
     ensures end { EndsSource (S.left queries.new) result }
@@ -112,7 +112,7 @@ fn run_file<R: Threads + Wait + Sync, G: Gate, F: Files, S: Source, K: Sink>(
 ) -> Result<Status, Halt>
     requires { command.now.budget ≤ 2 ^ 54 }
     ensures lines { Finishes (K.pieces out.old) (K.pieces out.new)
-        (FileEnds (run_of command.now) (F.entries files.old) (S.left queries.old) (Rises (F.faults files.old) (F.faults files.new)) (Rises (S.faults queries.old) (S.faults queries.new))) result }
+        (FileEnds (run_of command.now) (F.entries files.old) (S.left queries.old) (Rises (F.faults files.old) (F.faults files.new)) (FailsBehind (S.left queries.old) (S.left queries.new) (Rises (S.faults queries.old) (S.faults queries.new)))) result }
     ensures sink { SinkCount (K.faults out.old) (K.faults out.new) result }
     ensures source { SourceCount (S.faults queries.old) (S.faults queries.new) result }
     ensures files { FilesCount (F.faults files.old) (F.faults files.new) result }
@@ -151,7 +151,7 @@ fn run_asked<R: Threads + Wait + RandomSource + Sync, G: Gate, F: Files, S: Sour
 ) -> Result<Status, Halt>
     requires { InRange (asks (asked_of asked)) }
     ensures lines { Finishes (K.pieces out.old) (K.pieces out.new)
-        (AskedEnds (asks (asked_of asked.entry)) (F.entries files.old) (S.left queries.old) (Rises (F.faults files.old) (F.faults files.new)) (Rises (S.faults queries.old) (S.faults queries.new))) result }
+        (AskedEnds (asks (asked_of asked.entry)) (F.entries files.old) (S.left queries.old) (Rises (F.faults files.old) (F.faults files.new)) (FailsBehind (S.left queries.old) (S.left queries.new) (Rises (S.faults queries.old) (S.faults queries.new)))) result }
     ensures sink { SinkCount (K.faults out.old) (K.faults out.new) result }
     ensures source { SourceCount (S.faults queries.old) (S.faults queries.new) result }
     ensures files { FilesCount (F.faults files.old) (F.faults files.new) result }
@@ -188,7 +188,7 @@ fn run_reading<R: Threads + Wait + RandomSource + Sync, G: Gate, F: Files, S: So
 ) -> Result<Status, Halt>
     requires { InRange (reading_of reading) }
     ensures lines { Finishes (K.pieces out.old) (K.pieces out.new)
-        (AskedEnds (reading_of reading.entry) (F.entries files.old) (S.left queries.old) (Rises (F.faults files.old) (F.faults files.new)) (Rises (S.faults queries.old) (S.faults queries.new))) result }
+        (AskedEnds (reading_of reading.entry) (F.entries files.old) (S.left queries.old) (Rises (F.faults files.old) (F.faults files.new)) (FailsBehind (S.left queries.old) (S.left queries.new) (Rises (S.faults queries.old) (S.faults queries.new)))) result }
     ensures sink { SinkCount (K.faults out.old) (K.faults out.new) result }
     ensures source { SourceCount (S.faults queries.old) (S.faults queries.new) result }
     ensures files { FilesCount (F.faults files.old) (F.faults files.new) result }
@@ -213,7 +213,7 @@ fn run_words<R: Threads + Wait + RandomSource + Sync, G: Gate, F: Files, S: Sour
     out: &mut K,
 ) -> Result<Status, Halt>
     ensures lines { Finishes (K.pieces out.old) (K.pieces out.new)
-        (RunEnds (map (λ w. w.now) words.now) (F.entries files.old) (S.left queries.old) (Rises (F.faults files.old) (F.faults files.new)) (Rises (S.faults queries.old) (S.faults queries.new))) result }
+        (WordsEnd (map (λ w. w.now) words.now) (F.entries files.old) (S.left queries.old) (Rises (F.faults files.old) (F.faults files.new)) (FailsBehind (S.left queries.old) (S.left queries.new) (Rises (S.faults queries.old) (S.faults queries.new)))) result }
     ensures sink { SinkCount (K.faults out.old) (K.faults out.new) result }
     ensures source { SourceCount (S.faults queries.old) (S.faults queries.new) result }
     ensures files { FilesCount (F.faults files.old) (F.faults files.new) result }
@@ -265,6 +265,11 @@ pub fn run<R: Threads + Wait + RandomSource + Sync, F: Files, S: Source, K: Sink
     // Which lines go with which status, and what was put where the sink failed or memory was wanting.
     ensures lines { Puts (K.pieces out.old) (K.pieces out.new)
         (Whole (RunEnds (map (λ w. w.now) words.now) (F.entries files.old) (S.left queries.old) (Rises (F.faults files.old) (F.faults files.new)) (Rises (S.faults queries.old) (S.faults queries.new))) result) }
+
+    // After a fault of the source, what was answered and what is left make it up.
+    ensures taken { Puts (K.pieces out.old) (K.pieces out.new)
+        (Whole (WordsEnd (map (λ w. w.now) words.now) (F.entries files.old) (S.left queries.old) (Rises (F.faults files.old) (F.faults files.new))
+        (FailsBehind (S.left queries.old) (S.left queries.new) (Rises (S.faults queries.old) (S.faults queries.new)))) result) }
 
     // Where `run` answered the queries, the source has nothing left.
     ensures end { (what : Asked) → IsCommand (map (λ w. w.now) words.now) what → RunEndsSource (S.left queries.new) result }

@@ -1,5 +1,5 @@
 // Reading a source to its end.
-ghost use Rattle.std.specs.Prelude.{◌≡◌, ◌<◌, ◌≤◌, ℕ, List, [], Option, length, IsErrOf, OnOk};
+ghost use Rattle.std.specs.Prelude.{◌≡◌, ◌<◌, ◌≤◌, ℕ, List, [], length, IsErrOf, OnOk};
 ghost use Rattle.std.specs.Io.KnownBytes.{Consumes, IsAtEnd};
 ghost use Rattle.ap_outside.specs.Faults.{Rises};
 
@@ -25,7 +25,7 @@ pub fn drain<S: Source>(all: &mut Vec<u8>, source: &mut S) -> Result<(), DrainEr
     requires { all.old.items ≡ [] }
     ensures bytes { OnOk result (Consumes (S.left source.old) (S.left source.new) all.new.items) }
     ensures end { OnOk result (IsAtEnd (S.left source.new)) }
-    ensures taken { IsErrOf result DrainErr.Failed → (left : Option (List ℕ)) × Consumes (S.left source.old) left all.new.items }
+    ensures taken { IsErrOf result DrainErr.Failed → Consumes (S.left source.old) (S.left source.new) all.new.items }
     ensures short { length all.new.items ≤ 16777216 }
     ensures too_long { IsErrOf result DrainErr.TooLong → (bytes : List ℕ) × Consumes (S.left source.old) (S.left source.new) bytes × (16777216 < length bytes) }
 

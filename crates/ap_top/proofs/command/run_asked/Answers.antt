@@ -6,7 +6,7 @@ use Rattle.ap_words.specs.Reading.{asks}
 use Rattle.ap_top.specs.Shows.{FileShows}
 use Rattle.ap_top.specs.Codes.{FileCodes}
 use Rattle.ap_top.specs.Loads.{LoadEnds}
-use Rattle.ap_top.specs.Ends.{AskedEnds, FileEnds}
+use Rattle.ap_top.specs.Ends.{AskedEnds, FileEnds, FailsBehind}
 use Rattle.ap_top.specs.declared.status.Status.TheVariants as status
 use Rattle.ap_top.proofs.Statuses.{source_kept}
 use Rattle.ap_top.proofs.ShowLayers.{show_status}
@@ -17,7 +17,7 @@ returns-in-Run-clause-lines g c =
     let entries = g.F.Files.entries c.args.files.now in
     let left = g.S.Source.left c.args.queries.now in
     let Fault = Rises (g.F.Files.faults c.args.files.now) (g.F.Files.faults c.run_file.new.files) in
-    let Rose = Rises (g.S.Source.faults c.args.queries.now) (g.S.Source.faults c.run_file.new.queries) in
+    let Rose = FailsBehind (g.S.Source.left c.args.queries.now) (g.S.Source.left c.run_file.new.queries) (Rises (g.S.Source.faults c.args.queries.now) (g.S.Source.faults c.run_file.new.queries)) in
     let r = asks (asked_of c.args.asked) in
     let what = run_of c.in-Run.command in
     let named : r ≡ asks (runs what) = ap (λ w. asks (asked_of w)) c.in-Run.is in
@@ -28,7 +28,7 @@ returns-in-Show-clause-lines g c =
     let entries = g.F.Files.entries c.args.files.now in
     let left = g.S.Source.left c.args.queries.now in
     let Fault = Rises (g.F.Files.faults c.args.files.now) (g.F.Files.faults c.show_file.new.files) in
-    let Rose = Rises (g.S.Source.faults c.args.queries.now) (g.S.Source.faults c.args.queries.now) in
+    let Rose = FailsBehind (g.S.Source.left c.args.queries.now) (g.S.Source.left c.args.queries.now) (Rises (g.S.Source.faults c.args.queries.now) (g.S.Source.faults c.args.queries.now)) in
     let r = asks (asked_of c.args.asked) in
     let what = show_of c.in-Show.command in
     let named : r ≡ asks (shows what) = ap (λ w. asks (asked_of w)) c.in-Show.is in
@@ -39,7 +39,7 @@ returns-in-Code-clause-lines g c =
     let entries = g.F.Files.entries c.args.files.now in
     let left = g.S.Source.left c.args.queries.now in
     let Fault = Rises (g.F.Files.faults c.args.files.now) (g.F.Files.faults c.code_file.new.files) in
-    let Rose = Rises (g.S.Source.faults c.args.queries.now) (g.S.Source.faults c.args.queries.now) in
+    let Rose = FailsBehind (g.S.Source.left c.args.queries.now) (g.S.Source.left c.args.queries.now) (Rises (g.S.Source.faults c.args.queries.now) (g.S.Source.faults c.args.queries.now)) in
     let r = asks (asked_of c.args.asked) in
     let what = c.in-Code.file.now in
     let named : r ≡ asks (codes_of what) = ap (λ w. asks (asked_of w)) c.in-Code.is in
@@ -50,7 +50,7 @@ returns-in-Load-clause-lines g c =
     let entries = g.F.Files.entries c.args.files.now in
     let left = g.S.Source.left c.args.queries.now in
     let Fault = Rises (g.F.Files.faults c.args.files.now) (g.F.Files.faults c.args.files.now) in
-    let Rose = Rises (g.S.Source.faults c.args.queries.now) (g.S.Source.faults c.args.queries.now) in
+    let Rose = FailsBehind (g.S.Source.left c.args.queries.now) (g.S.Source.left c.args.queries.now) (Rises (g.S.Source.faults c.args.queries.now) (g.S.Source.faults c.args.queries.now)) in
     let r = asks (asked_of c.args.asked) in
     let named = ap (λ w. asks (asked_of w)) c.in-Load.is in
     finishes_map _ _ (LoadEnds c.in-Load.seed c.in-Load.size) (AskedEnds r entries left Fault Rose) _ (λ s ls ends. AskedEnds.loaded c.in-Load.seed c.in-Load.size _ s ls named ends) c.load.ensures.lines

@@ -3,7 +3,7 @@ use Rattle.ap_outside.specs.Faults.{Rises}
 use Rattle.ap_outside.specs.Files.{HasContent}
 use Rattle.ap_outside.proofs.Halts.{finishes_map, halts_at_once}
 use Rattle.ap_words.specs.Asked.{run_of}
-use Rattle.ap_top.specs.Ends.{FileEnds, TextEnds}
+use Rattle.ap_top.specs.Ends.{FileEnds, TextEnds, FailsBehind}
 use Rattle.ap_top.proofs.Layers.{file_fault, file_too_long, file_read, text_status}
 use Rattle.ap_top.specs.declared.status.Status.TheVariants as status
 use Rattle.ap_top.proofs.Statuses.{files_kept}
@@ -15,13 +15,13 @@ returns-in-Err-Failed-clause-lines g c =
     let entries = g.F.Files.entries c.args.files.now in
     let left = g.S.Source.left c.args.queries.now in
     let Fault = Rises (g.F.Files.faults c.args.files.now) (g.F.Files.faults c.read.new.self) in
-    let Rose = Rises (g.S.Source.faults c.args.queries.now) (g.S.Source.faults c.args.queries.now) in
+    let Rose = FailsBehind (g.S.Source.left c.args.queries.now) (g.S.Source.left c.args.queries.now) (Rises (g.S.Source.faults c.args.queries.now) (g.S.Source.faults c.args.queries.now)) in
     finishes_map _ _ _ (FileEnds what entries left Fault Rose) _ (file_fault what entries left Fault Rose (c.in-Err-Failed.ensures.cause (cc))) c.close.ensures.lines
 
 pub returns-in-Err-NoMemory-clause-lines : goal.returns-in-Err-NoMemory-clause-lines
 returns-in-Err-NoMemory-clause-lines g c =
     let Fault = Rises (g.F.Files.faults c.args.files.now) (g.F.Files.faults c.read.new.self) in
-    let Rose = Rises (g.S.Source.faults c.args.queries.now) (g.S.Source.faults c.args.queries.now) in
+    let Rose = FailsBehind (g.S.Source.left c.args.queries.now) (g.S.Source.left c.args.queries.now) (Rises (g.S.Source.faults c.args.queries.now) (g.S.Source.faults c.args.queries.now)) in
     halts_at_once (g.K.Sink.pieces c.args.out.now) (FileEnds (run_of c.args.command.now) (g.F.Files.entries c.args.files.now) (g.S.Source.left c.args.queries.now) Fault Rose)
 
 pub returns-in-Ok-TooLong-clause-lines : goal.returns-in-Ok-TooLong-clause-lines
@@ -30,7 +30,7 @@ returns-in-Ok-TooLong-clause-lines g c =
     let entries = g.F.Files.entries c.args.files.now in
     let left = g.S.Source.left c.args.queries.now in
     let Fault = Rises (g.F.Files.faults c.args.files.now) (g.F.Files.faults c.read.new.self) in
-    let Rose = Rises (g.S.Source.faults c.args.queries.now) (g.S.Source.faults c.args.queries.now) in
+    let Rose = FailsBehind (g.S.Source.left c.args.queries.now) (g.S.Source.left c.args.queries.now) (Rises (g.S.Source.faults c.args.queries.now) (g.S.Source.faults c.args.queries.now)) in
     finishes_map _ _ _ (FileEnds what entries left Fault Rose) _ (file_too_long what entries left Fault Rose (c.in-Ok-TooLong.ensures.too_long (cc))) c.close-in-Ok-TooLong.ensures.lines
 
 pub returns-clause-lines : goal.returns-clause-lines
@@ -39,7 +39,7 @@ returns-clause-lines g c =
     let entries = g.F.Files.entries c.args.files.now in
     let left = g.S.Source.left c.args.queries.now in
     let Fault = Rises (g.F.Files.faults c.args.files.now) (g.F.Files.faults c.read.new.self) in
-    let Rose = Rises (g.S.Source.faults c.args.queries.now) (g.S.Source.faults c.run_text.new.queries) in
+    let Rose = FailsBehind (g.S.Source.left c.args.queries.now) (g.S.Source.left c.run_text.new.queries) (Rises (g.S.Source.faults c.args.queries.now) (g.S.Source.faults c.run_text.new.queries)) in
     let whole = c.in-Ok-Whole.ensures.whole (cc) in
     let fits = c.in-Ok-Whole.ensures.fits (cc) in
     let has : HasContent entries what.file (λ content. c.deref.result.now ≡ content) = rw c.deref.ensures.value whole in
@@ -51,5 +51,5 @@ returns-clause-files g c =
     let what = run_of c.args.command.now in
     let text = c.deref.result.now in
     let left = g.S.Source.left c.args.queries.now in
-    let Rose = Rises (g.S.Source.faults c.args.queries.now) (g.S.Source.faults c.run_text.new.queries) in
+    let Rose = FailsBehind (g.S.Source.left c.args.queries.now) (g.S.Source.left c.run_text.new.queries) (Rises (g.S.Source.faults c.args.queries.now) (g.S.Source.faults c.run_text.new.queries)) in
     files_kept _ _ (TextEnds what text left Rose) (λ ls ends. (text_status what text left Rose status.FileFault ls ends).0 refl) _ _ c.run_text.result (search rules) c.run_text.ensures.lines

@@ -3,7 +3,7 @@ use Rattle.ap_outside.specs.Faults.{Rises}
 use Rattle.ap_outside.specs.Halting.{Finishes}
 use Rattle.ap_outside.proofs.Halts.{finishes_map}
 use Rattle.ap_words.specs.Reading.{reading_of}
-use Rattle.ap_top.specs.Ends.{AskedEnds}
+use Rattle.ap_top.specs.Ends.{AskedEnds, FailsBehind}
 use Rattle.ap_top.proofs.Readings.{help_ends, usage_ends, version_ends}
 use Rattle.ap_top.proofs.command.run_reading.Goals as goal
 
@@ -12,7 +12,7 @@ returns-in-Usage-clause-lines g c =
     let entries = g.F.Files.entries c.args.files.now in
     let left = g.S.Source.left c.args.queries.now in
     let Fault = Rises (g.F.Files.faults c.args.files.now) (g.F.Files.faults c.args.files.now) in
-    let Rose = Rises (g.S.Source.faults c.args.queries.now) (g.S.Source.faults c.args.queries.now) in
+    let Rose = FailsBehind (g.S.Source.left c.args.queries.now) (g.S.Source.left c.args.queries.now) (Rises (g.S.Source.faults c.args.queries.now) (g.S.Source.faults c.args.queries.now)) in
     let r = reading_of c.args.reading in
     finishes_map _ _ _ (AskedEnds r entries left Fault Rose) _ (usage_ends entries left Fault Rose r (ap reading_of c.in-Usage.is)) c.close.ensures.lines
 
@@ -21,7 +21,7 @@ returns-in-Help-clause-lines g c =
     let entries = g.F.Files.entries c.args.files.now in
     let left = g.S.Source.left c.args.queries.now in
     let Fault = Rises (g.F.Files.faults c.args.files.now) (g.F.Files.faults c.args.files.now) in
-    let Rose = Rises (g.S.Source.faults c.args.queries.now) (g.S.Source.faults c.args.queries.now) in
+    let Rose = FailsBehind (g.S.Source.left c.args.queries.now) (g.S.Source.left c.args.queries.now) (Rises (g.S.Source.faults c.args.queries.now) (g.S.Source.faults c.args.queries.now)) in
     let r = reading_of c.args.reading in
     finishes_map _ _ _ (AskedEnds r entries left Fault Rose) _ (help_ends entries left Fault Rose r (ap reading_of c.in-Help.is)) c.tell.ensures.lines
 
@@ -30,7 +30,7 @@ returns-in-Version-clause-lines g c =
     let entries = g.F.Files.entries c.args.files.now in
     let left = g.S.Source.left c.args.queries.now in
     let Fault = Rises (g.F.Files.faults c.args.files.now) (g.F.Files.faults c.args.files.now) in
-    let Rose = Rises (g.S.Source.faults c.args.queries.now) (g.S.Source.faults c.args.queries.now) in
+    let Rose = FailsBehind (g.S.Source.left c.args.queries.now) (g.S.Source.left c.args.queries.now) (Rises (g.S.Source.faults c.args.queries.now) (g.S.Source.faults c.args.queries.now)) in
     let r = reading_of c.args.reading in
     finishes_map _ _ _ (AskedEnds r entries left Fault Rose) _ (version_ends entries left Fault Rose r (ap reading_of c.in-Version.is)) c.tell-in-Version.ensures.lines
 
@@ -39,7 +39,7 @@ returns-in-Asks-clause-lines g c =
     let entries = g.F.Files.entries c.args.files.now in
     let left = g.S.Source.left c.args.queries.now in
     let Fault = Rises (g.F.Files.faults c.args.files.now) (g.F.Files.faults c.run_asked.new.files) in
-    let Rose = Rises (g.S.Source.faults c.args.queries.now) (g.S.Source.faults c.run_asked.new.queries) in
+    let Rose = FailsBehind (g.S.Source.left c.args.queries.now) (g.S.Source.left c.run_asked.new.queries) (Rises (g.S.Source.faults c.args.queries.now) (g.S.Source.faults c.run_asked.new.queries)) in
     subst (λ r. Finishes (g.K.Sink.pieces c.args.out.now) (g.K.Sink.pieces c.run_asked.new.out) (AskedEnds r entries left Fault Rose) c.run_asked.result) (sym (ap reading_of c.in-Asks.is)) c.run_asked.ensures.lines
 
 pub returns-in-Asks-clause-end : goal.returns-in-Asks-clause-end

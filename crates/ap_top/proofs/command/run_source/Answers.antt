@@ -5,29 +5,27 @@ use Rattle.ap_outside.proofs.Halts.{finishes_map, passes_halt, halts_at_once}
 use Rattle.ap_words.specs.Asked.{run_of}
 use Rattle.ap_top.specs.Output.{IsOutput, judged}
 use Rattle.ap_top.specs.Status.{status_of}
-use Rattle.ap_top.specs.Ends.{SourceEnds, IsTold, IsTaken}
-use Rattle.ap_top.proofs.Layers.{source_fault, taken_halts, source_too_long, told_whole, taken_first}
+use Rattle.ap_top.specs.Ends.{SourceEnds, IsTold, FailsBehind}
+use Rattle.ap_top.proofs.Layers.{source_fault, taken_halts, source_too_long, told_whole}
 use Rattle.ap_top.proofs.command.run_source.Goals as goal
 
 pub returns-in_err-print_text-in-Err-Failed-clause-lines : goal.returns-in_err-print_text-in-Err-Failed-clause-lines
 returns-in_err-print_text-in-Err-Failed-clause-lines g c =
     let same : c.from_residual.result ≡ Err c.in_err-print_text-in-Err-Failed.field-0.0 = search rules in
     let left = g.S.Source.left c.args.queries.now in
-    let Rose = Rises (g.S.Source.faults c.args.queries.now) (g.S.Source.faults c.drain.new.source) in
-    let before = c.in-Err-Failed.ensures.taken (cc) in
-    let told : IsTaken left c.deref.result.now = rw c.deref.ensures.value (taken_first left before.0 c.drain.new.all.items before.1) in
+    let Rose = FailsBehind (g.S.Source.left c.args.queries.now) (g.S.Source.left c.drain.new.source) (Rises (g.S.Source.faults c.args.queries.now) (g.S.Source.faults c.drain.new.source)) in
+    let rose : Rose c.deref.result.now = (c.in-Err-Failed.ensures.cause (cc), rw c.deref.ensures.value (c.in-Err-Failed.ensures.taken (cc))) in
     let short : length c.deref.result.now ≤ 16777216 = rw c.deref.ensures.value c.in-Err-Failed.ensures.short in
-    taken_halts (run_of c.args.command.now) c.args.program.now c.args.atoms.now left Rose c.deref.result.now (c.in-Err-Failed.ensures.cause (cc)) told short
+    taken_halts (run_of c.args.command.now) c.args.program.now c.args.atoms.now left Rose c.deref.result.now rose short
     _ _ c.print_text.result _ c.in_err-print_text-in-Err-Failed.field-0.0 c.in_err-print_text-in-Err-Failed.was same c.print_text.ensures.lines
 
 pub returns-in-Err-Failed-clause-lines : goal.returns-in-Err-Failed-clause-lines
 returns-in-Err-Failed-clause-lines g c =
     let left = g.S.Source.left c.args.queries.now in
-    let Rose = Rises (g.S.Source.faults c.args.queries.now) (g.S.Source.faults c.drain.new.source) in
-    let before = c.in-Err-Failed.ensures.taken (cc) in
-    let told : IsTaken left c.deref.result.now = rw c.deref.ensures.value (taken_first left before.0 c.drain.new.all.items before.1) in
+    let Rose = FailsBehind (g.S.Source.left c.args.queries.now) (g.S.Source.left c.drain.new.source) (Rises (g.S.Source.faults c.args.queries.now) (g.S.Source.faults c.drain.new.source)) in
+    let rose : Rose c.deref.result.now = (c.in-Err-Failed.ensures.cause (cc), rw c.deref.ensures.value (c.in-Err-Failed.ensures.taken (cc))) in
     let short : length c.deref.result.now ≤ 16777216 = rw c.deref.ensures.value c.in-Err-Failed.ensures.short in
-    source_fault (run_of c.args.command.now) c.args.program.now c.args.atoms.now left Rose c.deref.result.now (c.in-Err-Failed.ensures.cause (cc)) told short
+    source_fault (run_of c.args.command.now) c.args.program.now c.args.atoms.now left Rose c.deref.result.now rose short
     _ _ _ c.in_ok-print_text-in-Err-Failed.field-0 c.close.result c.in_ok-print_text-in-Err-Failed.ensures.lines c.close.ensures.lines
 
 pub returns-in-Err-TooLong-clause-lines : goal.returns-in-Err-TooLong-clause-lines
@@ -35,13 +33,13 @@ returns-in-Err-TooLong-clause-lines g c =
     let more = c.in-Err-TooLong.ensures.too_long (cc) in
     let what = run_of c.args.command.now in
     let left = g.S.Source.left c.args.queries.now in
-    let Rose = Rises (g.S.Source.faults c.args.queries.now) (g.S.Source.faults c.drain.new.source) in
+    let Rose = FailsBehind (g.S.Source.left c.args.queries.now) (g.S.Source.left c.drain.new.source) (Rises (g.S.Source.faults c.args.queries.now) (g.S.Source.faults c.drain.new.source)) in
     finishes_map _ _ _ (SourceEnds what c.args.program.now c.args.atoms.now left Rose) _
     (source_too_long what c.args.program.now c.args.atoms.now left (g.S.Source.left c.drain.new.source) more.0 Rose more.1 more.2) c.close-in-Err-TooLong.ensures.lines
 
 pub returns-in-Err-NoMemory-clause-lines : goal.returns-in-Err-NoMemory-clause-lines
 returns-in-Err-NoMemory-clause-lines g c =
-    let Rose = Rises (g.S.Source.faults c.args.queries.now) (g.S.Source.faults c.drain.new.source) in
+    let Rose = FailsBehind (g.S.Source.left c.args.queries.now) (g.S.Source.left c.drain.new.source) (Rises (g.S.Source.faults c.args.queries.now) (g.S.Source.faults c.drain.new.source)) in
     halts_at_once (g.K.Sink.pieces c.args.out.now) (SourceEnds (run_of c.args.command.now) c.args.program.now c.args.atoms.now (g.S.Source.left c.args.queries.now) Rose)
 
 pub returns-in_err-tally-in-Ok-clause-lines : goal.returns-in_err-tally-in-Ok-clause-lines
@@ -50,7 +48,7 @@ returns-in_err-tally-in-Ok-clause-lines g c =
     let what = run_of c.args.command.now in
     let text = c.deref-in-Ok.result.now in
     let left = g.S.Source.left c.args.queries.now in
-    let Rose = Rises (g.S.Source.faults c.args.queries.now) (g.S.Source.faults c.drain.new.source) in
+    let Rose = FailsBehind (g.S.Source.left c.args.queries.now) (g.S.Source.left c.drain.new.source) (Rises (g.S.Source.faults c.args.queries.now) (g.S.Source.faults c.drain.new.source)) in
     let told : IsTold left text = rw c.deref-in-Ok.ensures.value (told_whole left (g.S.Source.left c.drain.new.source) c.drain.new.all.items c.in-Ok.ensures.bytes c.in-Ok.ensures.end) in
     let short : length text ≤ 16777216 = rw c.deref-in-Ok.ensures.value c.in-Ok.ensures.short in
     passes_halt _ _ (IsOutput what.budget what.answers c.args.program.now c.args.atoms.now text (judged true text)) (SourceEnds what c.args.program.now c.args.atoms.now left Rose)
@@ -62,7 +60,7 @@ returns-clause-lines g c =
     let what = run_of c.args.command.now in
     let text = c.deref-in-Ok.result.now in
     let left = g.S.Source.left c.args.queries.now in
-    let Rose = Rises (g.S.Source.faults c.args.queries.now) (g.S.Source.faults c.drain.new.source) in
+    let Rose = FailsBehind (g.S.Source.left c.args.queries.now) (g.S.Source.left c.drain.new.source) (Rises (g.S.Source.faults c.args.queries.now) (g.S.Source.faults c.drain.new.source)) in
     let told : IsTold left text = rw c.deref-in-Ok.ensures.value (told_whole left (g.S.Source.left c.drain.new.source) c.drain.new.all.items c.in-Ok.ensures.bytes c.in-Ok.ensures.end) in
     let short : length text ≤ 16777216 = rw c.deref-in-Ok.ensures.value c.in-Ok.ensures.short in
     let t = c.in_ok-tally-in-Ok.tally in

@@ -7,7 +7,7 @@ use Rattle.ap_clause.specs.Reads.{AcceptsProgram, RefusesProgram}
 use Rattle.ap_clause.specs.declared.refusal.Refusal.TheVariants as refusal
 use Rattle.ap_words.specs.Asked.{run_of}
 use Rattle.ap_top.specs.Refusals.{refusal_line}
-use Rattle.ap_top.specs.Ends.{SourceEnds, TextEnds}
+use Rattle.ap_top.specs.Ends.{SourceEnds, TextEnds, FailsBehind}
 use Rattle.ap_top.specs.declared.status.Status.TheVariants as status
 use Rattle.ap_top.proofs.Layers.{text_refused}
 use Rattle.ap_top.proofs.Pieces.{refused}
@@ -27,7 +27,7 @@ returns-in-Ok-program-clause-lines g c =
     let what = run_of c.args.command.now in
     let text = c.args.text.now in
     let left = g.S.Source.left c.args.queries.now in
-    let Rose = Rises (g.S.Source.faults c.args.queries.now) (g.S.Source.faults c.run_source.new.queries) in
+    let Rose = FailsBehind (g.S.Source.left c.args.queries.now) (g.S.Source.left c.run_source.new.queries) (Rises (g.S.Source.faults c.args.queries.now) (g.S.Source.faults c.run_source.new.queries)) in
     let program = c.in-Ok-program.program in
     let table = c.program.new.atoms in
     let accepts : AcceptsProgram text fixed_names program table = subst (λ t. AcceptsProgram text t program table) c.in-Ok.ensures c.in-Ok-program.ensures.accepts in
@@ -39,7 +39,7 @@ returns-in_err-print_refusal-in-Err g c =
     let what = run_of c.args.command.now in
     let text = c.args.text.now in
     let left = g.S.Source.left c.args.queries.now in
-    let Rose = Rises (g.S.Source.faults c.args.queries.now) (g.S.Source.faults c.args.queries.now) in
+    let Rose = FailsBehind (g.S.Source.left c.args.queries.now) (g.S.Source.left c.args.queries.now) (Rises (g.S.Source.faults c.args.queries.now) (g.S.Source.faults c.args.queries.now)) in
     let r = c.in-Err.refusal in
     let other : r ≡ refusal.NoMemory → ⊥ = search rules in
     let refuses : RefusesProgram text fixed_names r = subst (λ t. RefusesProgram text t r) c.in-Ok.ensures (refused (RefusesProgram text c.in-Ok.atoms) r other c.in-Err.ensures.refuses) in
@@ -57,7 +57,7 @@ returns g c =
     let what = run_of c.args.command.now in
     let text = c.args.text.now in
     let left = g.S.Source.left c.args.queries.now in
-    let Rose = Rises (g.S.Source.faults c.args.queries.now) (g.S.Source.faults c.args.queries.now) in
+    let Rose = FailsBehind (g.S.Source.left c.args.queries.now) (g.S.Source.left c.args.queries.now) (Rises (g.S.Source.faults c.args.queries.now) (g.S.Source.faults c.args.queries.now)) in
     let r = c.in-Err.refusal in
     let other : r ≡ refusal.NoMemory → ⊥ = search rules in
     let refuses : RefusesProgram text fixed_names r = subst (λ t. RefusesProgram text t r) c.in-Ok.ensures (refused (RefusesProgram text c.in-Ok.atoms) r other c.in-Err.ensures.refuses) in
