@@ -6,8 +6,8 @@ use ap_outside::{
 };
 use std::alloc::Global;
 use std::io::Read;
-use std::{fs, io};
 use std::test::Fail;
+use std::{fs, io};
 
 /// Whether a read answers so, and leaves that content.
 fn is_read<F: Files>(
