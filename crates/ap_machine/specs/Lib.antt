@@ -15,3 +15,4 @@ pub mod Jumps
 pub mod Forks
 pub mod Forking
 pub mod Ahead
+pub mod Lending

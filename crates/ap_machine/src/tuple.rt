@@ -2,6 +2,7 @@
 
 ghost use Rattle.std.specs.Prelude.{◌<◌, length};
 ghost use Rattle.ap_cells.specs.Walks.{Each};
+ghost use Rattle.ap_machine.specs.Lending.{inside-prop};
 
 use ap_cells::Cells;
 
@@ -10,5 +11,5 @@ use ap_cells::Cells;
 pub struct Tuple<'a> {
     pub cells: &'a Cells,
     pub roots: &'a [usize],
-    ghost inside: { Each (λ r. r < length cells.now.cells) roots.now },
+    ghost inside: { Each (λ r. r < length cells.now.cells) roots.now } by { inside-prop (length cells.now.cells) roots.now },
 }

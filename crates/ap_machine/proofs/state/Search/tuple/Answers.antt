@@ -1,4 +1,4 @@
-use Rattle.std.proofs.Common.{List, ◌∷◌, ap, ap₂, sym, subst, ◌∙◌}
+use Rattle.std.proofs.Common.{◌∷◌, ap, ap₂, sym, subst, ◌∙◌}
 use Rattle.ap_term.specs.Tree.{Trees}
 use Rattle.ap_term.specs.UpToNames.{SameUpToNames}
 use Rattle.ap_cells.specs.Trees.{tree_at, trees}
