@@ -13,7 +13,7 @@ use Rattle.ap_worker.specs.Leads.{IsLeading}
 use Rattle.ap_worker.proofs.Charging.{charged-at-limit, charged-at-ending, spent-alone, nothing-asked}
 use Rattle.ap_worker.proofs.Finding.{FindingBy, broken-off, at-limit, at-answer, at-ending, one-more, one-lost, stepped, alone, not-alone}
 use Rattle.ap_worker.proofs.found.put_found.Goals as goal
-use Rattle.ap_worker.proofs.found.put_found.Goals.{in-Waits, in-Answer+in_ok-put_answer-in-Answer+else-count-limit, in_default-step}
+use Rattle.ap_worker.proofs.found.put_found.Goals.{in-Waits, in-Answer+in_ok-put_answer-in-Answer+else-count-bounds, in_default-step}
 
 pub returns-in_default-clause-lines : goal.returns-in_default-clause-lines
 returns-in_default-clause-lines g c = λ p q good h.
@@ -46,8 +46,8 @@ returns-in_err-put_answer-in-Answer-clause-lines g c = λ p q good h.
     one-lost line code p q c.args.bounds.budget c.solving_law.ensures c.outcome_law.ensures c.block_law.ensures (λ x y. g.met.A.Answers.names c.args.answers.now x y) good c.args.bounds.limit _ _ _ (section_in t.query) m i.short x.3 _
     c.put_answer.result _ c.in_err-put_answer-in-Answer.field-0.0 c.in_err-put_answer-in-Answer.was same c.put_answer.ensures.lines
 
-pub returns-then-count-limit-clause-lines : goal.returns-then-count-limit-clause-lines
-returns-then-count-limit-clause-lines g c = λ p q good h.
+pub returns-then-count-bounds-clause-lines : goal.returns-then-count-bounds-clause-lines
+returns-then-count-bounds-clause-lines g c = λ p q good h.
     let i = c.loop-step.invariant in
     let line = g.A.Answers.line c.args.answers.now in
     let code = code_in c.args.lead.now.query in
@@ -58,7 +58,7 @@ returns-then-count-limit-clause-lines g c = λ p q good h.
     let m = alone line code p q c.args.bounds.budget _ _ _ t.worker.post t.query x.0 x.2 (stepped line code p q c.args.bounds.budget _ _ _ c.outcome_law.ensures c.loop-step.lead t i.code go (i.found p q good h)) in
     at-limit line code p q c.args.bounds.budget c.solving_law.ensures c.outcome_law.ensures c.block_law.ensures (λ x y. g.met.A.Answers.names c.args.answers.now x y) good c.args.bounds.limit _ _ _ _
     (one-more line code p q c.args.bounds.budget c.solving_law.ensures c.outcome_law.ensures c.block_law.ensures (λ x y. g.met.A.Answers.names c.args.answers.now x y) good c.args.bounds.limit _ _ _ (section_in t.query) m i.short x.3 _ c.in_ok-put_answer-in-Answer.ensures.lines)
-    c.if-count-limit.true
+    c.if-count-bounds.true
 
 pub returns-in-Ended-clause-charged : goal.returns-in-Ended-clause-charged
 returns-in-Ended-clause-charged g c = λ p q good h.
@@ -72,8 +72,8 @@ returns-in-Ended-clause-charged g c = λ p q good h.
     c.ended.ensures.end (c.ended.ensures.charged ∙ ap (λ n. charge_after c.in-Ended.ending n c.args.bounds.budget) (c.spent.ensures t.worker.post))
     (stepped line code p q c.args.bounds.budget _ _ _ c.outcome_law.ensures c.loop-step.lead t i.code go (i.found p q good h))
 
-pub returns-then-count-limit-clause-charged : goal.returns-then-count-limit-clause-charged
-returns-then-count-limit-clause-charged g c = λ p q good h.
+pub returns-then-count-bounds-clause-charged : goal.returns-then-count-bounds-clause-charged
+returns-then-count-bounds-clause-charged g c = λ p q good h.
     let i = c.loop-step.invariant in
     let line = g.A.Answers.line c.args.answers.now in
     let code = code_in c.args.lead.now.query in
@@ -89,7 +89,7 @@ returns-then-count-limit-clause-charged g c = λ p q good h.
     let outer : u.outer.items ≡ [] = cc in
     charged-at-limit line code p q c.args.bounds.budget c.outcome_law.ensures c.block_law.ensures (λ x y. g.met.A.Answers.names c.args.answers.now x y) good c.args.bounds.limit _ _ _ (past_answer (section_in t.query))
     (one-more line code p q c.args.bounds.budget c.solving_law.ensures c.outcome_law.ensures c.block_law.ensures (λ x y. g.met.A.Answers.names c.args.answers.now x y) good c.args.bounds.limit _ _ _ (section_in t.query) m i.short x.3 _ e.lines)
-    c.spent.result (c.spent.ensures t.worker.post ∙ spent-alone t.worker.post u outer ∙ ap spent_in e.past) c.if-count-limit.true
+    c.spent-then-count-bounds.result (c.spent-then-count-bounds.ensures t.worker.post ∙ spent-alone t.worker.post u outer ∙ ap spent_in e.past) c.if-count-bounds.true
 
 pub loop-step-preserved : goal.loop-step-preserved
 loop-step-preserved g c =
@@ -111,7 +111,7 @@ loop-step-preserved g c =
             (subst (λ n. FindingBy line code p q c.args.bounds.budget n first (g.K.Sink.pieces c.loop-step.out) t.worker.post t.query) (sym w.count-is)
             (stepped line code p q c.args.bounds.budget _ _ _ c.outcome_law.ensures c.loop-step.lead t i.code go (i.found p q good h))));
       }
-      | in-Answer+in_ok-put_answer-in-Answer+else-count-limit w ↦
+      | in-Answer+in_ok-put_answer-in-Answer+else-count-bounds w ↦
           let d = subst (IsStep t.worker.post t.query) w.in-Answer.is c.in-Ok.ensures.step in
           let x = at-answer t go.leads d in
           let e = w.in_ok-put_answer-in-Answer.ensures in
@@ -120,7 +120,7 @@ loop-step-preserved g c =
           let kept = e.same.1 in
           let outer : s.query.outer.items ≡ [] = cc in
           let none = subst (λ f. posted_in t.worker.post f ≡ []) (sym e.same.2) x.2 in
-          let other = w.if-count-limit.false in
+          let other = w.if-count-bounds.false in
           record {
             leads = subst IsLeading (sym w.lead-is) (record {
               staffed = go.leads.staffed;

@@ -22,4 +22,4 @@ returns-clause-lines g c = λ p q good h.
 pub returns-clause-charged : goal.returns-clause-charged
 returns-clause-charged g c = λ p q good h.
     subst (λ o. IfOk c.join_mut-found.result.1 (λ e. Puts (g.K.Sink.pieces c.args.out.now) (g.K.Sink.pieces o) (IsChargedBlock (g.A.Answers.line c.args.answers.now) p.program (start q) c.args.bounds.budget c.args.bounds.limit (IsUngrouped p.program × AreCalls q.question.body) e)))
-    (search rules) (c.join_mut-found.ensures.1.met.1.1 p q good h)
+    (search rules) (c.join_mut-found.ensures.1.met.1.1.0 p q good h)
