@@ -10,4 +10,7 @@ pub mod Taken
 pub mod Reading
 pub mod OneResult
 pub mod SomeResult
+pub mod TermNames
+pub mod RulesRead
+pub mod TextMeanings
 mod Rows

@@ -16,7 +16,7 @@ use Rattle.ap_clause.specs.declared.source.Source.TheVariants as source
 use Rattle.ap_clause.specs.Reads.{Position, Refused, Took, Judges, Outcome, Stopped, Whole, Reads, start}
 use Rattle.ap_clause.specs.Verdict.{position, taken_of, IsCounted, AreCounted}
 
-predicates_in-push : (rs : List Rule) (r : Rule) → predicates_in (rs ++ r ∷ []) ≡ predicates_in rs + predicates_if r.body
+pub predicates_in-push : (rs : List Rule) (r : Rule) → predicates_in (rs ++ r ∷ []) ≡ predicates_in rs + predicates_if r.body
 predicates_in-push [] r = omega arith
 predicates_in-push (q ∷ rs) r = omega (arith, predicates_in-push rs r)
 

@@ -21,7 +21,7 @@ use Rattle.ap_clause.specs.declared.source.Source.TheVariants as source
 use Rattle.ap_clause.specs.Clause.{question, query_halves, halves}
 use Rattle.ap_clause.specs.Reads.{Position, Taken, Verdict, Refused, Took, Sentence, fits, table_after, refused_if, refused_outside, refused_past, judged, JudgesOpen, JudgesBy, Judges}
 
-took_if : (b : Bool) (r : Refusal) (v : Verdict) (t : Taken) → refused_if b r v ≡ Took t → (b ≡ false) × (v ≡ Took t)
+pub took_if : (b : Bool) (r : Refusal) (v : Verdict) (t : Taken) → refused_if b r v ≡ Took t → (b ≡ false) × (v ≡ Took t)
 took_if true r v t h = absurd (clash h)
   where
     clash : Refused r ≡ Took t → ⊥
@@ -42,7 +42,7 @@ took_past (Some a) line v t h = absurd (clash _ h)
     clash : (r : Refusal) → Refused r ≡ Took t → ⊥
     clash r k = cc
 
-took : {a b : Taken} → Took a ≡ Took b → a ≡ b
+pub took : {a b : Taken} → Took a ≡ Took b → a ≡ b
 took e = cc
 
 -- the head is that of the term, the names are those of the variables, and the table has room for the lifted predicates

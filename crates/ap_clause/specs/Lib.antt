@@ -10,3 +10,4 @@ pub mod FreshCode
 pub mod Reads
 pub mod Verdict
 pub mod Law
+pub mod TextMeaning

@@ -4,7 +4,8 @@
 // What it stands on: ap_lexer and ap_reader for terms, ap_lifting for bodies, ap_term for the table of atoms.
 // The contract that is used above it: the answer is that which specs/Reads.antt relates to the text, a program or the
 // first refusal with its line and reason; each text has exactly one (`one_program`, `one_query`).
-// The limits are those that specs/Numbers.antt writes out (`limits_law`).
+// The limits are those that specs/Numbers.antt writes out (`limits_law`). What was read is searched as it is written
+// (`text_meaning_law`).
 #![tactic(auto)]
 
 mod clause;
@@ -19,7 +20,7 @@ mod refusal;
 mod source;
 mod take;
 
-pub use law::{limits_law, one_program, one_query};
+pub use law::{limits_law, one_program, one_query, text_meaning_law};
 pub use limit::{MAX_ARITY, MAX_CLAUSES, MAX_GOALS, MAX_GROUP, MAX_VARIABLES};
 pub use read::{program, query};
 pub use refusal::{Refusal, What};
