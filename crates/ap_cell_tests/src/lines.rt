@@ -64,10 +64,10 @@ fn is_line(
     Ok(line.as_slice() == wanted.as_bytes())
 }
 
-/// The fixed names, and behind them `.`, `[]` and `f`.
+/// The fixed names, and behind them `.`, `[]` and `h`.
 fn list_atoms(alloc: Global) -> Result<Atoms, Fail> {
     let mut atoms = Atoms::new(alloc)?;
-    for name in [".", "[]", "f"] {
+    for name in [".", "[]", "h"] {
         atoms.intern(alloc, name)?;
     }
     Ok(atoms)
@@ -77,7 +77,7 @@ const DOT: u32 = fixed::COUNT as u32;
 
 const NIL: u32 = DOT + 1;
 
-const F: u32 = DOT + 2;
+const H: u32 = DOT + 2;
 
 /// Names, terms, and their line.
 static LINES: [([&str; 3], [&[Step]; 3], &str); 6] = [
@@ -88,8 +88,8 @@ static LINES: [([&str; 3], [&[Step]; 3], &str); 6] = [
     ),
     (
         ["X", "_Y", "Z"],
-        [&[V(1)], &[V(0)], &[V(0), V(1), N(F, 2)]],
-        "X = _1, Z = f(_2,_1)",
+        [&[V(1)], &[V(0)], &[V(0), V(1), N(H, 2)]],
+        "X = _1, Z = h(_2,_1)",
     ),
     (["_X", "_Y", "_"], [&[V(0)], &[I(1)], &[I(2)]], "true"),
     (
@@ -106,18 +106,18 @@ static LINES: [([&str; 3], [&[Step]; 3], &str); 6] = [
         [
             &[I(1), N(DOT, 1)],
             &[I(1), I(2), I(3), N(DOT, 3)],
-            &[N(F, 0)],
+            &[N(H, 0)],
         ],
-        "X = '.'(1), Y = '.'(1,2,3), Z = f()",
+        "X = '.'(1), Y = '.'(1,2,3), Z = h()",
     ),
     (
         ["X", "Y", "Z"],
         [
-            &[I(1), I(2), N(F, 2), I(3), N(F, 2)],
-            &[I(1), I(2), I(3), N(F, 2), N(F, 2)],
+            &[I(1), I(2), N(H, 2), I(3), N(H, 2)],
+            &[I(1), I(2), I(3), N(H, 2), N(H, 2)],
             &[A(fixed::PLUS), N(fixed::PLUS, 1)],
         ],
-        "X = f(f(1,2),3), Y = f(1,f(2,3)), Z = +(+)",
+        "X = h(h(1,2),3), Y = h(1,h(2,3)), Z = +(+)",
     ),
 ];
 
@@ -135,13 +135,13 @@ const DEPTH: usize = 1_000_000;
 fn deep_length(alloc: Global, is_first: bool) -> Result<usize, Fail> {
     let atoms = list_atoms(alloc)?;
     let mut cells = Cells::new(alloc);
-    let place = deep(&mut cells, F, DEPTH, is_first, Cell::Int(1))?;
+    let place = deep(&mut cells, H, DEPTH, is_first, Cell::Int(1))?;
     Ok(line_of_one(alloc, &cells, "X", place, &atoms)?.len())
 }
 
 #[test]
 fn deep_terms_are_written_without_a_deep_stack(rt: HostRuntime) -> Result<(), Fail> {
-    // `X = `, and for each level `f(`, `,1` and `)`, round a leaf.
+    // `X = `, and for each level `h(`, `,1` and `)`, round a leaf.
     let wanted = 4 + 5 * DEPTH + 1;
     assert!(rt; deep_length(rt.alloc(), true)? == wanted);
     assert!(rt; deep_length(rt.alloc(), false)? == wanted);
