@@ -78,7 +78,7 @@ later : (E : Entries) (A : Program) (m k : ℕ) → next E A (table E A m) ≡ t
 later E A m zero h = ap (table E A) (omega arith)
 later E A m (suc k) h = let i : suc k + m ≡ suc (k + m) = omega arith in ap (table E A) i ∙ ap (next E A) (later E A m k h) ∙ h
 
-one-end : (E : Entries) (A : Program) (m n : ℕ) → next E A (table E A m) ≡ table E A m → next E A (table E A n) ≡ table E A n → table E A m ≡ table E A n
+pub one-end : (E : Entries) (A : Program) (m n : ℕ) → next E A (table E A m) ≡ table E A m → next E A (table E A n) ≡ table E A n → table E A m ≡ table E A n
 one-end E A m n h k = sym (later E A m n h) ∙ ap (table E A) (let i : n + m ≡ m + n = omega arith in i) ∙ later E A n m k
 
 pub going-end : (E : Entries) (A : Program) (t : Patterns) (gs : List Given) → IsGoing E A t gs → changed gs gs t ≡ [] → IsFix E A (steps gs gs t)

@@ -9,3 +9,6 @@ pub mod Turns
 pub mod Puts
 pub mod Indexing
 pub mod Grouping
+pub mod Heights
+pub mod Fitting
+pub mod Ending

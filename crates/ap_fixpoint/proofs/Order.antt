@@ -22,16 +22,16 @@ use Rattle.ap_fixpoint.specs.Fix.{joined, kept}
 within_refl : (s : ℕ) → within s s ≡ true
 within_refl s = within-made s s (λ x h. h)
 
-within_trans : (s t r : ℕ) → within s t ≡ true → within t r ≡ true → within s r ≡ true
+pub within_trans : (s t r : ℕ) → within s t ≡ true → within t r ≡ true → within s r ≡ true
 within_trans s t r h k = within-made s r (λ x i. within-at t r x k (within-at s t x h i))
 
-member_cases : (s : ℕ) (sh : Share) → is_member s sh ≡ true → (listed s sh.sets ≡ true) ⊎ (within s sh.any ≡ true)
+pub member_cases : (s : ℕ) (sh : Share) → is_member s sh ≡ true → (listed s sh.sets ≡ true) ⊎ (within s sh.any ≡ true)
 member_cases s sh h = or_cases (listed s sh.sets) (within s sh.any) h
 
 member_listed : (s : ℕ) (sh : Share) → listed s sh.sets ≡ true → is_member s sh ≡ true
 member_listed s sh h = or_left (listed s sh.sets) (within s sh.any) h
 
-member_within : (s : ℕ) (sh : Share) → within s sh.any ≡ true → is_member s sh ≡ true
+pub member_within : (s : ℕ) (sh : Share) → within s sh.any ≡ true → is_member s sh ≡ true
 member_within s sh h = or_right (listed s sh.sets) (within s sh.any) h
 
 pub Below_refl : (a : State) → Below a a
@@ -104,7 +104,7 @@ joined_least (Reachable sh fr) (Reachable sh2 fr2) (Reachable sh3 fr3) h k = rec
 
 -- ---- ascending lists, and the form in which a state is kept
 
-filtered : (p : ℕ → Bool) (s : ℕ) (ss : List ℕ) → listed s (filter p ss) ≡ true → listed s ss ≡ true
+pub filtered : (p : ℕ → Bool) (s : ℕ) (ss : List ℕ) → listed s (filter p ss) ≡ true → listed s ss ≡ true
 filtered p s [] h = h
 filtered p s (t ∷ ts) h = go (p t) h (filtered p s ts)
   where

@@ -10,6 +10,10 @@ use Rattle.ap_fixpoint.specs.Fix.{IsFix}
 abbrev pub ClosedLaw : Type 0
 ClosedLaw = (E : Entries) (A : Program) (t : Patterns) → IsFix E A t → IsClosed E A t
 
--- there is one such table
+-- each program has a table for each entries: the rounds end
+abbrev pub TableLaw : Type 0
+TableLaw = (E : Entries) (A : Program) → (t : Patterns) × IsFix E A t
+
+-- it has no other one
 abbrev pub OneTableLaw : Type 0
 OneTableLaw = (E : Entries) (A : Program) (t u : Patterns) → IsFix E A t → IsFix E A u → t ≡ u

@@ -14,8 +14,8 @@ use ap_term::NoMemory;
 use std::alloc::Global;
 
 /// The table of a program that is entered so. Past the first round only those clauses are gone through again that read
-/// a pattern which has changed: what the others give is covered already. No run lives to see as many rounds as are
-/// allowed here.
+/// a pattern which has changed: what the others give is covered already. The rounds end, since each but the last makes a
+/// pattern cover more, and sets of places are finitely many.
 pub fn analyse(alloc: Global, annotated: &Annotated, entries: &Entries) -> Result<Table, NoMemory>
     requires { IsMarked entries.now }
     ensures { IfOk result (λ t. IsFix entries.now annotated.now (patterns t)) }
@@ -24,7 +24,7 @@ pub fn analyse(alloc: Global, annotated: &Annotated, entries: &Entries) -> Resul
     let readers = readers_of(alloc, program)?;
     let mut table = Table::new(alloc);
     let mut given = given_at_start(alloc, entries, program, &table)?;
-    for _round in 0..u64::MAX {
+    loop {
         let changed = unite_all(alloc, &mut table, given.as_slice())?;
         let slots = changed.as_slice();
         if slots.is_empty() {
@@ -32,5 +32,4 @@ pub fn analyse(alloc: Global, annotated: &Annotated, entries: &Entries) -> Resul
         }
         given = given_by_readers(alloc, program, &readers, &table, slots)?;
     }
-    Err(NoMemory)
 }

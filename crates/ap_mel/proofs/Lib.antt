@@ -1,3 +1,4 @@
 pub mod Mending
 pub mod Turns
 pub mod Certifying
+pub mod Ending

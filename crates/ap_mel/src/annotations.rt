@@ -52,8 +52,8 @@ fn first(alloc: Global, kind: Kind, program: &Program, table: &Table) -> Result<
 /// The program with groups that may run side by side in every search of a query that is as the entries say. The groups are
 /// made by the table of the program as it is written. Then passes follow, each by the table of the program before it, until
 /// one leaves the program as it is: a group gets the checks that its state no longer gives; one whose condition holds
-/// nowhere becomes a sequence, and so does one that was made without checks and would need some. Each pass adds checks or
-/// takes groups away, and no run lives to see as many as are allowed here.
+/// nowhere becomes a sequence, and so does one that was made without checks and would need some. The passes end, since
+/// each but the last adds checks of a group's full condition or takes groups away.
 pub fn annotate_sound(
     alloc: Global,
     program: &Program,
@@ -68,7 +68,7 @@ pub fn annotate_sound(
     let written = hand_written(alloc, program)?;
     let table = analyse(alloc, &written, entries)?;
     let mut current = first(alloc, kind, program, &table)?;
-    for _pass in 0..u64::MAX {
+    loop {
         let table = analyse(alloc, &current, entries)?;
         let Pass { annotated, settled } = pass_over(alloc, kind, &table, program, &current)?;
         if settled {
@@ -76,5 +76,4 @@ pub fn annotate_sound(
         }
         current = annotated;
     }
-    Err(NoMemory)
 }

@@ -7,6 +7,7 @@
 
 mod annotations;
 mod entries;
+pub mod laws;
 mod passes;
 
 pub use annotations::{Kind, annotate, annotate_sound};

@@ -7,12 +7,10 @@ use Rattle.std.proofs.lemmas.List.Folds.{list_all-append}
 use Rattle.std.proofs.lemmas.List.Elements.{All-nil, All-cons}
 use Rattle.std.proofs.lemmas.Grind.{flat_map-append}
 use Rattle.ap_term.specs.declared.clauses.Check.{Check}
-use Rattle.ap_term.specs.Tree.{Tree, Trees, var, int, atom, node, none, more, count_trees}
-use Rattle.ap_term.specs.Vars.{occurs, occurs_all}
+use Rattle.ap_term.specs.Tree.{Tree, Trees, count_trees}
 use Rattle.ap_term.specs.Goals.{Part, call, group, calls, Clause, Program}
-use Rattle.ap_term.specs.Independence.{shared, of_two_goals, IsInFullCondition, of_shared, of_others}
+use Rattle.ap_term.specs.Independence.{IsInFullCondition, of_shared, of_others}
 use Rattle.ap_term.specs.WellFormed.{in_range, callable, all_callable, numbered, numbered_all, numbered_check, well_formed_part, IsClause}
-use Rattle.ap_term.proofs.Solutions.{same_var}
 use Rattle.ap_absunify.specs.declared.states.State.{State}
 use Rattle.ap_patterns.specs.Given.{Patterns, is_builtin, is_analysed, after_part}
 use Rattle.ap_conditions.specs.FullCondition.{full_condition}

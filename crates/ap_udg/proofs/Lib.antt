@@ -1,3 +1,4 @@
 pub mod LongestRuns
 pub mod Bodies
 pub mod Annotations
+pub mod OneAnnotation

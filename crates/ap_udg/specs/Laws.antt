@@ -32,3 +32,8 @@ pub record AnnotatedLaw : Type 0 where
   pub stripped : (r : Rule) (t : Patterns) (P A : Program) → IsAnnotated r t P A → stripped A ≡ stripped P
   -- what groups are made in a clause without written ones
   pub groups : (r : Rule) (t : Patterns) (c d : Clause) → IsAnnotatedClause r t c d → has_groups c ≡ false → All IsMade d.body
+
+-- a program has just one annotation by a rule and a table
+pub record OneAnnotatedLaw : Type 0 where
+  pub some : (r : Rule) (t : Patterns) (P : Program) → (A : Program) × IsAnnotated r t P A
+  pub one : (r : Rule) (t : Patterns) (P A B : Program) → IsAnnotated r t P A → IsAnnotated r t P B → A ≡ B

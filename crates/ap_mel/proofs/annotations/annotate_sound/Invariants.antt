@@ -1,5 +1,9 @@
 use Rattle.ap_mel.specs.Made.{Passes}
+use Rattle.ap_mel.proofs.Ending.{weight}
 use Rattle.ap_mel.proofs.annotations.annotate_sound.Given as goal
 
-abbrev pub invariant-loop-pass : goal.invariant-loop-pass
-invariant-loop-pass l = Passes l.kind l.entries l.program l.initial.current l.current
+abbrev pub invariant-loop-current : goal.invariant-loop-current
+invariant-loop-current l = Passes l.kind l.entries l.program l.initial.current l.current
+
+abbrev pub decreases-loop-current : goal.decreases-loop-current
+decreases-loop-current l = weight l.current
