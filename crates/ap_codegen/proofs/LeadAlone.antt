@@ -21,7 +21,7 @@ use Rattle.ap_codegen.specs.Framed.{leaving}
 use Rattle.ap_codegen.specs.Grouped.{IsEnded, clause_leads}
 use Rattle.ap_codegen.specs.Said.{special_of, special_in, IsSaidAt, AreSaidAt, AreNumbered}
 use Rattle.ap_codegen.specs.Assembled.{AreAlone, IsAloneIn, AreAloneIn}
-use Rattle.ap_codegen.specs.Paces.{PacesTo, Paces, inside, StandsIn, PacesOn, PacesLeads, IsInRange, AreInRange, ArePaced, ArePacedLeads}
+use Rattle.ap_codegen.specs.Paces.{PacesTo, Paces, inside, StandsIn, PacesOn, PacesLeads, IsInRange, AreInRange, ArePacedLeads}
 use Rattle.ap_codegen.proofs.Walking.{plain_alone}
 use Rattle.ap_codegen.proofs.LeadPaces.{paces_on, clause_led}
 use Rattle.ap_codegen.proofs.LeadRanges.{one_paced, clause_range}
@@ -173,48 +173,3 @@ leads_alone code arity at es is (inr (vars, fs, e, p, d, num, r)) h = enters is 
 pub framed_paced : (c : Clause) (es : List Emitted) → IsClause c → leads_of es ≡ clause_leads c → IsEnded (leads_of es) → AreNumbered 0 es → ArePacedLeads (count_trees (arguments c.head)) (EnterStep c.vars ∷ leaving es)
 framed_paced c es i e d num =
     inr (c.vars, es, refl, subst (λ ls. PacesLeads 0 ls (inside c.vars (count_trees (arguments c.head)))) (sym e) (clause_led c i), d, num, subst AreInRange (sym e) (clause_range c i))
-
-paced_label : (K : Shape → Type 0) (e : Emitted) (is : List Step) (s : Shape) → PacesTo K (step_of e ∷ is) s → label_of e ≡ 0
-paced_label K (JumpStep d) is s p = absurd p
-paced_label K (GroundStep v d) is s p = absurd p
-paced_label K (IndepStep v w d) is s p = absurd p
-paced_label K _ is s p = refl
-
-paced_number : (K : Shape → Type 0) (e : Emitted) (es : List Emitted) (is : List Step) (s : Shape) (k : ℕ) → PacesTo K (step_of e ∷ is) s → AreNumbered k es → AreNumbered k (e ∷ es)
-paced_number K (GroupStep n) es is s k p h = absurd p
-paced_number K (PushStep j q n) es is s k p h = absurd p
-paced_number K _ es is s k p h = h
-
-paced_led : (es : List Emitted) (s : Shape) → s.group ≡ None → Paces (steps_of es) s → PacesLeads 0 (leads_of es) s
-paced_led [] s g p = absurd p
-paced_led (e ∷ es) s g p =
-    subst (λ l. PacesOn (step_of e) l (λ n z. PacesLeads n (leads_of es) z) s) (sym (paced_label (λ z. ⊥) e (steps_of es) s p))
-    (paces_on (step_of e) (steps_of es) (λ z. ⊥) (λ n z. PacesLeads n (leads_of es) z) s (subst (StandsIn (step_of e)) (sym g) tt) (λ z d q. paced_led es z (d ∙ g) q) p)
-
-paced_ended : (es : List Emitted) (s : Shape) → Paces (steps_of es) s → IsEnded (leads_of es) × AreNumbered 0 es × AreInRange (leads_of es)
-paced_ended [] s p = absurd p
-paced_ended (e ∷ []) s p =
-    let d = one_paced (λ z. ⊥) (step_of e) [] s p in
-    elim d.next as (λ _. IsEnded (leads_of (e ∷ [])) × AreNumbered 0 (e ∷ []) × AreInRange (leads_of (e ∷ []))) [
-      | inl t ↦ ((t.0, paced_label (λ z. ⊥) e [] s p), paced_number (λ z. ⊥) e [] [] s 0 p tt, (d.range, tt))
-      | inr t ↦ absurd t.2
-    ]
-paced_ended (e ∷ f ∷ es) s p =
-    let d = one_paced (λ z. ⊥) (step_of e) (steps_of (f ∷ es)) s p in
-    elim d.next as (λ _. IsEnded (leads_of (e ∷ f ∷ es)) × AreNumbered 0 (e ∷ f ∷ es) × AreInRange (leads_of (e ∷ f ∷ es))) [
-      | inl t ↦ absurd (none t.1)
-      | inr t ↦
-          let r = paced_ended (f ∷ es) t.1 t.2 in
-          let l = paced_label (λ z. ⊥) e (steps_of (f ∷ es)) s p in
-          ((t.0, omega (arith, l), r.0), paced_number (λ z. ⊥) e (f ∷ es) (steps_of (f ∷ es)) s 0 p r.1, (d.range, r.2))
-    ]
-  where
-    none : steps_of (f ∷ es) ≡ [] → ⊥
-    none n = cc
-
--- a clause without groups
-pub straight_paced : (arity : ℕ) (es : List Emitted) → ArePaced arity es → ArePacedLeads arity es
-straight_paced arity es (inl p) = inl p
-straight_paced arity es (inr (vars, fs, e, p)) =
-    let d = paced_ended fs (inside vars arity) p in
-    inr (vars, fs, e, paced_led fs (inside vars arity) refl p, d.0, d.1, d.2)

@@ -1,4 +1,5 @@
 pub mod Registers
+pub mod LeftNumbers
 pub mod PermanentReads
 pub mod Open
 pub mod Framing
@@ -24,10 +25,11 @@ pub mod LeadWalks
 pub mod LeadAlone
 pub mod LocatedLeads
 pub mod RelocatedReads
+pub mod WalkedWays
 pub mod RelocatedPaces
 pub mod RelocatedOpen
-pub mod RelocatedCode
 pub mod RelocatedLeads
+pub mod RelocatedCode
 pub mod Turns
 pub mod GroupReads
 pub mod PartReads

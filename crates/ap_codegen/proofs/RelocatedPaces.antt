@@ -1,18 +1,19 @@
 -- Code whose variables stand in other places keeps the rules of code one by one.
-use Rattle.std.proofs.Common.{◌≡◌, ◌≢◌, ℕ, ◌-◌, ◌<◌, nat_le, ◌==◌, Bool, true, false, ◌&&◌, if◌then◌else◌, is_some, List, [], ◌∷◌, Option, Some, None, ◌⊎◌, inl, inr, refl, ap, sym, ◌∙◌, subst, arith}
+use Rattle.std.proofs.Common.{◌≡◌, ◌≢◌, ℕ, zero, suc, ◌-◌, ◌<◌, nat_le, ◌==◌, Bool, true, false, ◌&&◌, if◌then◌else◌, is_some, List, [], ◌∷◌, Option, Some, None, ◌⊎◌, inl, inr, refl, ap, sym, ◌∙◌, subst, arith}
+use Rattle.std.specs.List.{list_all}
 use Rattle.std.proofs.lemmas.Bool.{false≢true, and_parts}
 use Rattle.std.proofs.lemmas.Bool.Decides.{nat_tests}
 use Rattle.ap_instr.specs.declared.instruction.Slot.{Slot}
 use Rattle.ap_instr.specs.declared.instruction.Slot.TheVariants.{X, Y}
-use Rattle.ap_instr.specs.declared.instruction.Instr.TheVariants.{GetStructure, PutStructure, PutVariable, Call}
-use Rattle.ap_instr.specs.Step.{get_variable, get_value, get_constant, get_structure, put_variable, put_value, put_constant, put_structure, unify_variable, unify_value, unify_constant, call, execute, builtin, proceed}
+use Rattle.ap_instr.specs.declared.instruction.Instr.TheVariants.{GetStructure, PutStructure, PutVariable, Call, WaitAll}
+use Rattle.ap_instr.specs.Step.{Step, get_variable, get_value, get_constant, get_structure, put_variable, put_value, put_constant, put_structure, unify_variable, unify_value, unify_constant, call, execute, builtin, proceed, jump, check_ground, check_indep, group, push, wait}
 use Rattle.ap_instr.specs.Runs.{read, set_x, set_y, set}
-use Rattle.ap_codecheck.specs.Shape.{Shape, unset, is_set, write, with_target, passed, behind_argument, after}
+use Rattle.ap_codecheck.specs.Shape.{Shape, unset, is_set, write, with_target, passed, behind_argument, with_group, after}
 use Rattle.ap_codecheck.specs.Rules.{ArgumentsSet, IsRoomFor}
-use Rattle.ap_codegen.specs.Paces.{IsSlot, Paces}
-use Rattle.ap_codegen.specs.Relocated.{Change, kept, dropped, olds, news, Known, former, latter, is_same, all_same, is_within, has_room, set_former, set_latter, set_both, behind_call, all_kept}
+use Rattle.ap_codegen.specs.Paces.{IsSlot, puts, StandsIn, IsOpen, IsFull, one_pushed, PacesOn, PacesLeads}
+use Rattle.ap_codegen.specs.Relocated.{Change, kept, dropped, olds, news, staying, relocated, register, Known, former, latter, is_same, all_same, is_within, has_room, set_former, set_latter, set_both, behind_call, behind, may_drop, fits, change_fits, is_kept, Forgets, Onward, NoChecks, AreKept}
 use Rattle.ap_codegen.proofs.Registers.{read_here, read_other, same_slot}
-use Rattle.ap_codegen.proofs.RelocatedReads.{above_zero, Below, below_former, below_latter, below_both, below_call, Held, held_former, held_latter, held_both, held_call, same_held, one_same}
+use Rattle.ap_codegen.proofs.RelocatedReads.{above_zero, Below, below_former, below_latter, below_both, below_call, below_forgets, Held, held_former, held_latter, held_both, held_call, held_forgets, same_held, one_same}
 
 -- what is set in the one code is set in the other
 abbrev pub Implies : Bool → Bool → Type 0
@@ -50,11 +51,12 @@ pub record Shifted (inner : Option ℕ) (k : Known) (s z : Shape) : Type 0 where
   pub sets : Sets k s z
   pub pending : z.pending ≡ s.pending
   pub room : z.room ≡ inner
+  pub group : z.group ≡ s.group
   pub near : 0 < s.pending → Near k s.target z.target z.x z.y
 
 -- outside of structures
-shift : (room : Option ℕ) (k j : Known) (s z s' z' : Shape) → s.pending ≡ 0 → s'.pending ≡ s.pending → z'.pending ≡ z.pending → z'.room ≡ z.room → Sets j s' z' → Shifted room k s z → Shifted room j s' z'
-shift room k j s z s' z' o p q r i h = record { sets = i; pending = q ∙ h.pending ∙ sym p; room = r ∙ h.room; near = λ l. absurd (omega arith) }
+shift : (room : Option ℕ) (k j : Known) (s z s' z' : Shape) → s.pending ≡ 0 → s'.pending ≡ s.pending → z'.pending ≡ z.pending → z'.room ≡ z.room → z'.group ≡ s'.group → Sets j s' z' → Shifted room k s z → Shifted room j s' z'
+shift room k j s z s' z' o p q r g i h = record { sets = i; pending = q ∙ h.pending ∙ sym p; room = r ∙ h.room; group = g; near = λ l. absurd (omega arith) }
 
 whole : (k : Known) (o n : Option ℕ) (x y x' y' : ℕ → Bool) → Near k o n x' y' → Held Bool Implies k x y x' y' → Held Bool Implies k (with_target o x) y (with_target n x') y'
 whole k None None x y x' y' i h = h
@@ -74,8 +76,8 @@ behind_shifted : (room : Option ℕ) (k : Known) (s z : Shape) → 0 < s.pending
 behind_shifted room k s z l h = subst (λ p. Shifted room k (behind_argument s) (passed (p == 1) z)) (sym h.pending) (go (s.pending == 1))
   where
     go : (b : Bool) → Shifted room k (passed b s) (passed b z)
-    go true = record { sets = whole k s.target z.target s.x s.y z.x z.y (h.near l) h.sets; pending = refl; room = h.room; near = λ i. absurd (omega arith) }
-    go false = record { sets = h.sets; pending = ap (λ p. p - 1) h.pending; room = h.room; near = λ i. h.near l }
+    go true = record { sets = whole k s.target z.target s.x s.y z.x z.y (h.near l) h.sets; pending = refl; room = h.room; group = h.group; near = λ i. absurd (omega arith) }
+    go false = record { sets = h.sets; pending = ap (λ p. p - 1) h.pending; room = h.room; group = h.group; near = λ i. h.near l }
 
 -- a new argument's place
 near_some : (k : Known) (v u : Slot) (a m : ℕ) (x y : ℕ → Bool) → Below k → Near k (Some a) (Some m) x y → Near (set_both k v u) (Some a) (Some m) (set_x u true x) (set_y u true y)
@@ -111,6 +113,7 @@ taken_shifted room k v u s z b h =
       sets = held_both Bool Implies k v u true true s.x s.y z.x z.y b (λ e. e) h.sets;
       pending = h.pending;
       room = h.room;
+      group = h.group;
       near = λ l. near_both k v u s.target z.target z.x z.y b (h.near l);
     }))
 
@@ -119,6 +122,7 @@ built_shifted room k l n a b s z i h = record {
   sets = held_both Bool Implies k (X a) (X b) (n == 0) (n == 0) s.x s.y z.x z.y i (λ e. e) h.sets;
   pending = refl;
   room = h.room;
+  group = h.group;
   near = λ p. go (n == 0);
 }
   where
@@ -156,130 +160,266 @@ moved_sets k v was s z e h = subst (λ s. Sets (set_former k v (former k was)) s
 placed_sets : (k : Known) (u is : Slot) (n : ℕ) (s z : Shape) → n ≡ latter k is → is_set z is ≡ true → Sets k s z → Sets (set_latter k u n) s (write u z)
 placed_sets k u is n s z i e h = subst (λ z. Sets (set_latter k u n) s z) (written u z) (held_latter Bool Implies k u is n true s.x s.y z.x z.y i (sym e ∙ read_set z is) h)
 
-module _ (room : Option ℕ) where
-  no_changes : (cs : List Change) → olds cs ≡ [] → news cs ≡ []
-  no_changes [] e = refl
-  no_changes (kept i u a ∷ cs) e = absurd (let q : i ∷ olds cs ≡ [] = e in cc)
-  no_changes (dropped i ∷ cs) e = absurd (let q : i ∷ olds cs ≡ [] = e in cc)
+near_forgets : (k m : Known) (o n : Option ℕ) (x y : ℕ → Bool) → Forgets k m → Near k o n x y → Near m o n x y
+near_forgets k m None None x y f h = tt
+near_forgets k m None (Some b) x y f h = h
+near_forgets k m (Some a) None x y f h = h
+near_forgets k m (Some a) (Some b) x y f h = λ w p q.
+    let e : former k (X a) ≡ former m (X a) = f.formers (X a) p in
+    let g : latter k w ≡ latter m w = f.latters w (subst (λ n. 0 < n) q p) in
+    h w (subst (λ n. 0 < n) (sym e) p) (e ∙ q ∙ sym g)
 
-  pub relocated_paces : (cs : List Change) (k : Known) (s z : Shape) → all_kept room k cs ≡ true → Below k → Shifted room k s z → Paces (olds cs) s → Paces (news cs) z
-  relocated_paces [] k s z f b h p = p
-  relocated_paces (dropped (get_variable v a) ∷ cs) k s z f b h p =
-      let j : Known = set_former k v (former k (X a)) in
-      relocated_paces cs j (write v s) z f (below_former k v (former k (X a)) (b.formers (X a)) b) (shift room k j s z (write v s) z p.3 refl refl refl (moved_sets k v (X a) s z p.2 h.sets) h) p.4
-  relocated_paces (dropped (put_value v a) ∷ cs) k s z f b h p =
-      let j : Known = set_former k (X a) (former k v) in
-      relocated_paces cs j (write (X a) s) z f (below_former k (X a) (former k v) (b.formers v) b) (shift room k j s z (write (X a) s) z p.3 refl refl refl (moved_sets k (X a) v s z p.2 h.sets) h) p.4
-  relocated_paces (dropped i ∷ cs) k s z f b h p = absurd (false≢true f)
-  relocated_paces (kept (get_variable v a) u a' ∷ cs) k s z f b h p =
-      let j : Known = set_former k v (former k (X a)) in
-      let i : Known = set_latter j u (latter k (X a')) in
-      let d = and_parts ((has_room room u && nat_le 1 a') && is_same k (X a) (X a')) (all_kept room i cs) f in
-      let e = and_parts (has_room room u && nat_le 1 a') (is_same k (X a) (X a')) d.0 in
-      let c = and_parts (has_room room u) (nat_le 1 a') e.0 in
-      let there : is_set z (X a') ≡ true = place_set k (X a) (X a') s z e.1 h.sets p.2 in
-      let after_move : Sets j (write v s) z = moved_sets k v (X a) s z p.2 h.sets in
-      let b1 : Below j = below_former k v (former k (X a)) (b.formers (X a)) b in (
+shifted_forgets : (room : Option ℕ) (k m : Known) (s z : Shape) → Forgets k m → Shifted room k s z → Shifted room m s z
+shifted_forgets room k m s z f h = record {
+  sets = held_forgets Bool Implies k m s.x s.y z.x z.y f h.sets;
+  pending = h.pending;
+  room = h.room;
+  group = h.group;
+  near = λ l. near_forgets k m s.target z.target z.x z.y f (h.near l);
+}
+
+-- another group
+in_group : (room : Option ℕ) (k : Known) (g d : Option (ℕ × ℕ)) (s z : Shape) → d ≡ g → Shifted room k s z → Shifted room k (with_group g s) (with_group d z)
+in_group room k g d s z e h = record { sets = h.sets; pending = h.pending; room = h.room; group = e; near = λ l. h.near l }
+
+stands_as : (i : Step) (u o : Slot) (g d : Option (ℕ × ℕ)) → d ≡ g → StandsIn i g → StandsIn (relocated i u o) d
+stands_as i u o g d e h = subst (StandsIn (relocated i u o)) (sym e) (one g h)
+  where
+    puts_as : (i : Step) → puts (relocated i u o) ≡ puts i
+    puts_as (get_variable v a) = refl
+    puts_as (get_value v a) = refl
+    puts_as (put_variable v a) = refl
+    puts_as (put_value v a) = refl
+    puts_as (unify_variable v) = refl
+    puts_as (unify_value v) = refl
+    puts_as (check_ground v) = refl
+    puts_as (check_indep v w) = refl
+    puts_as _ = refl
+
+    one : (g : Option (ℕ × ℕ)) → StandsIn i g → StandsIn (relocated i u o) g
+    one None h = tt
+    one (Some g) h = puts_as i ∙ h
+
+-- whether a step may lead to the next one; and over others
+abbrev pub has_next : Step → Bool
+has_next jump = false
+has_next (execute p n) = false
+has_next proceed = false
+has_next _ = true
+
+abbrev pub has_other : Step → Bool
+has_other jump = true
+has_other (check_ground v) = true
+has_other (check_indep v w) = true
+has_other _ = false
+
+-- where a step leads to, the code as it becomes keeps the rules where the code as it was does
+abbrev Follows : Option ℕ → Known → (Shape → Type 0) → (Shape → Type 0) → Type 0
+Follows room k K L = (s z : Shape) → K s → Below k → Shifted room k s z → L z
+
+step_paces : (room : Option ℕ) (i : Step) (m n : ℕ) (u o : Slot) (K L : ℕ → Shape → Type 0) (k : Known) (s z : Shape) → fits room i u o ≡ true → is_kept k i u o ≡ true → Below k → Shifted room k s z → PacesOn i m K s
+    → (has_next i ≡ true → Follows room (behind k i u o) (K 0) (L 0)) → (has_other i ≡ true → Follows room (behind k i u o) (K m) (L n)) → PacesOn (relocated i u o) n L z
+step_paces room (get_variable v a) m n u o K L k s z w f b h (g, p) next over =
+    let a' : ℕ = register o in
+    let j : Known = set_former k v (former k (X a)) in
+    let i : Known = set_latter j u (latter k (X a')) in
+    let c = and_parts (has_room room u) (nat_le 1 a') w in
+    let there : is_set z (X a') ≡ true = place_set k (X a) (X a') s z f h.sets p.2 in
+    let after_move : Sets j (write v s) z = moved_sets k v (X a) s z p.2 h.sets in
+    let b1 : Below j = below_former k v (former k (X a)) (b.formers (X a)) b in (
+      stands_as (get_variable v a) u o s.group z.group h.group g,
+      (
         slot_of room u z c.0 h.room,
         above_zero a' c.1,
         there,
         h.pending ∙ p.3,
-        relocated_paces cs i (write v s) (write u z) d.1 (below_latter j u (latter k (X a')) (b.latters (X a')) b1)
-            (shift room k i s z (write v s) (write u z) p.3 refl refl refl (placed_sets j u (X a') (latter k (X a')) (write v s) z refl there after_move) h) p.4,
-      )
-  relocated_paces (kept (get_value v a) u a' ∷ cs) k s z f b h p =
-      let d = and_parts ((has_room room u && nat_le 1 a') && (is_same k v u && is_same k (X a) (X a'))) (all_kept room k cs) f in
-      let e = and_parts (has_room room u && nat_le 1 a') (is_same k v u && is_same k (X a) (X a')) d.0 in
-      let c = and_parts (has_room room u) (nat_le 1 a') e.0 in
-      let g = and_parts (is_same k v u) (is_same k (X a) (X a')) e.1 in
-      (slot_of room u z c.0 h.room, above_zero a' c.1, place_set k v u s z g.0 h.sets p.2, place_set k (X a) (X a') s z g.1 h.sets p.3, h.pending ∙ p.4, relocated_paces cs k s z d.1 b h p.5)
-  relocated_paces (kept (get_constant t a) u a' ∷ cs) k s z f b h p =
-      let d = and_parts (nat_le 1 a' && is_same k (X a) (X a')) (all_kept room k cs) f in
-      let e = and_parts (nat_le 1 a') (is_same k (X a) (X a')) d.0 in
-      (above_zero a' e.0, place_set k (X a) (X a') s z e.1 h.sets p.1, h.pending ∙ p.2, relocated_paces cs k s z d.1 b h p.3)
-  relocated_paces (kept (get_structure l n a) u a' ∷ cs) k s z f b h p =
-      let d = and_parts (nat_le 1 a' && is_same k (X a) (X a')) (all_kept room k cs) f in
-      let e = and_parts (nat_le 1 a') (is_same k (X a) (X a')) d.0 in (
-        above_zero a' e.0,
-        place_set k (X a) (X a') s z e.1 h.sets p.1,
-        h.pending ∙ p.2,
-        relocated_paces cs k (after (GetStructure l n a) s) (after (GetStructure l n a') z) d.1 b (record { sets = h.sets; pending = refl; room = h.room; near = λ i. tt }) p.3,
-      )
-  relocated_paces (kept (put_variable v a) u a' ∷ cs) k s z f b h p =
-      let k1 : Known = set_both k v u in
-      let k2 : Known = set_former k1 (X a) k.next in
-      let k3 : Known = set_latter k2 (X a') k.next in
-      let d = and_parts (has_room room u && nat_le 1 a') (all_kept room k3 cs) f in
-      let c = and_parts (has_room room u) (nat_le 1 a') d.0 in
-      let b1 : Below k1 = below_both k v u b in
-      let b2 : Below k2 = below_former k1 (X a) k.next (omega arith) b1 in
-      let b3 : Below k3 = below_latter k2 (X a') k.next (omega arith) b2 in
-      let here : k.next ≡ former k1 v = sym (read_here v k.next k.former_x k.former_y) in
-      let set_there : is_set (write v s) v ≡ true = read_set (write v s) v ∙ ap (λ s. read v s.x s.y) (sym (written v s)) ∙ read_here v true s.x s.y in
-      let placed_there : is_set (write u z) u ≡ true = read_set (write u z) u ∙ ap (λ z. read u z.x z.y) (sym (written u z)) ∙ read_here u true z.x z.y in
-      let first : Sets k1 (write v s) (write u z) = (taken_shifted room k v u s z b h).sets in
-      let second : Sets k2 (write (X a) (write v s)) (write u z) =
-      subst (λ n. Sets (set_former k1 (X a) n) (write (X a) (write v s)) (write u z)) (sym here) (moved_sets k1 (X a) v (write v s) (write u z) set_there first) in
-      let third : Sets k3 (write (X a) (write v s)) (write (X a') (write u z)) =
-      placed_sets k2 (X a') u k.next (write (X a) (write v s)) (write u z) (sym (read_here u k.next k.latter_x k.latter_y)) placed_there second in (
+        next refl (write v s) (write u z) p.4 (below_latter j u (latter k (X a')) (b.latters (X a')) b1)
+            (shift room k i s z (write v s) (write u z) p.3 refl refl refl h.group (placed_sets j u (X a') (latter k (X a')) (write v s) z refl there after_move) h),
+      ),
+    )
+step_paces room (get_value v a) m n u o K L k s z w f b h (g, p) next over =
+    let a' : ℕ = register o in
+    let c = and_parts (has_room room u) (nat_le 1 a') w in
+    let e = and_parts (is_same k v u) (is_same k (X a) (X a')) f in (
+      stands_as (get_value v a) u o s.group z.group h.group g,
+      (slot_of room u z c.0 h.room, above_zero a' c.1, place_set k v u s z e.0 h.sets p.2, place_set k (X a) (X a') s z e.1 h.sets p.3, h.pending ∙ p.4, next refl s z p.5 b h),
+    )
+step_paces room (get_constant t a) m n u o K L k s z w f b h (g, p) next over = (
+  stands_as (get_constant t a) u o s.group z.group h.group g,
+  (above_zero (register o) w, place_set k (X a) (X (register o)) s z f h.sets p.1, h.pending ∙ p.2, next refl s z p.3 b h),
+)
+step_paces room (get_structure l d a) m n u o K L k s z w f b h (g, p) next over = (
+  stands_as (get_structure l d a) u o s.group z.group h.group g,
+  (
+    above_zero (register o) w,
+    place_set k (X a) (X (register o)) s z f h.sets p.1,
+    h.pending ∙ p.2,
+    next refl (after (GetStructure l d a) s) (after (GetStructure l d (register o)) z) p.3 b (record { sets = h.sets; pending = refl; room = h.room; group = h.group; near = λ i. tt }),
+  ),
+)
+step_paces room (put_variable v a) m n u o K L k s z w f b h (g, p) next over =
+    let a' : ℕ = register o in
+    let k1 : Known = set_both k v u in
+    let k2 : Known = set_former k1 (X a) k.next in
+    let k3 : Known = set_latter k2 (X a') k.next in
+    let c = and_parts (has_room room u) (nat_le 1 a') w in
+    let b1 : Below k1 = below_both k v u b in
+    let b2 : Below k2 = below_former k1 (X a) k.next (omega arith) b1 in
+    let b3 : Below k3 = below_latter k2 (X a') k.next (omega arith) b2 in
+    let here : k.next ≡ former k1 v = sym (read_here v k.next k.former_x k.former_y) in
+    let set_there : is_set (write v s) v ≡ true = read_set (write v s) v ∙ ap (λ s. read v s.x s.y) (sym (written v s)) ∙ read_here v true s.x s.y in
+    let placed_there : is_set (write u z) u ≡ true = read_set (write u z) u ∙ ap (λ z. read u z.x z.y) (sym (written u z)) ∙ read_here u true z.x z.y in
+    let first : Sets k1 (write v s) (write u z) = (taken_shifted room k v u s z b h).sets in
+    let second : Sets k2 (write (X a) (write v s)) (write u z) =
+    subst (λ n. Sets (set_former k1 (X a) n) (write (X a) (write v s)) (write u z)) (sym here) (moved_sets k1 (X a) v (write v s) (write u z) set_there first) in
+    let third : Sets k3 (write (X a) (write v s)) (write (X a') (write u z)) =
+    placed_sets k2 (X a') u k.next (write (X a) (write v s)) (write u z) (sym (read_here u k.next k.latter_x k.latter_y)) placed_there second in (
+      stands_as (put_variable v a) u o s.group z.group h.group g,
+      (
         slot_of room u z c.0 h.room,
         above_zero a' c.1,
         h.pending ∙ p.2,
-        relocated_paces cs k3 (after (PutVariable v a) s) (after (PutVariable u a') z) d.1 b3 (shift room k k3 s z (write (X a) (write v s)) (write (X a') (write u z)) p.2 refl refl refl third h) p.3,
-      )
-  relocated_paces (kept (put_value v a) u a' ∷ cs) k s z f b h p =
-      let j : Known = set_former k (X a) (former k v) in
-      let i : Known = set_latter j (X a') (latter k u) in
-      let d = and_parts ((has_room room u && nat_le 1 a') && is_same k v u) (all_kept room i cs) f in
-      let e = and_parts (has_room room u && nat_le 1 a') (is_same k v u) d.0 in
-      let c = and_parts (has_room room u) (nat_le 1 a') e.0 in
-      let there : is_set z u ≡ true = place_set k v u s z e.1 h.sets p.2 in
-      let after_move : Sets j (write (X a) s) z = moved_sets k (X a) v s z p.2 h.sets in
-      let b1 : Below j = below_former k (X a) (former k v) (b.formers v) b in (
+        next refl (after (PutVariable v a) s) (after (PutVariable u a') z) p.3 b3 (shift room k k3 s z (write (X a) (write v s)) (write (X a') (write u z)) p.2 refl refl refl h.group third h),
+      ),
+    )
+step_paces room (put_value v a) m n u o K L k s z w f b h (g, p) next over =
+    let a' : ℕ = register o in
+    let j : Known = set_former k (X a) (former k v) in
+    let i : Known = set_latter j (X a') (latter k u) in
+    let c = and_parts (has_room room u) (nat_le 1 a') w in
+    let there : is_set z u ≡ true = place_set k v u s z f h.sets p.2 in
+    let after_move : Sets j (write (X a) s) z = moved_sets k (X a) v s z p.2 h.sets in
+    let b1 : Below j = below_former k (X a) (former k v) (b.formers v) b in (
+      stands_as (put_value v a) u o s.group z.group h.group g,
+      (
         slot_of room u z c.0 h.room,
         above_zero a' c.1,
         there,
         h.pending ∙ p.3,
-        relocated_paces cs i (write (X a) s) (write (X a') z) d.1 (below_latter j (X a') (latter k u) (b.latters u) b1)
-            (shift room k i s z (write (X a) s) (write (X a') z) p.3 refl refl refl (placed_sets j (X a') u (latter k u) (write (X a) s) z refl there after_move) h) p.4,
-      )
-  relocated_paces (kept (put_constant t a) u a' ∷ cs) k s z f b h p =
-      let i : Known = set_both k (X a) (X a') in
-      let d = and_parts (nat_le 1 a') (all_kept room i cs) f in
-      (above_zero a' d.0, h.pending ∙ p.1, relocated_paces cs i (write (X a) s) (write (X a') z) d.1 (below_both k (X a) (X a') b) (taken_shifted room k (X a) (X a') s z b h) p.2)
-  relocated_paces (kept (put_structure l n a) u a' ∷ cs) k s z f b h p =
-      let i : Known = set_both k (X a) (X a') in
-      let d = and_parts (nat_le 1 a') (all_kept room i cs) f in
-      (above_zero a' d.0, h.pending ∙ p.1, relocated_paces cs i (after (PutStructure l n a) s) (after (PutStructure l n a') z) d.1 (below_both k (X a) (X a') b) (built_shifted room k l n a a' s z b h) p.2)
-  relocated_paces (kept (unify_variable v) u a ∷ cs) k s z f b h p =
-      let i : Known = set_both k v u in
-      let d = and_parts (has_room room u) (all_kept room i cs) f in (
-        slot_of room u z d.0 h.room,
-        subst (λ q. 0 < q) (sym h.pending) p.1,
-        relocated_paces cs i (behind_argument (write v s)) (behind_argument (write u z)) d.1 (below_both k v u b) (behind_shifted room i (write v s) (write u z) p.1 (taken_shifted room k v u s z b h)) p.2,
-      )
-  relocated_paces (kept (unify_value v) u a ∷ cs) k s z f b h p =
-      let d = and_parts (has_room room u && is_same k v u) (all_kept room k cs) f in
-      let e = and_parts (has_room room u) (is_same k v u) d.0 in (
-        slot_of room u z e.0 h.room,
-        place_set k v u s z e.1 h.sets p.1,
-        subst (λ q. 0 < q) (sym h.pending) p.2,
-        relocated_paces cs k (behind_argument s) (behind_argument z) d.1 b (behind_shifted room k s z p.2 h) p.3,
-      )
-  relocated_paces (kept (unify_constant t) u a ∷ cs) k s z f b h p =
-      (subst (λ q. 0 < q) (sym h.pending) p.0, relocated_paces cs k (behind_argument s) (behind_argument z) f b (behind_shifted room k s z p.0 h) p.1)
-  relocated_paces (kept (call g n) u a ∷ cs) k s z f b h p =
-      let d = and_parts (is_some room && all_same k n) (all_kept room (behind_call k) cs) f in
-      let e = and_parts (is_some room) (all_same k n) d.0 in (
-        arguments_set k n s z e.1 h.sets p.0,
-        ap is_some h.room ∙ e.0,
-        h.pending ∙ p.2,
-        relocated_paces cs (behind_call k) (after (Call 0) s) (after (Call 0) z) d.1 (below_call k b)
-            (shift room k (behind_call k) s z (after (Call 0) s) (after (Call 0) z) p.2 refl refl refl (held_call Bool Implies k s.x s.y z.x z.y unset unset h.sets) h) p.3,
-      )
-  relocated_paces (kept (builtin g n) u a ∷ cs) k s z f b h p =
-      let d = and_parts (all_same k n) (all_kept room k cs) f in
-      (arguments_set k n s z d.0 h.sets p.0, h.pending ∙ p.1, relocated_paces cs k s z d.1 b h p.2)
-  relocated_paces (kept (execute g n) u a ∷ cs) k s z f b h p = (arguments_set k n s z (and_parts (all_same k n) true f).0 h.sets p.0, h.pending ∙ p.1, no_changes cs p.2)
-  relocated_paces (kept proceed u a ∷ cs) k s z f b h p = (h.pending ∙ p.0, no_changes cs p.1)
-  relocated_paces (kept i u a ∷ cs) k s z f b h p = absurd p
+        next refl (write (X a) s) (write (X a') z) p.4 (below_latter j (X a') (latter k u) (b.latters u) b1)
+            (shift room k i s z (write (X a) s) (write (X a') z) p.3 refl refl refl h.group (placed_sets j (X a') u (latter k u) (write (X a) s) z refl there after_move) h),
+      ),
+    )
+step_paces room (put_constant t a) m n u o K L k s z w f b h (g, p) next over = (
+  stands_as (put_constant t a) u o s.group z.group h.group g,
+  (
+    above_zero (register o) w,
+    h.pending ∙ p.1,
+    next refl (write (X a) s) (write (X (register o)) z) p.2 (below_both k (X a) (X (register o)) b) (taken_shifted room k (X a) (X (register o)) s z b h),
+  ),
+)
+step_paces room (put_structure l d a) m n u o K L k s z w f b h (g, p) next over = (
+  stands_as (put_structure l d a) u o s.group z.group h.group g,
+  (
+    above_zero (register o) w,
+    h.pending ∙ p.1,
+    next refl (after (PutStructure l d a) s) (after (PutStructure l d (register o)) z) p.2 (below_both k (X a) (X (register o)) b) (built_shifted room k l d a (register o) s z b h),
+  ),
+)
+step_paces room (unify_variable v) m n u o K L k s z w f b h (g, p) next over = (
+  stands_as (unify_variable v) u o s.group z.group h.group g,
+  (
+    slot_of room u z w h.room,
+    subst (λ q. 0 < q) (sym h.pending) p.1,
+    next refl (behind_argument (write v s)) (behind_argument (write u z)) p.2 (below_both k v u b) (behind_shifted room (set_both k v u) (write v s) (write u z) p.1 (taken_shifted room k v u s z b h)),
+  ),
+)
+step_paces room (unify_value v) m n u o K L k s z w f b h (g, p) next over = (
+  stands_as (unify_value v) u o s.group z.group h.group g,
+  (
+    slot_of room u z w h.room,
+    place_set k v u s z f h.sets p.1,
+    subst (λ q. 0 < q) (sym h.pending) p.2,
+    next refl (behind_argument s) (behind_argument z) p.3 b (behind_shifted room k s z p.2 h),
+  ),
+)
+step_paces room (unify_constant t) m n u o K L k s z w f b h (g, p) next over = (
+  stands_as (unify_constant t) u o s.group z.group h.group g,
+  (subst (λ q. 0 < q) (sym h.pending) p.0, next refl (behind_argument s) (behind_argument z) p.1 b (behind_shifted room k s z p.0 h)),
+)
+step_paces room (call d l) m n u o K L k s z w f b h (g, p) next over = (
+  stands_as (call d l) u o s.group z.group h.group g,
+  (
+    arguments_set k l s z f h.sets p.0,
+    ap is_some h.room ∙ w,
+    h.pending ∙ p.2,
+    next refl (after (Call 0) s) (after (Call 0) z) p.3 (below_call k b)
+        (shift room k (behind_call k) s z (after (Call 0) s) (after (Call 0) z) p.2 refl refl refl h.group (held_call Bool Implies k s.x s.y z.x z.y unset unset h.sets) h),
+  ),
+)
+step_paces room (builtin d l) m n u o K L k s z w f b h (g, p) next over = (stands_as (builtin d l) u o s.group z.group h.group g, (arguments_set k l s z f h.sets p.0, h.pending ∙ p.1, next refl s z p.2 b h))
+step_paces room (execute d l) m n u o K L k s z w f b h (g, p) next over = (stands_as (execute d l) u o s.group z.group h.group g, (arguments_set k l s z f h.sets p.0, h.pending ∙ p.1, refl))
+step_paces room proceed m n u o K L k s z w f b h (g, p) next over = (stands_as proceed u o s.group z.group h.group g, (h.pending ∙ p.0, refl))
+step_paces room jump m n u o K L k s z w f b h p next over = (h.group ∙ p.0, h.pending ∙ p.1, over refl s z p.2 b h)
+step_paces room (check_ground v) m n u o K L k s z w f b h p next over =
+    let c = and_parts (is_some room) (has_room room u) w in
+    (h.group ∙ p.0, h.pending ∙ p.1, slot_of room u z c.1 h.room, place_set k v u s z f h.sets p.3, next refl s z p.4 b h, over refl s z p.5 b h)
+step_paces room (check_indep v v2) m n u o K L k s z w f b h p next over =
+    let c = and_parts (is_some room) (has_room room u && has_room room o) w in
+    let d = and_parts (has_room room u) (has_room room o) c.1 in
+    let e = and_parts (is_same k v u) (is_same k v2 o) f in (
+      h.group ∙ p.0,
+      h.pending ∙ p.1,
+      slot_of room u z d.0 h.room,
+      slot_of room o z d.1 h.room,
+      place_set k v u s z e.0 h.sets p.4,
+      place_set k v2 o s z e.1 h.sets p.5,
+      next refl s z p.6 b h,
+      over refl s z p.7 b h,
+    )
+step_paces room (group l) m n u o K L k s z w f b h p next over = (h.group ∙ p.0, h.pending ∙ p.1, p.2, next refl (with_group (Some (l, 0)) s) (with_group (Some (l, 0)) z) p.3 b (in_group room k (Some (l, 0)) (Some (l, 0)) s z refl h))
+step_paces room (push d l) m n u o K L k s z w f b h p next over = (
+  subst IsOpen (sym h.group) p.0,
+  h.pending ∙ p.1,
+  arguments_set k l s z f h.sets p.2,
+  next refl (with_group (one_pushed s.group) s) (with_group (one_pushed z.group) z) p.3 b (in_group room k (one_pushed s.group) (one_pushed z.group) s z (ap one_pushed h.group) h),
+)
+step_paces room wait m n u o K L k s z w f b h p next over = (
+  subst IsFull (sym h.group) p.0,
+  h.pending ∙ p.1,
+  ap is_some h.room ∙ w,
+  next refl (after WaitAll s) (after WaitAll z) p.3 (below_call k b)
+      (shift room k (behind_call k) s z (after WaitAll s) (after WaitAll z) p.1 refl refl refl refl (held_call Bool Implies k s.x s.y z.x z.y unset unset h.sets) h),
+)
+step_paces room i m n u o K L k s z w f b h p next over = absurd (false≢true w)
+
+-- ---- where control goes on
+
+onward_next : (i : Step) (m : ℕ) (K : ℕ → Known → Type 0) (N : ℕ → Type 0) (k : Known) → has_next i ≡ true → Onward (i, m) K N k → K 0 k
+onward_next (check_ground v) m K N k e w = w.1
+onward_next (check_indep v u) m K N k e w = w.1
+onward_next jump m K N k e w = absurd (false≢true e)
+onward_next (execute p n) m K N k e w = absurd (false≢true e)
+onward_next proceed m K N k e w = absurd (false≢true e)
+onward_next _ m K N k e w = w
+
+pub onward_other : (i : Step) (m : ℕ) (K : ℕ → Known → Type 0) (N : ℕ → Type 0) (k : Known) → has_other i ≡ true → Onward (i, m) K N k → K m k
+onward_other (check_ground v) m K N k e w = w.2
+onward_other (check_indep v u) m K N k e w = w.2
+onward_other jump m K N k e w = w.1
+onward_other _ m K N k e w = absurd (false≢true e)
+
+module _ (room : Option ℕ) where
+  pub relocated_paces : (n : ℕ) (cs : List Change) (k : Known) (s z : Shape) → list_all (change_fits room) cs ≡ true → AreKept n k cs → PacesLeads n (olds cs) s → Below k → Shifted room k s z → PacesLeads (staying n cs) (news cs) z
+  relocated_paces zero [] k s z w a p b h = absurd a
+  relocated_paces (suc n) [] k s z w a p b h = absurd a
+  relocated_paces (suc n) (kept l u o ∷ cs) k s z w a p b h = relocated_paces n cs k s z (and_parts (fits room l.0 u o) (list_all (change_fits room) cs) w).1 a p b h
+  relocated_paces (suc n) (dropped l ∷ cs) k s z w a p b h = relocated_paces n cs k s z (and_parts (may_drop l.0) (list_all (change_fits room) cs) w).1 a p b h
+  relocated_paces zero (dropped (get_variable v r, m) ∷ cs) k s z w (j, f, a) p b h =
+      let i : Known = set_former j v (former j (X r)) in
+      let d : Below j = below_forgets k j f b in
+      let g : Shifted room j s z = shifted_forgets room k j s z f h in
+      relocated_paces zero cs i (write v s) z w a p.1.4 (below_former j v (former j (X r)) (d.formers (X r)) d)
+      (shift room j i s z (write v s) z p.1.3 refl refl refl h.group (moved_sets j v (X r) s z p.1.2 g.sets) g)
+  relocated_paces zero (dropped (put_value v r, m) ∷ cs) k s z w (j, f, a) p b h =
+      let i : Known = set_former j (X r) (former j v) in
+      let d : Below j = below_forgets k j f b in
+      let g : Shifted room j s z = shifted_forgets room k j s z f h in
+      relocated_paces zero cs i (write (X r) s) z w a p.1.4 (below_former j (X r) (former j v) (d.formers v) d)
+      (shift room j i s z (write (X r) s) z p.1.3 refl refl refl h.group (moved_sets j (X r) v s z p.1.2 g.sets) g)
+  relocated_paces zero (dropped (i, m) ∷ cs) k s z w a p b h = absurd (false≢true w)
+  relocated_paces zero (kept (i, m) u o ∷ cs) k s z w (j, f, a) p b h =
+      let c = and_parts (fits room i u o) (list_all (change_fits room) cs) w in
+      step_paces room i m (staying m cs) u o (λ n z. PacesLeads n (olds cs) z) (λ n z. PacesLeads n (news cs) z) j s z c.0 a.0 (below_forgets k j f b) (shifted_forgets room k j s z f h) p
+      (λ e s1 z1 q b1 h1. relocated_paces zero cs (behind j i u o) s1 z1 c.1 (onward_next i m (λ n j. AreKept n j cs) (λ n. NoChecks n cs) (behind j i u o) e a.1) q b1 h1)
+      (λ e s1 z1 q b1 h1. relocated_paces m cs (behind j i u o) s1 z1 c.1 (onward_other i m (λ n j. AreKept n j cs) (λ n. NoChecks n cs) (behind j i u o) e a.1) q b1 h1)

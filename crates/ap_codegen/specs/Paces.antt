@@ -45,11 +45,6 @@ Paces is s = PacesTo (λ z. ⊥) is s
 abbrev pub inside : ℕ → ℕ → Shape
 inside vars arity = record { x = (entry arity).x; y = unset; room = Some vars; pending = 0; target = None; group = None }
 
--- the steps of a clause with so many arguments, with no environment or inside one
-abbrev pub ArePaced : ℕ → List Emitted → Type 0
-ArePaced arity es =
-    Paces (steps_of es) (entry arity) ⊎ ((vars : ℕ) × (fs : List Emitted) × (es ≡ Allocate vars ∷ leaving fs) × Paces (steps_of fs) (inside vars arity))
-
 -- ---- clauses with groups, whose steps pass over others
 
 -- whether a step puts an argument, or a part of one

@@ -1,59 +1,83 @@
 -- Code whose variables stand in other places: in the argument registers that they come from or go to, in registers, or in
--- permanent variables. The choice is free; one walk over both codes, which numbers the values that their places hold, tests it.
+-- permanent variables. The choice is free; one walk over both codes on each of their ways, which numbers the values that
+-- their places hold, tests it.
 use Rattle.std.specs.Prelude.{ℕ, zero, suc, ◌+◌, nat_le, Bool, true, false, ◌&&◌, ◌||◌, ◌==◌, not, ◌≡◌, ◌<◌, ◌≤◌, List, [], ◌∷◌, slice_index, Option, Some, None, is_some}
+use Rattle.ap_term.specs.Goals.{Clause}
 use Rattle.ap_instr.specs.declared.instruction.Slot.{Slot}
 use Rattle.ap_instr.specs.declared.instruction.Slot.TheVariants.{X, Y}
 use Rattle.ap_instr.specs.Step.{Step, get_variable, get_value, get_constant, get_structure, put_variable, put_value, put_constant, put_structure, unify_variable, unify_value, unify_constant, call, execute, builtin, proceed, frame, jump, check_ground, check_indep, group, push, wait, other}
 use Rattle.ap_instr.specs.Runs.{read, set_x, set_y}
 use Rattle.ap_codecheck.specs.Shape.{Shape, entry, unset}
 use Rattle.ap_codegen.specs.declared.steps.Step.{Step as Emitted}
+use Rattle.ap_codegen.specs.declared.steps.Step.TheVariants.{GetVariable, GetValue, GetConstant, GetInteger, GetStructure, PutVariable, PutValue, PutConstant, PutInteger, PutStructure, UnifyVariable, UnifyValue, Jump, CheckGround, CheckIndep}
 use Rattle.ap_codegen.specs.declared.relocating.Change.{Change as Chosen}
 use Rattle.ap_codegen.specs.declared.relocating.Change.TheVariants.{Kept, Dropped}
 use Rattle.ap_codegen.specs.declared.relocating.Numbers.{Numbers}
-use Rattle.ap_codegen.specs.Emitted.{step_of}
+use Rattle.ap_codegen.specs.declared.relocating.Way.{Way}
+use Rattle.ap_codegen.specs.declared.relocating.Way.TheVariants.{Outside, Sides, Turns}
+use Rattle.ap_codegen.specs.declared.relocating.Walk.{Walk}
+use Rattle.ap_codegen.specs.Emitted.{steps_of, label_of, Lead, lead_of, leads_of}
 use Rattle.ap_codegen.specs.Temporary.{ends}
+use Rattle.ap_codegen.specs.Said.{AreNumbered}
+use Rattle.ap_codegen.specs.Grouped.{is_check, IsEnded, IsGroupedCode}
+use Rattle.ap_codegen.specs.Paces.{Paces, PacesLeads, AreInRange, inside}
 
--- what becomes of a step: it stays with another place and another argument register, or falls away
+-- What becomes of a step: it stays with another place and another argument register, a check of two with two other places,
+-- or it falls away.
 pub data Change : Type 0 where
-  kept : Step → Slot → ℕ → Change
-  dropped : Step → Change
+  kept : Lead → Slot → Slot → Change
+  dropped : Lead → Change
 
 abbrev pub change_of : Chosen → Change
-change_of (Kept s u b) = kept (step_of s) u b
-change_of (Dropped s) = dropped (step_of s)
+change_of (Kept s u o) = kept (lead_of s) u o
+change_of (Dropped s) = dropped (lead_of s)
 
 abbrev pub changes_of : List Chosen → List Change
 changes_of [] = []
 changes_of (c ∷ cs) = change_of c ∷ changes_of cs
 
 abbrev pub step_in : Chosen → Emitted
-step_in (Kept s u b) = s
+step_in (Kept s u o) = s
 step_in (Dropped s) = s
 
 -- the steps as they were
-abbrev pub olds : List Change → List Step
+abbrev pub olds : List Change → List Lead
 olds [] = []
-olds (kept s u b ∷ cs) = s ∷ olds cs
-olds (dropped s ∷ cs) = s ∷ olds cs
+olds (kept l u o ∷ cs) = l ∷ olds cs
+olds (dropped l ∷ cs) = l ∷ olds cs
 
-abbrev pub relocated : Step → Slot → ℕ → Step
-relocated (get_variable v a) u b = get_variable u b
-relocated (get_value v a) u b = get_value u b
-relocated (get_constant c a) u b = get_constant c b
-relocated (get_structure f n a) u b = get_structure f n b
-relocated (put_variable v a) u b = put_variable u b
-relocated (put_value v a) u b = put_value u b
-relocated (put_constant c a) u b = put_constant c b
-relocated (put_structure f n a) u b = put_structure f n b
-relocated (unify_variable v) u b = unify_variable u
-relocated (unify_value v) u b = unify_value u
-relocated s u b = s
+-- the number of a register, 0 for a permanent variable
+abbrev pub register : Slot → ℕ
+register (X n) = n
+register (Y n) = 0
 
--- the steps as they become
-abbrev pub news : List Change → List Step
+abbrev pub relocated : Step → Slot → Slot → Step
+relocated (get_variable v a) u o = get_variable u (register o)
+relocated (get_value v a) u o = get_value u (register o)
+relocated (get_constant c a) u o = get_constant c (register o)
+relocated (get_structure f n a) u o = get_structure f n (register o)
+relocated (put_variable v a) u o = put_variable u (register o)
+relocated (put_value v a) u o = put_value u (register o)
+relocated (put_constant c a) u o = put_constant c (register o)
+relocated (put_structure f n a) u o = put_structure f n (register o)
+relocated (unify_variable v) u o = unify_variable u
+relocated (unify_value v) u o = unify_value u
+relocated (check_ground v) u o = check_ground u
+relocated (check_indep v w) u o = check_indep u o
+relocated s u o = s
+
+-- how many of the first n steps stay
+abbrev pub staying : ℕ → List Change → ℕ
+staying zero cs = 0
+staying (suc n) [] = 0
+staying (suc n) (kept l u o ∷ cs) = suc (staying n cs)
+staying (suc n) (dropped l ∷ cs) = staying n cs
+
+-- the steps as they become; those that are passed over are counted anew
+abbrev pub news : List Change → List Lead
 news [] = []
-news (kept s u b ∷ cs) = relocated s u b ∷ news cs
-news (dropped s ∷ cs) = news cs
+news (kept l u o ∷ cs) = (relocated l.0 u o, staying l.1 cs) ∷ news cs
+news (dropped l ∷ cs) = news cs
 
 -- the number at a place of a list, 0 behind it
 abbrev pub by : List ℕ → ℕ → ℕ
@@ -104,20 +128,21 @@ set_latter k u n = record { former_x = k.former_x; former_y = k.former_y; latter
 abbrev pub set_both : Known → Slot → Slot → Known
 set_both k v u = record { former_x = set_x v k.next k.former_x; former_y = set_y v k.next k.former_y; latter_x = set_x u k.next k.latter_x; latter_y = set_y u k.next k.latter_y; next = k.next + 1 }
 
--- behind a call the X registers are lost
+-- behind a call, and behind a group, the X registers are lost
 abbrev pub behind_call : Known → Known
 behind_call k = record { former_x = by []; former_y = k.former_y; latter_x = by []; latter_y = k.latter_y; next = k.next }
 
 -- behind a step that stays
-abbrev pub behind : Known → Step → Slot → ℕ → Known
-behind k (get_variable v a) u b = set_latter (set_former k v (former k (X a))) u (latter k (X b))
-behind k (put_value v a) u b = set_latter (set_former k (X a) (former k v)) (X b) (latter k u)
-behind k (put_variable v a) u b = set_latter (set_former (set_both k v u) (X a) k.next) (X b) k.next
-behind k (put_constant c a) u b = set_both k (X a) (X b)
-behind k (put_structure f n a) u b = set_both k (X a) (X b)
-behind k (unify_variable v) u b = set_both k v u
-behind k (call p n) u b = behind_call k
-behind k s u b = k
+abbrev pub behind : Known → Step → Slot → Slot → Known
+behind k (get_variable v a) u o = set_latter (set_former k v (former k (X a))) u (latter k (X (register o)))
+behind k (put_value v a) u o = set_latter (set_former k (X a) (former k v)) (X (register o)) (latter k u)
+behind k (put_variable v a) u o = set_latter (set_former (set_both k v u) (X a) k.next) (X (register o)) k.next
+behind k (put_constant c a) u o = set_both k (X a) (X (register o))
+behind k (put_structure f n a) u o = set_both k (X a) (X (register o))
+behind k (unify_variable v) u o = set_both k v u
+behind k (call p n) u o = behind_call k
+behind k wait u o = behind_call k
+behind k s u o = k
 
 -- behind a step that falls away
 abbrev pub behind_none : Known → Step → Known
@@ -131,41 +156,182 @@ may_drop (get_variable v a) = true
 may_drop (put_value v a) = true
 may_drop _ = false
 
--- Whether a step does the same in its new places. Calls need an environment.
-abbrev pub is_kept : Option ℕ → Known → Step → Slot → ℕ → Bool
-is_kept room k (get_variable v a) u b = (has_room room u && nat_le 1 b) && is_same k (X a) (X b)
-is_kept room k (get_value v a) u b = (has_room room u && nat_le 1 b) && (is_same k v u && is_same k (X a) (X b))
-is_kept room k (get_constant c a) u b = nat_le 1 b && is_same k (X a) (X b)
-is_kept room k (get_structure f n a) u b = nat_le 1 b && is_same k (X a) (X b)
-is_kept room k (put_variable v a) u b = has_room room u && nat_le 1 b
-is_kept room k (put_value v a) u b = (has_room room u && nat_le 1 b) && is_same k v u
-is_kept room k (put_constant c a) u b = nat_le 1 b
-is_kept room k (put_structure f n a) u b = nat_le 1 b
-is_kept room k (unify_variable v) u b = has_room room u
-is_kept room k (unify_value v) u b = has_room room u && is_same k v u
-is_kept room k (unify_constant c) u b = true
-is_kept room k (call p n) u b = is_some room && all_same k n
-is_kept room k (execute p n) u b = all_same k n
-is_kept room k (builtin p n) u b = all_same k n
-is_kept room k proceed u b = true
-is_kept room k s u b = false
+-- Whether there are a step's new places. Calls and groups need an environment.
+abbrev pub fits : Option ℕ → Step → Slot → Slot → Bool
+fits room (get_variable v a) u o = has_room room u && nat_le 1 (register o)
+fits room (get_value v a) u o = has_room room u && nat_le 1 (register o)
+fits room (get_constant c a) u o = nat_le 1 (register o)
+fits room (get_structure f n a) u o = nat_le 1 (register o)
+fits room (put_variable v a) u o = has_room room u && nat_le 1 (register o)
+fits room (put_value v a) u o = has_room room u && nat_le 1 (register o)
+fits room (put_constant c a) u o = nat_le 1 (register o)
+fits room (put_structure f n a) u o = nat_le 1 (register o)
+fits room (unify_variable v) u o = has_room room u
+fits room (unify_value v) u o = has_room room u
+fits room (unify_constant c) u o = true
+fits room (execute p n) u o = true
+fits room (builtin p n) u o = true
+fits room proceed u o = true
+fits room (check_ground v) u o = is_some room && has_room room u
+fits room (check_indep v w) u o = is_some room && (has_room room u && has_room room o)
+fits room (group n) u o = is_some room && nat_le 1 n
+fits room frame u o = false
+fits room other u o = false
+fits room s u o = is_some room
 
-abbrev pub accepts : Option ℕ → Known → Change → Bool
-accepts room k (kept s u b) = is_kept room k s u b
-accepts room k (dropped s) = may_drop s
+abbrev pub change_fits : Option ℕ → Change → Bool
+change_fits room (kept l u o) = fits room l.0 u o
+change_fits room (dropped l) = may_drop l.0
+
+-- whether a step does the same in its new places
+abbrev pub is_kept : Known → Step → Slot → Slot → Bool
+is_kept k (get_variable v a) u o = is_same k (X a) (X (register o))
+is_kept k (get_value v a) u o = is_same k v u && is_same k (X a) (X (register o))
+is_kept k (get_constant c a) u o = is_same k (X a) (X (register o))
+is_kept k (get_structure f n a) u o = is_same k (X a) (X (register o))
+is_kept k (put_value v a) u o = is_same k v u
+is_kept k (unify_value v) u o = is_same k v u
+is_kept k (call p n) u o = all_same k n
+is_kept k (execute p n) u o = all_same k n
+is_kept k (builtin p n) u o = all_same k n
+is_kept k (push p n) u o = all_same k n
+is_kept k (check_ground v) u o = is_same k v u
+is_kept k (check_indep v w) u o = is_same k v u && is_same k w o
+is_kept k s u o = true
+
+-- nothing is known in the second that isn't in the first
+pub record Forgets (k m : Known) : Type 0 where
+  pub formers : (v : Slot) → 0 < former m v → former k v ≡ former m v
+  pub latters : (u : Slot) → 0 < latter m u → latter k u ≡ latter m u
+  pub next : k.next ≤ m.next
+
+-- Each value stands at one place in the code as it becomes, so that whatever its places hold, places of the code as it was
+-- can hold the same.
+abbrev pub IsSingle : Known → Type 0
+IsSingle k = (home : ℕ → Slot) × ((u : Slot) → 0 < latter k u → u ≡ home (latter k u))
+
+-- Behind a step that stays others do, wherever control goes on: `K` of how many of them are passed over. A jump passes over no
+-- checks.
+abbrev pub Onward : Lead → (ℕ → Known → Type 0) → (ℕ → Type 0) → Known → Type 0
+Onward (jump, n) K N k = N n × K n k
+Onward (check_ground v, n) K N k = IsSingle k × K 0 k × K n k
+Onward (check_indep v w, n) K N k = IsSingle k × K 0 k × K n k
+Onward (execute p m, n) K N k = Unit {0}
+Onward (proceed, n) K N k = Unit {0}
+Onward (s, n) K N k = K 0 k
+
+abbrev pub StaysOn : Change → (ℕ → Known → Type 0) → (ℕ → Type 0) → Known → Type 0
+StaysOn (kept l u o) K N k = (is_kept k l.0 u o ≡ true) × Onward l K N (behind k l.0 u o)
+StaysOn (dropped l) K N k = K 0 (behind_none k l.0)
+
+abbrev pub checks_nothing : Change → Bool
+checks_nothing (kept l u o) = not (is_check l.0)
+checks_nothing (dropped l) = true
+
+-- none of the first n steps is a check
+abbrev pub NoChecks : ℕ → List Change → Type 0
+NoChecks zero cs = Unit {0}
+NoChecks (suc n) [] = Unit {0}
+NoChecks (suc n) (c ∷ cs) = (checks_nothing c ≡ true) × NoChecks n cs
+
+-- All steps behind the first n, which are passed over, do the same on both ways of each check, up to an end that there is.
+-- What is known may be forgotten.
+abbrev pub AreKept : ℕ → Known → List Change → Type 0
+AreKept n k [] = ⊥
+AreKept (suc n) k (c ∷ cs) = AreKept n k cs
+AreKept zero k (c ∷ cs) = (m : Known) × Forgets k m × StaysOn c (λ n j. AreKept n j cs) (λ n. NoChecks n cs) m
+
+-- whether a change does the same; and what is known behind it
+abbrev pub does_same : Known → Change → Bool
+does_same k (kept l u o) = is_kept k l.0 u o
+does_same k (dropped l) = true
 
 abbrev pub passed : Known → Change → Known
-passed k (kept s u b) = behind k s u b
-passed k (dropped s) = behind_none k s
+passed k (kept l u o) = behind k l.0 u o
+passed k (dropped l) = behind_none k l.0
 
 abbrev pub is_end : Change → Bool
-is_end (kept s u b) = ends s
-is_end (dropped s) = false
+is_end (kept l u o) = ends l.0
+is_end (dropped l) = false
 
--- whether all is as it was up to the end, which there is
-abbrev pub all_kept : Option ℕ → Known → List Change → Bool
-all_kept room k [] = false
-all_kept room k (c ∷ cs) = accepts room k c && (is_end c || all_kept room (passed k c) cs)
+abbrev pub is_jump : Step → Bool
+is_jump jump = true
+is_jump _ = false
+
+abbrev pub is_test : Change → Bool
+is_test (kept l u o) = is_check l.0
+is_test (dropped l) = false
+
+abbrev pub is_leap : Change → Bool
+is_leap (kept l u o) = is_jump l.0
+is_leap (dropped l) = false
+
+-- how many steps behind the next one it passes over
+abbrev pub over : Change → ℕ
+over (kept l u o) = l.1
+over (dropped l) = l.1
+
+-- whether just the next step comes behind one
+abbrev pub leads_next : Step → Bool
+leads_next jump = false
+leads_next (check_ground v) = false
+leads_next (check_indep v w) = false
+leads_next (execute p n) = false
+leads_next proceed = false
+leads_next _ = true
+
+abbrev pub is_next : Change → Bool
+is_next (kept l u o) = leads_next l.0
+is_next (dropped l) = true
+
+-- ---- the walk
+
+-- in a list of numbers these are left, which are fine at their places
+abbrev pub Left : (ℕ → ℕ) → (ℕ → ℕ) → (ℕ → ℕ → Type 0) → Type 0
+Left old new P = (p : ℕ) → 0 < new p → (old p ≡ new p) × P p (new p)
+
+abbrev pub WayKept : Way → List Change → Type 0
+WayKept Outside cs = Unit {0}
+WayKept (Sides n there) cs = AreKept n (known_by there) cs
+WayKept (Turns n there) cs = NoChecks n cs × AreKept n (known_by there) cs
+
+-- what the walk is at the beginning of is kept on the ways that it knows of
+abbrev pub IsAhead : Walk → List Change → Type 0
+IsAhead w cs = AreKept 0 (known_by w.numbers) cs × WayKept w.way cs
+
+-- the change leads the walk on
+abbrev pub LeadsOn : Walk → Walk → Change → Type 0
+LeadsOn old new c = (cs : List Change) → IsAhead new cs → IsAhead old (c ∷ cs)
+
+-- the other way is led on, over any change
+abbrev pub PassesOver : Walk → Walk → Change → Type 0
+PassesOver old new c = (cs : List Change) → IsAhead new cs → AreKept 0 (known_by old.numbers) cs × WayKept old.way (c ∷ cs)
+
+-- ---- the steps as they are written
+
+-- a step in its new places, which passes over so many others
+abbrev pub placed : Emitted → Slot → Slot → ℕ → Emitted
+placed (GetVariable v a) u o n = GetVariable u (register o)
+placed (GetValue v a) u o n = GetValue u (register o)
+placed (GetConstant c a) u o n = GetConstant c (register o)
+placed (GetInteger z a) u o n = GetInteger z (register o)
+placed (GetStructure f m a) u o n = GetStructure f m (register o)
+placed (PutVariable v a w) u o n = PutVariable u (register o) w
+placed (PutValue v a) u o n = PutValue u (register o)
+placed (PutConstant c a) u o n = PutConstant c (register o)
+placed (PutInteger z a) u o n = PutInteger z (register o)
+placed (PutStructure f m a) u o n = PutStructure f m (register o)
+placed (UnifyVariable v) u o n = UnifyVariable u
+placed (UnifyValue v) u o n = UnifyValue u
+placed (Jump m) u o n = Jump n
+placed (CheckGround v m) u o n = CheckGround u n
+placed (CheckIndep v w m) u o n = CheckIndep u o n
+placed e u o n = e
+
+abbrev pub written : List Chosen → List Emitted
+written [] = []
+written (Kept e u o ∷ cs) = placed e u o (staying (label_of e) (changes_of cs)) ∷ written cs
+written (Dropped e ∷ cs) = written cs
 
 -- numbers that stand at their places, up to one
 abbrev pub IsStart : List ℕ → ℕ → Type 0
@@ -180,11 +346,17 @@ pub record IsBegun (k : Known) : Type 0 where
   pub former_below : (p : ℕ) → k.former_x p < k.next
   pub latter_below : (p : ℕ) → k.latter_x p < k.next
 
--- Whether a step asks for a goal; and whether one tests nothing outside of a structure. Behind a goal no test may come, so
--- that the steps ask for something whatever places hold.
+-- Whether a step asks for a goal, or steers a group; and whether one tests nothing outside of a structure. Behind the former no
+-- test may come, so that the steps ask for something whatever places hold.
 abbrev pub asks : Step → Bool
 asks (call p n) = true
 asks (builtin p n) = true
+asks jump = true
+asks (check_ground v) = true
+asks (check_indep v w) = true
+asks (group n) = true
+asks (push p n) = true
+asks wait = true
 asks _ = false
 
 abbrev pub tests_nothing : Step → Bool
@@ -192,20 +364,23 @@ tests_nothing (get_value v a) = false
 tests_nothing (get_constant c a) = false
 tests_nothing (get_structure f n a) = false
 tests_nothing frame = false
-tests_nothing jump = false
-tests_nothing (check_ground v) = false
-tests_nothing (check_indep v w) = false
-tests_nothing (group n) = false
-tests_nothing (push p n) = false
-tests_nothing wait = false
 tests_nothing other = false
 tests_nothing _ = true
 
--- whether no test comes behind a goal up to the end, which there is
+-- whether no test comes behind a goal
 abbrev pub all_open : Bool → List Step → Bool
-all_open asked [] = false
-all_open asked (s ∷ is) = (not asked || tests_nothing s) && (ends s || all_open (asked || asks s) is)
+all_open asked [] = true
+all_open asked (s ∷ is) = (not asked || tests_nothing s) && all_open (asked || asks s) is
 
 -- where a clause begins, inside of an environment or outside
 abbrev pub within : Option ℕ → ℕ → Shape
 within room arity = record { x = (entry arity).x; y = unset; room = room; pending = 0; target = None; group = None }
+
+-- The steps `out` do the same as the steps `es`, inside of an environment for so many variables or outside of one.
+pub record AreTested (room : Option ℕ) (es out : List Emitted) : Type 0 where
+  pub grouped : (c : Clause) (vars arity : ℕ) → IsEnded (leads_of es) → PacesLeads 0 (leads_of es) (inside vars arity) → IsGroupedCode c (leads_of es) → IsGroupedCode c (leads_of out)
+  pub paces : (vars arity : ℕ) → IsEnded (leads_of es) → PacesLeads 0 (leads_of es) (inside vars arity) → PacesLeads 0 (leads_of out) (within room arity)
+  pub ended : IsEnded (leads_of es) → IsEnded (leads_of out)
+  pub numbered : (k : ℕ) → AreNumbered k es → AreNumbered k out
+  pub range : AreInRange (leads_of out)
+  pub outside : (s : Shape) → room ≡ None → IsEnded (leads_of out) → PacesLeads 0 (leads_of out) s → Paces (steps_of out) s

@@ -1,7 +1,9 @@
 //! Which places variables stand in. Nothing is promised of the choice: code by it is tested.
 //!
-//! A variable that outlives a call stands in the environment; any other one in a register: the one that it comes from, if
-//! nothing else is written there as long as it is read, or the one that it goes to, if nothing else needs that meanwhile.
+//! A variable that outlives a call or a group stands in the environment; any other one in a register: the one that it comes
+//! from, if nothing else is written there as long as it is read, or the one that it goes to, if nothing else needs that
+//! meanwhile. Of a group with checks the goals side by side are looked at: the same goals one after another are the same steps,
+//! but for a call in place of each push, so that they count as the steps that they repeat.
 
 ghost use Rattle.std.specs.Prelude.{◌≡◌, map, IfOk};
 ghost use Rattle.ap_codegen.specs.Relocated.{step_in};
@@ -12,6 +14,7 @@ use crate::temporary::{arity, greatest_of, number};
 use ap_instr::Slot;
 use ap_term::NoMemory;
 use std::alloc::Global;
+use std::mem::replace;
 
 /// The number of a variable, or 0.
 fn variable(v: Slot) -> u32 {
@@ -54,6 +57,16 @@ fn read_by(step: Step) -> Slot {
         Step::GetValue(v, _) => v,
         Step::PutValue(v, _) => v,
         Step::UnifyValue(v) => v,
+        Step::CheckGround(v, _) => v,
+        Step::CheckIndep(v, _, _) => v,
+        _ => Slot::X(0),
+    }
+}
+
+/// The other place that a check of two reads, or register 0.
+fn read_beside(step: Step) -> Slot {
+    match step {
+        Step::CheckIndep(_, w, _) => w,
         _ => Slot::X(0),
     }
 }
@@ -69,11 +82,38 @@ fn is_put(step: Step) -> bool {
     }
 }
 
+/// Whether the registers are lost behind a step.
 fn is_call(step: Step) -> bool {
     match step {
         Step::Call(_, _) => true,
+        Step::WaitAll => true,
         _ => false,
     }
+}
+
+/// How many steps a step passes over on the way on which checks hold, or on the other one.
+fn passes_over(step: Step, hold: bool) -> u32 {
+    match step {
+        Step::Jump(n) => n,
+        Step::CheckGround(_, n) => if hold { 0 } else { n },
+        Step::CheckIndep(_, _, n) => if hold { 0 } else { n },
+        _ => 0,
+    }
+}
+
+/// The steps of one way: where all checks hold, or where none does.
+fn way(alloc: Global, steps: &[Step], hold: bool) -> Result<Vec<Step>, NoMemory> {
+    let mut way = Vec::new(alloc);
+    let mut over = 0u32;
+    for step in steps {
+        if over == 0 {
+            way.push(*step)?;
+            over = passes_over(*step, hold);
+        } else {
+            over -= 1;
+        }
+    }
+    Ok(way)
 }
 
 /// What is known of steps, by their numbers from 1 on, and of variables, by theirs; 0 for none.
@@ -123,6 +163,10 @@ impl Uses {
         if v != 0 {
             self.read(v, i, calls)?;
         }
+        let w = variable(read_beside(*step));
+        if w != 0 {
+            self.read(w, i, calls)?;
+        }
         if is_put(*step) {
             note(&mut self.goes, v, i)?;
             note(&mut self.to, v, argument(*step))?;
@@ -145,15 +189,22 @@ impl Uses {
     }
 }
 
+/// How many argument registers a step reads behind which they aren't lost.
+fn wanted(step: Step) -> u8 {
+    match step {
+        Step::Builtin(builtin) => arity(builtin),
+        Step::PushGoal(_, _, n) => n,
+        _ => 0,
+    }
+}
+
 /// A step names its registers.
 fn touch(touched: &mut Vec<u32>, step: &Step, i: u32) -> Result<(), NoMemory> {
     note(touched, argument(*step), i)?;
     note(touched, number(made_by(*step)), i)?;
     note(touched, number(read_by(*step)), i)?;
-    if let Step::Builtin(builtin) = *step {
-        for a in 0..arity(builtin) {
-            note(touched, u32::from(a) + 1, i)?;
-        }
+    for a in 0..wanted(*step) {
+        note(touched, u32::from(a) + 1, i)?;
     }
     Ok(())
 }
@@ -173,6 +224,14 @@ fn go_forth(alloc: Global, uses: &mut Uses, steps: &[Step]) -> Result<(), NoMemo
         }
     }
     Ok(())
+}
+
+/// Which variables outlive a call where no check holds.
+fn outlive(alloc: Global, steps: &[Step]) -> Result<Vec<u32>, NoMemory> {
+    let turns = way(alloc, steps, false)?;
+    let mut uses = Uses::new(alloc);
+    go_forth(alloc, &mut uses, turns.as_slice())?;
+    Ok(uses.outlives)
 }
 
 /// A step writes registers, or loses them.
@@ -198,10 +257,9 @@ fn go_back(alloc: Global, uses: &mut Uses, steps: &[Step]) -> Result<(), NoMemor
     Ok(())
 }
 
-/// The code as it is chosen up to a step.
+/// Where variables stand.
 #[derive(Drop)]
-struct Choice {
-    uses: Uses,
+struct Places {
     /// of each register, the variable that it holds
     held: Vec<u32>,
     /// of each variable, the register that it was put into last; the one of the environment
@@ -209,15 +267,59 @@ struct Choice {
     permanent: Vec<u32>,
     /// how many variables are in the environment
     count: u8,
+    /// how many registers behind the greatest that a step names are used since the last call
+    others: u32,
+}
+
+impl Places {
+    fn new(alloc: Global) -> Places {
+        Places {
+            held: Vec::new(alloc),
+            home: Vec::new(alloc),
+            permanent: Vec::new(alloc),
+            count: 0,
+            others: 0,
+        }
+    }
+
+    fn copied(&self) -> Result<Places, NoMemory> {
+        Ok(Places {
+            held: self.held.clone()?,
+            home: self.home.clone()?,
+            permanent: self.permanent.clone()?,
+            count: self.count,
+            others: self.others,
+        })
+    }
+
+    /// The registers are lost.
+    fn lose(&mut self) {
+        self.held.clear();
+        self.others = 0;
+    }
+}
+
+/// The code as it is chosen up to a step.
+#[derive(Drop)]
+struct Choice {
+    uses: Uses,
     /// no step names a greater register
     greatest: u32,
-    /// how many registers behind that one are used since the last call
-    others: u32,
+    /// the number of the step, on the way on which checks hold
+    step: u32,
+    places: Places,
+    /// at a group's checks
+    before: Option<Places>,
+    /// the number of the step that begins a group; how many steps of its goals one after another are left, and the number of
+    /// the step before them
+    group: u32,
+    left: u32,
+    jump: u32,
 }
 
 impl Choice {
     fn held(&self, a: u32) -> u32 {
-        at(self.held.as_slice(), a)
+        at(self.places.held.as_slice(), a)
     }
 
     /// Where a variable is.
@@ -226,23 +328,23 @@ impl Choice {
         if n == 0 {
             return v;
         }
-        let a = at(self.home.as_slice(), n);
+        let a = at(self.places.home.as_slice(), n);
         if a != 0 && self.held(a) == n {
             return Slot::X(a);
         }
-        Slot::Y(u8::try_from(at(self.permanent.as_slice(), n)).unwrap_or(0))
+        Slot::Y(u8::try_from(at(self.places.permanent.as_slice(), n)).unwrap_or(0))
     }
 
     /// A register holds a variable.
     fn hold(&mut self, a: u32, v: u32) -> Result<(), NoMemory> {
-        note(&mut self.held, a, v)?;
-        note(&mut self.home, v, a)
+        note(&mut self.places.held, a, v)?;
+        note(&mut self.places.home, v, a)
     }
 
     /// An argument register holds a variable too.
     fn hold_too(&mut self, a: u32, v: Slot) -> Result<(), NoMemory> {
         match self.place(v) {
-            Slot::X(_) => note(&mut self.held, a, variable(v)),
+            Slot::X(_) => note(&mut self.places.held, a, variable(v)),
             Slot::Y(_) => self.hold(a, variable(v)),
         }
     }
@@ -261,15 +363,15 @@ impl Choice {
         if i < put && is_alone && self.is_free(a, i) && self.uses.is_done(v, put) {
             return a;
         }
-        self.others = self.others.saturating_add(1);
-        self.greatest.saturating_add(self.others)
+        self.places.others = self.places.others.saturating_add(1);
+        self.greatest.saturating_add(self.places.others)
     }
 
     /// A new variable of the environment.
     fn keep(&mut self, v: u32) -> Result<Slot, NoMemory> {
-        let n = self.count.saturating_add(1);
-        self.count = n;
-        note(&mut self.permanent, v, u32::from(n))?;
+        let n = self.places.count.saturating_add(1);
+        self.places.count = n;
+        note(&mut self.places.permanent, v, u32::from(n))?;
         Ok(Slot::Y(n))
     }
 
@@ -297,7 +399,7 @@ impl Choice {
         }
         let place = self.make(n, i)?;
         self.hold_too(a, v)?;
-        Ok(Change::Kept(step, place, a))
+        Ok(Change::Kept(step, place, Slot::X(a)))
     }
 
     /// A new variable is put into an argument register.
@@ -307,11 +409,11 @@ impl Choice {
         let n = variable(v);
         if !self.uses.is_permanent(n) && self.uses.is_done(n, i) {
             self.hold(a, n)?;
-            return Ok(Change::Kept(step, Slot::X(a), a));
+            return Ok(Change::Kept(step, Slot::X(a), Slot::X(a)));
         }
         let place = self.make(n, i)?;
         self.hold_too(a, v)?;
-        Ok(Change::Kept(step, place, a))
+        Ok(Change::Kept(step, place, Slot::X(a)))
     }
 
     /// A variable is put into an argument register.
@@ -323,7 +425,7 @@ impl Choice {
         }
         let place = self.place(v);
         self.hold_too(a, v)?;
-        Ok(Change::Kept(step, place, a))
+        Ok(Change::Kept(step, place, Slot::X(a)))
     }
 
     /// A variable is an argument of a structure.
@@ -332,12 +434,12 @@ impl Choice {
     {
         match v {
             Slot::X(a) => {
-                note(&mut self.held, a, 0)?;
-                Ok(Change::Kept(step, v, 0))
+                note(&mut self.places.held, a, 0)?;
+                Ok(Change::Kept(step, v, Slot::X(0)))
             }
             Slot::Y(n) => {
                 let place = self.make(u32::from(n), i)?;
-                Ok(Change::Kept(step, place, 0))
+                Ok(Change::Kept(step, place, Slot::X(0)))
             }
         }
     }
@@ -349,41 +451,115 @@ impl Choice {
         let place = self.place(read_by(*step));
         let a = argument(*step);
         if is_call(*step) {
-            self.held.clear();
-            self.others = 0;
+            self.places.lose();
         }
         if is_put(*step) {
-            note(&mut self.held, a, 0)?;
+            note(&mut self.places.held, a, 0)?;
         }
-        Ok(Change::Kept(*step, place, a))
+        Ok(Change::Kept(*step, place, Slot::X(a)))
+    }
+
+    /// A check, before which each variable is left in one place.
+    fn check(&mut self, step: &Step) -> Result<Change, NoMemory>
+        ensures { IfOk result (λ c. step_in c ≡ step.now) }
+    {
+        if self.before.is_none() {
+            self.settle()?;
+            self.leave_doubles()?;
+            self.before = Some(self.places.copied()?);
+        }
+        let place = self.place(read_by(*step));
+        let beside = self.place(read_beside(*step));
+        Ok(Change::Kept(*step, place, beside))
+    }
+
+    /// A variable of no environment is at home in the last register that holds it.
+    fn settle(&mut self) -> Result<(), NoMemory> {
+        let mut a = 0u32;
+        for v in self.places.held.as_slice() {
+            note(&mut self.places.home, *v, a)?;
+            a = a.saturating_add(1);
+        }
+        Ok(())
+    }
+
+    /// Registers hold no variable that is at home elsewhere.
+    fn leave_doubles(&mut self) -> Result<(), NoMemory> {
+        let count = u32::try_from(self.places.held.len()).unwrap_or(0);
+        for a in 0..count {
+            let v = self.held(a);
+            if self.uses.is_permanent(v) || at(self.places.home.as_slice(), v) != a {
+                note(&mut self.places.held, a, 0)?;
+            }
+        }
+        Ok(())
     }
 
     /// What becomes of a step.
-    fn change(&mut self, step: &Step, i: u32) -> Result<Change, NoMemory>
+    fn change(&mut self, step: &Step) -> Result<Change, NoMemory>
         ensures { IfOk result (λ c. step_in c ≡ step.now) }
     {
+        self.step = self.step.saturating_add(1);
+        let i = self.step;
         match *step {
             Step::GetVariable(v, a) => self.get(*step, v, a, i),
             Step::PutVariable(v, a, _) => self.put_new(*step, v, a, i),
             Step::PutValue(v, a) => self.put(*step, v, a),
             Step::UnifyVariable(v) => self.unify_new(*step, v, i),
+            Step::CheckGround(_, _) | Step::CheckIndep(_, _, _) => self.check(step),
             _ => self.other(step),
+        }
+    }
+
+    /// Goes on behind a step.
+    fn go_on(&mut self, step: &Step) {
+        match *step {
+            Step::AllocParcall(_) => self.group = self.step,
+            Step::Jump(n) => self.turn(n),
+            _ => self.count_down(),
+        }
+    }
+
+    /// A group's goals come one after another, from where its checks stand.
+    fn turn(&mut self, n: u32) {
+        if let Some(before) = replace(&mut self.before, None) {
+            self.places = before;
+        }
+        self.left = n;
+        self.jump = self.step;
+        self.step = self.group;
+    }
+
+    /// Both ways of a group join behind the last of these.
+    fn count_down(&mut self) {
+        if self.left == 0 {
+            return;
+        }
+        self.left -= 1;
+        if self.left == 0 {
+            self.step = self.jump;
+            self.places.lose();
         }
     }
 }
 
 fn begin(alloc: Global, steps: &[Step]) -> Result<Choice, NoMemory> {
+    let sides = way(alloc, steps, true)?;
     let mut uses = Uses::new(alloc);
-    go_forth(alloc, &mut uses, steps)?;
-    go_back(alloc, &mut uses, steps)?;
+    if sides.len() < steps.len() {
+        uses.outlives = outlive(alloc, steps)?;
+    }
+    go_forth(alloc, &mut uses, sides.as_slice())?;
+    go_back(alloc, &mut uses, sides.as_slice())?;
     Ok(Choice {
         uses,
-        held: Vec::new(alloc),
-        home: Vec::new(alloc),
-        permanent: Vec::new(alloc),
-        count: 0,
         greatest: greatest_of(steps),
-        others: 0,
+        step: 0,
+        places: Places::new(alloc),
+        before: None,
+        group: 0,
+        left: 0,
+        jump: 0,
     })
 }
 
@@ -402,12 +578,15 @@ pub fn choose(alloc: Global, steps: &[Step]) -> Result<Chosen, NoMemory>
     let mut choice = begin(alloc, steps)?;
     let mut changes = Vec::new(alloc);
     let mut calls = false;
-    let mut i = 0u32;
     for step in steps {
-        i = i.saturating_add(1);
-        changes.push(choice.change(step, i)?)?;
+        changes.push(choice.change(step)?)?;
+        choice.go_on(step);
         calls = calls || is_call(*step);
     }
-    let room = if calls { Some(choice.count) } else { None };
+    let room = if calls {
+        Some(choice.places.count)
+    } else {
+        None
+    };
     Ok(Chosen { changes, room })
 }

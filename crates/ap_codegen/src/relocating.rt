@@ -1,25 +1,27 @@
 //! Code whose variables stand in other places, and the test that it still does the same.
 
-ghost use Rattle.std.specs.Prelude.{◌≡◌, ◌<◌, ℕ, true, false, [], ◌∷◌, ◌++◌, map, length, Option, IfOk, IfSome, OnOk};
+ghost use Rattle.std.specs.Prelude.{◌≡◌, ◌<◌, ◌+◌, ℕ, true, false, List, [], ◌∷◌, ◌++◌, map, length, IfOk, IfSome, OnOk};
+ghost use Rattle.std.specs.List.{list_all};
+ghost use Rattle.ap_instr.specs.declared.instruction.Slot.{Slot};
 ghost use Rattle.ap_instr.specs.declared.instruction.Slot.TheVariants.{X};
 ghost use Rattle.ap_instr.specs.Runs.{set};
-ghost use Rattle.ap_term.specs.Goals.{Clause};
-ghost use Rattle.ap_codegen.specs.CodeOf.{IsCodeOf};
-ghost use Rattle.ap_codegen.specs.Emitted.{step_of, steps_of, leads_of};
-ghost use Rattle.ap_codegen.specs.Grouped.{IsEnded, IsGroupedCode};
-ghost use Rattle.ap_codegen.specs.Paces.{Paces, PacesLeads, inside};
-ghost use Rattle.ap_codegen.specs.Relocated.{change_of, changes_of, step_in, news, relocated, by, known_by, former, latter, is_same, all_same, is_within, has_room, set_former, set_latter, set_both, behind_call, behind, behind_none, may_drop, is_kept, accepts, passed, is_end, all_kept, asks, tests_nothing, all_open, IsStart, IsBegun, olds, within};
+ghost use Rattle.ap_codegen.specs.Emitted.{step_of, steps_of, label_of};
+ghost use Rattle.ap_codegen.specs.Grouped.{is_check};
+ghost use Rattle.ap_codegen.specs.declared.relocating.Way.TheVariants.{Outside};
+ghost use Rattle.ap_codegen.specs.Relocated.{Change as Changed, change_of, changes_of, step_in, by, known_by, former, latter, is_same, all_same, is_within, has_room, set_former, set_latter, set_both, behind_call, behind, behind_none, may_drop, fits, change_fits, is_kept, is_jump, is_test, is_leap, over, does_same, passed, is_end, is_next, checks_nothing, Forgets, IsSingle, Left, IsAhead, LeadsOn, PassesOver, AreKept, WayKept, asks, tests_nothing, all_open, staying, placed, written, IsStart, IsBegun, AreTested};
 
-use crate::steps::{Step, add};
-use crate::temporary::{arity, ends};
+use crate::steps::Step;
+use crate::temporary::{arity, ends, number};
 use ap_instr::Slot;
 use ap_term::NoMemory;
 use std::alloc::Global;
+use std::mem::replace;
 
-/// What becomes of a step: it stays, with another place and another argument register, or falls away.
+/// What becomes of a step: it stays, with another place and another argument register, a check of two with two other places,
+/// or it falls away.
 #[derive(Clone, Copy)]
 pub enum Change {
-    Kept(Step, Slot, u32),
+    Kept(Step, Slot, Slot),
     Dropped(Step),
 }
 
@@ -177,36 +179,25 @@ impl Numbers {
     }
 
     /// Whether a step does the same in its new places.
-    fn is_kept(&self, room: Option<u8>, step: Step, u: Slot, b: u32) -> bool
-        ensures { result ≡ true → is_kept room (known_by self.now) (step_of step) u b ≡ true }
+    fn is_kept(&self, step: Step, u: Slot, o: Slot) -> bool
+        ensures { result ≡ true → is_kept (known_by self.now) (step_of step) u o ≡ true }
     {
+        let b = Slot::X(number(o));
         match step {
-            Step::GetVariable(_, a) => {
-                has_room(room, u) && 1 <= b && self.is_same(Slot::X(a), Slot::X(b))
-            }
-            Step::GetValue(v, a) => {
-                has_room(room, u)
-                    && 1 <= b
-                    && self.is_same(v, u)
-                    && self.is_same(Slot::X(a), Slot::X(b))
-            }
-            Step::GetConstant(_, a) => 1 <= b && self.is_same(Slot::X(a), Slot::X(b)),
-            Step::GetInteger(_, a) => 1 <= b && self.is_same(Slot::X(a), Slot::X(b)),
-            Step::GetStructure(_, _, a) => 1 <= b && self.is_same(Slot::X(a), Slot::X(b)),
-            Step::PutVariable(_, _, _) => has_room(room, u) && 1 <= b,
-            Step::PutValue(v, _) => has_room(room, u) && 1 <= b && self.is_same(v, u),
-            Step::PutConstant(_, _) => 1 <= b,
-            Step::PutInteger(_, _) => 1 <= b,
-            Step::PutStructure(_, _, _) => 1 <= b,
-            Step::UnifyVariable(_) => has_room(room, u),
-            Step::UnifyValue(v) => has_room(room, u) && self.is_same(v, u),
-            Step::UnifyConstant(_) => true,
-            Step::UnifyInteger(_) => true,
-            Step::Call(_, n) => room.is_some() && self.all_same(n),
+            Step::GetVariable(_, a) => self.is_same(Slot::X(a), b),
+            Step::GetValue(v, a) => self.is_same(v, u) && self.is_same(Slot::X(a), b),
+            Step::GetConstant(_, a) => self.is_same(Slot::X(a), b),
+            Step::GetInteger(_, a) => self.is_same(Slot::X(a), b),
+            Step::GetStructure(_, _, a) => self.is_same(Slot::X(a), b),
+            Step::PutValue(v, _) => self.is_same(v, u),
+            Step::UnifyValue(v) => self.is_same(v, u),
+            Step::Call(_, n) => self.all_same(n),
             Step::Execute(_, n) => self.all_same(n),
+            Step::PushGoal(_, _, n) => self.all_same(n),
             Step::Builtin(builtin) => self.all_same(arity(builtin)),
-            Step::Proceed => true,
-            _ => false,
+            Step::CheckGround(v, _) => self.is_same(v, u),
+            Step::CheckIndep(v, w, _) => self.is_same(v, u) && self.is_same(w, o),
+            _ => true,
         }
     }
 
@@ -231,18 +222,23 @@ impl Numbers {
     }
 
     /// Behind a step that stays.
-    fn keep(&mut self, step: Step, u: Slot, b: u32) -> Result<(), NoMemory>
-        ensures { OnOk result (known_by self.new ≡ behind (known_by self.old) (step_of step) u b) }
+    fn keep(&mut self, step: Step, u: Slot, o: Slot) -> Result<(), NoMemory>
+        ensures { OnOk result (known_by self.new ≡ behind (known_by self.old) (step_of step) u o) }
     {
+        let b = Slot::X(number(o));
         match step {
-            Step::GetVariable(v, a) => self.copy(v, Slot::X(a), u, Slot::X(b)),
-            Step::PutValue(v, a) => self.copy(Slot::X(a), v, Slot::X(b), u),
-            Step::PutVariable(v, a, _) => self.make(v, a, u, b),
-            Step::PutConstant(_, a) => self.set_both(Slot::X(a), Slot::X(b)),
-            Step::PutInteger(_, a) => self.set_both(Slot::X(a), Slot::X(b)),
-            Step::PutStructure(_, _, a) => self.set_both(Slot::X(a), Slot::X(b)),
+            Step::GetVariable(v, a) => self.copy(v, Slot::X(a), u, b),
+            Step::PutValue(v, a) => self.copy(Slot::X(a), v, b, u),
+            Step::PutVariable(v, a, _) => self.make(v, a, u, number(o)),
+            Step::PutConstant(_, a) => self.set_both(Slot::X(a), b),
+            Step::PutInteger(_, a) => self.set_both(Slot::X(a), b),
+            Step::PutStructure(_, _, a) => self.set_both(Slot::X(a), b),
             Step::UnifyVariable(v) => self.set_both(v, u),
             Step::Call(_, _) => {
+                self.forget();
+                Ok(())
+            }
+            Step::WaitAll => {
                 self.forget();
                 Ok(())
             }
@@ -267,12 +263,13 @@ impl Numbers {
         }
     }
 
-    fn accepts(&self, room: Option<u8>, change: Change) -> bool
-        ensures { result ≡ true → accepts room (known_by self.now) (change_of change) ≡ true }
+    /// Whether a change does the same.
+    fn accepts(&self, change: Change) -> bool
+        ensures { result ≡ true → does_same (known_by self.now) (change_of change) ≡ true }
     {
         match change {
-            Change::Kept(step, u, b) => self.is_kept(room, step, u, b),
-            Change::Dropped(step) => may_drop(step),
+            Change::Kept(step, u, o) => self.is_kept(step, u, o),
+            Change::Dropped(_) => true,
         }
     }
 
@@ -280,30 +277,347 @@ impl Numbers {
         ensures { OnOk result (known_by self.new ≡ passed (known_by self.old) (change_of change)) }
     {
         match change {
-            Change::Kept(step, u, b) => self.keep(step, u, b),
+            Change::Kept(step, u, o) => self.keep(step, u, o),
             Change::Dropped(step) => self.leave_out(step),
+        }
+    }
+
+    /// What is known here and there.
+    fn agree(&mut self, other: &Numbers)
+        ensures own { Forgets (known_by self.old) (known_by self.new) }
+        ensures other { Forgets (known_by other.now) (known_by self.new) }
+    {
+        agree(&mut self.former_x, other.former_x.as_slice());
+        agree(&mut self.former_y, other.former_y.as_slice());
+        agree(&mut self.latter_x, other.latter_x.as_slice());
+        agree(&mut self.latter_y, other.latter_y.as_slice());
+        self.next = self.next.max(other.next);
+    }
+
+    fn copied(&self) -> Result<Numbers, NoMemory>
+        ensures { IfOk result (λ copy. known_by copy ≡ known_by self.now) }
+    {
+        Ok(Numbers {
+            former_x: self.former_x.clone()?,
+            former_y: self.former_y.clone()?,
+            latter_x: self.latter_x.clone()?,
+            latter_y: self.latter_y.clone()?,
+            next: self.next,
+        })
+    }
+
+    /// Forgets all places of a value in the code as it becomes but one, which is in the environment, where there is such.
+    fn settle(&mut self, alloc: Global) -> Result<(), NoMemory>
+        ensures forgets { OnOk result (Forgets (known_by self.old) (known_by self.new)) }
+        ensures single { OnOk result (IsSingle (known_by self.new)) }
+    {
+        let x = homes(alloc, self.latter_x.as_slice())?;
+        let y = homes(alloc, self.latter_y.as_slice())?;
+        leave_x(&mut self.latter_x, x.as_slice(), y.as_slice());
+        leave_y(&mut self.latter_y, y.as_slice());
+        Ok(())
+    }
+}
+
+/// Leaves the numbers that two lists have at one place.
+fn agree(numbers: &mut Vec<u32>, others: &[u32])
+    ensures { Left (by numbers.old.items) (by numbers.new.items) (λ p n. by others.now p ≡ n) }
+{
+    for i in 0..numbers.len() {
+        let n = numbers[i];
+        if others.get(i) != Some(&n) {
+            numbers[i] = 0;
         }
     }
 }
 
-/// Whether all is as it was up to the end.
-pub fn all_kept(
-    changes: &[Change],
-    room: Option<u8>,
-    numbers: &mut Numbers,
-) -> Result<bool, NoMemory>
-    ensures { IfOk result (λ r. r ≡ true → all_kept room (known_by numbers.old) (changes_of changes.now) ≡ true) }
+/// The last place of each number in a list.
+fn homes(alloc: Global, numbers: &[u32]) -> Result<Vec<u32>, NoMemory> {
+    let mut homes = Vec::new(alloc);
+    let mut place = 0u32;
+    for n in numbers {
+        note(&mut homes, *n, place)?;
+        place = place.saturating_add(1);
+    }
+    Ok(homes)
+}
+
+/// Leaves the numbers of registers whose value is at home there, and not in the environment.
+fn leave_x(numbers: &mut Vec<u32>, x: &[u32], y: &[u32])
+    ensures { Left (by numbers.old.items) (by numbers.new.items) (λ p n. (by y.now n ≡ 0) × (by x.now n ≡ p)) }
 {
-    for change in changes {
-        if !numbers.accepts(room, *change) {
+    for i in 0..numbers.len() {
+        let n = numbers[i];
+        if at(y, n) != 0 || at(x, n) as usize != i {
+            numbers[i] = 0;
+        }
+    }
+}
+
+/// Leaves the numbers of permanent variables whose value is at home there.
+fn leave_y(numbers: &mut Vec<u32>, y: &[u32])
+    ensures { Left (by numbers.old.items) (by numbers.new.items) (λ p n. (0 < by y.now n) × (by y.now n ≡ p)) }
+{
+    for i in 0..numbers.len() {
+        let n = numbers[i];
+        if at(y, n) == 0 || at(y, n) as usize != i {
+            numbers[i] = 0;
+        }
+    }
+}
+
+/// Where a walk over both codes stands in a group with checks: nowhere; so many steps before its goals one after another, or
+/// before their end, with what is known there.
+#[derive(Drop)]
+enum Way {
+    Outside,
+    Sides(u32, Numbers),
+    Turns(u32, Numbers),
+}
+
+/// A walk over both codes: what is known here, and on the other way of a check.
+#[derive(Drop)]
+pub struct Walk {
+    numbers: Numbers,
+    way: Way,
+}
+
+fn label(step: Step) -> u32
+    ensures { result ≡ label_of step }
+{
+    match step {
+        Step::Jump(n) => n,
+        Step::CheckGround(_, n) => n,
+        Step::CheckIndep(_, _, n) => n,
+        _ => 0,
+    }
+}
+
+pub fn is_check(step: Step) -> bool
+    ensures { result ≡ is_check (step_of step) }
+{
+    match step {
+        Step::CheckGround(_, _) => true,
+        Step::CheckIndep(_, _, _) => true,
+        _ => false,
+    }
+}
+
+fn is_jump(step: Step) -> bool
+    ensures { result ≡ is_jump (step_of step) }
+{
+    match step {
+        Step::Jump(_) => true,
+        _ => false,
+    }
+}
+
+fn is_test(change: Change) -> bool
+    ensures { result ≡ is_test (change_of change) }
+{
+    match change {
+        Change::Kept(step, _, _) => is_check(step),
+        Change::Dropped(_) => false,
+    }
+}
+
+fn is_leap(change: Change) -> bool
+    ensures { result ≡ is_leap (change_of change) }
+{
+    match change {
+        Change::Kept(step, _, _) => is_jump(step),
+        Change::Dropped(_) => false,
+    }
+}
+
+/// How many steps behind the next one a step passes over, where it is a jump or a check that doesn't hold.
+fn over(change: Change) -> u32
+    ensures { result ≡ over (change_of change) }
+{
+    match change {
+        Change::Kept(step, _, _) => label(step),
+        Change::Dropped(step) => label(step),
+    }
+}
+
+fn is_next_to(m: u32, n: u32) -> bool
+    ensures { result ≡ true → m ≡ n + 1 }
+{
+    m != 0 && m - 1 == n
+}
+
+impl Walk {
+    /// Leaves of what is known here what is known where checks lead, so many steps behind the next one, and goes nowhere yet.
+    fn meet(&mut self, n: u32) -> bool
+        ensures known { result ≡ true → Forgets (known_by self.old.numbers) (known_by self.new.numbers) }
+        ensures way { result ≡ true → (c : Changed) (cs : List Changed) → AreKept n (known_by self.new.numbers) cs → WayKept self.old.way (c ∷ cs) }
+    {
+        match replace(&mut self.way, Way::Outside) {
+            Way::Outside => true,
+            Way::Sides(over, there) => {
+                self.numbers.agree(&there);
+                is_next_to(over, n)
+            }
+            Way::Turns(_, _) => false,
+        }
+    }
+
+    /// Behind a check.
+    fn check(&mut self, alloc: Global, change: &Change) -> Result<bool, NoMemory>
+        requires { is_test (change_of change.now) ≡ true }
+        ensures { IfOk result (λ r. r ≡ true → LeadsOn self.old self.new (change_of change.now)) }
+    {
+        let n = over(*change);
+        if !self.meet(n) {
             return Ok(false);
         }
-        if is_end(*change) {
-            return Ok(true);
+        self.numbers.settle(alloc)?;
+        self.way = Way::Sides(n, self.numbers.copied()?);
+        Ok(self.numbers.accepts(*change))
+    }
+
+    /// Behind the jump over a group's goals one after another, which come next.
+    fn jump(&mut self, change: &Change) -> bool
+        requires { is_leap (change_of change.now) ≡ true }
+        ensures { result ≡ true → LeadsOn self.old self.new (change_of change.now) }
+    {
+        let n = over(*change);
+        match replace(&mut self.way, Way::Outside) {
+            Way::Sides(1, there) => {
+                let here = replace(&mut self.numbers, there);
+                self.way = Way::Turns(n, here);
+                1 <= n
+            }
+            _ => false,
         }
-        numbers.pass(*change)?;
+    }
+
+    /// One step on, which is no check.
+    fn go_on(&mut self) -> bool
+        ensures { result ≡ true → (c : Changed) → checks_nothing c ≡ true → PassesOver self.old self.new c }
+    {
+        match replace(&mut self.way, Way::Outside) {
+            Way::Outside => true,
+            Way::Sides(over, there) => match over.checked_sub(1) {
+                None => false,
+                Some(left) => {
+                    self.way = Way::Sides(left, there);
+                    true
+                }
+            },
+            Way::Turns(1, there) => {
+                self.numbers.agree(&there);
+                true
+            }
+            Way::Turns(over, there) => match over.checked_sub(1) {
+                None => false,
+                Some(left) => {
+                    self.way = Way::Turns(left, there);
+                    true
+                }
+            },
+        }
+    }
+
+    fn step(&mut self, change: &Change) -> Result<bool, NoMemory>
+        requires { is_next (change_of change.now) ≡ true }
+        ensures { IfOk result (λ r. r ≡ true → LeadsOn self.old self.new (change_of change.now)) }
+    {
+        if !self.numbers.accepts(*change) {
+            return Ok(false);
+        }
+        self.numbers.pass(*change)?;
+        Ok(self.go_on())
+    }
+
+    /// Behind a change.
+    fn pass(&mut self, alloc: Global, change: &Change) -> Result<bool, NoMemory>
+        requires { is_end (change_of change.now) ≡ false }
+        ensures { IfOk result (λ r. r ≡ true → LeadsOn self.old self.new (change_of change.now)) }
+    {
+        if is_test(*change) {
+            return self.check(alloc, change);
+        }
+        if is_leap(*change) {
+            return Ok(self.jump(change));
+        }
+        self.step(change)
+    }
+
+    /// Whether a change that ends the clause does the same.
+    fn end(&self, change: Change) -> bool
+        requires { is_end (change_of change) ≡ true }
+        ensures { result ≡ true → (cs : List Changed) → IsAhead self.now (change_of change ∷ cs) }
+    {
+        match self.way {
+            Way::Outside => self.numbers.accepts(change),
+            _ => false,
+        }
+    }
+}
+
+/// Whether all is as it was on each way up to the end.
+pub fn all_kept(alloc: Global, changes: &[Change], walk: &mut Walk) -> Result<bool, NoMemory>
+    ensures { IfOk result (λ r. r ≡ true → IsAhead walk.old (changes_of changes.now)) }
+{
+    for change in changes {
+        if is_end(*change) {
+            return Ok(walk.end(*change));
+        }
+        if !walk.pass(alloc, change)? {
+            return Ok(false);
+        }
     }
     Ok(false)
+}
+
+/// Whether there are a step's new places.
+fn fits(room: Option<u8>, step: Step, u: Slot, o: Slot) -> bool
+    ensures { result ≡ fits room (step_of step) u o }
+{
+    match step {
+        Step::GetVariable(_, _) => has_room(room, u) && 1 <= number(o),
+        Step::GetValue(_, _) => has_room(room, u) && 1 <= number(o),
+        Step::GetConstant(_, _) => 1 <= number(o),
+        Step::GetInteger(_, _) => 1 <= number(o),
+        Step::GetStructure(_, _, _) => 1 <= number(o),
+        Step::PutVariable(_, _, _) => has_room(room, u) && 1 <= number(o),
+        Step::PutValue(_, _) => has_room(room, u) && 1 <= number(o),
+        Step::PutConstant(_, _) => 1 <= number(o),
+        Step::PutInteger(_, _) => 1 <= number(o),
+        Step::PutStructure(_, _, _) => 1 <= number(o),
+        Step::UnifyVariable(_) | Step::UnifyValue(_) => has_room(room, u),
+        Step::UnifyConstant(_) | Step::UnifyInteger(_) => true,
+        Step::Execute(_, _) | Step::Builtin(_) | Step::Proceed => true,
+        Step::Allocate(_) | Step::Deallocate => false,
+        Step::CheckGround(_, _) => room.is_some() && has_room(room, u),
+        Step::CheckIndep(_, _, _) => room.is_some() && (has_room(room, u) && has_room(room, o)),
+        Step::AllocParcall(n) => room.is_some() && 1 <= n,
+        Step::Call(_, _) | Step::Jump(_) | Step::PushGoal(_, _, _) | Step::WaitAll => {
+            room.is_some()
+        }
+    }
+}
+
+fn change_fits(room: Option<u8>, change: Change) -> bool
+    ensures { result ≡ change_fits room (change_of change) }
+{
+    match change {
+        Change::Kept(step, u, o) => fits(room, step, u, o),
+        Change::Dropped(step) => may_drop(step),
+    }
+}
+
+/// Whether there are all new places.
+fn all_fit(room: Option<u8>, changes: &[Change]) -> bool
+    ensures { result ≡ true → list_all (change_fits room) (changes_of changes.now) ≡ true }
+{
+    for change in changes {
+        if !change_fits(room, *change) {
+            return false;
+        }
+    }
+    true
 }
 
 fn asks(step: Step) -> bool
@@ -312,6 +626,12 @@ fn asks(step: Step) -> bool
     match step {
         Step::Call(_, _) => true,
         Step::Builtin(_) => true,
+        Step::Jump(_) => true,
+        Step::CheckGround(_, _) => true,
+        Step::CheckIndep(_, _, _) => true,
+        Step::AllocParcall(_) => true,
+        Step::PushGoal(_, _, _) => true,
+        Step::WaitAll => true,
         _ => false,
     }
 }
@@ -326,12 +646,6 @@ fn tests_nothing(step: Step) -> bool
         Step::GetStructure(_, _, _) => false,
         Step::Allocate(_) => false,
         Step::Deallocate => false,
-        Step::Jump(_) => false,
-        Step::CheckGround(_, _) => false,
-        Step::CheckIndep(_, _, _) => false,
-        Step::AllocParcall(_) => false,
-        Step::PushGoal(_, _, _) => false,
-        Step::WaitAll => false,
         _ => true,
     }
 }
@@ -345,51 +659,84 @@ pub fn all_open(steps: &[Step]) -> bool
         if asked && !tests_nothing(*step) {
             return false;
         }
-        if ends(*step) {
-            return true;
-        }
         asked = asked || asks(*step);
     }
-    false
+    true
 }
 
-/// A step in its new places.
-fn relocated(step: Step, u: Slot, b: u32) -> Step
-    ensures { step_of result ≡ relocated (step_of step) u b }
+/// A step in its new places, which passes over so many others.
+fn placed(step: Step, u: Slot, o: Slot, n: u32) -> Step
+    ensures { result ≡ placed step u o n }
 {
+    let b = number(o);
     match step {
         Step::GetVariable(_, _) => Step::GetVariable(u, b),
         Step::GetValue(_, _) => Step::GetValue(u, b),
         Step::GetConstant(c, _) => Step::GetConstant(c, b),
         Step::GetInteger(z, _) => Step::GetInteger(z, b),
-        Step::GetStructure(f, n, _) => Step::GetStructure(f, n, b),
+        Step::GetStructure(f, m, _) => Step::GetStructure(f, m, b),
         Step::PutVariable(_, _, w) => Step::PutVariable(u, b, w),
         Step::PutValue(_, _) => Step::PutValue(u, b),
         Step::PutConstant(c, _) => Step::PutConstant(c, b),
         Step::PutInteger(z, _) => Step::PutInteger(z, b),
-        Step::PutStructure(f, n, _) => Step::PutStructure(f, n, b),
+        Step::PutStructure(f, m, _) => Step::PutStructure(f, m, b),
         Step::UnifyVariable(_) => Step::UnifyVariable(u),
         Step::UnifyValue(_) => Step::UnifyValue(u),
+        Step::Jump(_) => Step::Jump(n),
+        Step::CheckGround(_, _) => Step::CheckGround(u, n),
+        Step::CheckIndep(_, _, _) => Step::CheckIndep(u, o, n),
         other => other,
     }
 }
 
-fn add_changed(out: &mut Vec<Step>, change: Change) -> Result<(), NoMemory>
-    ensures { OnOk result (steps_of out.new.items ≡ steps_of out.old.items ++ news (change_of change ∷ [])) }
+/// 1 for a step that stays, 0 for one that falls away.
+fn stays(change: Change) -> u32
+    ensures { result ≡ staying 1 (change_of change ∷ []) }
 {
     match change {
-        Change::Kept(step, u, b) => add(out, relocated(step, u, b)),
+        Change::Kept(_, _, _) => 1,
+        Change::Dropped(_) => 0,
+    }
+}
+
+/// How many of the first n stay.
+fn staying(changes: &[Change], n: u32) -> u32
+    ensures { result ≡ staying n (changes_of changes.now) }
+{
+    let mut left = n;
+    let mut count = 0u32;
+    for change in changes {
+        if left == 0 {
+            return count;
+        }
+        left -= 1;
+        count += stays(*change);
+    }
+    count
+}
+
+fn add_changed(out: &mut Vec<Step>, change: &Change, behind: &[Change]) -> Result<(), NoMemory>
+    ensures { OnOk result (out.new.items ++ written behind.now ≡ out.old.items ++ written (change.now ∷ behind.now)) }
+{
+    let n = staying(behind, over(*change));
+    match *change {
+        Change::Kept(step, u, o) => {
+            out.push(placed(step, u, o, n))?;
+            Ok(())
+        }
         Change::Dropped(_) => Ok(()),
     }
 }
 
 /// The steps as they become.
 pub fn changed(alloc: Global, changes: &[Change]) -> Result<Vec<Step>, NoMemory>
-    ensures { IfOk result (λ out. steps_of out.items ≡ news (changes_of changes.now)) }
+    ensures { IfOk result (λ out. out.items ≡ written changes.now) }
 {
     let mut out = Vec::new(alloc);
+    let mut i = 0;
     for change in changes {
-        add_changed(&mut out, *change)?;
+        i += 1;
+        add_changed(&mut out, change, &changes[i..])?;
     }
     Ok(out)
 }
@@ -406,16 +753,20 @@ fn starts(alloc: Global, count: u32) -> Result<Vec<u32>, NoMemory>
 }
 
 /// As a clause is entered, whose arguments stand in registers below a number.
-pub fn begin(alloc: Global, count: u32) -> Result<Numbers, NoMemory>
-    ensures { IfOk result (λ numbers. IsBegun (known_by numbers)) }
+pub fn begin(alloc: Global, count: u32) -> Result<Walk, NoMemory>
+    ensures way { IfOk result (λ walk. walk.way ≡ Outside) }
+    ensures begun { IfOk result (λ walk. IsBegun (known_by walk.numbers)) }
 {
     match count.checked_add(1) {
-        Some(next) => Ok(Numbers {
-            former_x: starts(alloc, count)?,
-            former_y: Vec::new(alloc),
-            latter_x: starts(alloc, count)?,
-            latter_y: Vec::new(alloc),
-            next,
+        Some(next) => Ok(Walk {
+            numbers: Numbers {
+                former_x: starts(alloc, count)?,
+                former_y: Vec::new(alloc),
+                latter_x: starts(alloc, count)?,
+                latter_y: Vec::new(alloc),
+                next,
+            },
+            way: Way::Outside,
         }),
         None => Err(NoMemory),
     }
@@ -428,11 +779,13 @@ pub fn tested(
     room: Option<u8>,
     count: u32,
 ) -> Result<Option<Vec<Step>>, NoMemory>
-    ensures grouped { IfOk result (λ r. IfSome r (λ out. (c : Clause) (vars arity : ℕ) → IsEnded (leads_of (map step_in changes.now)) → PacesLeads 0 (leads_of (map step_in changes.now)) (inside vars arity) → IsGroupedCode c (leads_of (map step_in changes.now)) → IsGroupedCode c (leads_of out.items))) }
-    ensures led { IfOk result (λ r. IfSome r (λ out. (vars arity : ℕ) → IsEnded (leads_of (map step_in changes.now)) → PacesLeads 0 (leads_of (map step_in changes.now)) (inside vars arity) → Paces (steps_of out.items) (within room arity))) }
+    ensures { IfOk result (λ r. IfSome r (λ out. AreTested room (map step_in changes.now) out.items)) }
 {
-    let mut numbers = begin(alloc, count)?;
-    if !all_kept(changes, room, &mut numbers)? {
+    if !all_fit(room, changes) {
+        return Ok(None);
+    }
+    let mut walk = begin(alloc, count)?;
+    if !all_kept(alloc, changes, &mut walk)? {
         return Ok(None);
     }
     let steps = changed(alloc, changes)?;

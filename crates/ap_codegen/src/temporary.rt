@@ -6,10 +6,11 @@ ghost use Rattle.ap_instr.specs.Builtin.{builtin_arity};
 ghost use Rattle.ap_instr.specs.Runs.{arguments};
 ghost use Rattle.ap_codegen.specs.Emitted.{step_of, steps_of, leads_of};
 ghost use Rattle.ap_codegen.specs.Temporary.{ends};
-ghost use Rattle.ap_codegen.specs.CodeOf.{IsCodeOf};
 ghost use Rattle.ap_codegen.specs.Framed.{leaving};
 ghost use Rattle.ap_codegen.specs.Grouped.{IsEnded, IsGroupedCode};
-ghost use Rattle.ap_codegen.specs.Paces.{Paces, ArePaced, PacesLeads, ArePacedLeads, inside};
+ghost use Rattle.ap_codegen.specs.Said.{AreNumbered};
+ghost use Rattle.ap_codegen.specs.Paces.{PacesLeads, ArePacedLeads, inside};
+ghost use Rattle.ap_codegen.specs.Relocated.{register};
 
 use crate::bodies::grouped_code;
 use crate::choosing::choose;
@@ -20,7 +21,9 @@ use ap_term::{Clause, NoMemory};
 use std::alloc::Global;
 
 /// The number of an X register, or 0.
-pub fn number(v: Slot) -> u32 {
+pub fn number(v: Slot) -> u32
+    ensures { result ≡ register v }
+{
     match v {
         Slot::X(n) => n,
         Slot::Y(_) => 0,
@@ -112,7 +115,7 @@ fn entered(alloc: Global, steps: Vec<Step>, room: Option<u8>) -> Result<Vec<Step
 /// The steps with variables in better places, if such are found.
 fn relocated(alloc: Global, steps: &[Step]) -> Result<Option<Vec<Step>>, NoMemory>
     ensures grouped { IfOk result (λ r. IfSome r (λ out. (c : Clause) (vars arity : ℕ) → IsEnded (leads_of steps.now) → PacesLeads 0 (leads_of steps.now) (inside vars arity) → IsGroupedCode c (leads_of steps.now) → IsGroupedCode c (leads_of out.items))) }
-    ensures led { IfOk result (λ r. IfSome r (λ out. (vars arity : ℕ) → IsEnded (leads_of steps.now) → PacesLeads 0 (leads_of steps.now) (inside vars arity) → ArePaced arity out.items)) }
+    ensures led { IfOk result (λ r. IfSome r (λ out. (vars arity : ℕ) → IsEnded (leads_of steps.now) → PacesLeads 0 (leads_of steps.now) (inside vars arity) → AreNumbered 0 steps.now → ArePacedLeads arity out.items)) }
 {
     let chosen = choose(alloc, steps)?;
     let count = greatest_of(steps).min(255) + 1;
@@ -125,7 +128,7 @@ fn relocated(alloc: Global, steps: &[Step]) -> Result<Option<Vec<Step>>, NoMemor
 /// The steps with each variable in its place: in better ones, if such are found, or in an environment for so many.
 fn located(alloc: Global, steps: &[Step], vars: u8) -> Result<Vec<Step>, NoMemory>
     ensures grouped { IfOk result (λ out. (c : Clause) (arity : ℕ) → IsEnded (leads_of steps.now) → PacesLeads 0 (leads_of steps.now) (inside vars arity) → IsGroupedCode c (leads_of steps.now) → IsGroupedCode c (leads_of out.items)) }
-    ensures led { IfOk result (λ out. (arity : ℕ) → IsEnded (leads_of steps.now) → PacesLeads 0 (leads_of steps.now) (inside vars arity) → ArePaced arity out.items ⊎ (out.items ≡ Step.Allocate vars ∷ leaving steps.now)) }
+    ensures led { IfOk result (λ out. (arity : ℕ) → IsEnded (leads_of steps.now) → PacesLeads 0 (leads_of steps.now) (inside vars arity) → AreNumbered 0 steps.now → ArePacedLeads arity out.items ⊎ (out.items ≡ Step.Allocate vars ∷ leaving steps.now)) }
 {
     if let Some(better) = relocated(alloc, steps)? {
         return Ok(better);

@@ -3,8 +3,8 @@
 // another one has a temporary while it waits: in a head the last one is taken apart first, in a body it is built first. A
 // variable that outlives a call stands in the environment; any other one in the argument register that it comes from or goes
 // to, if nothing else needs that meanwhile, and else behind the arguments. What stands where it is put already needs no move.
-// In a clause with groups each variable stands in the environment. A group's checks come first and lead past its goals, which
-// are pushed by their numbers, to the same goals one after another.
+// A group's checks come first and lead past its goals, which are pushed by their numbers, to the same goals one after another.
+// A variable outlives a group as it outlives a call, and on the other way each of these. At the checks it stands in one place.
 
 use crate::cases::{Command, check_all};
 use crate::groups::MANY;
@@ -23,14 +23,13 @@ const LISTED: &str = "p/1:
 q/1:
   allocate 1
   get_variable Y1 A1
-  check_ground Y1 @10
+  check_ground Y1 @9
   alloc_parcall 2
   put_value Y1 A1
   push_goal 1 p/1
-  put_value Y1 A1
   push_goal 2 r/1
   wait_all
-  jump @14
+  jump @13
   put_value Y1 A1
   call p/1
   put_value Y1 A1
@@ -102,20 +101,17 @@ const REVERSED: &str = "rev/2:
 const PAIRS: &str = "q(X, Y) :- a(X) & a(Y).  a(1).";
 
 const PAIRS_LISTED: &str = "q/2:
-  allocate 2
-  get_variable Y1 A1
-  get_variable Y2 A2
-  check_indep Y1 Y2 @11
+  allocate 1
+  get_variable Y1 A2
+  check_indep X1 Y1 @9
   alloc_parcall 2
-  put_value Y1 A1
   push_goal 1 a/1
-  put_value Y2 A1
+  put_value Y1 A1
   push_goal 2 a/1
   wait_all
-  jump @15
-  put_value Y1 A1
+  jump @12
   call a/1
-  put_value Y2 A1
+  put_value Y1 A1
   call a/1
   deallocate
   proceed
@@ -126,32 +122,29 @@ a/1:
 
 const COPIES: &str = "cp(t(L, R), t(A, B)) :- cp(L, A), cp(R, B).";
 
+/// The first goal's variables come in the registers that it wants them in.
 const COPIES_LISTED: &str = "cp/2:
-  allocate 4
+  allocate 2
   get_structure t/2 A1
+  unify_variable X1
   unify_variable Y1
-  unify_variable Y2
   get_structure t/2 A2
-  unify_variable Y3
-  unify_variable Y4
-  check_indep Y1 Y2 @20
-  check_indep Y1 Y4 @20
-  check_indep Y2 Y3 @20
-  check_indep Y3 Y4 @20
+  unify_variable X2
+  unify_variable Y2
+  check_indep X1 Y1 @18
+  check_indep X1 Y2 @18
+  check_indep Y1 X2 @18
+  check_indep X2 Y2 @18
   alloc_parcall 2
-  put_value Y1 A1
-  put_value Y3 A2
   push_goal 1 cp/2
-  put_value Y2 A1
-  put_value Y4 A2
+  put_value Y1 A1
+  put_value Y2 A2
   push_goal 2 cp/2
   wait_all
-  jump @26
-  put_value Y1 A1
-  put_value Y3 A2
+  jump @22
   call cp/2
-  put_value Y2 A1
-  put_value Y4 A2
+  put_value Y1 A1
+  put_value Y2 A2
   call cp/2
   deallocate
   proceed
@@ -190,35 +183,34 @@ const HALVES_LISTED: &str = "total/2:
   get_constant [] A1
   get_integer 0 A2
   proceed
-  allocate 7
+  allocate 6
   get_list A1
   unify_variable Y1
-  unify_variable Y2
-  get_variable Y3 A2
-  put_value Y2 A1
-  put_variable Y4 A2
-  put_variable Y5 A3
+  unify_variable X1
+  get_variable Y2 A2
+  put_variable Y3 A2
+  put_variable Y4 A3
   call deal/3
-  check_indep Y4 Y5 @24
+  check_indep Y3 Y4 @23
   alloc_parcall 2
+  put_value Y3 A1
+  put_variable Y5 A2
+  push_goal 1 total/2
   put_value Y4 A1
   put_variable Y6 A2
-  push_goal 1 total/2
-  put_value Y5 A1
-  put_variable Y7 A2
   push_goal 2 total/2
   wait_all
-  jump @30
+  jump @29
+  put_value Y3 A1
+  put_variable Y5 A2
+  call total/2
   put_value Y4 A1
   put_variable Y6 A2
   call total/2
-  put_value Y5 A1
-  put_variable Y7 A2
-  call total/2
-  put_value Y3 A1
+  put_value Y2 A1
   put_structure +/2 A3
+  unify_value Y5
   unify_value Y6
-  unify_value Y7
   put_structure +/2 A2
   unify_value X3
   unify_value Y1

@@ -8,7 +8,7 @@ use Rattle.ap_codegen.specs.Emitted.{leads_of}
 use Rattle.ap_codegen.specs.Framed.{leaving}
 use Rattle.ap_codegen.specs.Grouped.{IsGroupedCode, clause_leads}
 use Rattle.ap_codegen.specs.Said.{AreNumbered}
-use Rattle.ap_codegen.specs.Paces.{ArePaced, PacesLeads, inside}
+use Rattle.ap_codegen.specs.Paces.{PacesLeads, ArePacedLeads, inside}
 use Rattle.ap_codegen.proofs.LocatedLeads.{written_ended, written_led, located_paced}
 use Rattle.ap_codegen.proofs.temporary.clause_steps.Goals as goal
 
@@ -31,6 +31,7 @@ returns-clause-paced c =
     let vars : c.vars.result ≡ k.vars = c.vars.ensures.vars in
     let arity : ℕ = count_trees (arguments k.head) in
     let e : leads_of es ≡ clause_leads k = subst (λ fs. leads_of fs ≡ clause_leads k) (sym own) c.in_ok-steps.ensures.leads in
-    let placed = c.in_ok-code.ensures.led arity (written_ended k es e) (subst (λ n. PacesLeads 0 (leads_of es) (inside n arity)) (sym vars) (written_led k es c.in_ok-steps.ensures.kept e)) in
-    located_paced k es c.in_ok-code.code.items c.in_ok-steps.ensures.kept e (subst (AreNumbered 0) (sym own) c.in_ok-steps.ensures.numbered)
-    (subst (λ n. ArePaced arity c.in_ok-code.code.items ⊎ (c.in_ok-code.code.items ≡ Allocate n ∷ leaving es)) vars placed)
+    let numbered : AreNumbered 0 es = subst (AreNumbered 0) (sym own) c.in_ok-steps.ensures.numbered in
+    let placed = c.in_ok-code.ensures.led arity (written_ended k es e) (subst (λ n. PacesLeads 0 (leads_of es) (inside n arity)) (sym vars) (written_led k es c.in_ok-steps.ensures.kept e)) numbered in
+    located_paced k es c.in_ok-code.code.items c.in_ok-steps.ensures.kept e numbered
+    (subst (λ n. ArePacedLeads arity c.in_ok-code.code.items ⊎ (c.in_ok-code.code.items ≡ Allocate n ∷ leaving es)) vars placed)
