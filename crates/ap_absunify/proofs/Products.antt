@@ -251,6 +251,21 @@ module _ (plain : Bool) (sh : Share) (a b : ℕ) (narrow : meets (union (met sh 
       wide_case (is_wide plain sh a b) (is_wide-narrow ∙ one_out plain (too_many (closure (meeting sh a))) (too_many (closure (meeting sh b)))
       (inr (none_kept (not plain && too_many (closure (meeting sh b))) (side plain (meeting sh b)) e)))
 
+  -- both sides are plain
+  pub plain_fit : plain ≡ true → (sets : List ℕ) (new : Share) → sets ≡ join_sets (pairs (meeting sh a) (meeting sh b)) (filter (λ s. not (meets s (union a b))) sh.sets)
+      → new ≡ norm (record { sets = sets; any = sh.any }) → new ≡ unify_share plain sh a b
+  plain_fit p sets new e h =
+      h ∙ ap (λ ss. norm (record { sets = ss; any = sh.any })) (e ∙ sides plain p) ∙ narrow_case (is_wide plain sh a b) (is_wide-narrow ∙ fit plain p)
+    where
+      sides : (q : Bool) → q ≡ true → join_sets (pairs (meeting sh a) (meeting sh b)) (filter (λ s. not (meets s (union a b))) sh.sets)
+          ≡ join_sets (pairs (side q (meeting sh a)) (side q (meeting sh b))) (filter (λ s. not (meets s (union a b))) sh.sets)
+      sides true k = refl
+      sides false k = absurd (false≢true k)
+
+      fit : (q : Bool) → q ≡ true → (not q && (too_many (closure (meeting sh a)) || too_many (closure (meeting sh b)))) ≡ false
+      fit true k = refl
+      fit false k = absurd (false≢true k)
+
   module _ (left right : List ℕ) (l : Some left ≡ (if not plain && too_many (closure (meeting sh a)) then None else Some (side plain (meeting sh a))))
       (r : Some right ≡ (if not plain && too_many (closure (meeting sh b)) then None else Some (side plain (meeting sh b)))) where
     few : is_wide plain sh a b ≡ false

@@ -1,11 +1,11 @@
 //! What the unification of a variable and a term makes of a state.
 
-ghost use Rattle.std.specs.Prelude.{◌≡◌, IfOk, IsTrue, false, Some, None, if◌then◌else◌, ◌&&◌, not};
+ghost use Rattle.std.specs.Prelude.{◌≡◌, IfOk, IfSome, IsTrue, false, Some, None, if◌then◌else◌, ◌&&◌, not};
 ghost use Rattle.std.specs.List.{filter};
 ghost use Rattle.ap_term.specs.TermView.{tree_of};
 ghost use Rattle.ap_term.specs.WellFormed.{in_range, numbered};
 ghost use Rattle.ap_sharing.specs.VarSet.{union, meets};
-ghost use Rattle.ap_sharing.specs.Sets.{too_many, closure};
+ghost use Rattle.ap_sharing.specs.Sets.{join_sets, pairs, too_many, closure};
 ghost use Rattle.ap_sharing.specs.Share.{met};
 ghost use Rattle.ap_absunify.specs.AfterUnify.{meeting, side, widened_by, unify_share, is_free, free_after, unify_sides, after_unify};
 
@@ -76,21 +76,48 @@ fn joined_sides(
     Ok(Share::new(sets, share.any()))
 }
 
+/// The sets once the only set of one side has become part of each set of the other; None where each side has more.
+fn with_only_set(
+    alloc: Global,
+    share: &Share,
+    a: VarSet,
+    b: VarSet,
+) -> Result<Option<Sets>, NoMemory>
+    ensures { IfOk result (λ r. IfSome r (λ ss. ss ≡ join_sets (pairs (meeting share.now a) (meeting share.now b)) (filter (λ s. not (meets s (union a b))) share.now.sets))) }
+{
+    let sets = share.sets();
+    if let Some(one) = sets.only_meeting(b) {
+        let joined = sets.with_one(alloc, a, b, one)?;
+        return Ok(Some(joined));
+    }
+    if let Some(one) = sets.only_meeting(a) {
+        let joined = sets.with_one(alloc, b, a, one)?;
+        return Ok(Some(joined));
+    }
+    Ok(None)
+}
+
+/// The Share after the variables a of one side and b of the other were unified, whose members reach these.
 fn unify_share(
     alloc: Global,
     share: &Share,
     plain: bool,
     a: VarSet,
     b: VarSet,
+    reached: VarSet,
 ) -> Result<Share, NoMemory>
+    requires { reached ≡ union (met share.now a) (met share.now b) }
     ensures { IfOk result (λ r. r ≡ unify_share plain share.now a b) }
 {
-    let met = share.met(a).union(share.met(b));
-    if met.intersects(share.any()) {
-        widened_by(share, met)
-    } else {
-        joined_sides(alloc, share, plain, a, b)
+    if reached.intersects(share.any()) {
+        return widened_by(share, reached);
     }
+    if plain {
+        if let Some(sets) = with_only_set(alloc, share, a, b)? {
+            return Ok(Share::new(sets, share.any()));
+        }
+    }
+    joined_sides(alloc, share, plain, a, b)
 }
 
 /// What stays free, of two sides that are free variables or not and met these variables.
@@ -122,14 +149,11 @@ fn unify_sides(
     let left_free = free.is_free(x);
     let right_free = is_free(free, t);
     let plain = left_free || right_free;
-    let united = unify_share(alloc, share, plain, left, right)?;
-    let free = free_after(
-        left_free,
-        right_free,
-        free,
-        share.met(left),
-        share.met(right),
-    );
+    let met_left = share.met(left);
+    let met_right = share.met(right);
+    let reached = met_left.union(met_right);
+    let united = unify_share(alloc, share, plain, left, right, reached)?;
+    let free = free_after(left_free, right_free, free, met_left, met_right);
     Ok(made(united, free))
 }
 

@@ -4,3 +4,4 @@ pub mod Names
 pub mod Tuples
 pub mod Moves
 pub mod Fresh
+pub mod Memories

@@ -9,7 +9,7 @@ use Rattle.ap_cells.specs.declared.cells.Raw.{Raw}
 use Rattle.ap_cells.specs.declared.cells.Raw.TheVariants.{Node}
 use Rattle.ap_cells.specs.Trees.{tree_at, span, trees}
 use Rattle.ap_cells.specs.Walks.{weight_all}
-use Rattle.ap_copy.specs.Copies.{to_trees, numbered, IsCopy, AreCopies, IsBlock}
+use Rattle.ap_copy.specs.Copies.{to_trees, numbered, IsCopy, AreCopies, IsBlock, Grown}
 use Rattle.ap_copy.specs.declared.copying.Frame.{Frame}
 use Rattle.ap_copy.specs.declared.copying.Turn.{Turn}
 use Rattle.ap_copy.specs.declared.copying.Turn.TheVariants.{Open, Close}
@@ -127,18 +127,26 @@ module _ (ts : List Tree) (ks : List ℕ) (root : Tree) (old before : List Raw) 
       next : Frame
       next = record { name = f.name; first = f.first; count = f.count; copied = f.copied + 1 }
 
-  -- the arguments get their places
-  pub going-settled : (fs : List Frame) (f : Frame) (loose block : List Raw) (c : Raw) (rest : ℕ) (loose' block' : List Raw) → f.copied + 1 ≡ f.count → rest ≡ length (loose ++ c ∷ []) - f.count
+  -- the arguments get their places, and the term is copied
+  pub record Settled (fs : List Frame) (f : Frame) (loose block block' : List Raw) : Type 0 where
+    pub mine : List Raw
+    pub waits : Waits ts fs root (node f.name (span ts f.first f.count))
+    pub split : loose ≡ before ++ mine
+    pub copies : AreCopies ks block' mine (copied ts fs)
+    pub placed : IsCopy ks block' (Node f.name (length block) f.count) (node f.name (span ts f.first f.count))
+    pub grown : Grown ks block block'
+    pub is_block : IsBlock ks block'
+
+  pub settled : (fs : List Frame) (f : Frame) (loose block : List Raw) (c : Raw) (rest : ℕ) (loose' block' : List Raw) → f.copied + 1 ≡ f.count → rest ≡ length (loose ++ c ∷ []) - f.count
       → loose' ≡ take rest (loose ++ c ∷ []) → block' ≡ block ++ drop rest (loose ++ c ∷ []) → length block' ≤ 4294967295
-      → Going ts ks root old before (fs ++ f ∷ []) loose block (Close c) → Going ts ks root old before fs loose' block' (Close (Node f.name (length block) f.count))
-  going-settled fs f loose block c rest loose' block' h r el eb few g = record {
-    tree = node f.name (span ts f.first f.count);
-    waits = P.waits;
-    next = subst (λ b. IsCopy ks b (Node f.name (length block) f.count) (node f.name (span ts f.first f.count))) (sym laid_is) placed;
+      → Going ts ks root old before (fs ++ f ∷ []) loose block (Close c) → Settled fs f loose' block block'
+  settled fs f loose block c rest loose' block' h r el eb few g = record {
     mine = S.front;
+    waits = P.waits;
     split = el ∙ ap (take rest) all ∙ ap (λ n. take n ((before ++ S.front) ++ S.back)) rest_is ∙ take-append_seam (before ++ S.front) S.back;
     copies = subst (λ b. AreCopies ks b S.front (copied ts fs)) (sym laid_is) (AreCopies-grown ks block (block ++ S.back) S.front (copied ts fs) L.grown S.first);
-    grown = λ d t k. subst (λ b. IsCopy ks b d t) (sym laid_is) (L.grown d t (g.grown d t k));
+    placed = subst (λ b. IsCopy ks b (Node f.name (length block) f.count) (node f.name (span ts f.first f.count))) (sym laid_is) placed;
+    grown = λ d t k. subst (λ b. IsCopy ks b d t) (sym laid_is) (L.grown d t k);
     is_block = subst (IsBlock ks) (sym laid_is) L.is_block;
   }
     where
@@ -168,6 +176,19 @@ module _ (ts : List Tree) (ks : List ℕ) (root : Tree) (old before : List Raw) 
         (let n = count in omega (arith, length-append block S.back)),
         ap (λ n. node f.name (span (trees (block ++ S.back)) (length block) n)) (sym count) ∙ ap (node f.name) (L.terms ∙ ap (instance_all (numbered ks)) (to_trees-items ts f.first f.count)),
       )
+
+  pub going-settled : (fs : List Frame) (f : Frame) (loose block : List Raw) (c : Raw) (loose' block' : List Raw) → Going ts ks root old before (fs ++ f ∷ []) loose block (Close c)
+      → Settled fs f loose' block block' → Going ts ks root old before fs loose' block' (Close (Node f.name (length block) f.count))
+  going-settled fs f loose block c loose' block' g s = record {
+    tree = node f.name (span ts f.first f.count);
+    waits = s.waits;
+    next = s.placed;
+    mine = s.mine;
+    split = s.split;
+    copies = s.copies;
+    grown = λ d t k. s.grown d t (g.grown d t k);
+    is_block = s.is_block;
+  }
 
   -- the whole is copied
   pub going-done : (fs : List Frame) (loose block : List Raw) (c : Raw) → fs ≡ [] → Going ts ks root old before fs loose block (Close c) → Copied ks old block before (loose ++ c ∷ []) root

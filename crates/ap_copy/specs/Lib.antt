@@ -1,3 +1,4 @@
 pub mod Copies
+pub mod Memory
 pub mod Copying
 pub mod Parcels

@@ -7,7 +7,9 @@ ghost use Rattle.ap_cells.specs.declared.cells.Raw.{Raw};
 ghost use Rattle.ap_cells.specs.Walks.{Each};
 ghost use Rattle.ap_copy.specs.Copies.{Known, KnownAll, tuple_at, AreCopies, IsBlock, IsNames};
 ghost use Rattle.ap_copy.specs.Copying.{Going, Copied, weight_turn, weight_frames};
+ghost use Rattle.ap_copy.specs.Memory.{Remembers};
 
+use crate::memory::{Entry, Memory};
 use crate::variables::number_of;
 use ap_cells::{Cells, MAX_CELLS, Raw, Top};
 use ap_marks::Marks;
@@ -78,11 +80,13 @@ pub fn unbound(alloc: Global, count: usize) -> Result<Vec<Raw>, NoMemory>
     Ok(block)
 }
 
-/// Copies the terms of some places; their cells are put with the loose ones.
+/// Copies the terms of some places; their cells are put with the loose ones. What they share is copied once, as far as the
+/// memory goes, which begins empty.
 pub fn copy_terms(
     cells: &Cells,
     marks: &Marks,
     roots: &[usize],
+    memory: &mut Memory,
     copying: &mut Copying,
 ) -> Result<(), NoMemory>
     requires inside { Each (λ r. r < length cells.now.cells) roots.now }
@@ -90,11 +94,12 @@ pub fn copy_terms(
     requires idle { copying.old.frames.items ≡ [] }
     requires empty { copying.old.loose.items ≡ [] }
     requires block { IsBlock marks.now copying.old.block.items }
+    requires nothing { memory.old.entries.items ≡ [] }
     ensures copies { OnOk result (AreCopies marks.now copying.new.block.items copying.new.loose.items (map (tree_at (trees cells.now.cells)) roots.now)) }
     ensures block { OnOk result (IsBlock marks.now copying.new.block.items) }
 {
     for root in roots {
-        copy_term(cells, marks, *root, copying)?;
+        copy_term(cells, marks, *root, memory, copying)?;
     }
     Ok(())
 }
@@ -104,24 +109,27 @@ fn copy_term(
     cells: &Cells,
     marks: &Marks,
     place: usize,
+    memory: &mut Memory,
     copying: &mut Copying,
 ) -> Result<(), NoMemory>
     requires inside { place < length cells.now.cells }
     requires known { Known marks.now (tree_at (trees cells.now.cells) place) }
     requires idle { copying.old.frames.items ≡ [] }
     requires block { IsBlock marks.now copying.old.block.items }
+    requires memory { Remembers (trees cells.now.cells) marks.now copying.old.block.items memory.old.entries.items }
     ensures copied { OnOk result (Copied marks.now copying.old.block.items copying.new.block.items copying.old.loose.items copying.new.loose.items (tree_at (trees cells.now.cells) place)) }
     ensures idle { OnOk result (copying.new.frames.items ≡ []) }
     ensures block { OnOk result (IsBlock marks.now copying.new.block.items) }
+    ensures memory { OnOk result (Remembers (trees cells.now.cells) marks.now copying.new.block.items memory.new.entries.items) }
 {
     let places = cells.len();
     prove!(place < places);
     let mut turn = Turn::Open(place);
     loop {
         turn = match turn {
-            Turn::Open(at) => open(cells, marks, at, &mut copying.frames)?,
+            Turn::Open(at) => open(cells, marks, at, memory, &mut copying.frames)?,
             Turn::Close(cell) => match copying.frames.pop() {
-                Some(frame) => close(frame, cell, copying)?,
+                Some(frame) => close(frame, cell, memory, copying)?,
                 None => {
                     copying.loose.push(cell)?;
                     return Ok(());
@@ -131,18 +139,20 @@ fn copy_term(
     }
 }
 
-/// Begins the copy of a place's term.
+/// Begins the copy of a place's term, unless it is in memory.
 fn open(
     cells: &Cells,
     marks: &Marks,
     place: usize,
+    memory: &mut Memory,
     frames: &mut Vec<Frame>,
 ) -> Result<Turn, NoMemory>
     requires inside { place < length cells.now.cells }
     requires known { Known marks.now (tree_at (trees cells.now.cells) place) }
     requires few { length marks.now ≤ 4294967295 }
-    ensures going { IfOk result (λ turn. (root : Tree) (old block before loose : List Raw) → Going (trees cells.now.cells) marks.now root old before frames.old.items loose block (Turn.Open place) → Going (trees cells.now.cells) marks.now root old before frames.new.items loose block turn) }
+    ensures going { IfOk result (λ turn. (root : Tree) (old block before loose : List Raw) → Remembers (trees cells.now.cells) marks.now block memory.old.entries.items → Going (trees cells.now.cells) marks.now root old before frames.old.items loose block (Turn.Open place) → Going (trees cells.now.cells) marks.now root old before frames.new.items loose block turn) }
     ensures less { IfOk result (λ turn. weight_frames (trees cells.now.cells) frames.new.items + weight_turn (trees cells.now.cells) turn < weight_frames (trees cells.now.cells) frames.old.items + weight_turn (trees cells.now.cells) (Turn.Open place)) }
+    ensures memory { memory.new.entries.items ≡ memory.old.entries.items }
 {
     match cells.top(place) {
         Top::Free(variable) => Ok(Turn::Close(Raw::Same(number_of(marks, variable) as u32))),
@@ -151,6 +161,9 @@ fn open(
         Top::Node(name, first, count) => {
             if count == 0 {
                 return Ok(Turn::Close(Raw::Node(name, 0, 0)));
+            }
+            if let Some(copies) = memory.find(name, first, count) {
+                return Ok(Turn::Close(Raw::Node(name, copies, count)));
             }
             frames.push(Frame {
                 name,
@@ -164,12 +177,18 @@ fn open(
 }
 
 /// Puts the cell of an argument with the loose ones; behind the last one the arguments get their places.
-fn close(frame: Frame, cell: Raw, copying: &mut Copying) -> Result<Turn, NoMemory>
+fn close(
+    frame: Frame,
+    cell: Raw,
+    memory: &mut Memory,
+    copying: &mut Copying,
+) -> Result<Turn, NoMemory>
     requires left { frame.copied < frame.count }
     requires fits { frame.first + frame.count ≤ 4294967295 }
     requires loose { frame.copied ≤ length copying.old.loose.items }
     requires few { length copying.old.block.items ≤ 4294967295 }
     ensures going { IfOk result (λ turn. (ts : List Tree) (ks : List ℕ) (root : Tree) (old before : List Raw) → Going ts ks root old before (copying.old.frames.items ++ frame ∷ []) copying.old.loose.items copying.old.block.items (Turn.Close cell) → Going ts ks root old before copying.new.frames.items copying.new.loose.items copying.new.block.items turn) }
+    ensures memory { OnOk result ((ts : List Tree) (ks : List ℕ) (root : Tree) (old before : List Raw) → Going ts ks root old before (copying.old.frames.items ++ frame ∷ []) copying.old.loose.items copying.old.block.items (Turn.Close cell) → Remembers ts ks copying.old.block.items memory.old.entries.items → Remembers ts ks copying.new.block.items memory.new.entries.items) }
     ensures less { IfOk result (λ turn. (ts : List Tree) → weight_frames ts copying.new.frames.items + weight_turn ts turn < weight_frames ts (copying.old.frames.items ++ frame ∷ []) + 1) }
 {
     copying.loose.push(cell)?;
@@ -180,6 +199,12 @@ fn close(frame: Frame, cell: Raw, copying: &mut Copying) -> Result<Turn, NoMemor
     }
     let first = copying.block.len();
     settle(frame.count as usize, copying)?;
+    memory.keep(Entry {
+        name: frame.name,
+        count: frame.count,
+        from: frame.first,
+        first: first as u32,
+    })?;
     Ok(Turn::Close(Raw::Node(frame.name, first as u32, frame.count)))
 }
 

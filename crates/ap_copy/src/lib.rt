@@ -5,6 +5,7 @@
 #![tactic(auto)]
 
 mod copying;
+mod memory;
 mod parcels;
 mod variables;
 

@@ -13,6 +13,7 @@ ghost use Rattle.ap_copy.specs.Parcels.{raw_moved};
 ghost use Rattle.ap_cells.specs.Raws.{raw_of};
 
 use crate::copying::{Copying, copy_terms, settle, unbound};
+use crate::memory::Memory;
 use crate::variables::mark_variables;
 use ap_cells::{Cell, Cells, MAX_CELLS, Raw, Walk};
 use ap_marks::Marks;
@@ -66,6 +67,7 @@ pub struct Roots {
 pub struct Packing {
     walk: Walk,
     marks: Marks,
+    memory: Memory,
     copying: Copying,
 }
 
@@ -75,6 +77,7 @@ impl Packing {
         Packing {
             walk: Walk::new(alloc),
             marks: Marks::new(alloc),
+            memory: Memory::new(alloc),
             copying: Copying::new(alloc),
         }
     }
@@ -92,7 +95,8 @@ pub fn new_variables(alloc: Global, count: usize) -> Result<Parcelled, NoMemory>
     Ok(Parcelled { cells, count })
 }
 
-/// Copies the terms of some places out of a store, which stays as it is. Variables that they share stay shared.
+/// Copies the terms of some places out of a store, which stays as it is. Variables that they share stay shared, and so do
+/// compound terms, but for the first few.
 pub fn copy_out(
     alloc: Global,
     cells: &Cells,
@@ -104,7 +108,14 @@ pub fn copy_out(
 {
     mark_variables(cells, roots, &mut packing.walk, &mut packing.marks)?;
     packing.copying.start(alloc, packing.marks.len())?;
-    copy_terms(cells, &packing.marks, roots, &mut packing.copying)?;
+    packing.memory.clear();
+    copy_terms(
+        cells,
+        &packing.marks,
+        roots,
+        &mut packing.memory,
+        &mut packing.copying,
+    )?;
     settle(roots.len(), &mut packing.copying)?;
     Ok(Parcelled {
         cells: mem::replace(&mut packing.copying.block, Vec::new(alloc)),

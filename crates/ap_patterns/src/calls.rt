@@ -20,11 +20,9 @@ fn call_share(alloc: Global, share: &Share, args: &[VarSet]) -> Result<Share, No
     requires { length args.now ≤ 255 }
     ensures { IfOk result (λ r. r ≡ call_share share.now args.now) }
 {
-    let mut sets = Sets::new(alloc);
-    for s in share.sets().iter() {
-        sets.insert(places(*s, args))?;
-    }
-    Ok(Share::new(sets, places(share.any(), args)))
+    let sets = share.sets().as_slice();
+    let placed = sets.iter().map(|s| places(*s, args)).collect(alloc)?;
+    Ok(Share::new(Sets::of(placed)?, places(share.any(), args)))
 }
 
 /// What a state says of the arguments of a goal.

@@ -75,11 +75,9 @@ fn sets_beside(alloc: Global, n: u64, k: u64, sets: &Sets) -> Result<Sets, NoMem
     requires { n + k ≤ 255 }
     ensures { IfOk result (λ r. r ≡ sets_of (map (beside n k) sets.now)) }
 {
-    let mut moved = Sets::new(alloc);
-    for s in sets.iter() {
-        moved.insert(beside(n, k, *s))?;
-    }
-    Ok(moved)
+    let sets = sets.as_slice();
+    let moved = sets.iter().map(|s| beside(n, k, *s)).collect(alloc)?;
+    Sets::of(moved)
 }
 
 /// The state after each place, as a variable beside n, was unified with its argument of the head.

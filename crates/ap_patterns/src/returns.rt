@@ -58,6 +58,7 @@ fn kept_free(free: &Free, success: &Free, args: &[Term]) -> VarSet
 
 /// Puts in those of the sets whose places are a member of the success.
 fn add_returned(
+    alloc: Global,
     closed: &Sets,
     args: &[VarSet],
     success: &Share,
@@ -66,12 +67,13 @@ fn add_returned(
     requires { length args.now ≤ 255 }
     ensures { IfOk result (λ _. sets.new ≡ join_sets sets.old (returned_sets args.now success.now closed.now)) }
 {
-    for s in closed.iter() {
+    let mut returned = Vec::new(alloc);
+    for s in closed.as_slice() {
         if success.is_member(places(*s, args)) {
-            sets.insert(*s)?;
+            returned.push(*s)?;
         }
     }
-    Ok(())
+    sets.extend(&returned)
 }
 
 /// The variables of the sets that meet the goal.
@@ -108,6 +110,7 @@ fn closed_meeting(alloc: Global, share: &Share, goal: VarSet) -> Result<Option<S
 
 /// The Share in which of the closed sets those stand that the success has among its members.
 fn with_returned(
+    alloc: Global,
     share: &Share,
     args: &[VarSet],
     goal: VarSet,
@@ -119,7 +122,7 @@ fn with_returned(
 {
     let mut sets = share.sets().copy()?;
     sets.drop_meeting(goal);
-    add_returned(closed, args, success, &mut sets)?;
+    add_returned(alloc, closed, args, success, &mut sets)?;
     Ok(Share::new(sets, share.any()))
 }
 
@@ -138,7 +141,7 @@ fn returned_share(
         return widened(share, goal);
     }
     match closed_meeting(alloc, share, goal)? {
-        Some(closed) => with_returned(share, args, goal, success, &closed),
+        Some(closed) => with_returned(alloc, share, args, goal, success, &closed),
         None => widened(share, goal),
     }
 }

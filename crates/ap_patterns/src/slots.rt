@@ -98,7 +98,7 @@ fn is_share_covered(share: &Share, by: &Share) -> bool
     if !share.any().is_subset(by.any()) {
         return false;
     }
-    for s in share.sets().iter() {
+    for s in share.sets().as_slice() {
         if !by.is_member(*s) {
             return false;
         }

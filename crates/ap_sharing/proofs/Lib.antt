@@ -4,3 +4,6 @@ pub mod Lists
 pub mod Closures
 pub mod Trees
 pub mod Covers
+pub mod Made
+pub mod Turns
+pub mod Ones

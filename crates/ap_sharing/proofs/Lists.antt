@@ -84,7 +84,7 @@ listed-filter p s (t ∷ ts) h = go (listed-filter p s ts) (p t) refl h
 
 -- ---- a set that is put in
 
-by_cmp : (P : List ℕ → Type 0) (k x : ℕ) (ks xs ys : List ℕ) → (k < x → P ks) → (k ≡ x → P xs) → (x < k → P ys) → P (match_ordering (nat_cmp k x) ks xs ys)
+pub by_cmp : (P : List ℕ → Type 0) (k x : ℕ) (ks xs ys : List ℕ) → (k < x → P ks) → (k ≡ x → P xs) → (x < k → P ys) → P (match_ordering (nat_cmp k x) ks xs ys)
 by_cmp P k x ks xs ys a b c = go (ltb k x) refl (nat_eq k x) refl
   where
     go : (l : Bool) → ltb k x ≡ l → (e : Bool) → nat_eq k x ≡ e → P (match_ordering (cond l Less (cond e Equal Greater)) ks xs ys)
@@ -144,7 +144,7 @@ listed-join ss ts s =
 
 -- ---- what a search by the order finds
 
-equal_order : (s k : ℕ) → is_eq (nat_cmp s k) ≡ nat_eq s k
+pub equal_order : (s k : ℕ) → is_eq (nat_cmp s k) ≡ nat_eq s k
 equal_order s k = go (ltb s k) refl (nat_eq s k) refl
   where
     go : (l : Bool) → ltb s k ≡ l → (e : Bool) → nat_eq s k ≡ e → is_eq (cond l Less (cond e Equal Greater)) ≡ e

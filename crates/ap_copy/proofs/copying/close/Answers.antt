@@ -4,7 +4,8 @@ use Rattle.ap_cells.specs.Trees.{span}
 use Rattle.ap_cells.specs.Walks.{weight_all}
 use Rattle.ap_cells.proofs.Walks.{span-first}
 use Rattle.ap_copy.specs.declared.copying.Frame.{Frame}
-use Rattle.ap_copy.proofs.Steps.{going-next, going-settled, weight_frames-push}
+use Rattle.ap_copy.proofs.Steps.{going-next, settled, going-settled, weight_frames-push}
+use Rattle.ap_copy.proofs.Memories.{remembers-settled}
 use Rattle.ap_copy.proofs.copying.close.Goals as goal
 
 pub returns-then-copied-frame-clause-going : goal.returns-then-copied-frame-clause-going
@@ -28,10 +29,21 @@ returns-clause-going c ts ks root old before g =
     let loose : List Raw = c.args.copying.now.loose.items ++ c.args.cell ∷ [] in
     let e = c.in_ok-push.ensures.items in
     let h : c.args.frame.copied + 1 ≡ c.args.frame.count = omega (arith, c.if-copied-frame.false) in
-    let s = going-settled ts ks root old before c.args.copying.now.frames.items c.args.frame c.args.copying.now.loose.items c.args.copying.now.block.items c.args.cell (length loose - c.args.frame.count)
+    let s = settled ts ks root old before c.args.copying.now.frames.items c.args.frame c.args.copying.now.loose.items c.args.copying.now.block.items c.args.cell (length loose - c.args.frame.count)
     c.settle.new.copying.loose.items c.settle.new.copying.block.items h refl (rw e at c.in_ok-settle.ensures.loose) (rw e at c.in_ok-settle.ensures.block) c.in_ok-settle.ensures.few g in
     let n : c.len-first.result ≡ length c.args.copying.now.block.items = omega arith in
-    rw (c.settle.ensures.frames, n) s
+    rw (c.settle.ensures.frames, n)
+    (going-settled ts ks root old before c.args.copying.now.frames.items c.args.frame c.args.copying.now.loose.items c.args.copying.now.block.items c.args.cell c.settle.new.copying.loose.items c.settle.new.copying.block.items g s)
+
+pub returns-clause-memory : goal.returns-clause-memory
+returns-clause-memory c ts ks root old before g m =
+    let loose : List Raw = c.args.copying.now.loose.items ++ c.args.cell ∷ [] in
+    let e = c.in_ok-push.ensures.items in
+    let h : c.args.frame.copied + 1 ≡ c.args.frame.count = omega (arith, c.if-copied-frame.false) in
+    let s = settled ts ks root old before c.args.copying.now.frames.items c.args.frame c.args.copying.now.loose.items c.args.copying.now.block.items c.args.cell (length loose - c.args.frame.count)
+    c.settle.new.copying.loose.items c.settle.new.copying.block.items h refl (rw e at c.in_ok-settle.ensures.loose) (rw e at c.in_ok-settle.ensures.block) c.in_ok-settle.ensures.few g in
+    let n : c.len-first.result ≡ length c.args.copying.now.block.items = omega arith in
+    remembers-settled ts ks c.args.frame c.args.copying.now.block.items c.settle.new.copying.block.items c.args.memory.now.entries.items c.keep.new.self.entries.items c.len-first.result n s.grown s.placed c.in_ok-keep.ensures m
 
 pub returns-clause-less : goal.returns-clause-less
 returns-clause-less c ts =

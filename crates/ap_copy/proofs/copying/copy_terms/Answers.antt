@@ -11,5 +11,6 @@ loop-root-preserved c = record {
       copies-more c.args.marks.now (trees c.args.cells.now.cells) c.args.roots.now c.loop-root.root-index c.loop-root.copying.block.items c.copy_term.new.copying.block.items c.loop-root.copying.loose.items
       c.copy_term.new.copying.loose.items c.loop-root-test.true c.loop-root.invariant.copies c.in_ok-copy_term.ensures.copied;
   block = c.in_ok-copy_term.ensures.block;
+  memory = c.in_ok-copy_term.ensures.memory;
   idle = c.in_ok-copy_term.ensures.idle;
 }

@@ -8,7 +8,7 @@ use Rattle.ap_copy.proofs.Steps.{going-node, weight_frames-push}
 use Rattle.ap_copy.proofs.copying.open.Goals as goal
 
 pub returns-in_ok-push-in-Node-clause-going : goal.returns-in_ok-push-in-Node-clause-going
-returns-in_ok-push-in-Node-clause-going c root old block before loose g =
+returns-in_ok-push-in-Node-clause-going c root old block before loose m g =
     let ts = trees c.args.cells.now.cells in
     let z = trees-length c.args.cells.now.cells in
     let k : c.in-Node.first + c.in-Node.count ≤ length ts = omega (arith, c.in-Node.ensures.inside) in
