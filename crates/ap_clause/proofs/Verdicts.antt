@@ -9,7 +9,7 @@ use Rattle.ap_term.specs.AtomTable.{insert_names, capacity, IsAtomTable}
 use Rattle.ap_term.specs.Tree as term
 use Rattle.ap_term.specs.TermView.{tree_of}
 use Rattle.ap_reader.specs.declared.written.WrittenTerm.{WrittenTerm}
-use Rattle.ap_reader.specs.declared.written.ReadTerm.{ReadTerm}
+use Rattle.ap_term.specs.declared.terms.Term.{Term}
 use Rattle.ap_reader.specs.declared.written.TheConstants.{MAX_OPEN}
 use Rattle.ap_reader.specs.declared.depth.TheConstants.{MAX_DEPTH}
 use Rattle.ap_reader.specs.Bracket.{most_open}
@@ -18,7 +18,8 @@ use Rattle.ap_reader.specs.Step.{postfix}
 use Rattle.ap_reader.specs.Written.{Written, leaves, leaf_of, variables, meaning}
 use Rattle.ap_reader.specs.Depth.{depth}
 use Rattle.ap_reader.specs.Build.{names, term_in}
-use Rattle.ap_reader.specs.Reading.{StandsFor, Spells, BuiltAs, term_of, first_line}
+use Rattle.ap_reader.specs.Reading.{StandsFor, Spells, BuiltTerm, term_of, first_line}
+use Rattle.ap_reader.specs.Leaves.{texts}
 use Rattle.ap_lifting.specs.Sizes.{predicates_if}
 use Rattle.ap_clause.specs.declared.form.Form.{Form}
 use Rattle.ap_clause.specs.declared.judge.Counts.{Counts}
@@ -83,19 +84,24 @@ module _ (source : Source) (before : Counts) (old new : List Text) (front : List
   pub fits_is : (f : Form) (b : Bool) → ((u : Tree) → w.steps.items ≡ postfix u → f ≡ form_of (meaning ls u)) → ((y : Written) → f ≡ form_of y → b ≡ fits source y) → fits source (term_of front t) ≡ b
   fits_is f b form same = sym (same (term_of front t) (form t stands.steps ∙ ap (λ xs. form_of (meaning xs t)) stands.leaves_are))
 
-  pub built_rule : (r : ReadTerm) → IsAtomTable new → fits source (term_of front t) ≡ true → BuiltAs ls t w.line w.names.items old new (Ok r) → CanBeRule source (tree_of r.term) (length r.names.items) w.line
+  pub built_rule : (r : Term) → IsAtomTable new → fits source (term_of front t) ≡ true → BuiltTerm ls t w.line old new (Ok r) → CanBeRule source (tree_of r) (length (texts w.names.items)) w.line
   built_rule r table e b =
-      let there = subst (λ xs. BuiltAs xs t w.line w.names.items old new (Ok r)) stands.leaves_are b in
+      let there = subst (λ xs. BuiltTerm xs t w.line old new (Ok r)) stands.leaves_are b in
       let rule = can_be_rule new table (length (variables [] front)) source (term_of front t) w.line (spelled_proper front t) e in
       let P : term.Tree → Type 0 = λ u. CanBeRule source u (length (variables [] front)) w.line in
-      let Q : List Text → Type 0 = λ vs. CanBeRule source (tree_of r.term) (length vs) w.line in
-      subst Q (sym (there.4 ∙ stands.variables_are)) (subst P (sym there.3) rule)
+      let Q : List Text → Type 0 = λ vs. CanBeRule source (tree_of r) (length vs) w.line in
+      subst Q (sym stands.variables_are) (subst P (sym there.3) rule)
 
 -- what is judged of the tree that tokens spell is judged of the piece
 pub judges_open : (source : Source) (p : Position) (ts front : List Placed) (t : Tree) (line : ℕ) → most_open 0 ts ≤ MAX_OPEN → line ≡ first_line ts → Spells ts front t → (v : Verdict) → v ≡ judged_sentence source p line (record { front = front; tree = t }) → JudgesOpen (nat_lt MAX_OPEN (most_open 0 ts)) source p ts v
 judges_open source p ts front t line few first spells v e =
     let s : Sentence = record { front = front; tree = t } in
     subst (λ b. JudgesOpen b source p ts v) (sym (le-ltb MAX_OPEN (most_open 0 ts) few)) (Some s, spells, e ∙ ap (λ l. judged_sentence source p l s) first)
+
+-- tokens that spell nothing are no clause
+pub judges_none : (source : Source) (p : Position) (ts : List Placed) (line : ℕ) → most_open 0 ts ≤ MAX_OPEN → line ≡ first_line ts → ((front : List Placed) (t : Tree) → Spells ts front t → ⊥) → JudgesOpen (nat_lt MAX_OPEN (most_open 0 ts)) source p ts (Refused (refusal.NotAClause line))
+judges_none source p ts line few first none =
+    subst (λ b. JudgesOpen b source p ts (Refused (refusal.NotAClause line))) (sym (le-ltb MAX_OPEN (most_open 0 ts) few)) (None, none, ap (λ l. Refused (refusal.NotAClause l)) first)
 
 pub judges_piece : (source : Source) (text : Text) (p : Position) (piece : Piece) (ts : List Placed) (v : Verdict) → piece.bad ≡ None → ts ≡ tokens text piece → JudgesOpen (nat_lt MAX_OPEN (most_open 0 ts)) source p ts v → Judges source text p piece v
 judges_piece source text p piece ts v bad e h = subst (λ b. JudgesBy b source p (tokens text piece) v) (sym bad) (subst (λ us. JudgesOpen (nat_lt MAX_OPEN (most_open 0 us)) source p us v) e h)

@@ -1,6 +1,6 @@
 //! The head and the body that a term is.
 
-ghost use Rattle.std.specs.Prelude.{◌≡◌, ◌++◌, IfOk, OnOk, MatchOption, None, false};
+ghost use Rattle.std.specs.Prelude.{◌≡◌, ◌++◌, IfOk, OnOk, MatchOption, None, Some, false};
 ghost use Rattle.ap_term.specs.Tree.{none, more};
 ghost use Rattle.ap_term.specs.TermView.{tree_of};
 ghost use Rattle.ap_lifting.specs.Body as body;
@@ -152,28 +152,32 @@ fn body_in(alloc: Global, t: &Term) -> Result<Body, NoMemory>
     }
 }
 
-fn fact(alloc: Global, t: &Term) -> Result<(Term, Option<Body>), NoMemory>
-    ensures { IfOk result (λ h. (tree_of h.0 ≡ tree_of t.now) × (body_if h.1 ≡ None)) }
-{
-    let head = copy_term(alloc, t)?;
-    Ok((head, None))
-}
-
-fn clause_halves(alloc: Global, t: &Term) -> Result<(Term, Option<Body>), NoMemory>
-    ensures { IfOk result (λ h. (tree_of h.0, body_if h.1) ≡ spec.clause_halves (tree_of t.now)) }
+/// What stands before `:-`, and behind it; a fact has none.
+fn about_neck(t: &Term) -> Option<(&Term, &Term)>
+    ensures { MatchOption result (spec.clause_halves (tree_of t.now) ≡ (tree_of t.now, None)) (λ p. spec.clause_halves (tree_of t.now) ≡ (tree_of p.0.now, Some (spec.body_in (tree_of p.1.now)))) }
 {
     let Term::Node(name, args) = t else {
-        return fact(alloc, t);
+        return None;
     };
-    let Some((head, rest)) = pair(args) else {
-        return fact(alloc, t);
+    let Some(halves) = pair(args) else {
+        return None;
     };
     if name.number() != fixed::NECK {
-        return fact(alloc, t);
+        return None;
     }
-    let head = copy_term(alloc, head)?;
-    let body = body_in(alloc, rest)?;
-    Ok((head, Some(body)))
+    Some(halves)
+}
+
+/// The head and the body of a rule; a fact is its head, which isn't copied.
+fn clause_halves(alloc: Global, t: Term) -> Result<(Term, Option<Body>), NoMemory>
+    ensures { IfOk result (λ h. (tree_of h.0, body_if h.1) ≡ spec.clause_halves (tree_of t)) }
+{
+    if let Some((head, rest)) = about_neck(&t) {
+        let head = copy_term(alloc, head)?;
+        let body = body_in(alloc, rest)?;
+        return Ok((head, Some(body)));
+    }
+    Ok((t, None))
 }
 
 fn question(alloc: Global, t: &Term) -> Result<(Term, Option<Body>), NoMemory>
@@ -204,12 +208,12 @@ fn query_halves(alloc: Global, t: &Term) -> Result<(Term, Option<Body>), NoMemor
 pub(crate) fn halves(
     alloc: Global,
     source: Source,
-    t: &Term,
+    t: Term,
 ) -> Result<(Term, Option<Body>), NoMemory>
-    ensures { IfOk result (λ h. (tree_of h.0, body_if h.1) ≡ spec.halves source (tree_of t.now)) }
+    ensures { IfOk result (λ h. (tree_of h.0, body_if h.1) ≡ spec.halves source (tree_of t)) }
 {
     match source {
         Source::Program => clause_halves(alloc, t),
-        Source::Query => query_halves(alloc, t),
+        Source::Query => query_halves(alloc, &t),
     }
 }

@@ -49,11 +49,11 @@ pub enum Shape {
 fn connective_named(name: &str) -> Connective
     ensures { result ≡ spec.connective name.now }
 {
-    match name {
-        "," => Connective::And,
-        ";" => Connective::Or,
-        "&" => Connective::Par,
-        "=>" => Connective::If,
+    match name.as_bytes() {
+        [b','] => Connective::And,
+        [b';'] => Connective::Or,
+        [b'&'] => Connective::Par,
+        [b'=', b'>'] => Connective::If,
         _ => Connective::Other,
     }
 }

@@ -2,7 +2,9 @@
 
 ghost use Rattle.std.specs.Prelude.{◌≡◌, ℕ, ◌+◌, ◌≤◌, not, nat_lt, length, true, IfOk};
 ghost use Rattle.ap_term.specs.AtomTable.{capacity};
+ghost use Rattle.ap_term.specs.Tree.{Tree};
 ghost use Rattle.ap_term.specs.TermView.{tree_of};
+ghost use Rattle.ap_reader.specs.Leaves.{texts};
 ghost use Rattle.ap_lifting.specs.BodyView.{body_if};
 ghost use Rattle.ap_lifting.specs.Rule.{IsRule};
 ghost use Rattle.ap_lifting.specs.Sizes.{predicates_if};
@@ -17,6 +19,7 @@ use crate::outside::first_outside;
 use crate::refusal::{Refusal, What};
 use crate::source::Source;
 use ap_lifting::{Body, Rule, Sizes, predicates_of, sizes_of};
+use ap_reader::own_names;
 use ap_term::{Atom, Atoms, MAX_ATOMS, Name, Term, fixed};
 use std::alloc::Global;
 
@@ -70,22 +73,23 @@ fn passed_lifted(sizes: Sizes, clauses: u64) -> Option<What>
     }
 }
 
-/// The clause of a head and a body, and how many clauses there are with it; or what is too large.
+/// The clause of a head and a body, and how many clauses there are with it; or what is too large. It is known of
+/// their term whether it is narrow.
 fn limited(
     source: Source,
-    term: &Term,
+    narrow: bool,
     halves: (Term, Option<Body>),
     vars: usize,
     line: u64,
     before: u64,
 ) -> Result<(Rule, u64), What>
-    requires { vars ≤ MAX_VARIABLES → limit.is_narrow (tree_of term.now) ≡ true → IsRule (rule_of (tree_of halves.0, body_if halves.1) vars line) }
-    ensures { LimitedAs source (tree_of term.now) (rule_of (tree_of halves.0, body_if halves.1) vars line) before result }
+    requires { vars ≤ MAX_VARIABLES → narrow ≡ true → IsRule (rule_of (tree_of halves.0, body_if halves.1) vars line) }
+    ensures { (t : Tree) → narrow ≡ limit.is_narrow t → LimitedAs source t (rule_of (tree_of halves.0, body_if halves.1) vars line) before result }
 {
     if vars > MAX_VARIABLES {
         return Err(What::Variables);
     }
-    if !is_narrow(term) {
+    if !narrow {
         return Err(What::Arity);
     }
     let (head, body) = halves;
@@ -99,20 +103,22 @@ fn limited(
     }
 }
 
-/// The verdict on a clause by its term, whose names the table has.
+/// The verdict on a clause by its term, whose names the table has. The names of its variables are made their own
+/// only where it isn't too large.
 pub(crate) fn judge(
     alloc: Global,
     source: Source,
-    term: &Term,
-    names: Vec<Name>,
+    term: Term,
+    names: &[&str],
     line: u64,
     before: Counts,
     atoms: &Atoms,
 ) -> Result<Read, Refusal>
-    requires { CanBeRule source (tree_of term.now) (length names.items) line }
-    ensures verdict { Gives (λ v. v ≡ spec.judged_term source before atoms.now names.items line (tree_of term.now)) atoms.now result }
+    requires { CanBeRule source (tree_of term) (length (texts names.now)) line }
+    ensures verdict { Gives (λ v. v ≡ spec.judged_term source before atoms.now (texts names.now) line (tree_of term)) atoms.now result }
     ensures counted { IfOk result (λ r. IsCounted before r atoms.now) }
 {
+    let narrow = is_narrow(&term);
     let Ok(halves) = halves(alloc, source, term) else {
         return Err(Refusal::NoMemory);
     };
@@ -123,12 +129,16 @@ pub(crate) fn judge(
     if let Some(name) = first_outside(source, &halves.0, &halves.1) {
         return Err(Refusal::Outside { line, name });
     }
-    match limited(source, term, halves, names.len(), line, before.clauses) {
-        Ok((rule, clauses)) => Ok(Read {
+    let (rule, clauses) = match limited(source, narrow, halves, names.len(), line, before.clauses) {
+        Ok(limited) => limited,
+        Err(what) => return Err(Refusal::TooLarge { line, what }),
+    };
+    match own_names(alloc, names) {
+        Ok(names) => Ok(Read {
             rule,
             names,
             counts: Counts { lifted, clauses },
         }),
-        Err(what) => Err(Refusal::TooLarge { line, what }),
+        Err(_) => Err(Refusal::NoMemory),
     }
 }

@@ -1,25 +1,27 @@
 //! The verdict on a piece of a text.
 
-ghost use Rattle.std.specs.Prelude.{◌≡◌, ℕ, ◌+◌, ◌≤◌, List, length, IfOk, Contains, map};
-ghost use Rattle.ap_lexer.specs.Token.{Placed};
+ghost use Rattle.std.specs.Prelude.{◌≡◌, ◌⊎◌, List, None, Ok, IfOk, IfErr, Contains, map};
+ghost use Rattle.ap_lexer.specs.Token.{Placed, tokens as tokens_of};
 ghost use Rattle.ap_lexer.specs.Piece.{pieces as pieces_of};
 ghost use Rattle.ap_term.specs.AtomTable.{capacity};
 ghost use Rattle.ap_term.specs.TermView.{tree_of};
 ghost use Rattle.ap_reader.specs.Grammar.{Tree};
 ghost use Rattle.ap_reader.specs.Step.{postfix};
 ghost use Rattle.ap_reader.specs.Written.{Written, leaf_of, meaning};
-ghost use Rattle.ap_reader.specs.Reading.{StandsFor};
+ghost use Rattle.ap_reader.specs.Reading.{StandsFor, Parsed};
 ghost use Rattle.ap_reader.specs.Build.{Extends};
 ghost use Rattle.ap_clause.specs.Shape.{form_of};
 ghost use Rattle.ap_clause.specs.Reads as spec;
-ghost use Rattle.ap_clause.specs.Verdict.{CanBeRule, Gives, position, IsCounted};
+ghost use Rattle.ap_clause.specs.Reads.{Position};
+ghost use Rattle.ap_clause.specs.declared.refusal.Refusal.TheVariants as refusal;
+ghost use Rattle.ap_clause.specs.Verdict.{Gives, position, IsCounted};
 
 use crate::form::{Form, form_by};
 use crate::judge::{Counts, Read, judge};
 use crate::refusal::Refusal;
 use crate::source::Source;
 use ap_lexer::{LexErr, Piece, tokens};
-use ap_reader::{ReadErr, ReadTerm, WrittenTerm, parse};
+use ap_reader::{ReadErr, WrittenTerm, parse};
 use ap_term::{Atoms, NoMemory};
 use std::alloc::Global;
 
@@ -38,21 +40,11 @@ fn form_of_written(alloc: Global, written: &WrittenTerm) -> Result<Form, NoMemor
     form_by(alloc, &written.leaves, &written.steps)
 }
 
-/// The verdict on a term that was built, behind so many lifted predicates and clauses.
-fn take_built(
-    alloc: Global,
-    source: Source,
-    read: ReadTerm,
-    line: u64,
-    before: Counts,
-    atoms: &Atoms,
-) -> Result<Read, Refusal>
-    requires { CanBeRule source (tree_of read.term) (length read.names.items) line }
-    ensures verdict { Gives (λ v. v ≡ spec.judged_term source before atoms.now read.names.items line (tree_of read.term)) atoms.now result }
-    ensures counted { IfOk result (λ r. IsCounted before r atoms.now) }
+/// The names alone; what else stands for the term is let go.
+fn names_of<'a>(written: WrittenTerm<'a>) -> Vec<&'a str>
+    ensures { result ≡ written.entry.names }
 {
-    let ReadTerm { term, names } = read;
-    judge(alloc, source, &term, names, line, before, atoms)
+    written.names
 }
 
 /// The verdict on the term that a piece's tokens spell.
@@ -75,11 +67,32 @@ fn take(
     if !fits(source, form) {
         return Err(Refusal::NotAClause { line });
     }
-    match written.into_term(alloc, atoms) {
-        Ok(read) => {
+    match written.term(alloc, atoms) {
+        Ok(term) => {
             let _kept = atoms.mark();
-            take_built(alloc, source, read, line, before, atoms)
+            let names = names_of(written);
+            judge(alloc, source, term, &names, line, before, atoms)
         }
+        Err(ReadErr::NotAClause { line }) => Err(Refusal::NotAClause { line }),
+        Err(ReadErr::TooDeep { line }) => Err(Refusal::TooDeep { line }),
+        Err(ReadErr::TooManyAtoms { line }) => Err(Refusal::TooManyAtoms { line }),
+        Err(ReadErr::NoMemory) => Err(Refusal::NoMemory),
+    }
+}
+
+/// What stands for the term that a piece's tokens spell. The tokens are let go before it is built.
+fn written_in<'a>(alloc: Global, text: &'a [u8], piece: &Piece) -> Result<WrittenTerm<'a>, Refusal>
+    requires { Contains (pieces_of text.now) piece.now }
+    ensures ok { IfOk result (λ w. (piece.now.bad ≡ None) × Parsed (tokens_of text.now piece.now) (Ok w)) }
+    ensures err { IfErr result (λ r. (r ≡ refusal.NoMemory) ⊎ ((source : Source) (p : Position) → spec.Judges source text.now p piece.now (spec.Refused r))) }
+{
+    let tokens = match tokens(alloc, text, piece) {
+        Ok(tokens) => tokens,
+        Err(LexErr::BadToken { line }) => return Err(Refusal::BadToken { line }),
+        Err(LexErr::NoMemory) => return Err(Refusal::NoMemory),
+    };
+    match parse(alloc, &tokens) {
+        Ok(written) => Ok(written),
         Err(ReadErr::NotAClause { line }) => Err(Refusal::NotAClause { line }),
         Err(ReadErr::TooDeep { line }) => Err(Refusal::TooDeep { line }),
         Err(ReadErr::TooManyAtoms { line }) => Err(Refusal::TooManyAtoms { line }),
@@ -102,16 +115,8 @@ pub(crate) fn take_piece(
     ensures counted { IfOk result (λ r. IsCounted before r atoms.new) }
     ensures grows { Extends atoms.old atoms.new }
 {
-    let tokens = match tokens(alloc, text, piece) {
-        Ok(tokens) => tokens,
-        Err(LexErr::BadToken { line }) => return Err(Refusal::BadToken { line }),
-        Err(LexErr::NoMemory) => return Err(Refusal::NoMemory),
-    };
-    match parse(alloc, &tokens) {
+    match written_in(alloc, text, piece) {
         Ok(written) => take(alloc, source, written, before, atoms),
-        Err(ReadErr::NotAClause { line }) => Err(Refusal::NotAClause { line }),
-        Err(ReadErr::TooDeep { line }) => Err(Refusal::TooDeep { line }),
-        Err(ReadErr::TooManyAtoms { line }) => Err(Refusal::TooManyAtoms { line }),
-        Err(ReadErr::NoMemory) => Err(Refusal::NoMemory),
+        Err(refusal) => Err(refusal),
     }
 }

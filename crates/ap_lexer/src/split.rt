@@ -51,6 +51,15 @@ fn put<'a>(out: &mut Vec<Token<'a>>, token: Option<Token<'a>>) -> Result<(), NoM
     Ok(())
 }
 
+/// How many tokens room is made for at once, at most.
+const FIRST_ROOM: usize = 1024;
+
+/// How many tokens room is made for before a piece is read: a token has more than two bytes mostly, with what parts
+/// it from the next.
+fn room_for(piece: &Piece) -> usize {
+    FIRST_ROOM.min(piece.to.saturating_sub(piece.from) / 2)
+}
+
 /// The tokens of a piece that `pieces` gave for this text.
 ///
 /// # Errors
@@ -64,7 +73,9 @@ pub fn tokens<'a>(alloc: Global, text: &'a [u8], piece: &Piece) -> Result<Vec<To
     if let Some(line) = piece.bad {
         return Err(LexErr::BadToken { line });
     }
-    let mut out = Vec::new(alloc);
+    let Ok(mut out) = Vec::with_capacity(alloc, room_for(piece)) else {
+        return Err(LexErr::NoMemory);
+    };
     let mut ahead = Ahead::new();
     let mut at = piece.from;
     let mut line = piece.line;

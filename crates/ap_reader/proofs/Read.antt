@@ -14,19 +14,20 @@ use Rattle.ap_reader.specs.Step.{postfix}
 use Rattle.ap_reader.specs.Word.{words}
 use Rattle.ap_reader.specs.Written.{leaves, leaf_of, variables}
 use Rattle.ap_reader.specs.Reading.{first_line, EndsAs, Spells, term_of, Parsed, BuiltAs, ReadAs}
+use Rattle.ap_reader.specs.Leaves.{texts}
 use Rattle.ap_reader.proofs.Complete.{one}
 
 one_front : (ts a b : List Placed) → EndsAs ts a → EndsAs ts b → a ≡ b
 one_front ts a b h k = (same_from_push a b h.0 k.0 (sym h.2 ∙ k.2)).0
 
 -- what was parsed and then built is what is read
-pub read_built : (ts : List Placed) (old new : List Text) (w : WrittenTerm) (r : Result ReadTerm ReadErr) → Parsed ts (Ok w) → ((t : Tree) → w.steps.items ≡ postfix t → BuiltAs (map leaf_of w.leaves.items) t w.line w.names.items old new r) → ReadAs ts old new r
+pub read_built : (ts : List Placed) (old new : List Text) (w : WrittenTerm) (r : Result ReadTerm ReadErr) → Parsed ts (Ok w) → ((t : Tree) → w.steps.items ≡ postfix t → BuiltAs (map leaf_of w.leaves.items) t w.line (texts w.names.items) old new r) → ReadAs ts old new r
 read_built ts old new w r parsed built =
     let front = parsed.2.0 in
     let t = parsed.2.1 in
     let stands = parsed.2.3 in
-    let at = subst (λ xs. BuiltAs xs t w.line w.names.items old new r) stands.leaves_are (built t stands.steps) in
-    let here = subst (λ line. BuiltAs (leaves [] front) t line w.names.items old new r) parsed.1 at in
+    let at = subst (λ xs. BuiltAs xs t w.line (texts w.names.items) old new r) stands.leaves_are (built t stands.steps) in
+    let here = subst (λ line. BuiltAs (leaves [] front) t line (texts w.names.items) old new r) parsed.1 at in
     let named = subst (λ ns. BuiltAs (leaves [] front) t (first_line ts) ns old new r) stands.variables_are here in
     of r parsed.0 front t parsed.2.2 named
   where

@@ -1,5 +1,5 @@
 -- What the machine finds is a term, and is spelled by the words that it went over.
-use Rattle.std.proofs.Common.{◌≡◌, ℕ, ◌^◌, ◌<◌, ◌≤◌, List, [], ◌∷◌, ◌++◌, Bool, true, false, cond, leb, ltb, ◌&&◌, Some, refl, sym, ap, subst, ◌∙◌, append_assoc, codes, arith}
+use Rattle.std.proofs.Common.{◌≡◌, ℕ, ◌^◌, ◌<◌, ◌≤◌, List, [], ◌∷◌, ◌++◌, false, leb, ltb, ◌&&◌, Some, refl, sym, ap, subst, ◌∙◌, append_assoc, codes, arith}
 use Rattle.std.proofs.lemmas.List.{append-nil}
 use Rattle.std.proofs.lemmas.Bool.{leb-true, ltb-true, and_parts, cond_both}
 use Rattle.std.proofs.lemmas.Option.{same_Some}

@@ -1,5 +1,5 @@
 -- The numbers of variables after one more.
-use Rattle.std.proofs.Common.{◌≡◌, ℕ, ◌+◌, Bool, true, false, List, [], ◌∷◌, ◌++◌, length, Option, Some, None, if◌then◌else◌, cond, refl, ap, sym, ◌∙◌, arith, codes}
+use Rattle.std.proofs.Common.{◌≡◌, ◌≤◌, ◌<◌, ℕ, suc, zero, ◌+◌, min, take, drop, Bool, true, false, List, [], ◌∷◌, ◌++◌, length, Option, Some, None, if◌then◌else◌, cond, refl, ap, sym, subst, ◌∙◌, arith, codes}
 use Rattle.std.specs.Prelude.{bytes_eq}
 use Rattle.std.proofs.lemmas.Bool.{false≢true}
 use Rattle.std.proofs.lemmas.Slice.Eq.{bytes_eq-Decides}
@@ -7,7 +7,11 @@ use Rattle.ap_lexer.specs.Lexeme.{Text}
 use Rattle.std.specs.Borrow.{Bor}
 use Rattle.std.specs.HashMap.{HashMap, get_by}
 use Rattle.ap_reader.specs.Written.{place_in, known}
-use Rattle.ap_reader.specs.Leaves.{Numbers}
+use Rattle.ap_reader.specs.Leaves.{Numbers, texts}
+use Rattle.ap_reader.proofs.Trees.{map-push}
+use Rattle.ap_reader.specs.declared.leaf.TheConstants.{NEAR}
+use Rattle.std.proofs.lemmas.List.{drop-append-le, length-drop, length-append, length-map, take_min, take-map}
+use Rattle.std.proofs.Math.ListN.{drop_of_length-le}
 
 abbrev pub or_else : Option ℕ → Option ℕ → Option ℕ
 or_else None o = o
@@ -37,26 +41,79 @@ or_else-none : (o : Option ℕ) → o ≡ or_else o None
 or_else-none None = refl
 or_else-none (Some n) = refl
 
-module _ {S : Type 0} (m m' : HashMap (Bor (List ℕ)) ℕ S) (seen : List Text) (name : Text) (n : ℕ) (known_before : Numbers m seen) where
-  -- a new variable has the next number
-  pub numbers-more : (seen' : List Text) → known seen name ≡ None → bytes_eq name (codes "_") ≡ false → n ≡ length seen + 1 → seen' ≡ seen ++ name ∷ [] → ((q : Text) → get_by (λ k. bytes_eq q k.now) m' ≡ cond (bytes_eq name q) (Some n) (get_by (λ k. bytes_eq q k.now) m)) → Numbers m' seen'
-  numbers-more seen' none named next e step = λ q h. step q ∙ go q h (bytes_eq name q) refl ∙ sym (ap (λ xs. place_in 1 xs q) e ∙ place_in-push 1 seen name q)
-    where
-      absent : place_in 1 seen name ≡ None
-      absent = sym (ap (λ b. cond b None (place_in 1 seen name)) named) ∙ none
+-- the first names of a list, and then those behind them
+pub place_in-split : (n at : ℕ) (xs : List Text) (q : Text) → or_else (place_in at (take n xs) q) (place_in (at + n) (drop n xs) q) ≡ place_in at xs q
+place_in-split zero at xs q = ap (λ k. place_in k xs q) (omega arith)
+place_in-split (suc n) at [] q = refl
+place_in-split (suc n) at (x ∷ xs) q =
+    let moved : at + suc n ≡ (at + 1) + n = omega arith in
+    place_in-push-if (bytes_eq x q) at n (place_in (at + 1) (take n xs) q) (place_in (at + suc n) (drop n xs) q)
+    ∙ ap (cond (bytes_eq x q) (Some at)) (ap (λ k. or_else (place_in (at + 1) (take n xs) q) (place_in k (drop n xs) q)) moved ∙ place_in-split n (at + 1) xs q)
 
-      go : (q : Text) → bytes_eq q (codes "_") ≡ false → (b : Bool) → bytes_eq name q ≡ b → cond (bytes_eq name q) (Some n) (get_by (λ k. bytes_eq q k.now) m) ≡ or_else (place_in 1 seen q) (cond (bytes_eq name q) (Some (1 + length seen)) None)
+-- the map has the numbers of names, from one on, but for `_`
+abbrev NumbersFrom : ℕ → {S : Type 0} → HashMap (Bor (List ℕ)) ℕ S → List Text → Type 0
+NumbersFrom base m seen = (q : Text) → bytes_eq q (codes "_") ≡ false → get_by (λ k. bytes_eq q k.now) m ≡ place_in base seen q
+
+or_else-second : (a b : Option ℕ) → or_else a b ≡ None → b ≡ None
+or_else-second None b e = e
+or_else-second (Some n) b e = absurd (cc)
+
+module _ {S : Type 0} (m m' : HashMap (Bor (List ℕ)) ℕ S) (seen : List Text) (name : Text) where
+  more_from : (base n : ℕ) → NumbersFrom base m seen → place_in base seen name ≡ None → n ≡ base + length seen → ((q : Text) → get_by (λ k. bytes_eq q k.now) m' ≡ cond (bytes_eq name q) (Some n) (get_by (λ k. bytes_eq q k.now) m)) → NumbersFrom base m' (seen ++ name ∷ [])
+  more_from base n before absent next step = λ q h. step q ∙ go q h (bytes_eq name q) refl ∙ sym (place_in-push base seen name q)
+    where
+      go : (q : Text) → bytes_eq q (codes "_") ≡ false → (b : Bool) → bytes_eq name q ≡ b → cond (bytes_eq name q) (Some n) (get_by (λ k. bytes_eq q k.now) m) ≡ or_else (place_in base seen q) (cond (bytes_eq name q) (Some (base + length seen)) None)
       go q h true p =
           let same : name ≡ q = (bytes_eq-Decides name q).0 p in
-          let none_q : place_in 1 seen q ≡ None = ap (place_in 1 seen) (sym same) ∙ absent in
-          let number : n ≡ 1 + length seen = omega arith in
-          ap (λ b. cond b (Some n) (get_by (λ k. bytes_eq q k.now) m)) p ∙ ap Some number ∙ sym (ap (λ o. or_else o (cond (bytes_eq name q) (Some (1 + length seen)) None)) none_q ∙ ap (λ b. cond b (Some (1 + length seen)) None) p)
+          let none_q : place_in base seen q ≡ None = ap (place_in base seen) (sym same) ∙ absent in
+          ap (λ b. cond b (Some n) (get_by (λ k. bytes_eq q k.now) m)) p ∙ ap Some next ∙ sym (ap (λ o. or_else o (cond (bytes_eq name q) (Some (base + length seen)) None)) none_q ∙ ap (λ b. cond b (Some (base + length seen)) None) p)
       go q h false p =
-          ap (λ b. cond b (Some n) (get_by (λ k. bytes_eq q k.now) m)) p ∙ known_before q h ∙ or_else-none (place_in 1 seen q) ∙ sym (ap (λ b. or_else (place_in 1 seen q) (cond b (Some (1 + length seen)) None)) p)
+          ap (λ b. cond b (Some n) (get_by (λ k. bytes_eq q k.now) m)) p ∙ before q h ∙ or_else-none (place_in base seen q) ∙ sym (ap (λ b. or_else (place_in base seen q) (cond b (Some (base + length seen)) None)) p)
 
-  -- `_` has a number that no other variable finds
-  pub numbers-anonymous : (seen' : List Text) → bytes_eq name (codes "_") ≡ true → seen' ≡ seen ++ name ∷ [] → Numbers m seen'
-  numbers-anonymous seen' anonymous e = λ q h. known_before q h ∙ or_else-none (place_in 1 seen q) ∙ sym (ap (λ xs. place_in 1 xs q) e ∙ place_in-push 1 seen name q ∙ ap (λ b. or_else (place_in 1 seen q) (cond b (Some (1 + length seen)) None)) (other q h))
+  anonymous_from : (base : ℕ) → NumbersFrom base m seen → bytes_eq name (codes "_") ≡ true → NumbersFrom base m (seen ++ name ∷ [])
+  anonymous_from base before anonymous = λ q h. before q h ∙ or_else-none (place_in base seen q) ∙ sym (place_in-push base seen name q ∙ ap (λ b. or_else (place_in base seen q) (cond b (Some (base + length seen)) None)) (other q h))
     where
       other : (q : Text) → bytes_eq q (codes "_") ≡ false → bytes_eq name q ≡ false
       other q h = bytes_eq-sym name q ∙ ap (bytes_eq q) ((bytes_eq-Decides name (codes "_")).0 anonymous) ∙ h
+
+module _ {S : Type 0} (m m' : HashMap (Bor (List ℕ)) ℕ S) (before after : List (Bor (List ℕ))) (slice : Bor (List ℕ)) (grown : after ≡ before ++ slice ∷ []) (known_before : Numbers m (texts before)) where
+  pub seen-more : texts after ≡ texts before ++ slice.now ∷ []
+  seen-more = ap texts grown ∙ map-push (λ s. s.now) before slice
+
+  behind : NEAR ≤ length before → drop NEAR (texts before) ++ slice.now ∷ [] ≡ drop NEAR (texts after)
+  behind far = sym (ap (drop NEAR) seen-more ∙ drop-append-le NEAR (texts before) (slice.now ∷ []) (omega (arith, far, length-map before (λ s. s.now))))
+
+  -- a new variable behind the first ones has the next number
+  pub numbers-more : (n : ℕ) → NEAR ≤ length before → known (texts before) slice.now ≡ None → bytes_eq slice.now (codes "_") ≡ false → n ≡ length before + 1 → ((q : Text) → get_by (λ k. bytes_eq q k.now) m' ≡ cond (bytes_eq slice.now q) (Some n) (get_by (λ k. bytes_eq q k.now) m)) → Numbers m' (texts after)
+  numbers-more n far none named next step =
+      let absent : place_in 1 (texts before) slice.now ≡ None = sym (ap (λ b. cond b None (place_in 1 (texts before) slice.now)) named) ∙ none in
+      let absent_behind : place_in (NEAR + 1) (drop NEAR (texts before)) slice.now ≡ None =
+      or_else-second (place_in 1 (take NEAR (texts before)) slice.now) (place_in (NEAR + 1) (drop NEAR (texts before)) slice.now) (place_in-split NEAR 1 (texts before) slice.now ∙ absent) in
+      let number : n ≡ NEAR + 1 + length (drop NEAR (texts before)) = next ∙ omega (arith, far, length-drop NEAR (texts before), length-map before (λ s. s.now)) in
+      subst (NumbersFrom (NEAR + 1) m') (behind far) (more_from m m' (drop NEAR (texts before)) slice.now (NEAR + 1) n known_before absent_behind number step)
+
+  -- `_` has a number that no other variable finds
+  pub numbers-anonymous : NEAR ≤ length before → bytes_eq slice.now (codes "_") ≡ true → Numbers m (texts after)
+  numbers-anonymous far anonymous = subst (NumbersFrom (NEAR + 1) m) (behind far) (anonymous_from m m (drop NEAR (texts before)) slice.now (NEAR + 1) known_before anonymous)
+
+  -- the map has no number of the first ones
+  pub numbers-near : length before < NEAR → Numbers m (texts after)
+  numbers-near near =
+      let few : length (texts before) ≤ NEAR = omega (arith, near, length-map before (λ s. s.now)) in
+      let few' : length (texts after) ≤ NEAR = omega (arith, near, length-map before (λ s. s.now), ap length seen-more, length-append (texts before) (slice.now ∷ [])) in
+      let none : drop NEAR (texts before) ≡ [] = drop_of_length-le (texts before) few in
+      let none' : drop NEAR (texts after) ≡ [] = drop_of_length-le (texts after) few' in
+      subst (NumbersFrom (NEAR + 1) m) (none ∙ sym none') known_before
+
+-- a variable is found among the first ones, or by the map
+module _ {S : Type 0} (m : HashMap (Bor (List ℕ)) ℕ S) (items part : List (Bor (List ℕ))) (name : Text) (named : bytes_eq name (codes "_") ≡ false) (first_ones : part ≡ take (min NEAR (length items)) items) where
+  found : (o : Option ℕ) → place_in 1 (texts part) name ≡ o → known (texts items) name ≡ or_else o (place_in (NEAR + 1) (drop NEAR (texts items)) name)
+  found o e =
+      ap (λ b. cond b None (place_in 1 (texts items) name)) named ∙ sym (place_in-split NEAR 1 (texts items) name)
+      ∙ ap (λ p. or_else p (place_in (NEAR + 1) (drop NEAR (texts items)) name)) (ap (λ xs. place_in 1 xs name) (take-map (λ s. s.now) NEAR items ∙ sym (ap texts (first_ones ∙ take_min NEAR items))) ∙ e)
+
+  pub known-near : (n : ℕ) → place_in 1 (texts part) name ≡ Some n → Some n ≡ known (texts items) name
+  known-near n e = sym (found (Some n) e)
+
+  pub known-far : place_in 1 (texts part) name ≡ None → Numbers m (texts items) → get_by (λ k. bytes_eq name k.now) m ≡ known (texts items) name
+  known-far e numbers = numbers name named ∙ sym (found None e)

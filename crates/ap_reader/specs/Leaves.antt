@@ -1,5 +1,5 @@
 -- What the code finds of the tokens as operands and functors.
-use Rattle.std.specs.Prelude.{◌≡◌, ℕ, false, List, [], map, Result, Ok, Err, codes, bytes_eq, drop, string_bytes}
+use Rattle.std.specs.Prelude.{◌≡◌, ℕ, ◌+◌, false, List, [], map, Result, Ok, Err, codes, bytes_eq, drop, string_bytes}
 use Rattle.std.specs.Str.{IsUtf8}
 use Rattle.std.specs.declared.string.String.{String}
 use Rattle.std.specs.declared.alloc.Global.{Global}
@@ -9,14 +9,19 @@ use Rattle.std.specs.HashMap.{HashMap, get_by}
 use Rattle.ap_lexer.specs.Lexeme.{Text}
 use Rattle.ap_lexer.specs.Token.{Placed}
 use Rattle.ap_reader.specs.declared.leaf.Leaf.{Leaf}
+use Rattle.ap_reader.specs.declared.leaf.TheConstants.{NEAR}
 use Rattle.ap_reader.specs.declared.leaf.Quote.TheVariants as quote
 use Rattle.ap_reader.specs.declared.leaf.LeafErr.{LeafErr}
 use Rattle.ap_reader.specs.declared.leaf.LeafErr.TheVariants as err
 use Rattle.ap_reader.specs.Written.{IsTextBy, AreText, place_in, seen_by, leaf_by, leaf_of, unquoted, leaves, variables}
 
--- the map has the numbers of the variables so far, but for `_`
+-- texts of which the code has slices
+abbrev pub texts : List (Bor (List ℕ)) → List Text
+texts = map (λ s. s.now)
+
+-- the map has the numbers of the variables behind the first NEAR so far, but for `_`
 abbrev pub Numbers : {S : Type 0} → HashMap (Bor (List ℕ)) ℕ S → List Text → Type 0
-Numbers m seen = (q : Text) → bytes_eq q (codes "_") ≡ false → get_by (λ k. bytes_eq q k.now) m ≡ place_in 1 seen q
+Numbers m seen = (q : Text) → bytes_eq q (codes "_") ≡ false → get_by (λ k. bytes_eq q k.now) m ≡ place_in (NEAR + 1) (drop NEAR seen) q
 
 -- the name that a quoted token's bytes are
 abbrev pub NameFor : Text → Result (String Global) LeafErr → Type 0
@@ -35,6 +40,6 @@ LeavesFor ts (Ok p) = (map leaf_of p.0 ≡ leaves [] ts) × (p.1 ≡ variables [
 LeavesFor ts (Err err.NotText) = AreText ts → ⊥
 LeavesFor ts (Err err.NoMemory) = Unit {0}
 
-abbrev pub both_items : Result (Vec Leaf Global × Vec (List ℕ) Global) LeafErr → Result (List Leaf × List Text) LeafErr
-both_items (Ok p) = Ok (p.0.items, p.1.items)
+abbrev pub both_items : Result (Vec Leaf Global × Vec (Bor (List ℕ)) Global) LeafErr → Result (List Leaf × List Text) LeafErr
+both_items (Ok p) = Ok (p.0.items, texts p.1.items)
 both_items (Err e) = Err e

@@ -5,6 +5,7 @@ use Rattle.ap_lexer.specs.Lexeme.{Text}
 use Rattle.ap_lexer.specs.Token.{Placed}
 use Rattle.ap_term.specs.AtomTable.{insert_names, capacity}
 use Rattle.ap_term.specs.TermView.{tree_of}
+use Rattle.ap_term.specs.declared.terms.Term.{Term}
 use Rattle.ap_reader.specs.declared.written.WrittenTerm.{WrittenTerm}
 use Rattle.ap_reader.specs.declared.written.ReadTerm.{ReadTerm}
 use Rattle.ap_reader.specs.declared.written.TheConstants.{MAX_OPEN}
@@ -17,6 +18,7 @@ use Rattle.ap_reader.specs.Step.{postfix}
 use Rattle.ap_reader.specs.Word.{words}
 use Rattle.ap_reader.specs.Written.{Written, AreText, leaves, leaf_of, variables, meaning}
 use Rattle.ap_reader.specs.Depth.{depth}
+use Rattle.ap_reader.specs.Leaves.{texts}
 use Rattle.ap_reader.specs.Build.{names, term_in}
 
 abbrev pub first_line : List Placed → ℕ
@@ -42,7 +44,7 @@ term_of front t = meaning (leaves [] front) t
 pub record StandsFor (front : List Placed) (t : Tree) (w : WrittenTerm) : Type 0 where
   pub steps : w.steps.items ≡ postfix t
   pub leaves_are : map leaf_of w.leaves.items ≡ leaves [] front
-  pub variables_are : w.names.items ≡ variables [] front
+  pub variables_are : texts w.names.items ≡ variables [] front
 
 -- The tree that the tokens spell; they spell none; or too many brackets are open.
 abbrev pub Parsed : List Placed → Result WrittenTerm ReadErr → Type 0
@@ -54,13 +56,19 @@ Parsed ts (Err err.NoMemory) = Unit {0}
 
 -- The term of a tree over leaves, with its names in the table; it is too deep; or the table has no room for its names.
 -- The table stays as it was after each error.
+abbrev pub BuiltTerm : List Written → Tree → ℕ → List (List ℕ) → List (List ℕ) → Result Term ReadErr → Type 0
+BuiltTerm xs t at old new (Ok u) =
+    (depth (meaning xs t) ≤ MAX_DEPTH) × (new ≡ insert_names old (names xs (postfix t))) × (length new ≤ capacity) × (tree_of u ≡ term_in new (meaning xs t))
+BuiltTerm xs t at old new (Err (err.NotAClause line)) = ⊥
+BuiltTerm xs t at old new (Err (err.TooDeep line)) = (MAX_DEPTH < depth (meaning xs t)) × (line ≡ at) × (new ≡ old)
+BuiltTerm xs t at old new (Err (err.TooManyAtoms line)) = (depth (meaning xs t) ≤ MAX_DEPTH) × (capacity < length (insert_names old (names xs (postfix t)))) × (line ≡ at) × (new ≡ old)
+BuiltTerm xs t at old new (Err err.NoMemory) = new ≡ old
+
+-- the same, with the names of the variables
 abbrev pub BuiltAs : List Written → Tree → ℕ → List Text → List (List ℕ) → List (List ℕ) → Result ReadTerm ReadErr → Type 0
 BuiltAs xs t at ns old new (Ok r) =
     (depth (meaning xs t) ≤ MAX_DEPTH) × (new ≡ insert_names old (names xs (postfix t))) × (length new ≤ capacity) × (tree_of r.term ≡ term_in new (meaning xs t)) × (r.names.items ≡ ns)
-BuiltAs xs t at ns old new (Err (err.NotAClause line)) = ⊥
-BuiltAs xs t at ns old new (Err (err.TooDeep line)) = (MAX_DEPTH < depth (meaning xs t)) × (line ≡ at) × (new ≡ old)
-BuiltAs xs t at ns old new (Err (err.TooManyAtoms line)) = (depth (meaning xs t) ≤ MAX_DEPTH) × (capacity < length (insert_names old (names xs (postfix t)))) × (line ≡ at) × (new ≡ old)
-BuiltAs xs t at ns old new (Err err.NoMemory) = new ≡ old
+BuiltAs xs t at ns old new (Err e) = BuiltTerm xs t at old new (Err e)
 
 -- The term that the tokens spell, or the first cause why there is none: more than MAX_OPEN brackets open; no term; a
 -- term deeper than MAX_DEPTH; no room for its names.

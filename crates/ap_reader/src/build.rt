@@ -62,7 +62,7 @@ fn pop_items(alloc: Global, stack: &mut Vec<Value>) -> Vec<Term>
 fn compound1(alloc: Global, name: Atom, x: Term) -> Result<Term, NoMemory>
     ensures { IfOk result (λ t. tree_of t ≡ node name (more (tree_of x) none)) }
 {
-    let mut args = Vec::new(alloc);
+    let mut args = Vec::with_capacity(alloc, 1)?;
     args.push(x)?;
     Ok(Term::Node(name, Args::from_vec(args)))
 }
@@ -70,7 +70,7 @@ fn compound1(alloc: Global, name: Atom, x: Term) -> Result<Term, NoMemory>
 fn compound2(alloc: Global, name: Atom, x: Term, y: Term) -> Result<Term, NoMemory>
     ensures { IfOk result (λ t. tree_of t ≡ node name (more (tree_of x) (more (tree_of y) none))) }
 {
-    let mut args = Vec::new(alloc);
+    let mut args = Vec::with_capacity(alloc, 2)?;
     args.push(x)?;
     args.push(y)?;
     Ok(Term::Node(name, Args::from_vec(args)))

@@ -1,13 +1,14 @@
 //! What each token is as an operand or a functor: a variable's number or a name.
 
-ghost use Rattle.std.specs.Prelude.{◌≡◌, List, IfOk, OnOk, map, drop};
+ghost use Rattle.std.specs.Prelude.{◌≡◌, ℕ, ◌+◌, ◌<◌, ◌^◌, List, IfOk, OnOk, map, drop, length};
+ghost use Rattle.std.specs.Borrow.{Bor};
 ghost use Rattle.ap_lexer.specs.Lexeme.{Text};
 ghost use Rattle.ap_lexer.specs.Token.{Placed, view};
 ghost use Rattle.ap_reader.specs.Written as spec;
-ghost use Rattle.ap_reader.specs.Leaves.{Numbers, NameFor, LeafFor, LeavesFor, both_items};
+ghost use Rattle.ap_reader.specs.Leaves.{Numbers, NameFor, LeafFor, LeavesFor, both_items, texts};
 
 use ap_lexer::{Token, TokenKind};
-use ap_term::{Name, NoMemory};
+use ap_term::NoMemory;
 use std::alloc::{AllocError, Global};
 use std::collections::HashMap;
 
@@ -77,38 +78,65 @@ pub(crate) enum LeafErr {
     NoMemory,
 }
 
-/// The variables so far: their names by number, and the numbers of all but `_`.
+/// How many variables are looked for one after another, which takes less than a map where they are few.
+pub(crate) const NEAR: usize = 16;
+
+/// The variables so far: their names by number, and the numbers of those behind the first `NEAR`, of all but `_`.
 #[derive(Drop)]
 pub(crate) struct Variables<'a> {
     numbers: HashMap<&'a str, u64>,
-    pub(crate) names: Vec<Name>,
+    pub(crate) names: Vec<&'a str>,
+}
+
+/// The place of a name, from 1.
+fn place_in(names: &[&str], name: &str) -> Option<u64>
+    requires { length names.now < 2 ^ 63 }
+    ensures { result ≡ spec.place_in 1 (texts names.now) name.now }
+{
+    let mut at = 1;
+    let mut left = names;
+    while let [first, rest @ ..] = left {
+        if *first == name {
+            return Some(at);
+        }
+        at += 1;
+        left = rest;
+    }
+    None
 }
 
 impl<'a> Variables<'a> {
     /// The number of a variable that stood before; `_` never did.
     fn known(&self, name: &str) -> Option<u64>
-        requires { Numbers self.now.numbers self.now.names.items }
-        ensures { result ≡ spec.known self.now.names.items name.now }
+        requires { Numbers self.now.numbers (texts self.now.names.items) }
+        ensures { result ≡ spec.known (texts self.now.names.items) name.now }
     {
         if name == "_" {
-            None
-        } else {
-            self.numbers.get(name).copied()
+            return None;
+        }
+        let near = NEAR.min(self.names.len());
+        match place_in(&self.names[..near], name) {
+            Some(number) => Some(number),
+            None => self.numbers.get(name).copied(),
         }
     }
 
     /// The number of the next variable.
-    fn number(&mut self, alloc: Global, name: &'a str) -> Result<u64, NoMemory>
-        requires numbers { Numbers self.old.numbers self.old.names.items }
-        ensures number { IfOk result (λ n. n ≡ spec.number_after self.old.names.items (spec.known self.old.names.items name.now)) }
-        ensures seen { OnOk result (self.new.names.items ≡ spec.seen_after self.old.names.items name.now (spec.known self.old.names.items name.now)) }
-        ensures numbers { OnOk result (Numbers self.new.numbers self.new.names.items) }
+    fn number(&mut self, name: &'a str) -> Result<u64, NoMemory>
+        requires numbers { Numbers self.old.numbers (texts self.old.names.items) }
+        ensures number { IfOk result (λ n. n ≡ spec.number_after (texts self.old.names.items) (spec.known (texts self.old.names.items) name.now)) }
+        ensures seen { OnOk result (texts self.new.names.items ≡ spec.seen_after (texts self.old.names.items) name.now (spec.known (texts self.old.names.items) name.now)) }
+        ensures numbers { OnOk result (Numbers self.new.numbers (texts self.new.names.items)) }
     {
         if let Some(number) = self.known(name) {
             return Ok(number);
         }
-        let number = self.names.len() as u64 + 1;
-        self.names.push(Name::new(alloc, name)?)?;
+        let before = self.names.len();
+        let number = before as u64 + 1;
+        self.names.push(name)?;
+        if before < NEAR {
+            return Ok(number);
+        }
         if name != "_" {
             self.numbers.insert(name, number)?;
         }
@@ -117,16 +145,16 @@ impl<'a> Variables<'a> {
 
     /// What the next token is.
     fn leaf(&mut self, alloc: Global, token: &Token<'a>) -> Result<Leaf<'a>, LeafErr>
-        requires { Numbers self.old.numbers self.old.names.items }
-        ensures leaf { LeafFor (view token.now) self.old.names.items self.new.names.items result }
-        ensures numbers { OnOk result (Numbers self.new.numbers self.new.names.items) }
+        requires { Numbers self.old.numbers (texts self.old.names.items) }
+        ensures leaf { LeafFor (view token.now) (texts self.old.names.items) (texts self.new.names.items) result }
+        ensures numbers { OnOk result (Numbers self.new.numbers (texts self.new.names.items)) }
     {
         match token.kind {
             TokenKind::Variable => {
                 let Ok(name) = std::str::from_utf8(token.text) else {
                     return Err(LeafErr::NotText);
                 };
-                match self.number(alloc, name) {
+                match self.number(name) {
                     Ok(number) => Ok(Leaf::Variable(number)),
                     Err(_) => Err(LeafErr::NoMemory),
                 }
@@ -181,14 +209,16 @@ fn unquoted_name(alloc: Global, text: &[u8]) -> Result<String, LeafErr>
 pub(crate) fn leaves<'a>(
     alloc: Global,
     tokens: &[Token<'a>],
-) -> Result<(Vec<Leaf<'a>>, Vec<Name>), LeafErr>
+) -> Result<(Vec<Leaf<'a>>, Vec<&'a str>), LeafErr>
     ensures { LeavesFor (map view tokens.now) (both_items result) }
 {
     let mut variables = Variables {
         numbers: HashMap::new(alloc),
         names: Vec::new(alloc),
     };
-    let mut out = Vec::new(alloc);
+    let Ok(mut out) = Vec::with_capacity(alloc, tokens.len()) else {
+        return Err(LeafErr::NoMemory);
+    };
     let mut left = tokens;
     while let [token, rest @ ..] = left {
         match variables.leaf(alloc, token) {

@@ -25,4 +25,4 @@ pub use leaf::Leaf;
 pub use operators::{Fixity, OPERATORS, Operator};
 pub use pass::Step;
 pub use word::Word;
-pub use written::{MAX_OPEN, ReadTerm, WrittenTerm, parse, read_term};
+pub use written::{MAX_OPEN, ReadTerm, WrittenTerm, own_names, parse, read_term};

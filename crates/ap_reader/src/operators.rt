@@ -1,6 +1,6 @@
 //! The table of operators, and what it says of a name and of a priority.
 
-ghost use Rattle.std.specs.Prelude.{◌≡◌, false, true, map};
+ghost use Rattle.std.specs.Prelude.{◌≡◌, false, true};
 ghost use Rattle.ap_reader.specs.Operator as spec;
 
 /// How an operator takes its operands (ISO 13211-1, section 6.3.4): `f` stands for the operator, `y`
@@ -55,66 +55,43 @@ pub const OPERATORS: [Operator; 33] = [
     (200, Fixity::Fy, "-"),
 ];
 
-fn is_prefix(fixity: Fixity) -> bool
-    ensures { result ≡ spec.is_prefix fixity }
-{
-    matches!(fixity, Fixity::Fx | Fixity::Fy)
-}
-
-/// The priority of a name among operators, as an infix or as a prefix one; 0 where it is none.
-fn priority_in(rows: &[Operator], prefix: bool, name: &[u8]) -> u16
-    ensures { result ≡ spec.priority_in prefix (map (λ row. (row.0, row.1, row.2.now)) rows.now) name.now }
-{
-    let mut left = rows;
-    while let [(priority, fixity, operator), rest @ ..] = left {
-        if is_prefix(*fixity) == prefix && operator.as_bytes() == name {
-            return *priority;
-        }
-        left = rest;
-    }
-    0
-}
-
+/// The priority of a name as an infix operator; 0 where it is none. The table has it; the patterns say it
+/// without a walk along the table for each name of a text.
 #[tactic(auto, unfolding(crate::specs::Operator::priority_of))]
 pub(crate) fn infix_of(name: &[u8]) -> u16
     ensures { result ≡ spec.priority_of false name.now }
 {
-    priority_in(&OPERATORS, false, name)
+    match name {
+        [b';'] => 1100,
+        [b','] => 1000,
+        [b'&'] => 950,
+        [b'=' | b'<' | b'>'] => 700,
+        [b'+' | b'-'] => 500,
+        [b'*'] => 400,
+        [b':', b'-'] => 1200,
+        [b'-', b'>'] => 1050,
+        [b'=', b'>'] => 975,
+        [b'\\' | b'=' | b'>', b'='] | [b'=' | b'@', b'<'] | [b'@', b'>'] | [b'i', b's'] => 700,
+        [b'/', b'/'] => 400,
+        [b'-', b'-', b'>'] => 1200,
+        [b'=', b':' | b'\\', b'='] | [b'\\', b'=', b'='] | [b'=', b'.', b'.'] => 700,
+        [b'@', b'=', b'<'] | [b'@', b'>', b'='] => 700,
+        [b'r', b'e', b'm'] | [b'm', b'o', b'd'] => 400,
+        _ => 0,
+    }
 }
 
+/// The priority of a name as a prefix operator; 0 where it is none.
 #[tactic(auto, unfolding(crate::specs::Operator::priority_of))]
 pub(crate) fn prefix_of(name: &[u8]) -> u16
     ensures { result ≡ spec.priority_of true name.now }
 {
-    priority_in(&OPERATORS, true, name)
-}
-
-/// Whether an operator of the priority takes an operand of that priority on its left.
-fn is_left(rows: &[Operator], priority: u16) -> bool
-    ensures { result ≡ spec.is_left priority (map (λ row. (row.0, row.1, row.2.now)) rows.now) }
-{
-    let mut left = rows;
-    while let [(p, fixity, _), rest @ ..] = left {
-        if matches!(fixity, Fixity::Yfx) && *p == priority {
-            return true;
-        }
-        left = rest;
+    match name {
+        [b'-'] => 200,
+        [b':' | b'?', b'-'] => 1200,
+        [b'\\', b'+'] => 900,
+        _ => 0,
     }
-    false
-}
-
-/// Whether an operator of the priority takes an operand of that priority on its right.
-fn is_right(rows: &[Operator], priority: u16) -> bool
-    ensures { result ≡ spec.is_right priority (map (λ row. (row.0, row.1, row.2.now)) rows.now) }
-{
-    let mut left = rows;
-    while let [(p, fixity, _), rest @ ..] = left {
-        if matches!(fixity, Fixity::Xfy | Fixity::Fy) && *p == priority {
-            return true;
-        }
-        left = rest;
-    }
-    false
 }
 
 /// The greatest priority of an operand on the left of an operator.
@@ -122,10 +99,9 @@ fn is_right(rows: &[Operator], priority: u16) -> bool
 pub(crate) fn left_max(priority: u16) -> u16
     ensures { result ≡ spec.left_max priority }
 {
-    if is_left(&OPERATORS, priority) {
-        priority
-    } else {
-        priority.saturating_sub(1)
+    match priority {
+        500 | 400 => priority,
+        _ => priority.saturating_sub(1),
     }
 }
 
@@ -134,9 +110,8 @@ pub(crate) fn left_max(priority: u16) -> u16
 pub(crate) fn right_max(priority: u16) -> u16
     ensures { result ≡ spec.right_max priority }
 {
-    if is_right(&OPERATORS, priority) {
-        priority
-    } else {
-        priority.saturating_sub(1)
+    match priority {
+        1100 | 1050 | 1000 | 950 | 900 | 200 => priority,
+        _ => priority.saturating_sub(1),
     }
 }

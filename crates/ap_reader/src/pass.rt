@@ -1,10 +1,11 @@
 // The pass that finds a term: one word after another, over what is open.
-ghost use Rattle.std.specs.Prelude.{◌≡◌, ℕ, ◌+◌, ◌^◌, ◌≤◌, pos, neg_ℤ, List, [], ◌∷◌, ◌++◌, true, vec_len, OnOk, OnErr};
+ghost use Rattle.std.specs.Prelude.{◌≡◌, ℕ, ◌+◌, ◌^◌, ◌≤◌, pos, neg_ℤ, List, [], ◌∷◌, ◌++◌, true, map, vec_len, OnOk, OnErr};
 ghost use Rattle.ap_reader.specs.Grammar.{Tree, spelled, IsWhole, infix_rank, prefix_rank};
 ghost use Rattle.ap_reader.specs.Machine.{Frame, State, Has, room, reduced, prefixed, shifted, closed, list_closed, parted, barred, on_want, on_has, next, parsed};
 
 use crate::operators::{infix_of, left_max, right_max};
-use crate::word::Word;
+use crate::word::{Word, word_of};
+use ap_lexer::Token;
 use std::alloc::{AllocFailed, Global};
 
 /// What is found, each step after those of its operands. A number is the place of a token.
@@ -87,6 +88,8 @@ fn prefix_rank(word: Word) -> u16
     }
 }
 
+ghost use Rattle.ap_lexer.specs.Token.{view};
+ghost use Rattle.ap_reader.specs.Word.{words};
 ghost use Rattle.ap_reader.specs.Step.{place, opens, Holds, Awaits, Shows, Follows, Finds, items_of, due, Takes};
 
 fn place(word: Word) -> usize
@@ -360,20 +363,29 @@ impl Pass {
     }
 }
 
-/// The steps of the one term that the words spell.
-pub(crate) fn steps(alloc: Global, words: &[Word]) -> Result<Vec<Step>, ParseErr>
-    ensures { Finds words.now (items_of result) }
+/// The steps of the one term that the tokens spell. No token gives more than one.
+pub(crate) fn steps(alloc: Global, tokens: &[Token]) -> Result<Vec<Step>, ParseErr>
+    ensures { Finds (words (map view tokens.now)) (items_of result) }
 {
+    let Ok(out) = Vec::with_capacity(alloc, tokens.len()) else {
+        return Err(ParseErr::NoMemory);
+    };
     let mut pass = Pass {
         stack: Vec::new(alloc),
-        out: Vec::new(alloc),
+        out,
     };
     let mut mode = Mode::Wants;
-    for word in words {
-        match pass.next(mode, *word) {
-            Ok(after) => mode = after,
+    let mut before = None;
+    let mut at = 0;
+    let mut rest = tokens;
+    while let [token, after @ ..] = rest {
+        match pass.next(mode, word_of(at, before, token, after.first())) {
+            Ok(next) => mode = next,
             Err(fault) => return Err(fault),
         }
+        before = Some(token.kind);
+        at += 1;
+        rest = after;
     }
     let Mode::Has = mode else {
         return Err(ParseErr::NotATerm);

@@ -1,13 +1,12 @@
 //! What each token is to the grammar, by the tokens beside it.
 
-ghost use Rattle.std.specs.Prelude.{◌≡◌, ◌<◌, ◌≤◌, ◌^◌, ℕ, IfOk, map, nat_le};
+ghost use Rattle.std.specs.Prelude.{◌≡◌};
 ghost use Rattle.ap_lexer.specs.Lexeme.{number};
 ghost use Rattle.ap_lexer.specs.Token.{view};
 ghost use Rattle.ap_reader.specs.Word as spec;
 
 use crate::operators::{infix_of, prefix_of};
 use ap_lexer::{Token, TokenKind};
-use std::alloc::{AllocError, Global};
 
 /// A token as the grammar sees it. A place is that of the token in its list.
 #[derive(Clone, Copy, Debug, PartialEq, Eq)]
@@ -107,7 +106,13 @@ fn number_word(digits: &[u8]) -> Word
     }
 }
 
-fn word_of(at: usize, before: Option<TokenKind>, token: &Token, after: Option<&Token>) -> Word
+/// What a token is to the grammar, by the kind of the one before it and the one behind it.
+pub(crate) fn word_of(
+    at: usize,
+    before: Option<TokenKind>,
+    token: &Token,
+    after: Option<&Token>,
+) -> Word
     ensures { result ≡ spec.word_by token.now.kind at before (view token.now) (spec.seen after.entry) }
 {
     match token.kind {
@@ -142,21 +147,4 @@ fn word_of(at: usize, before: Option<TokenKind>, token: &Token, after: Option<&T
         TokenKind::CloseList => Word::CloseList,
         TokenKind::End => Word::Other,
     }
-}
-
-/// What each token is to the grammar.
-pub fn words(alloc: Global, tokens: &[Token]) -> Result<Vec<Word>, AllocError>
-    ensures { IfOk result (λ v. v.items ≡ spec.words (map view tokens.now)) }
-{
-    let mut out = Vec::new(alloc);
-    let mut before = None;
-    let mut at = 0;
-    let mut rest = tokens;
-    while let [token, after @ ..] = rest {
-        out.push(word_of(at, before, token, after.first()))?;
-        before = Some(token.kind);
-        at += 1;
-        rest = after;
-    }
-    Ok(out)
 }

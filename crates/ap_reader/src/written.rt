@@ -1,8 +1,9 @@
 //! Tokens as a term: its steps, then the term itself.
 
-ghost use Rattle.std.specs.Prelude.{◌≡◌, List, MatchOption, map};
+ghost use Rattle.std.specs.Prelude.{◌≡◌, List, IfOk, MatchOption, map};
 ghost use Rattle.ap_lexer.specs.Token.{Placed, view};
 ghost use Rattle.ap_reader.specs.Reading as spec;
+ghost use Rattle.ap_reader.specs.Leaves.{texts};
 
 use crate::bracket::most_open;
 use crate::build::build;
@@ -10,7 +11,6 @@ use crate::depth::{MAX_DEPTH, is_too_deep};
 use crate::error::ReadErr;
 use crate::leaf::{Leaf, LeafErr, leaves};
 use crate::pass::{ParseErr, Step, steps};
-use crate::word::words;
 use ap_lexer::{Token, TokenKind};
 use ap_term::{Atoms, InternErr, Name, NoMemory, Term};
 use std::alloc::Global;
@@ -26,7 +26,7 @@ pub struct WrittenTerm<'a> {
     /// What each token is as an operand or a functor, by the place that steps name.
     pub leaves: Vec<Leaf<'a>>,
     /// The names of the variables, by number from 1.
-    pub names: Vec<Name>,
+    pub names: Vec<&'a str>,
     /// The line of the first token, counted from 1.
     pub line: u64,
 }
@@ -75,10 +75,7 @@ pub fn parse<'a>(alloc: Global, tokens: &[Token<'a>]) -> Result<WrittenTerm<'a>,
     let Some(front) = before_end(tokens) else {
         return Err(ReadErr::NotAClause { line });
     };
-    let Ok(words) = words(alloc, front) else {
-        return Err(ReadErr::NoMemory);
-    };
-    let steps = match steps(alloc, &words) {
+    let steps = match steps(alloc, front) {
         Ok(steps) => steps,
         Err(ParseErr::NotATerm) => return Err(ReadErr::NotAClause { line }),
         Err(ParseErr::NoMemory) => return Err(ReadErr::NoMemory),
@@ -96,7 +93,7 @@ pub fn parse<'a>(alloc: Global, tokens: &[Token<'a>]) -> Result<WrittenTerm<'a>,
 }
 
 impl<'a> WrittenTerm<'a> {
-    ghost use Rattle.std.specs.Prelude.{◌≡◌, nat_lt, map, IfOk, OnErr};
+    ghost use Rattle.std.specs.Prelude.{◌≡◌, nat_lt, map, IfOk};
     ghost use Rattle.ap_reader.specs.Grammar.{Tree};
     ghost use Rattle.ap_reader.specs.Step.{postfix};
     ghost use Rattle.ap_reader.specs.Written.{leaf_of, meaning};
@@ -110,15 +107,14 @@ impl<'a> WrittenTerm<'a> {
         is_too_deep(alloc, &self.leaves, &self.steps)
     }
 
-    /// The term. Its names go into the table of atoms, those of arguments before that of their
+    /// The term itself. Its names go into the table of atoms, those of arguments before that of their
     /// functor; after an error the table is as it was.
     ///
     /// # Errors
     /// `TooDeep` where it is deeper than `MAX_DEPTH`; else `TooManyAtoms` exactly where the table
     /// has no room for its names; and `NoMemory`. Each has the first token's line.
-    pub fn into_term(self, alloc: Global, atoms: &mut Atoms) -> Result<ReadTerm, ReadErr>
-        ensures built { (t : Tree) → self.entry.steps.items ≡ postfix t → spec.BuiltAs (map leaf_of self.entry.leaves.items) t self.entry.line self.entry.names.items atoms.old atoms.new result }
-        ensures kept { OnErr result (atoms.new ≡ atoms.old) }
+    pub fn term(&self, alloc: Global, atoms: &mut Atoms) -> Result<Term, ReadErr>
+        ensures { (t : Tree) → self.now.steps.items ≡ postfix t → spec.BuiltTerm (map leaf_of self.now.leaves.items) t self.now.line atoms.old atoms.new result }
     {
         match self.is_too_deep(alloc) {
             Ok(false) => {}
@@ -129,10 +125,7 @@ impl<'a> WrittenTerm<'a> {
         match build(alloc, &self.leaves, &self.steps, atoms) {
             Ok(term) => {
                 let _room = atoms.mark();
-                Ok(ReadTerm {
-                    term,
-                    names: self.names,
-                })
+                Ok(term)
             }
             Err(InternErr::Full) => {
                 atoms.cut_to(mark);
@@ -146,6 +139,19 @@ impl<'a> WrittenTerm<'a> {
     }
 }
 
+/// Makes names of their own of those that stand in a text.
+pub fn own_names(alloc: Global, names: &[&str]) -> Result<Vec<Name>, NoMemory>
+    ensures { IfOk result (λ v. v.items ≡ texts names.now) }
+{
+    let mut out = Vec::with_capacity(alloc, names.len())?;
+    let mut left = names;
+    while let [name, rest @ ..] = left {
+        out.push(Name::new(alloc, name)?)?;
+        left = rest;
+    }
+    Ok(out)
+}
+
 /// The term that tokens spell, the last of which is an end token, with its names in the table of
 /// atoms; after an error the table is as it was.
 ///
@@ -157,7 +163,15 @@ pub fn read_term(alloc: Global, tokens: &[Token], atoms: &mut Atoms) -> Result<R
     ensures { spec.ReadAs (map view tokens.now) atoms.old atoms.new result }
 {
     match parse(alloc, tokens) {
-        Ok(written) => written.into_term(alloc, atoms),
+        Ok(written) => {
+            let Ok(names) = own_names(alloc, &written.names) else {
+                return Err(ReadErr::NoMemory);
+            };
+            match written.term(alloc, atoms) {
+                Ok(term) => Ok(ReadTerm { term, names }),
+                Err(e) => Err(e),
+            }
+        }
         Err(e) => Err(e),
     }
 }

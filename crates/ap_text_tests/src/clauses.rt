@@ -267,7 +267,7 @@ static PROGRAMS: [(&str, &str); 79] = [
 ];
 
 /// A program, queries, and what the last one is answered: what is lifted from it goes on behind its program.
-static QUERIES: [(&str, &str, &str); 19] = [
+static QUERIES: [(&str, &str, &str); 20] = [
     ("", "?- true.", "a query"),
     ("", "?- X = f(X).", "a query X"),
     ("n(z). n(s(X)) :- n(X).", "?- n(X).", "a query X"),
@@ -291,10 +291,15 @@ static QUERIES: [(&str, &str, &str); 19] = [
         "?- (lift_4(X, _Y) ; a), (b(X) ; c(_)).",
         "a query lift_2/3 lift_2/3 lift_5/3 lift_5/3 X _Y _",
     ),
+    (
+        "p.",
+        "?- p(A,B,C,D,E,F,G,H,I,J,K,L,M,N,O,_,P,Q,R,_,S,R,T,A,P,Q,Z,S,T,O).",
+        "a query A B C D E F G H I J K L M N O _ P Q R _ S T Z",
+    ),
 ];
 
 /// A text by parts and how often each stands there, and what it is answered.
-static LIMITS: [(&[(&str, usize)], &str); 19] = [
+static LIMITS: [(&[(&str, usize)], &str); 21] = [
     (&[("p([X1", 1), (",_", 254), ("]).", 1)], "a program"),
     (
         &[("p([X1", 1), (",_", 255), ("]).", 1)],
@@ -312,6 +317,14 @@ static LIMITS: [(&[(&str, usize)], &str); 19] = [
     (
         &[("p(_", 1), (",_", 255), (").", 1)],
         "line 1: too large variables",
+    ),
+    (
+        &[("p([_", 1), (",_", 300), ("]) :- nl.", 1)],
+        "line 1: outside nl",
+    ),
+    (
+        &[("p([_", 1), (",_", 300), ("]) :- 1.", 1)],
+        "line 1: not a clause",
     ),
     (&[("p :- a", 1), (",a", 254), (".", 1)], "a program"),
     (

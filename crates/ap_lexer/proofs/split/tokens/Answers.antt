@@ -15,7 +15,7 @@ loop-at-init c =
       sound = c.new-ahead.ensures c.args.text.now;
       line_is = p.line_is;
       line_low = omega (arith, p.line_is, feeds_few c.args.text.now 0 c.args.piece.now.from);
-      rest_is = ap (λ l. map view l ++ tokens c.args.text.now c.args.piece.now) c.new-out.ensures.items;
+      rest_is = ap (λ l. map view l ++ tokens c.args.text.now c.args.piece.now) c.in-Ok.ensures.items;
     }
 
 pub loop-at-preserved : goal.loop-at-preserved

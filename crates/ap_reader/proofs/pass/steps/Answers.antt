@@ -1,11 +1,17 @@
-use Rattle.std.proofs.Common.{◌≡◌, ◌≤◌, [], refl, ap, subst, ◌∙◌, drop, length, get_or, suc, false-eqb, rules, arith, vec_len, List}
-use Rattle.std.proofs.Math.ListN.{drop_of_length-le}
-use Rattle.std.proofs.Math.Seq.{drop-cons}
+use Rattle.std.proofs.Common.{◌≡◌, ℕ, ◌+◌, ◌-◌, ◌<◌, ◌≤◌, [], ◌∷◌, Option, Some, None, refl, ap, sym, subst, ◌∙◌, map, take, drop, get_or, length, false-eqb, rules, arith, vec_len, List}
 use Rattle.std.proofs.lemmas.List.{nil_from_length}
+use Rattle.ap_lexer.specs.declared.split.Token.{Token}
+use Rattle.ap_lexer.specs.Token.{view}
 use Rattle.ap_reader.specs.declared.pass.Mode.TheVariants as mode
-use Rattle.ap_reader.specs.declared.word.Word.TheVariants as w
 use Rattle.ap_reader.specs.declared.pass.Open.{Open}
 use Rattle.ap_reader.specs.Machine.{Wants, over, ended}
+use Rattle.std.specs.Prelude.{option_copied, slice_get}
+use Rattle.std.specs.Borrow.{Bor}
+use Rattle.std.proofs.Math.Seq.{take-length}
+use Rattle.std.proofs.lemmas.Option.{same_Some}
+use Rattle.ap_reader.specs.declared.word.Word.{Word}
+use Rattle.ap_lexer.specs.declared.kind.TokenKind.{TokenKind}
+use Rattle.ap_reader.specs.Word.{words, words_from, word_by, first, seen}
 use Rattle.ap_reader.specs.Step.{Shows}
 use Rattle.ap_reader.proofs.Parsed.{none_spelled, fault_at, wants_more, at_end}
 use Rattle.ap_reader.proofs.pass.steps.Goals as goal
@@ -13,39 +19,55 @@ use Rattle.ap_reader.proofs.pass.steps.Goals as goal
 not_empty : (xs : List Open) → xs ≡ [] → (length xs ≡ 0 → ⊥) → ⊥
 not_empty xs e h = h (ap length e)
 
-pub loop-word-init : goal.loop-word-init
-loop-word-init c = (Wants [], record { stack_is = c.new.ensures.items; out_is = c.new-2.ensures.items }, refl)
+no_token : (ts : List Token) → length ts < 1 → ts ≡ []
+no_token ts few = nil_from_length ts (omega (arith, few))
+
+seen-first : (ts : List Token) (o : Option (Bor Token)) → option_copied o ≡ slice_get ts 0 → seen o ≡ first (map view ts)
+seen-first [] None e = refl
+seen-first [] (Some t) e = absurd (cc)
+seen-first (t ∷ ts) None e = absurd (cc)
+seen-first (t ∷ ts) (Some u) e = ap (λ x. Some (view x)) (same_Some u.now t e)
+
+-- the first word, and those behind it
+head_word : (ts : List Token) (d : Token) (before : Option TokenKind) (at : ℕ) (after : Option (Bor Token)) (w : Word) → 1 ≤ length ts → w ≡ word_by (get_or ts 0 d).kind at before (view (get_or ts 0 d)) (seen after) → option_copied after ≡ slice_get (take (length ts - 1) (drop 1 ts)) 0 → (ws : List Word) × (words_from before at (map view ts) ≡ w ∷ ws)
+head_word [] d before at after w some e h = absurd (omega (arith, some))
+head_word (t ∷ ts) d before at after w some e h =
+    let behind = words_from (Some t.kind) (at + 1) (map view ts) in
+    let count : length (t ∷ ts) - 1 ≡ length ts = omega arith in
+    let all : take (length (t ∷ ts) - 1) ts ≡ ts = ap (λ k. take k ts) count ∙ take-length ts in
+    (behind, ap (λ a. word_by t.kind at before (view t) a ∷ behind) (sym (seen-first ts after (h ∙ ap (λ xs. slice_get xs 0) all))) ∙ ap (λ x. x ∷ behind) (sym e))
+
+pub loop-rest-init : goal.loop-rest-init
+loop-rest-init c = (Wants [], record { stack_is = c.new.ensures.items; out_is = c.in-Ok.ensures.items }, refl, omega arith)
 
 pub returns-in-Err : goal.returns-in-Err
 returns-in-Err c =
-    let k = c.in-Err.ensures c.loop-word.invariant.0 c.loop-word.invariant.1 in
-    let i = c.loop-word.word-index in
-    let words = c.args.words.now in
-    let x = c.loop-word.invariant.0 in
-    fault_at words (drop (suc i) words) x (get_or words i (w.Operand 0)) c.in-Err.fault c.next.new.self.stack.items c.next.new.self.out.items (c.loop-word.invariant.2 ∙ ap (over x) (drop-cons words i (w.Operand 0) c.loop-word-test.true)) k
+    let inv = c.loop-rest.invariant in
+    let words_are = head_word c.loop-rest.rest.now _ c.loop-rest.before c.loop-rest.at c.first.result c.word_of.result c.in-len1-up.len_at_least c.word_of.ensures c.first.ensures.value in
+    fault_at (words (map view c.args.tokens.now)) words_are.0 inv.0 c.word_of.result c.in-Err.fault c.next.new.self.stack.items c.next.new.self.out.items (inv.2 ∙ ap (over inv.0) words_are.1) (c.in-Err.ensures inv.0 inv.1)
 
-pub returns-in_default : goal.returns-in_default
-returns-in_default c =
-    let inv = c.loop-word.invariant in
-    let past : length c.args.words.now ≤ c.loop-word.word-index = omega arith in
-    let all : over (Wants []) c.args.words.now ≡ inv.0 = inv.2 ∙ ap (over inv.0) (drop_of_length-le c.args.words.now past) in
-    none_spelled c.args.words.now (ap ended all ∙ wants_more inv.0 c.loop-word.mode _ _ inv.1 c.in_default.not-Has)
+pub returns-in_default-mode : goal.returns-in_default-mode
+returns-in_default-mode c =
+    let inv = c.loop-rest.invariant in
+    let all : over (Wants []) (words (map view c.args.tokens.now)) ≡ inv.0 =
+    inv.2 ∙ ap (λ ts. over inv.0 (words_from c.loop-rest.before c.loop-rest.at (map view ts))) (no_token c.loop-rest.rest.now c.in_default-rest.len_below) in
+    none_spelled (words (map view c.args.tokens.now)) (ap ended all ∙ wants_more inv.0 c.loop-rest.mode _ _ inv.1 c.in_default-mode.not-Has)
 
 pub returns-then-is_empty : goal.returns-then-is_empty
 returns-then-is_empty c =
-    let inv = c.loop-word.invariant in
-    let past : length c.args.words.now ≤ c.loop-word.word-index = omega arith in
-    let all : over (Wants []) c.args.words.now ≡ inv.0 = inv.2 ∙ ap (over inv.0) (drop_of_length-le c.args.words.now past) in
-    let shows : Shows inv.0 mode.Has c.loop-word.pass.stack.items c.loop-word.pass.out.items = subst (λ m. Shows inv.0 m c.loop-word.pass.stack.items c.loop-word.pass.out.items) c.in-Has.is inv.1 in
-    let end = at_end c.args.words.now inv.0 _ _ _ _ all shows c.in_ok-reduce.ensures.done in
+    let inv = c.loop-rest.invariant in
+    let all : over (Wants []) (words (map view c.args.tokens.now)) ≡ inv.0 =
+    inv.2 ∙ ap (λ ts. over inv.0 (words_from c.loop-rest.before c.loop-rest.at (map view ts))) (no_token c.loop-rest.rest.now c.in_default-rest.len_below) in
+    let shows : Shows inv.0 mode.Has c.loop-rest.pass.stack.items c.loop-rest.pass.out.items = subst (λ m. Shows inv.0 m c.loop-rest.pass.stack.items c.loop-rest.pass.out.items) c.in-Has.is inv.1 in
+    let end = at_end (words (map view c.args.tokens.now)) inv.0 _ _ _ _ all shows c.in_ok-reduce.ensures.done in
     let none : length c.reduce.new.self.stack.items ≡ 0 = search rules in
     end.1.0 (nil_from_length c.reduce.new.self.stack.items none)
 
 pub returns-else-is_empty : goal.returns-else-is_empty
 returns-else-is_empty c =
-    let inv = c.loop-word.invariant in
-    let past : length c.args.words.now ≤ c.loop-word.word-index = omega arith in
-    let all : over (Wants []) c.args.words.now ≡ inv.0 = inv.2 ∙ ap (over inv.0) (drop_of_length-le c.args.words.now past) in
-    let shows : Shows inv.0 mode.Has c.loop-word.pass.stack.items c.loop-word.pass.out.items = subst (λ m. Shows inv.0 m c.loop-word.pass.stack.items c.loop-word.pass.out.items) c.in-Has.is inv.1 in
-    let end = at_end c.args.words.now inv.0 _ _ _ _ all shows c.in_ok-reduce.ensures.done in
+    let inv = c.loop-rest.invariant in
+    let all : over (Wants []) (words (map view c.args.tokens.now)) ≡ inv.0 =
+    inv.2 ∙ ap (λ ts. over inv.0 (words_from c.loop-rest.before c.loop-rest.at (map view ts))) (no_token c.loop-rest.rest.now c.in_default-rest.len_below) in
+    let shows : Shows inv.0 mode.Has c.loop-rest.pass.stack.items c.loop-rest.pass.out.items = subst (λ m. Shows inv.0 m c.loop-rest.pass.stack.items c.loop-rest.pass.out.items) c.in-Has.is inv.1 in
+    let end = at_end (words (map view c.args.tokens.now)) inv.0 _ _ _ _ all shows c.in_ok-reduce.ensures.done in
     end.1.1 (λ empty. not_empty c.reduce.new.self.stack.items empty (λ zero. let v = c.reduce.new.self.stack in omega (arith, zero, v.ok.0, false-eqb (vec_len v) 0 c.if-is_empty.ensures)))

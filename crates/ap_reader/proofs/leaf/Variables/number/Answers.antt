@@ -1,15 +1,20 @@
 use Rattle.std.proofs.Common.{rules}
 use Rattle.std.proofs.lemmas.Map.Text.{hash_map_updates_str}
-use Rattle.ap_reader.proofs.Variables.{numbers-more, numbers-anonymous}
+use Rattle.ap_reader.proofs.Variables.{numbers-more, numbers-anonymous, numbers-near}
 use Rattle.ap_reader.proofs.leaf.Variables.number.Goals as goal
+
+pub returns-then-before-lt-NEAR-clause-numbers : goal.returns-then-before-lt-NEAR-clause-numbers
+returns-then-before-lt-NEAR-clause-numbers c =
+    let before = c.args.self.now in
+    numbers-near before.numbers before.numbers before.names.items c.push.new.self.items c.args.name c.in_ok-push.ensures.items c.requires.numbers (search rules)
 
 pub returns-in_ok-insert-clause-numbers : goal.returns-in_ok-insert-clause-numbers
 returns-in_ok-insert-clause-numbers c =
     let before = c.args.self.now in
-    numbers-more before.numbers c.insert.new.self before.names.items c.args.name.now _ c.requires.numbers _ (search rules) (search rules) (search rules) (search rules)
+    numbers-more before.numbers c.insert.new.self before.names.items c.push.new.self.items c.args.name c.in_ok-push.ensures.items c.requires.numbers _ (search rules) (search rules) (search rules) (search rules)
     (hash_map_updates_str c.args.name.now before.numbers c.insert.new.self _ c.in_ok-insert.ensures.updates)
 
 pub returns-else-ne-clause-numbers : goal.returns-else-ne-clause-numbers
 returns-else-ne-clause-numbers c =
     let before = c.args.self.now in
-    numbers-anonymous before.numbers before.numbers before.names.items c.args.name.now 0 c.requires.numbers _ (search rules) (search rules)
+    numbers-anonymous before.numbers before.numbers before.names.items c.push.new.self.items c.args.name c.in_ok-push.ensures.items c.requires.numbers (search rules) (search rules)
