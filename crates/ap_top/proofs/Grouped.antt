@@ -1,7 +1,7 @@
 -- A program and a query with groups, beside those without.
-use Rattle.std.proofs.Common.{◌≡◌, ℕ, List, [], ◌∷◌, refl, ap, sym, subst}
+use Rattle.std.proofs.Common.{◌≡◌, ℕ, [], ◌∷◌, sym, subst}
 use Rattle.ap_term.specs.declared.fixed.TheConstants.{QUERY}
-use Rattle.ap_term.specs.Goals.{Clause, Program, Query}
+use Rattle.ap_term.specs.Goals.{Program, Query}
 use Rattle.ap_cge.specs.Stripped.{stripped}
 use Rattle.ap_mel.specs.declared.annotations.Kind.{Kind}
 use Rattle.ap_grouping.specs.Groups.{AreGroups}

@@ -22,7 +22,6 @@ use Rattle.ap_words.specs.Reading.{IsRead, Reading, usage}
 use Rattle.ap_top.specs.Words.{Asked}
 use Rattle.ap_top.specs.Output.{IsOutput, judged}
 use Rattle.ap_top.specs.Refusals.{refusal_line}
-use Rattle.ap_top.specs.Status.{status_of}
 use Rattle.ap_top.specs.Ends.{SourceEnds, TextEnds, FileEnds, AskedEnds, WordsEnd, Whole, SaysNoMemory, IsTold, IsTaken}
 use Rattle.ap_top.specs.declared.status.Tally.{Tally}
 use Rattle.ap_top.specs.declared.status.Status.{Status}

@@ -15,3 +15,4 @@ pub mod Complete
 pub mod Grouped
 pub mod Grown
 pub mod Weaker
+pub mod Parts

@@ -1,18 +1,18 @@
 -- From what a layer of `load` has put to what the layer above it has put.
-use Rattle.std.proofs.Common.{◌≡◌, ◌≢◌, ℕ, ◌<◌, ◌≤◌, ◌+◌, Bool, true, false, List, [], ◌∷◌, ◌++◌, length, length-append, Option, None, Some, sym, ◌∙◌, ap, subst, refl, arith, append-nil}
+use Rattle.std.proofs.Common.{◌≡◌, ℕ, ◌<◌, ◌≤◌, ◌+◌, Bool, true, false, List, [], ◌∷◌, ◌++◌, length, length-append, Option, None, Some, sym, ◌∙◌, ap, subst, refl, arith, append-nil}
 use Rattle.ap_outside.specs.Pieces.{Puts}
 use Rattle.ap_lexer.specs.Lexeme.{Text, lexeme, lexemes}
 use Rattle.ap_lexer.specs.Piece.{pieces}
 use Rattle.ap_lexer.specs.declared.cut.Piece.{Piece}
 use Rattle.ap_term.specs.AtomTable.{fixed_names}
 use Rattle.ap_term.specs.Goals.{Program}
-use Rattle.ap_clause.specs.Reads.{AcceptsProgram, RefusesProgram}
+use Rattle.ap_clause.specs.Reads.{RefusesProgram}
 use Rattle.ap_clause.specs.declared.refusal.Refusal.{Refusal}
 use Rattle.ap_gen.specs.Generator.{question, workload}
 use Rattle.ap_gen.specs.Summary.{summary}
 use Rattle.ap_top.specs.Output.{IsOutput, PieceEnds, end_line, judged}
 use Rattle.ap_top.specs.Refusals.{refusal_line}
-use Rattle.ap_top.specs.Status.{both, status_of, tally}
+use Rattle.ap_top.specs.Status.{both, tally}
 use Rattle.ap_top.specs.Loads.{IsSummed, LoadEnds, QuestionEnds}
 use Rattle.ap_top.specs.declared.status.Tally.{Tally}
 use Rattle.ap_top.specs.declared.status.Status.{Status}

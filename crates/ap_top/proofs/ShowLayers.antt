@@ -1,9 +1,8 @@
 -- From what a layer of `show` has put to what the layer above it has put.
-use Rattle.std.proofs.Common.{◌≡◌, ◌≢◌, ℕ, ◌<◌, ◌≤◌, List, [], ◌∷◌, length, Option, None, Some, option_map, Result, Ok, Err, sym, ◌∙◌, ap, subst, refl, arith, codes}
+use Rattle.std.proofs.Common.{◌≡◌, ◌≢◌, ℕ, ◌<◌, ◌≤◌, List, [], ◌∷◌, length, Option, None, Some, sym, ◌∙◌, ap, subst, codes}
 use Rattle.ap_outside.specs.Pieces.{Puts, FrontOf, CutOf}
 use Rattle.ap_outside.specs.Files.{HasContent}
-use Rattle.ap_outside.specs.Halting.{AnyOf, Finishes}
-use Rattle.ap_outside.specs.declared.halting.Halt.{Halt}
+use Rattle.ap_outside.specs.Halting.{AnyOf}
 use Rattle.ap_outside.proofs.Puts.{puts_map, front_map, cut_map}
 use Rattle.ap_term.specs.AtomTable.{fixed_names}
 use Rattle.ap_term.specs.Goals.{Program}

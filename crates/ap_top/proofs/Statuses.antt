@@ -1,5 +1,5 @@
 -- Statuses of faults, and the counts of calls that end with none of them.
-use Rattle.std.proofs.Common.{◌≡◌, ◌≢◌, ℕ, ◌≤◌, Bool, true, false, List, Option, Result, Ok, Err, sym, ◌∙◌, refl, arith}
+use Rattle.std.proofs.Common.{◌≡◌, ◌≢◌, ℕ, Bool, true, false, List, Option, Result, Ok, Err, sym, ◌∙◌, refl, arith}
 use Rattle.ap_outside.specs.Pieces.{Puts}
 use Rattle.ap_outside.specs.Faults.{Rises}
 use Rattle.ap_outside.specs.Halting.{Finishes, SinkCount}

@@ -14,7 +14,8 @@ use ap_lines::answer_line;
 use ap_machine::Tuple;
 use ap_mel::Kind;
 use ap_outside::{Gate, Halt, Sink, put_line};
-use ap_term::{Atoms, Fault, NoMemory, Program, Query};
+use ap_reach::{Predicates, reached};
+use ap_term::{Atoms, Fault, NoMemory, Query};
 use ap_worker::{Answers, Crew, End, solve};
 use std::alloc::Global;
 use std::sync::Wait;
@@ -100,11 +101,12 @@ impl Answers for Lines<'_> {
     ghost names = { λ a t u h. line_same a.atoms.now a.query.now t u h };
 }
 
-/// Prints the block of a query, each answer as it is found. Whether its budget was spent.
+/// Prints the block of a query, each answer as it is found. Whether its budget was spent. What is annotated, compiled and searched is
+/// the part of the program that the query can call.
 pub fn print_query<R: Threads + Wait + Sync, G: Gate, K: Sink>(
     alloc: Global,
     crew: &Crew<R, G>,
-    program: &Program,
+    program: &Predicates<'_>,
     query: &Query,
     bounds: Bounds,
     atoms: &Atoms,
@@ -120,10 +122,14 @@ pub fn print_query<R: Threads + Wait + Sync, G: Gate, K: Sink>(
         answers,
         kind,
     } = bounds;
-    let Ok(grouped) = group_query(alloc, program, query, kind) else {
+    let Ok(part) = reached(alloc, program, query) else {
         return Err(Halt::NoMemory);
     };
-    let _good = program.as_slice();
+    let Ok(grouped) = group_query(alloc, &part, query, kind) else {
+        return Err(Halt::NoMemory);
+    };
+    let _whole = program.program().as_slice();
+    let _good = part.as_slice();
     let _asked = query.question();
     let ended = solve(
         alloc,

@@ -13,7 +13,8 @@ use crate::status::Tally;
 use ap_clause::{Refusal, query};
 use ap_lexer::Piece;
 use ap_outside::{Gate, Halt, Sink, put_line};
-use ap_term::{Atoms, Program};
+use ap_reach::Predicates;
+use ap_term::Atoms;
 use ap_worker::Crew;
 use std::alloc::Global;
 use std::sync::Wait;
@@ -41,7 +42,7 @@ fn print_piece<R: Threads + Wait + Sync, G: Gate, K: Sink>(
     crew: &Crew<R, G>,
     text: &[u8],
     piece: &Piece,
-    program: &Program,
+    program: &Predicates<'_>,
     bounds: Bounds,
     atoms: &mut Atoms,
     out: &mut K,
@@ -54,7 +55,8 @@ fn print_piece<R: Threads + Wait + Sync, G: Gate, K: Sink>(
     ensures table { OnOk result (atoms.new ≡ atoms.old) }
 {
     let mark = atoms.mark();
-    match query(alloc, text, piece, program, atoms) {
+    let whole = program.program();
+    match query(alloc, text, piece, whole, atoms) {
         Ok(query) => {
             let spent = print_query(alloc, crew, program, &query, bounds, atoms, out)?;
             atoms.cut_to(mark);
@@ -80,7 +82,7 @@ pub fn print_pieces<R: Threads + Wait + Sync, G: Gate, K: Sink>(
     crew: &Crew<R, G>,
     text: &[u8],
     pieces: &[Piece],
-    program: &Program,
+    program: &Predicates<'_>,
     bounds: Bounds,
     atoms: &mut Atoms,
     out: &mut K,

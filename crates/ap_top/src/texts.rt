@@ -10,6 +10,7 @@ use crate::queries::print_pieces;
 use crate::status::Tally;
 use ap_lexer::{NoMemory, Piece, pieces};
 use ap_outside::{Gate, Halt, Sink};
+use ap_reach::Predicates;
 use ap_term::{Atoms, Program};
 use ap_worker::Crew;
 use std::alloc::Global;
@@ -47,5 +48,8 @@ pub fn print_text<R: Threads + Wait + Sync, G: Gate, K: Sink>(
     let Ok(pieces) = judged(alloc, text, whole) else {
         return Err(Halt::NoMemory);
     };
-    print_pieces(alloc, crew, text, &pieces, program, bounds, atoms, out)
+    let Ok(program) = Predicates::of(alloc, program) else {
+        return Err(Halt::NoMemory);
+    };
+    print_pieces(alloc, crew, text, &pieces, &program, bounds, atoms, out)
 }

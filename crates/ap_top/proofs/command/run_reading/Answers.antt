@@ -1,4 +1,4 @@
-use Rattle.std.proofs.Common.{◌≡◌, ap, subst, sym, ◌∙◌}
+use Rattle.std.proofs.Common.{ap, subst, sym, ◌∙◌}
 use Rattle.ap_outside.specs.Faults.{Rises}
 use Rattle.ap_outside.specs.Halting.{Finishes}
 use Rattle.ap_outside.proofs.Halts.{finishes_map}

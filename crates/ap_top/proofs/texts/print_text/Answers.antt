@@ -12,5 +12,7 @@ print_pieces-requires-clause-pieces g c κs within =
 
 pub returns-clause-lines : goal.returns-clause-lines
 returns-clause-lines g c =
-    subst (λ ps. Finishes (g.K.Sink.pieces c.args.out.now) (g.K.Sink.pieces c.print_pieces.new.out) (IsOutput c.args.bounds.budget c.args.bounds.answers c.args.program.now c.args.atoms.now c.args.text.now ps) c.print_pieces.result)
-    (c.deref.ensures.value ∙ c.in-Ok.ensures) c.print_pieces.ensures.lines
+    subst (λ p. Finishes (g.K.Sink.pieces c.args.out.now) (g.K.Sink.pieces c.print_pieces.new.out) (IsOutput c.args.bounds.budget c.args.bounds.answers p c.args.atoms.now c.args.text.now (judged c.args.whole c.args.text.now)) c.print_pieces.result)
+    c.in-Ok-of.ensures
+    (subst (λ ps. Finishes (g.K.Sink.pieces c.args.out.now) (g.K.Sink.pieces c.print_pieces.new.out) (IsOutput c.args.bounds.budget c.args.bounds.answers c.in-Ok-of.program c.args.atoms.now c.args.text.now ps) c.print_pieces.result)
+    (c.deref.ensures.value ∙ c.in-Ok.ensures) c.print_pieces.ensures.lines)

@@ -1,0 +1,8 @@
+use Rattle.std.proofs.Common.{take}
+use Rattle.std.specs.List.{All}
+use Rattle.ap_term.specs.TermView.{tree_of}
+use Rattle.ap_reach.specs.Reached.{Extends, IsNamed}
+use Rattle.ap_reach.proofs.calls.add_goals.Given as goal
+
+abbrev pub invariant-loop-goal : goal.invariant-loop-goal
+invariant-loop-goal l = Extends l.fn.keys l.keys × All (λ t. IsNamed l.keys (tree_of t)) (take l.goal-index l.goals)

@@ -1,0 +1,15 @@
+//! Floor: model. The part of a program that a query can call.
+//!
+//! Stands on `ap_laws`. The contract used above: a query's search, and so its block, is the same beside the part that is handed out
+//! as beside the whole program. What this costs turns on the part alone, since a program's clauses are put in order by predicate once.
+#![tactic(auto)]
+
+mod calls;
+mod keys;
+mod laws;
+mod predicates;
+mod reaching;
+
+pub use laws::{answers_law, block_law, restriction_law, same_search_law};
+pub use predicates::Predicates;
+pub use reaching::reached;
