@@ -8,7 +8,6 @@ pub mod Closed
 pub mod Strict
 pub mod Safe
 pub mod HeldGoals
-pub mod HeldParts
 pub mod HeldClauses
 pub mod Errors
 pub mod Listed

@@ -16,10 +16,6 @@ use Rattle.ap_certify.specs.Written.{is_written}
 abbrev pub IsGroupGiven : State → List Check → Trees → Type 0
 IsGroupGiven s cs gs = (c : Check) → IsInFullCondition gs c → is_written c cs ≡ false → gives s c ≡ true
 
-abbrev pub IsPartGiven : State → Part → Type 0
-IsPartGiven s (call g) = Unit {0}
-IsPartGiven s (group cs gs) = IsGroupGiven s cs gs
-
 -- at each group of a body
 abbrev pub AreGiven : Patterns → State → List Part → Type 0
 AreGiven t s [] = Unit {0}

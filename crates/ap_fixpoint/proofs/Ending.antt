@@ -15,7 +15,7 @@ use Rattle.ap_fixpoint.specs.Rounds.{steps, changed}
 use Rattle.ap_fixpoint.proofs.Members.{Has}
 use Rattle.ap_fixpoint.proofs.Joins.{AllKept, united_above, united_holds, united-same, same_slot-true}
 use Rattle.ap_fixpoint.proofs.Heights.{height, top, height-few, height-more, height-grows}
-use Rattle.ap_fixpoint.proofs.Fitting.{bound, slots, AllFit, for_given, united-fits, table-fits}
+use Rattle.ap_fixpoint.proofs.Bounds.{bound, slots, AllBounded, for_given, united-bounded, table-bounded}
 use Rattle.ap_fixpoint.proofs.Fixing.{IsGoing, going-steps, table-kept, one-end}
 
 -- ---- the height of a table
@@ -28,7 +28,7 @@ abbrev most : Entries → List Slot → ℕ
 most E [] = 0
 most E (x ∷ xs) = top (bound E x) + most E xs
 
-total-few : (E : Entries) (t : Patterns) (xs : List Slot) → AllFit E t → total E t xs ≤ most E xs
+total-few : (E : Entries) (t : Patterns) (xs : List Slot) → AllBounded E t → total E t xs ≤ most E xs
 total-few E t [] f = omega arith
 total-few E t (x ∷ xs) f = omega (arith, height-few (bound E x) (t x) (f x), total-few E t xs f)
 
@@ -63,7 +63,7 @@ AllHeld E A t = (g : Given) → Has g (given E A t) → is_held t g ≡ true
 height_of : Entries → Program → Patterns → ℕ
 height_of E A t = total E t (slots E A)
 
-held_or_higher : (E : Entries) (A : Program) (t : Patterns) → AllFit E t → AllHeld E A t ⊎ (height_of E A t < height_of E A (next E A t))
+held_or_higher : (E : Entries) (A : Program) (t : Patterns) → AllBounded E t → AllHeld E A t ⊎ (height_of E A t < height_of E A (next E A t))
 unfolding AllHeld height_of
 held_or_higher E A t f = go (list_all (is_held t) (given E A t)) refl
   where
@@ -73,7 +73,7 @@ held_or_higher E A t f = go (list_all (is_held t) (given E A t)) refl
         let r = one_not t (given E A t) e in
         let for = for_given E A t in
         inr (total-grows E (given E A t) t (slots E A) r.0.slot (for r.0 r.1).0
-        (height-grows (bound E r.0.slot) (t r.0.slot) (next E A t r.0.slot) r.0.pattern (f r.0.slot) (united-fits E (slots E A) (given E A t) t for f r.0.slot) (united_above (given E A t) t r.0.slot)
+        (height-grows (bound E r.0.slot) (t r.0.slot) (next E A t r.0.slot) r.0.pattern (f r.0.slot) (united-bounded E (slots E A) (given E A t) t for f r.0.slot) (united_above (given E A t) t r.0.slot)
         (united_holds (given E A t) t r.0 r.1) r.2))
 
 held-same : (E : Entries) (A : Program) (t : Patterns) → AllKept t → AllHeld E A t → next E A t ≡ t
@@ -88,12 +88,12 @@ height_limit E A = most E (slots E A)
 
 table-limit : (E : Entries) (A : Program) (n : ℕ) → height_of E A (table E A n) ≤ height_limit E A
 unfolding height_of height_limit
-table-limit E A n = total-few E (table E A n) (slots E A) (table-fits E A n)
+table-limit E A n = total-few E (table E A n) (slots E A) (table-bounded E A n)
 
 search_end : (E : Entries) (A : Program) (k n : ℕ) → height_limit E A < height_of E A (table E A n) + k → (m : ℕ) × (next E A (table E A m) ≡ table E A m)
 search_end E A zero n l = absurd (omega (arith, l, table-limit E A n))
 search_end E A (suc k) n l =
-    elim (held_or_higher E A (table E A n) (table-fits E A n)) [
+    elim (held_or_higher E A (table E A n) (table-bounded E A n)) [
       | inl h ↦ (n, held-same E A (table E A n) (table-kept E A n) h)
       | inr h ↦ search_end E A k (suc n) (omega (arith, l, h))
     ]
@@ -116,12 +116,12 @@ pub going-smaller : (E : Entries) (A : Program) (t new : Patterns) (gs : List Gi
     → left_to_go E A new < left_to_go E A t
 unfolding left_to_go AllHeld
 going-smaller E A t new gs ch h c some s =
-    elim (held_or_higher E A t fits) [
+    elim (held_or_higher E A t bounded) [
       | inl k ↦ absurd (some (ap length (c ∙ nothing_changes gs gs t (λ g i. k g (h.only g i)))))
       | inr k ↦ (let l = subst (λ z. height_of E A z ≤ height_limit E A) h.reached (table-limit E A h.round) in
           let m = subst (λ z. height_of E A z ≤ height_limit E A) (ap (next E A) h.reached) (table-limit E A (suc h.round)) in
           let n : height_of E A new ≡ height_of E A (next E A t) = ap (height_of E A) (s ∙ going-steps E A t gs h) in omega (arith, k, l, m, n))
     ]
   where
-    fits : AllFit E t
-    fits = subst (AllFit E) h.reached (table-fits E A h.round)
+    bounded : AllBounded E t
+    bounded = subst (AllBounded E) h.reached (table-bounded E A h.round)

@@ -1,27 +1,14 @@
 -- Goals and clauses are well formed.
-use Rattle.std.proofs.Common.{◌≡◌, ℕ, ◌+◌, ◌<◌, ◌≤◌, ◌&&◌, IsTrue, nat_le, List, [], ◌∷◌, length, drop, get_or, refl, ap, sym, ◌∙◌}
+use Rattle.std.proofs.Common.{ℕ, ◌≤◌, ◌&&◌, IsTrue, nat_le, List, [], ◌∷◌, refl}
 use Rattle.std.proofs.lemmas.Bool.{and_parts, and_from}
 use Rattle.std.specs.List.{list_all}
 use Rattle.ap_term.specs.declared.clauses.Check.{Check}
-use Rattle.ap_term.specs.declared.terms.Term.{Term}
 use Rattle.ap_term.specs.Tree.{Trees, count_trees}
-use Rattle.ap_term.specs.TermView.{tree_of, trees_of}
 use Rattle.ap_term.specs.Goals as goals
 use Rattle.ap_term.specs.Goals.{Clause, call, group}
 use Rattle.ap_term.specs.WellFormed.{callable, all_callable, numbered, numbered_all, numbered_check, well_formed_part, IsClause}
-use Rattle.ap_term.proofs.TermLists.{trees_of-drop_more}
 use Rattle.ap_patterns.proofs.Arguments.{callable-few, numbered_all-more, numbered-more}
 use Rattle.ap_fixpoint.specs.Formed.{goals_formed}
-
--- ---- goals one after another
-
-pub callable-turn : (ts : List Term) (i : ℕ) (t : Term) → i < length ts → t ≡ get_or ts i t → IsTrue (all_callable (trees_of (drop i ts)))
-    → IsTrue (callable (tree_of t)) × IsTrue (all_callable (trees_of (drop (i + 1) ts)))
-callable-turn ts i t h e k = and_parts (callable (tree_of t)) (all_callable (trees_of (drop (i + 1) ts))) (ap all_callable (sym (trees_of-drop_more ts i t h e)) ∙ k)
-
-pub numbered-turn : (ts : List Term) (i : ℕ) (t : Term) → i < length ts → t ≡ get_or ts i t → IsTrue (numbered_all 255 (trees_of (drop i ts)))
-    → IsTrue (numbered 255 (tree_of t)) × IsTrue (numbered_all 255 (trees_of (drop (i + 1) ts)))
-numbered-turn ts i t h e k = and_parts (numbered 255 (tree_of t)) (numbered_all 255 (trees_of (drop (i + 1) ts))) (ap (numbered_all 255) (sym (trees_of-drop_more ts i t h e)) ∙ k)
 
 -- ---- parts
 
@@ -60,7 +47,5 @@ head-numbered c h = (and_parts (callable c.head) (numbered c.vars c.head) h.head
 
 pub head-in_range : (c : Clause) → IsClause c → IsTrue (numbered 255 c.head)
 head-in_range c h = numbered-more c.vars 255 c.head h.few (head-numbered c h)
-
-pub ruleset rules_of_goals = (callable-turn, numbered-turn)
 
 pub ruleset rules_of_clauses = (clause-formed, head-callable, head-numbered, head-in_range, callable-few)

@@ -56,14 +56,14 @@ count-grows p q (suc n) k h l e f = go (count-grows p q n k h) (nat_eq k n) refl
 
 -- ---- states of sets below a bound
 
-pub record Fitting (b : ℕ) (sh : Share) (fr : ℕ) : Type 0 where
+pub record BoundedParts (b : ℕ) (sh : Share) (fr : ℕ) : Type 0 where
   pub any : sh.any < b
   pub sets : (s : ℕ) → listed s sh.sets ≡ true → s < b
   pub free : fr < b
 
-abbrev pub Fits : ℕ → State → Type 0
-Fits b Unreachable = Unit {0}
-Fits b (Reachable sh fr) = Fitting b sh fr
+abbrev pub Bounded : ℕ → State → Type 0
+Bounded b Unreachable = Unit {0}
+Bounded b (Reachable sh fr) = BoundedParts b sh fr
 
 -- its members, and beside them what is in `any` and what isn't free
 abbrev pub height : ℕ → State → ℕ
@@ -73,7 +73,7 @@ height b (Reachable sh fr) = suc (count (λ s. is_member s sh) b + (sh.any + (b 
 abbrev pub top : ℕ → ℕ
 top b = suc (b + (b + b))
 
-pub height-few : (b : ℕ) (a : State) → Fits b a → height b a ≤ top b
+pub height-few : (b : ℕ) (a : State) → Bounded b a → height b a ≤ top b
 height-few b Unreachable f = omega arith
 height-few b (Reachable sh fr) f = omega (arith, count-few (λ s. is_member s sh) b, f.any)
 
@@ -105,7 +105,7 @@ differ : (s t r : ℕ) → within r s ≡ false → within r t ≡ true → s �
 differ s t r h k e = false≢true (sym h ∙ ap (within r) e ∙ k)
 
 -- where something is covered that wasn't, more is allowed
-pub height-grows : (b : ℕ) (a c g : State) → Fits b a → Fits b c → Below a c → Below g c → is_covered g a ≡ false → height b a < height b c
+pub height-grows : (b : ℕ) (a c g : State) → Bounded b a → Bounded b c → Below a c → Below g c → is_covered g a ≡ false → height b a < height b c
 height-grows b a c Unreachable fa fc h k n = absurd (false≢true (sym n))
 height-grows b a Unreachable (Reachable gs gf) fa fc h k n = absurd k
 height-grows b Unreachable (Reachable sh2 fr2) (Reachable gs gf) fa fc h k n = omega arith

@@ -10,5 +10,5 @@ pub mod Puts
 pub mod Indexing
 pub mod Grouping
 pub mod Heights
-pub mod Fitting
+pub mod Bounds
 pub mod Ending

@@ -1,7 +1,7 @@
 //! Floor: analysis. The table of an annotated program: what the calls and the answers of each predicate are known to be.
 //!
 //! Stands on ap_patterns' definitions of what clauses give to a table. What the crates above use: `analyse` answers the
-//! first table that is equal to its next, and it is closed.
+//! first table that is equal to its next; there is one for each program, and it is closed.
 #![tactic(auto)]
 
 mod analysis;

@@ -30,7 +30,7 @@ use Rattle.ap_fixpoint.specs.Reads.{call_slot, success_slot}
 use Rattle.ap_fixpoint.proofs.Members.{Has, Has-left, Has-right, Has-cases}
 use Rattle.ap_fixpoint.proofs.Joins.{same_slot-true}
 use Rattle.ap_fixpoint.proofs.Order.{filtered}
-use Rattle.ap_fixpoint.proofs.Heights.{Fits}
+use Rattle.ap_fixpoint.proofs.Heights.{Bounded}
 
 -- ---- sets below a power of two
 
@@ -108,37 +108,37 @@ norm_low k sh h = go (too_many (dropped sh).sets)
     go true = (union_low k sh.any (all_of (dropped sh).sets) h.0 (all_low k (dropped sh).sets sets), none_low (2 ^ k))
     go false = (h.0, sets)
 
-made_fits : (k : ℕ) (sh : Share) (fr : ℕ) → IsLow (2 ^ k) sh → Fits (2 ^ k) (made sh fr)
-made_fits k sh fr h = record { any = h.0; sets = h.1; free = both_low (2 ^ k) fr (nonground sh) (union_low k sh.any (all_of sh.sets) h.0 (all_low k sh.sets h.1)) }
+made_bounded : (k : ℕ) (sh : Share) (fr : ℕ) → IsLow (2 ^ k) sh → Bounded (2 ^ k) (made sh fr)
+made_bounded k sh fr h = record { any = h.0; sets = h.1; free = both_low (2 ^ k) fr (nonground sh) (union_low k sh.any (all_of sh.sets) h.0 (all_low k sh.sets h.1)) }
 
-kept_fits : (k : ℕ) (s : State) → Fits (2 ^ k) s → Fits (2 ^ k) (kept s)
-kept_fits k Unreachable f = tt
-kept_fits k (Reachable sh fr) f = made_fits k (norm sh) fr (norm_low k sh (f.any, f.sets))
+kept_bounded : (k : ℕ) (s : State) → Bounded (2 ^ k) s → Bounded (2 ^ k) (kept s)
+kept_bounded k Unreachable f = tt
+kept_bounded k (Reachable sh fr) f = made_bounded k (norm sh) fr (norm_low k sh (f.any, f.sets))
 
-joined_fits : (k : ℕ) (s t : State) → Fits (2 ^ k) s → Fits (2 ^ k) t → Fits (2 ^ k) (joined s t)
-joined_fits k s Unreachable f g = f
-joined_fits k Unreachable (Reachable sh fr) f g = record { any = g.any; sets = sets_low (2 ^ k) sh.sets g.sets; free = g.free }
-joined_fits k (Reachable sh fr) (Reachable sh2 fr2) f g = record {
+joined_bounded : (k : ℕ) (s t : State) → Bounded (2 ^ k) s → Bounded (2 ^ k) t → Bounded (2 ^ k) (joined s t)
+joined_bounded k s Unreachable f g = f
+joined_bounded k Unreachable (Reachable sh fr) f g = record { any = g.any; sets = sets_low (2 ^ k) sh.sets g.sets; free = g.free }
+joined_bounded k (Reachable sh fr) (Reachable sh2 fr2) f g = record {
   any = union_low k sh.any sh2.any f.any g.any;
   sets = joined_low (2 ^ k) sh.sets sh2.sets f.sets g.sets;
   free = both_low (2 ^ k) fr fr2 g.free;
 }
 
-any_fits : (k n : ℕ) → n < k → Fits (2 ^ k) (any_pattern n)
-any_fits k n l = record { any = own_low k n l; sets = none_low (2 ^ k); free = empty_low k }
+any_bounded : (k n : ℕ) → n < k → Bounded (2 ^ k) (any_pattern n)
+any_bounded k n l = record { any = own_low k n l; sets = none_low (2 ^ k); free = empty_low k }
 
-anything_fits : (k : ℕ) (s : State) (goal : Tree) → count_trees (arguments goal) < k → Fits (2 ^ k) (anything s goal)
-anything_fits k Unreachable goal l = tt
-anything_fits k (Reachable sh fr) goal l = any_fits k (count_trees (arguments goal)) l
+anything_bounded : (k : ℕ) (s : State) (goal : Tree) → count_trees (arguments goal) < k → Bounded (2 ^ k) (anything s goal)
+anything_bounded k Unreachable goal l = tt
+anything_bounded k (Reachable sh fr) goal l = any_bounded k (count_trees (arguments goal)) l
 
 as_many : (ts : Trees) → length (argument_sets ts) ≡ count_trees ts
 as_many none = refl
 as_many (more t ts) = let e = as_many ts in omega (arith, e)
 
-call_fits : (k : ℕ) (s : State) (goal : Tree) → count_trees (arguments goal) < k → Fits (2 ^ k) (call_pattern s goal)
-call_fits k Unreachable goal l = tt
-call_fits k (Reachable sh fr) goal l =
-    made_fits k _ _ (norm_low k _ (low sh.any, sets_low (2 ^ k) (map (λ s. places 1 s (argument_sets (arguments goal))) sh.sets) (mapped_low (2 ^ k) (λ s. places 1 s (argument_sets (arguments goal))) sh.sets low)))
+call_bounded : (k : ℕ) (s : State) (goal : Tree) → count_trees (arguments goal) < k → Bounded (2 ^ k) (call_pattern s goal)
+call_bounded k Unreachable goal l = tt
+call_bounded k (Reachable sh fr) goal l =
+    made_bounded k _ _ (norm_low k _ (low sh.any, sets_low (2 ^ k) (map (λ s. places 1 s (argument_sets (arguments goal))) sh.sets) (mapped_low (2 ^ k) (λ s. places 1 s (argument_sets (arguments goal))) sh.sets low)))
   where
     low : (s : ℕ) → places 1 s (argument_sets (arguments goal)) < 2 ^ k
     low s = places_low k 1 s (argument_sets (arguments goal)) (let e = as_many (arguments goal) in omega (arith, l, e))
@@ -157,9 +157,9 @@ any_marks_low k i (Any ∷ ms) l = union_low k (just i) (any_marks (suc i) ms) (
 any_marks_low k i (Ground ∷ ms) l = any_marks_low k (suc i) ms (omega (arith, l))
 any_marks_low k i (Free ∷ ms) l = any_marks_low k (suc i) ms (omega (arith, l))
 
-marked_fits : (k : ℕ) (ms : List Mark) → length ms < k → Fits (2 ^ k) (marked_pattern ms)
-marked_fits k ms l =
-    made_fits k _ (free_marks 1 ms) (norm_low k _ (any_marks_low k 1 ms (omega (arith, l)), sets_low (2 ^ k) (free_sets 1 ms) (free_sets_low k 1 ms (omega (arith, l)))))
+marked_bounded : (k : ℕ) (ms : List Mark) → length ms < k → Bounded (2 ^ k) (marked_pattern ms)
+marked_bounded k ms l =
+    made_bounded k _ (free_marks 1 ms) (norm_low k _ (any_marks_low k 1 ms (omega (arith, l)), sets_low (2 ^ k) (free_sets 1 ms) (free_sets_low k 1 ms (omega (arith, l)))))
 
 -- ---- the bound of a slot
 
@@ -179,7 +179,7 @@ bound E x = 2 ^ suc (arity_of x + marks_in E)
 
 -- all that is given goes to these slots, and is within their bounds
 abbrev pub AreFor : Entries → List Slot → List Given → Type 0
-AreFor E xs gs = (g : Given) → Has g gs → Has g.slot xs × Fits (bound E g.slot) g.pattern
+AreFor E xs gs = (g : Given) → Has g gs → Has g.slot xs × Bounded (bound E g.slot) g.pattern
 
 for_none : (E : Entries) (xs : List Slot) → AreFor E xs []
 for_none E xs g h = absurd h
@@ -196,20 +196,20 @@ for_right E xs ys gs f g h = let r = f g h in (Has-right g.slot xs ys r.0, r.1)
 for_parts : (E : Entries) (xs ys : List Slot) (gs hs : List Given) → AreFor E xs gs → AreFor E ys hs → AreFor E (xs ++ ys) (gs ++ hs)
 for_parts E xs ys gs hs f k = for_both E (xs ++ ys) gs hs (for_left E xs ys gs f) (for_right E xs ys hs k)
 
-for_one : (E : Entries) (g : Given) → Fits (bound E g.slot) g.pattern → AreFor E (g.slot ∷ []) (g ∷ [])
-for_one E g f h (inl i) = (inl (ap (λ z. z.slot) i), subst (λ z. Fits (bound E z.slot) z.pattern) (sym i) f)
+for_one : (E : Entries) (g : Given) → Bounded (bound E g.slot) g.pattern → AreFor E (g.slot ∷ []) (g ∷ [])
+for_one E g f h (inl i) = (inl (ap (λ z. z.slot) i), subst (λ z. Bounded (bound E z.slot) z.pattern) (sym i) f)
 for_one E g f h (inr i) = absurd i
 
 abbrev width : Entries → Tree → ℕ
 width E goal = suc (count_trees (arguments goal) + marks_in E)
 
-for_call : (E : Entries) (goal : Tree) (s : State) → Fits (2 ^ width E goal) s → AreFor E (call_slot (predicate_of goal)) (to_call (predicate_of goal) s)
+for_call : (E : Entries) (goal : Tree) (s : State) → Bounded (2 ^ width E goal) s → AreFor E (call_slot (predicate_of goal)) (to_call (predicate_of goal) s)
 for_call E (var x) s f = for_none E []
 for_call E (int z) s f = for_none E []
 for_call E (atom a) s f = for_one E _ f
 for_call E (node a ts) s f = for_one E _ f
 
-for_success : (E : Entries) (goal : Tree) (s : State) → Fits (2 ^ width E goal) s → AreFor E (success_slot (predicate_of goal)) (to_success (predicate_of goal) s)
+for_success : (E : Entries) (goal : Tree) (s : State) → Bounded (2 ^ width E goal) s → AreFor E (success_slot (predicate_of goal)) (to_success (predicate_of goal) s)
 for_success E (var x) s f = for_none E []
 for_success E (int z) s f = for_none E []
 for_success E (atom a) s f = for_one E _ f
@@ -220,10 +220,10 @@ for_if E xs true gs f = for_none E xs
 for_if E xs false gs f = f
 
 for_goal : (E : Entries) (s : State) (goal : Tree) → AreFor E (call_slot (predicate_of goal)) (given_by_goal s goal)
-for_goal E s goal = for_if E _ (is_builtin goal) _ (for_call E goal (call_pattern s goal) (call_fits (width E goal) s goal (omega arith)))
+for_goal E s goal = for_if E _ (is_builtin goal) _ (for_call E goal (call_pattern s goal) (call_bounded (width E goal) s goal (omega arith)))
 
 for_anyhow : (E : Entries) (s : State) (goal : Tree) → AreFor E (call_slot (predicate_of goal)) (given_anyhow s goal)
-for_anyhow E s goal = for_if E _ (is_builtin goal) _ (for_call E goal (anything s goal) (anything_fits (width E goal) s goal (omega arith)))
+for_anyhow E s goal = for_if E _ (is_builtin goal) _ (for_call E goal (anything s goal) (anything_bounded (width E goal) s goal (omega arith)))
 
 -- ---- goals, bodies, clauses
 
@@ -272,11 +272,11 @@ for_clause E t c = go (is_analysed c)
     analysed : (s : State) → AreFor E (slots_given_by c) (given_from t s c)
     analysed s =
         for_parts E (flat_map slots_called_by c.body) _ _ _ (for_body E t s c.body)
-        (for_success E c.head (call_pattern (after_body t s c.body) c.head) (call_fits (width E c.head) (after_body t s c.body) c.head (omega arith)))
+        (for_success E c.head (call_pattern (after_body t s c.body) c.head) (call_bounded (width E c.head) (after_body t s c.body) c.head (omega arith)))
 
     unanalysed : (s : State) → AreFor E (slots_given_by c) (given_unanalysed s c)
     unanalysed s =
-        for_parts E (flat_map slots_called_by c.body) _ _ _ (for_any_body E s c.body) (for_success E c.head (anything s c.head) (anything_fits (width E c.head) s c.head (omega arith)))
+        for_parts E (flat_map slots_called_by c.body) _ _ _ (for_any_body E s c.body) (for_success E c.head (anything s c.head) (anything_bounded (width E c.head) s c.head (omega arith)))
 
     go : (b : Bool) → AreFor E (slots_given_by c) (cond b (given_from t (entered t c) c) (given_unanalysed (call_at t (predicate_of c.head)) c))
     go true = analysed (entered t c)
@@ -291,22 +291,22 @@ for_clauses E t (c ∷ cs) = for_parts E (slots_given_by c) _ _ _ (for_clause E 
 abbrev pub slots_entered : Entries → Program → List Slot
 slots_entered E A = map (λ g. g.slot) (given_by_entries E A)
 
-for_themselves : (E : Entries) (gs : List Given) → ((g : Given) → Has g gs → Fits (bound E g.slot) g.pattern) → AreFor E (map (λ g. g.slot) gs) gs
+for_themselves : (E : Entries) (gs : List Given) → ((g : Given) → Has g gs → Bounded (bound E g.slot) g.pattern) → AreFor E (map (λ g. g.slot) gs) gs
 for_themselves E [] f = for_none E []
 for_themselves E (g ∷ gs) f = for_parts E (g.slot ∷ []) (map (λ h. h.slot) gs) (g ∷ []) gs (for_one E g (f g (inl refl))) (for_themselves E gs (λ h i. f h (inr i)))
 
-for_heads : (E : Entries) (A : Program) (g : Given) → Has g (given_by_heads A) → Fits (bound E g.slot) g.pattern
+for_heads : (E : Entries) (A : Program) (g : Given) → Has g (given_by_heads A) → Bounded (bound E g.slot) g.pattern
 for_heads E [] g h = absurd h
 for_heads E (c ∷ cs) g h =
     elim (Has-cases g (to_call (predicate_of c.head) (any_pattern (count_trees (arguments c.head)))) (given_by_heads cs) h) [
-      | inl i ↦ (for_call E c.head (any_pattern (count_trees (arguments c.head))) (any_fits (width E c.head) (count_trees (arguments c.head)) (omega arith)) g i).1
+      | inl i ↦ (for_call E c.head (any_pattern (count_trees (arguments c.head))) (any_bounded (width E c.head) (count_trees (arguments c.head)) (omega arith)) g i).1
       | inr i ↦ for_heads E cs g i
     ]
 
-for_entries : (E : Entries) (A : Program) (g : Given) → Has g (given_by_entries E A) → Fits (bound E g.slot) g.pattern
+for_entries : (E : Entries) (A : Program) (g : Given) → Has g (given_by_entries E A) → Bounded (bound E g.slot) g.pattern
 for_entries All A g h = for_heads All A g h
-for_entries (One e) A g h = (for_one (One e) (record { slot = Call e.predicate; pattern = marked_pattern e.marks.items }) (marked_fits _ e.marks.items (omega arith)) g h).1
-for_entries Query A g h = (for_one Query _ (any_fits 1 0 (omega arith)) g h).1
+for_entries (One e) A g h = (for_one (One e) (record { slot = Call e.predicate; pattern = marked_pattern e.marks.items }) (marked_bounded _ e.marks.items (omega arith)) g h).1
+for_entries Query A g h = (for_one Query _ (any_bounded 1 0 (omega arith)) g h).1
 
 -- the slots to which anything is ever given
 abbrev pub slots : Entries → Program → List Slot
@@ -317,22 +317,22 @@ for_given E A t = for_parts E (slots_entered E A) _ _ _ (for_themselves E (given
 
 -- ---- each table is within the bounds
 
-joined_all_fits : (k : ℕ) (x : Slot) (s : State) (gs : List Given) → Fits (2 ^ k) s → ((g : Given) → Has g gs → same_slot g.slot x ≡ true → Fits (2 ^ k) g.pattern) → Fits (2 ^ k) (joined_all x s gs)
-joined_all_fits k x s [] f h = f
-joined_all_fits k x s (g ∷ gs) f h = joined_all_fits k x (cond (same_slot g.slot x) (joined s g.pattern) s) gs (go (same_slot g.slot x) refl) (λ r i. h r (inr i))
+joined_all_bounded : (k : ℕ) (x : Slot) (s : State) (gs : List Given) → Bounded (2 ^ k) s → ((g : Given) → Has g gs → same_slot g.slot x ≡ true → Bounded (2 ^ k) g.pattern) → Bounded (2 ^ k) (joined_all x s gs)
+joined_all_bounded k x s [] f h = f
+joined_all_bounded k x s (g ∷ gs) f h = joined_all_bounded k x (cond (same_slot g.slot x) (joined s g.pattern) s) gs (go (same_slot g.slot x) refl) (λ r i. h r (inr i))
   where
-    go : (b : Bool) → same_slot g.slot x ≡ b → Fits (2 ^ k) (cond b (joined s g.pattern) s)
-    go true e = joined_fits k s g.pattern f (h g (inl refl) e)
+    go : (b : Bool) → same_slot g.slot x ≡ b → Bounded (2 ^ k) (cond b (joined s g.pattern) s)
+    go true e = joined_bounded k s g.pattern f (h g (inl refl) e)
     go false e = f
 
-abbrev pub AllFit : Entries → Patterns → Type 0
-AllFit E t = (x : Slot) → Fits (bound E x) (t x)
+abbrev pub AllBounded : Entries → Patterns → Type 0
+AllBounded E t = (x : Slot) → Bounded (bound E x) (t x)
 
-pub united-fits : (E : Entries) (xs : List Slot) (gs : List Given) (t : Patterns) → AreFor E xs gs → AllFit E t → AllFit E (united gs t)
-united-fits E xs gs t h f x =
-    kept_fits (suc (arity_of x + marks_in E)) (joined_all x (t x) gs)
-    (joined_all_fits (suc (arity_of x + marks_in E)) x (t x) gs (f x) (λ g i e. subst (λ y. Fits (bound E y) g.pattern) (same_slot-true g.slot x e) (h g i).1))
+pub united-bounded : (E : Entries) (xs : List Slot) (gs : List Given) (t : Patterns) → AreFor E xs gs → AllBounded E t → AllBounded E (united gs t)
+united-bounded E xs gs t h f x =
+    kept_bounded (suc (arity_of x + marks_in E)) (joined_all x (t x) gs)
+    (joined_all_bounded (suc (arity_of x + marks_in E)) x (t x) gs (f x) (λ g i e. subst (λ y. Bounded (bound E y) g.pattern) (same_slot-true g.slot x e) (h g i).1))
 
-pub table-fits : (E : Entries) (A : Program) (n : ℕ) → AllFit E (table E A n)
-table-fits E A zero = λ x. tt
-table-fits E A (suc n) = united-fits E (slots E A) (given E A (table E A n)) (table E A n) (for_given E A (table E A n)) (table-fits E A n)
+pub table-bounded : (E : Entries) (A : Program) (n : ℕ) → AllBounded E (table E A n)
+table-bounded E A zero = λ x. tt
+table-bounded E A (suc n) = united-bounded E (slots E A) (given E A (table E A n)) (table E A n) (for_given E A (table E A n)) (table-bounded E A n)
