@@ -38,6 +38,18 @@ both-under cs P Q Open Takes p q = tt
 both-under cs P Q Open Lacks p q = λ k fits b. q k fits b.1
 both-under cs P Q Open Open p q = tt
 
+pub both-has : (f : Fit) → both f Has ≡ f
+both-has Has = refl
+both-has Takes = refl
+both-has Lacks = refl
+both-has Open = refl
+
+pub both-lacks : (f : Fit) → both f Lacks ≡ Lacks
+both-lacks Has = refl
+both-lacks Takes = refl
+both-lacks Lacks = refl
+both-lacks Open = refl
+
 -- the same thing said in another way
 under-same : (cs : List Raw) (P Q : (ℕ → Tree) → Type 0) (f : Fit) → ((k : ℕ → Tree) → P k → Q k) → ((k : ℕ → Tree) → Q k → P k) → Under cs P f → Under cs Q f
 under-same cs P Q Has to from h = λ k fits. to k (h k fits)

@@ -147,9 +147,10 @@ fn fit_all(cells: &Cells, x: &[u32], arity: u8, asks: &[Ask]) -> Fit
 {
     let mut fit = Fit::Has;
     for ask in asks {
-        fit = both(fit, fit_ask(cells, x, arity, ask));
-        if let Fit::Lacks = fit {
-            return Fit::Lacks;
+        match fit_ask(cells, x, arity, ask) {
+            Fit::Has => {}
+            Fit::Lacks => return Fit::Lacks,
+            other => fit = both(fit, other),
         }
     }
     fit
