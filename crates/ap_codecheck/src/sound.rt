@@ -1,6 +1,7 @@
 //! Code that keeps every rule.
 
 ghost use Rattle.std.specs.Prelude.{◌≡◌, ℕ, ◌<◌, Some, IsSome, IfOk, OnOk, IfErr, IfSome, length, slice_get};
+ghost use Rattle.ap_index.specs.Heads.{IsHeadOf};
 ghost use Rattle.ap_index.specs.Index.{IsRowOf, IsRestOf, IsLinkOf};
 ghost use Rattle.ap_needs.specs.Needs.{IsRoomOf, AreWidthsOf};
 ghost use Rattle.ap_codecheck.specs.Rules.{IsSound};
@@ -10,7 +11,7 @@ use crate::operands::check_operands;
 use crate::paths::check_paths;
 use crate::rule::{CodeErr, Rule};
 use crate::walk::Walk;
-use ap_index::{Index, Link, Row, index_of};
+use ap_index::{Head, Index, Link, Row, index_of};
 use ap_instr::{Code, Predicate};
 use ap_needs::{Room, Widths, widths_of};
 use std::alloc::Global;
@@ -131,6 +132,14 @@ impl Sound {
         ensures { IfSome result (λ link. IsLinkOf self.now from link) }
     {
         self.index.link(from)
+    }
+
+    /// What the head of the clause at a place asks of a call's arguments, if the clause is one of several.
+    #[inline]
+    pub fn head(&self, at: usize) -> Option<&Head>
+        ensures { IfSome result (λ head. IsHeadOf self.now at head.now) }
+    {
+        self.index.head(at)
     }
 
     /// What runs of the code need of a store.

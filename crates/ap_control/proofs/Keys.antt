@@ -15,14 +15,14 @@ use Rattle.ap_instr.specs.Step.{Step, with_integer, get_constant, get_structure}
 use Rattle.ap_instr.specs.Steps.{steps_behind}
 use Rattle.ap_index.specs.declared.key.Key.{Key}
 use Rattle.ap_index.specs.declared.key.Key.TheVariants.{Atom, Integer, Structure}
-use Rattle.ap_index.specs.Keys.{same_key, integer_key, first_key}
 use Rattle.ap_index.specs.Index.{AsksOther, LeavesOthers, named, tried_from, named_from, first_for, IsRowOf}
 use Rattle.ap_index.specs.declared.row.Row.{Row}
 use Rattle.ap_index.proofs.Keyed.{drop_at}
 use Rattle.ap_match.specs.Fits.{Fits}
 use Rattle.ap_steps.specs.Moves.{Asked}
 use Rattle.ap_standing.specs.Machine.{places_from}
-use Rattle.ap_control.specs.Heads.{IsShut, PassesOver, IsKeyOf}
+use Rattle.ap_index.specs.Keys.{same_key, integer_key, first_key, IsKeyOf}
+use Rattle.ap_control.specs.Heads.{IsShut, PassesOver}
 
 -- a tree has one key
 clash : (a b : Key) (t : Tree) → same_key a b ≡ false → IsKeyOf a t → IsKeyOf b t → ⊥

@@ -1,9 +1,9 @@
 pub mod Choices
-pub mod Openness
-pub mod Marks
 pub mod Compared
-pub mod Ran
-pub mod Passed
+pub mod Fitting
 pub mod Keys
+pub mod Marks
+pub mod Openness
+pub mod Passed
+pub mod Ran
 pub mod Unifying
-pub mod Building

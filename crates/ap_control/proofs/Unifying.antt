@@ -8,13 +8,11 @@ use Rattle.ap_cells.specs.declared.cells.Raw.{Raw}
 use Rattle.ap_cells.specs.Trees.{tree_at, trees}
 use Rattle.ap_instr.specs.declared.instruction.Slot.{Slot}
 use Rattle.ap_instr.specs.declared.instruction.Instr.{Instr}
-use Rattle.ap_instr.specs.declared.instruction.Instr.TheVariants.{Call, Execute, PushGoal}
-use Rattle.ap_instr.specs.declared.compiled.Predicate.{Predicate}
 use Rattle.ap_instr.specs.Code.{Compiled}
-use Rattle.ap_instr.specs.Step.{Step, get_variable, get_constant, get_structure, put_constant, unify_variable, call, execute, push, other, with_integer, with_predicate}
+use Rattle.ap_instr.specs.Step.{Step, get_variable, get_constant, get_structure, unify_variable, other, with_integer}
 use Rattle.ap_instr.specs.Steps.{steps_from, skipped}
 use Rattle.ap_instr.proofs.Steps.{steps_law}
-use Rattle.ap_instr.specs.Runs.{Runs, set, set_x, set_y, applied, spread, lost, IsOpen, AsksOpenly}
+use Rattle.ap_instr.specs.Runs.{Runs, set_x, set_y, IsOpen, AsksOpenly}
 use Rattle.ap_needs.specs.Needs.{is_transfer}
 use Rattle.ap_match.specs.Fits.{Fits}
 use Rattle.ap_match.proofs.Maps.{fits-own}
@@ -22,62 +20,9 @@ use Rattle.ap_steps.specs.Moves.{held, IsStuck}
 use Rattle.ap_control.specs.Runs.{Ran, IsTransferAt}
 use Rattle.ap_control.specs.declared.taking.Want.{Want}
 use Rattle.ap_control.specs.declared.taking.Want.TheVariants.{Nothing, Binding, Arguments, More}
-use Rattle.ap_control.specs.declared.taking.Way.{Way}
-use Rattle.ap_control.specs.declared.taking.Way.TheVariants.{On, Structure, Goal, Other}
-use Rattle.ap_control.specs.Taking.{CanAsk, HasWanted, HasStructure, Passes, PassesWanted, IsWayByCall, LeadsBy}
-
--- ---- goals
-
-call-opens : (p n : ℕ) (is : List Step) → AsksOpenly (call p n ∷ is) → IsOpen (call p n ∷ is)
-call-opens p n is o x y = let r = o.0 lost y in (more (applied p (spread x 1 n)) r.0, (r.0, refl, r.1))
-
--- a call by its predicate, where the table has it
-by-call : (o : Option Predicate) → IsWayByCall o Goal → (is : List Step) → AsksOpenly (with_predicate o call ∷ is) → IsOpen (with_predicate o call ∷ is)
-by-call None e is opens = absurd (let z : ⊥ = cc in z)
-by-call (Some q) e is opens = call-opens q.name q.arity is opens
-
-by-execute : (o : Option Predicate) → IsWayByCall o Goal → (is : List Step) → AsksOpenly (with_predicate o execute ∷ is) → IsOpen (with_predicate o execute ∷ is)
-by-execute None e is opens = absurd (let z : ⊥ = cc in z)
-by-execute (Some q) e is opens = λ x y. (more (applied q.name (spread x 1 q.arity)) none, refl)
-
-by-push : (o : Option Predicate) → IsWayByCall o Goal → (is : List Step) → AsksOpenly (with_predicate o push ∷ is) → IsOpen (with_predicate o push ∷ is)
-by-push None e is opens = absurd (let z : ⊥ = cc in z)
-by-push (Some q) e is opens = λ x y. let r = opens.0 x y in (more (applied q.name (spread x 1 q.arity)) r.0, (r.0, refl, r.1))
-
-by-none : (o : Option Predicate) (f : ℕ → ℕ → Step) → IsWayByCall o Other → with_predicate o f ≡ other
-by-none None f e = refl
-by-none (Some q) f e = absurd (let z : ⊥ = cc in z)
-
-never-on : (o : Option Predicate) → IsWayByCall o On → ⊥
-never-on None e = let z : ⊥ = cc in z
-never-on (Some q) e = let z : ⊥ = cc in z
-
-never-structure : (n a : ℕ) (o : Option Predicate) → IsWayByCall o (Structure n a) → ⊥
-never-structure n a None e = let z : ⊥ = cc in z
-never-structure n a (Some q) e = let z : ⊥ = cc in z
-
-pub led-by-call : (code : Compiled) (p : ℕ) (way : Way) → IsWayByCall (slice_get code.predicates p) way → LeadsBy code (Call p) way
-led-by-call code p On h = absurd (never-on (slice_get code.predicates p) h)
-led-by-call code p (Structure n a) h = absurd (never-structure n a (slice_get code.predicates p) h)
-led-by-call code p Goal h = by-call (slice_get code.predicates p) h
-led-by-call code p Other h = λ t. by-none (slice_get code.predicates p) call h
-
-pub led-by-execute : (code : Compiled) (p : ℕ) (way : Way) → IsWayByCall (slice_get code.predicates p) way → LeadsBy code (Execute p) way
-led-by-execute code p On h = absurd (never-on (slice_get code.predicates p) h)
-led-by-execute code p (Structure n a) h = absurd (never-structure n a (slice_get code.predicates p) h)
-led-by-execute code p Goal h = by-execute (slice_get code.predicates p) h
-led-by-execute code p Other h = λ t. by-none (slice_get code.predicates p) execute h
-
-pub led-by-push : (code : Compiled) (n p : ℕ) (way : Way) → IsWayByCall (slice_get code.predicates p) way → LeadsBy code (PushGoal n p) way
-led-by-push code n p On h = absurd (never-on (slice_get code.predicates p) h)
-led-by-push code n p (Structure m a) h = absurd (never-structure m a (slice_get code.predicates p) h)
-led-by-push code n p Goal h = by-push (slice_get code.predicates p) h
-led-by-push code n p Other h = λ t. by-none (slice_get code.predicates p) push h
-
--- a constant is put, where it is an integer that the table has
-pub by-listed : (o : Option ℤ) (z : ℤ) → Some z ≡ o → (a : ℕ) (is : List Step) → IsOpen is → IsOpen (with_integer o (λ c. put_constant c a) ∷ is)
-by-listed None z e a is opens = absurd (let f : ⊥ = cc in f)
-by-listed (Some v) z e a is opens = λ x y. opens (set x a (int v)) y
+use Rattle.ap_index.specs.declared.opening.Way.TheVariants.{Goal, Other}
+use Rattle.ap_index.specs.Opening.{LeadsBy}
+use Rattle.ap_control.specs.Taking.{CanAsk, HasWanted, HasStructure, Passes, PassesWanted}
 
 pub goes-on : (b : Bool) (want : Want) → (b ≡ true → want ≡ More) → (want ≡ More → ⊥) → b ≡ false
 goes-on false want h n = refl

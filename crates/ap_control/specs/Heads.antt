@@ -1,14 +1,11 @@
 -- Clauses that are passed over because they can't be entered.
 use Rattle.std.specs.Prelude.{◌≡◌, ℕ, Bool, true, false, List, ◌++◌}
 use Rattle.std.specs.List.{AllByRecursion}
-use Rattle.ap_term.specs.Tree.{Tree, Trees, atom, int, node, count_trees}
 use Rattle.ap_cells.specs.declared.cells.Raw.{Raw}
 use Rattle.ap_instr.specs.declared.instruction.Instr.{Instr}
 use Rattle.ap_instr.specs.declared.instruction.Instr.TheVariants.{GetConstant, GetInteger, Allocate, Deallocate}
 use Rattle.ap_instr.specs.Code.{Compiled}
 use Rattle.ap_instr.specs.Steps.{steps_from}
-use Rattle.ap_index.specs.declared.key.Key.{Key}
-use Rattle.ap_index.specs.declared.key.Key.TheVariants.{Atom, Integer, Structure}
 use Rattle.ap_steps.specs.Moves.{IsStuck}
 
 -- the clause at a place can't be entered, whatever the Y registers hold
@@ -28,9 +25,3 @@ pub record PassesOver (code : Compiled) (cs : List Raw) (x : ℕ → ℕ) (ls re
   pub passed : List ℕ
   pub are : ls ≡ passed ++ rest
   pub shut : AllByRecursion (IsShut code cs x) passed
-
--- a tree of which this is looked up
-abbrev pub IsKeyOf : Key → Tree → Type 0
-IsKeyOf (Atom a) t = t ≡ atom a
-IsKeyOf (Integer z) t = t ≡ int z
-IsKeyOf (Structure f n) t = (ts : Trees) × (count_trees ts ≡ n) × (t ≡ node f ts)

@@ -12,7 +12,8 @@ ghost use Rattle.ap_match.specs.Fits.{Fits};
 ghost use Rattle.ap_steps.specs.Moves.{held, HoldPlaces, IsStuck};
 ghost use Rattle.ap_standing.specs.Machine.{places_from};
 ghost use Rattle.ap_cells.specs.declared.cells.Raw.{Raw};
-ghost use Rattle.ap_control.specs.Heads.{PassesOver, IsKeyOf, only_asks};
+ghost use Rattle.ap_index.specs.Keys.{IsKeyOf};
+ghost use Rattle.ap_control.specs.Heads.{PassesOver, only_asks};
 
 use crate::alternatives::{Alternative, chosen, first, following, instruction_at};
 use ap_cells::{Cells, Top};
@@ -136,7 +137,7 @@ pub fn fails_at_once(cells: &Cells, x: &[u32], code: &Code, at: usize) -> bool
 }
 
 /// What is looked up of an atom, an integer or a structure at a place; none of an unbound variable.
-fn key_of(cells: &Cells, place: usize) -> Option<Key>
+pub(crate) fn key_of(cells: &Cells, place: usize) -> Option<Key>
     requires { place < length cells.now.cells }
     ensures { IfSome result (λ key. (k : ℕ → Tree) → Fits cells.now.cells k → IsKeyOf key (k place)) }
 {

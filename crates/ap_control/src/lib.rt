@@ -8,6 +8,7 @@
 
 mod alternatives;
 mod checks;
+mod choosing;
 mod heads;
 mod relations;
 mod runs;
@@ -15,6 +16,7 @@ mod taking;
 
 pub use alternatives::{Alternative, first, following, instruction_at};
 pub use ap_codecheck::Sound;
+pub use choosing::{Chosen, Possible, choose, next_possible};
 pub use checks::{are_apart, is_ground};
 pub use heads::{fails_at_once, first_possible, pass_over};
 pub use relations::solve;

@@ -8,10 +8,11 @@ use Rattle.ap_instr.specs.StandsFor.{tried}
 use Rattle.ap_index.specs.declared.key.Key.{Key}
 use Rattle.ap_index.specs.Keys.{same_key, key_at, IsKeyed}
 use Rattle.ap_index.specs.Hashing.{slot_of}
+use Rattle.ap_index.specs.declared.head.Head.{Head}
 use Rattle.ap_index.specs.declared.row.Row.{Row}
 use Rattle.ap_index.specs.declared.row.Link.{Link}
 use Rattle.ap_index.specs.declared.index.Entry.{Entry}
-use Rattle.ap_index.specs.declared.index.Entry.TheVariants.{Nothing, Begins, Rest, Behind}
+use Rattle.ap_index.specs.declared.index.Entry.TheVariants.{Nothing, Begins, Rest, Behind, Asks}
 use Rattle.ap_index.specs.Index.{LeavesOthers, named, tried_from, named_from, in_slot, first_for, IsFilled, IsRowOf, IsLinkOf, IsEntryOf}
 use Rattle.ap_index.proofs.Keyed.{drop_at}
 use Rattle.ap_index.proofs.Same.{true-same}
@@ -134,15 +135,25 @@ pub pushed-is : {X : Type 0} (xs ys : List X) (x : X) (n : ℕ) → ys ≡ xs ++
 pushed-is xs ys x n e l = ap (slice_get ys) l ∙ ap (λ zs. slice_get zs (length xs)) e ∙ last-is xs x
 
 -- an entry stays right with more rows
-pub more-rows : (code : Compiled) (rs new : List Row) (r : Row) (ls : List Link) (from : ℕ) (e : Entry) → new ≡ rs ++ r ∷ [] → IsEntryOf code rs ls from e → IsEntryOf code new ls from e
-more-rows code rs new r ls from Nothing q h = h
-more-rows code rs new r ls from (Begins n) q h = (h.0, ap (λ rows. slice_get rows n) q ∙ has-more rs (r ∷ []) n h.0 h.1, h.2)
-more-rows code rs new r ls from (Rest n) q h = (h.0, ap (λ rows. slice_get rows n) q ∙ has-more rs (r ∷ []) n h.0 h.1, h.2)
-more-rows code rs new r ls from (Behind n) q h = h
+pub more-rows : (code : Compiled) (rs new : List Row) (r : Row) (ls : List Link) (hs : List Head) (from : ℕ) (e : Entry) → new ≡ rs ++ r ∷ [] → IsEntryOf code rs ls hs from e → IsEntryOf code new ls hs from e
+more-rows code rs new r ls hs from Nothing q h = h
+more-rows code rs new r ls hs from (Begins n) q h = (h.0, ap (λ rows. slice_get rows n) q ∙ has-more rs (r ∷ []) n h.0 h.1, h.2)
+more-rows code rs new r ls hs from (Rest n) q h = (h.0, ap (λ rows. slice_get rows n) q ∙ has-more rs (r ∷ []) n h.0 h.1, h.2)
+more-rows code rs new r ls hs from (Behind n) q h = h
+more-rows code rs new r ls hs from (Asks n) q h = h
 
--- and with more links
-pub more-links : (code : Compiled) (rs : List Row) (ls new : List Link) (l : Link) (from : ℕ) (e : Entry) → new ≡ ls ++ l ∷ [] → IsEntryOf code rs ls from e → IsEntryOf code rs new from e
-more-links code rs ls new l from Nothing q h = h
-more-links code rs ls new l from (Begins n) q h = h
-more-links code rs ls new l from (Rest n) q h = h
-more-links code rs ls new l from (Behind n) q h = (h.0, ap (λ links. slice_get links n) q ∙ has-more ls (l ∷ []) n h.0 h.1, h.2)
+-- with more links
+pub more-links : (code : Compiled) (rs : List Row) (ls new : List Link) (l : Link) (hs : List Head) (from : ℕ) (e : Entry) → new ≡ ls ++ l ∷ [] → IsEntryOf code rs ls hs from e → IsEntryOf code rs new hs from e
+more-links code rs ls new l hs from Nothing q h = h
+more-links code rs ls new l hs from (Begins n) q h = h
+more-links code rs ls new l hs from (Rest n) q h = h
+more-links code rs ls new l hs from (Behind n) q h = (h.0, ap (λ links. slice_get links n) q ∙ has-more ls (l ∷ []) n h.0 h.1, h.2)
+more-links code rs ls new l hs from (Asks n) q h = h
+
+-- and with more heads
+pub more-heads : (code : Compiled) (rs : List Row) (ls : List Link) (hs new : List Head) (a : Head) (from : ℕ) (e : Entry) → new ≡ hs ++ a ∷ [] → IsEntryOf code rs ls hs from e → IsEntryOf code rs ls new from e
+more-heads code rs ls hs new a from Nothing q h = h
+more-heads code rs ls hs new a from (Begins n) q h = h
+more-heads code rs ls hs new a from (Rest n) q h = h
+more-heads code rs ls hs new a from (Behind n) q h = h
+more-heads code rs ls hs new a from (Asks n) q h = (h.0, ap (λ heads. slice_get heads n) q ∙ has-more hs (a ∷ []) n h.0 h.1, h.2)

@@ -1,4 +1,7 @@
+pub mod Asking
+pub mod Building
 pub mod Keyed
 pub mod Left
+pub mod Openness
 pub mod Same
 pub mod Slots

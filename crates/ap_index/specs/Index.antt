@@ -10,10 +10,12 @@ use Rattle.ap_index.specs.declared.row.Row.{Row}
 use Rattle.ap_index.specs.declared.row.TheConstants.{NONE}
 use Rattle.ap_index.specs.declared.row.Link.{Link}
 use Rattle.ap_index.specs.declared.index.Entry.{Entry}
-use Rattle.ap_index.specs.declared.index.Entry.TheVariants.{Nothing, Begins, Rest, Behind}
+use Rattle.ap_index.specs.declared.index.Entry.TheVariants.{Nothing, Begins, Rest, Behind, Asks}
 use Rattle.ap_index.specs.declared.index.Index.{Index}
 use Rattle.ap_index.specs.Keys.{same_key, key_at}
 use Rattle.ap_index.specs.Hashing.{slot_of}
+use Rattle.ap_index.specs.declared.head.Head.{Head}
+use Rattle.ap_index.specs.Heads.{IsHeadOf}
 
 -- the clause at a place asks for another first argument
 pub record AsksOther (code : Compiled) (key : Key) (at : ℕ) : Type 0 where
@@ -69,12 +71,13 @@ abbrev pub IsLinkOf : Compiled → ℕ → Link → Type 0
 IsLinkOf code from l = (key : Key) → slot_of key l.count ≡ l.slot → LeavesOthers code key (tried_from code (Some from)) (tried_from code l.next)
 
 -- what an entry for a place says
-abbrev pub IsEntryOf : Compiled → List Row → List Link → ℕ → Entry → Type 0
-IsEntryOf code rows links from Nothing = Unit {0}
-IsEntryOf code rows links from (Begins number) = (r : Row) × (slice_get rows number ≡ Some r) × IsRowOf code from r
-IsEntryOf code rows links from (Rest number) = (r : Row) × (slice_get rows number ≡ Some r) × IsRestOf code from r
-IsEntryOf code rows links from (Behind number) = (l : Link) × (slice_get links number ≡ Some l) × IsLinkOf code from l
+abbrev pub IsEntryOf : Compiled → List Row → List Link → List Head → ℕ → Entry → Type 0
+IsEntryOf code rows links heads from Nothing = Unit {0}
+IsEntryOf code rows links heads from (Begins number) = (r : Row) × (slice_get rows number ≡ Some r) × IsRowOf code from r
+IsEntryOf code rows links heads from (Rest number) = (r : Row) × (slice_get rows number ≡ Some r) × IsRestOf code from r
+IsEntryOf code rows links heads from (Behind number) = (l : Link) × (slice_get links number ≡ Some l) × IsLinkOf code from l
+IsEntryOf code rows links heads at (Asks number) = (h : Head) × (slice_get heads number ≡ Some h) × IsHeadOf code at h
 
 -- an index of the code
 pub record IsIndexOf (code : Compiled) (i : Index) : Type 0 where
-  pub entries : (from : ℕ) → IsEntryOf code i.rows.items i.links.items from (get_or i.entries.items from Nothing)
+  pub entries : (from : ℕ) → IsEntryOf code i.rows.items i.links.items i.heads.items from (get_or i.entries.items from Nothing)

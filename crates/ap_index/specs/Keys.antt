@@ -1,6 +1,7 @@
 -- What a clause asks of its first argument.
 use Rattle.std.specs.Prelude.{◌≡◌, ℕ, ℤ, Bool, true, false, not, ◌==◌, ◌&&◌, if◌then◌else◌, List, [], ◌∷◌, drop, slice_get, Option, Some, None}
 use Rattle.std.specs.Ordering.{int_eq}
+use Rattle.ap_term.specs.Tree.{Tree, Trees, atom, int, node, count_trees}
 use Rattle.ap_instr.specs.declared.instruction.Instr.{Instr}
 use Rattle.ap_instr.specs.declared.instruction.Instr.TheVariants.{GetConstant, GetInteger, GetStructure, Allocate}
 use Rattle.ap_instr.specs.Code.{Compiled}
@@ -39,6 +40,12 @@ first_key code (i ∷ is) = if leaves_first i then first_key code is else asked_
 -- what the clause at a place asks of the first argument
 abbrev pub key_at : Compiled → ℕ → Option Key
 key_at code at = first_key code (drop at code.instructions)
+
+-- a tree of which this is the key
+abbrev pub IsKeyOf : Key → Tree → Type 0
+IsKeyOf (Atom a) t = t ≡ atom a
+IsKeyOf (Integer z) t = t ≡ int z
+IsKeyOf (Structure f n) t = (ts : Trees) × (count_trees ts ≡ n) × (t ≡ node f ts)
 
 -- a choice stands at the place, made of a clause's place in that way, and the clause asks for a key
 pub record IsKeyed (code : Compiled) (at : ℕ) (choice : ℕ → Instr) (key : Key) : Type 0 where

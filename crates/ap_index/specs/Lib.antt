@@ -1,3 +1,5 @@
+pub mod Heads
 pub mod Keys
 pub mod Hashing
 pub mod Index
+pub mod Opening

@@ -6,9 +6,11 @@ ghost use Rattle.ap_instr.specs.Code.{Compiled};
 ghost use Rattle.ap_index.specs.declared.key.Key.{Key};
 ghost use Rattle.ap_index.specs.declared.index.Entry.TheVariants.{Nothing};
 ghost use Rattle.ap_index.specs.Hashing.{slot_of};
+ghost use Rattle.ap_index.specs.Heads.{IsHeadOf};
 ghost use Rattle.ap_index.specs.Index.{LeavesOthers, tried_from, first_for, in_slot, named_from, IsFilled, IsRowOf, IsRestOf, IsLinkOf, IsEntryOf, IsIndexOf};
 
 use crate::hashing::slot_of;
+use crate::head::{Head, head_at};
 use crate::key::{Key, instruction_at, retry_key, trust_key, try_key};
 use crate::row::{Link, NONE, Row};
 use ap_instr::{Code, Instr};
@@ -31,13 +33,16 @@ pub enum Entry {
     Rest(u32),
     /// A choice of a row stands before it.
     Behind(u32),
+    /// A clause that is one of several begins there.
+    Asks(u32),
 }
 
-/// Rows of many choices, each of a clause with a key.
+/// Rows of many choices, each of a clause with a key, and what the heads of clauses ask that are one of several.
 #[derive(Drop)]
 pub struct Index {
     rows: Vec<Row>,
     links: Vec<Link>,
+    heads: Vec<Head>,
     entries: Vec<Entry>,
 }
 
@@ -135,6 +140,7 @@ impl Index {
         Index {
             rows: Vec::new(alloc),
             links: Vec::new(alloc),
+            heads: Vec::new(alloc),
             entries: Vec::new(alloc),
         }
     }
@@ -150,7 +156,7 @@ impl Index {
     }
 
     fn put(&mut self, at: u32, entry: Entry) -> Result<(), NoMemory>
-        ensures { OnOk result ((code : Compiled) → IsIndexOf code self.old → IsEntryOf code self.old.rows.items self.old.links.items at entry → IsIndexOf code self.new) }
+        ensures { OnOk result ((code : Compiled) → IsIndexOf code self.old → IsEntryOf code self.old.rows.items self.old.links.items self.old.heads.items at entry → IsIndexOf code self.new) }
     {
         widen(&mut self.entries, at as usize)?;
         self.entries[at as usize] = entry;
@@ -197,6 +203,16 @@ impl Index {
         self.put(from, Entry::Behind(number))
     }
 
+    fn put_head(&mut self, at: u32, head: Head) -> Result<(), NoMemory>
+        ensures { OnOk result ((code : Compiled) → IsIndexOf code self.old → IsHeadOf code at head → IsIndexOf code self.new) }
+    {
+        let Ok(number) = u32::try_from(self.heads.len()) else {
+            return Ok(());
+        };
+        self.heads.push(head)?;
+        self.put(at, Entry::Asks(number))
+    }
+
     /// Puts in the choices with keys from a place to before another one, unless they are few.
     fn add(&mut self, alloc: Global, code: &Code, start: u32, end: u32) -> Result<(), NoMemory>
         requires order { start ≤ end }
@@ -218,6 +234,20 @@ impl Index {
             row.put(key, at);
         }
         self.add_first(code, start, row)
+    }
+
+    /// Puts in what the heads ask of the clauses that choices at so many places name.
+    fn add_heads(&mut self, alloc: Global, code: &Code, places: u32) -> Result<(), NoMemory>
+        requires is_index { IsIndexOf code.now self.old }
+        ensures { OnOk result (IsIndexOf code.now self.new) }
+    {
+        for at in 0..places {
+            if let Some(clause) = clause_named(code, at as usize) {
+                let head = head_at(alloc, code, clause as usize)?;
+                self.put_head(clause, head)?;
+            }
+        }
+        Ok(())
     }
 
     /// Puts in the first choice of a row, and the row.
@@ -262,6 +292,17 @@ impl Index {
         }
     }
 
+    /// What the head of the clause at a place asks, if that is one of several.
+    #[inline]
+    pub fn head(&self, at: usize) -> Option<&Head>
+        ensures { IfSome result (λ head. (code : Compiled) → IsIndexOf code self.now → IsHeadOf code at head.now) }
+    {
+        match self.entry_at(at) {
+            Entry::Asks(number) => self.heads.get(number as usize),
+            _ => None,
+        }
+    }
+
     /// What is known behind a choice of a row.
     #[inline]
     pub fn link(&self, from: usize) -> Option<Link>
@@ -271,6 +312,14 @@ impl Index {
             Entry::Behind(number) => self.links.get(number as usize).copied(),
             _ => None,
         }
+    }
+}
+
+/// The clause that the choice at a place names.
+fn clause_named(code: &Code, at: usize) -> Option<u32> {
+    match instruction_at(code, at) {
+        Some(Instr::Try(clause) | Instr::Retry(clause) | Instr::Trust(clause)) => Some(clause),
+        _ => None,
     }
 }
 
@@ -324,5 +373,6 @@ pub fn index_of(alloc: Global, code: &Code) -> Result<Index, NoMemory>
             start = at + 1;
         }
     }
+    index.add_heads(alloc, code, places)?;
     Ok(index)
 }

@@ -22,14 +22,14 @@ pub(crate) fn instruction_at(code: &Code, at: usize) -> Option<Instr>
 }
 
 /// An integer of the code's table.
-fn integer_at(code: &Code, index: u32) -> Option<i64>
+pub(crate) fn integer_at(code: &Code, index: u32) -> Option<i64>
     ensures { result ≡ slice_get code.now.integers index }
 {
     code.integers().get(index as usize).copied()
 }
 
 /// An integer of the code's table, as a key.
-fn integer_key(code: &Code, index: u32) -> Option<Key>
+pub(crate) fn integer_key(code: &Code, index: u32) -> Option<Key>
     ensures { result ≡ integer_key (slice_get code.now.integers index) }
 {
     match integer_at(code, index) {

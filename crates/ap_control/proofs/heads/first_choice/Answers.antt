@@ -8,7 +8,8 @@ use Rattle.ap_match.specs.Fits.{Fits}
 use Rattle.ap_steps.specs.Moves.{held}
 use Rattle.ap_standing.specs.Machine.{places_from}
 use Rattle.ap_control.specs.declared.alternatives.Alternative.{Alternative}
-use Rattle.ap_control.specs.Heads.{PassesOver, IsKeyOf}
+use Rattle.ap_index.specs.Keys.{IsKeyOf}
+use Rattle.ap_control.specs.Heads.{PassesOver}
 use Rattle.ap_control.proofs.Passed.{passes-same}
 use Rattle.ap_control.proofs.Keys.{row-passes}
 use Rattle.ap_control.proofs.heads.first_choice.Goals as goal

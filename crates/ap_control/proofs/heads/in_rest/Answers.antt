@@ -4,7 +4,8 @@ use Rattle.ap_index.specs.Index.{tried_from, first_for}
 use Rattle.ap_match.specs.Fits.{Fits}
 use Rattle.ap_steps.specs.Moves.{held}
 use Rattle.ap_standing.specs.Machine.{places_from}
-use Rattle.ap_control.specs.Heads.{IsKeyOf, PassesOver}
+use Rattle.ap_index.specs.Keys.{IsKeyOf}
+use Rattle.ap_control.specs.Heads.{PassesOver}
 use Rattle.ap_control.proofs.Keys.{passes-others, tried-places}
 use Rattle.ap_control.proofs.heads.in_rest.Goals as goal
 

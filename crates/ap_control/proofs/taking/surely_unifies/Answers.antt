@@ -6,7 +6,7 @@ use Rattle.ap_steps.specs.Moves.{held}
 use Rattle.ap_steps.proofs.Places.{steps-next}
 use Rattle.ap_control.specs.declared.taking.Want.TheVariants.{More}
 use Rattle.ap_control.specs.Taking.{PassesWanted}
-use Rattle.ap_control.proofs.Openness.{past}
+use Rattle.ap_index.proofs.Openness.{past}
 use Rattle.ap_control.proofs.Unifying.{Walked, goes-on, walked-none, walked-variable, walked-argument, walked-so, walked-bound, walked-open}
 use Rattle.ap_control.proofs.taking.surely_unifies.Goals.{in-Nothing, in-Binding+else-binds, in-Arguments}
 use Rattle.ap_control.proofs.taking.surely_unifies.Goals as goal

@@ -6,7 +6,7 @@ use Rattle.ap_index.proofs.index.Index.push_row.Goals as goal
 pub returns-clause-same : goal.returns-clause-same
 returns-clause-same c = λ code h.
     let old = c.args.self.now in
-    record { entries = λ q. more-rows code old.rows.items c.push.new.self.items c.args.row old.links.items q (get_or old.entries.items q Nothing) c.in_ok-push.ensures.items (h.entries q) }
+    record { entries = λ q. more-rows code old.rows.items c.push.new.self.items c.args.row old.links.items old.heads.items q (get_or old.entries.items q Nothing) c.in_ok-push.ensures.items (h.entries q) }
 
 pub returns-clause-held : goal.returns-clause-held
 returns-clause-held c =

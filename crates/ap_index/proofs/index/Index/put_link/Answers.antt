@@ -11,6 +11,6 @@ returns c =
     let number : c.in-Ok.number ≡ length old.links.items = omega (arith, c.len.ensures, c.in-Ok.ensures, old.links.ok.0) in
     on_ok_weaker c.put.result
     (λ put code h s.
-    put code (record { entries = λ q. more-links code old.rows.items old.links.items c.push.new.self.items c.args.link q (get_or old.entries.items q Nothing) items (h.entries q) })
+    put code (record { entries = λ q. more-links code old.rows.items old.links.items c.push.new.self.items c.args.link old.heads.items q (get_or old.entries.items q Nothing) items (h.entries q) })
     (c.args.link, pushed-is old.links.items c.push.new.self.items c.args.link c.in-Ok.number items number, s))
     c.put.ensures

@@ -1,9 +1,9 @@
 use Rattle.std.proofs.Common.{◌+◌, ◌∷◌, slice_get, sym, subst}
 use Rattle.ap_term.specs.Tree.{atom}
 use Rattle.ap_instr.specs.Step.{step_of}
-use Rattle.ap_control.specs.Taking.{IsOpenInside}
-use Rattle.ap_control.proofs.Building.{constant-opens, value-opens, variable-opens, listed-opens}
-use Rattle.ap_control.proofs.taking.adds_argument.Goals as goal
+use Rattle.ap_index.specs.Opening.{IsOpenInside}
+use Rattle.ap_index.proofs.Building.{constant-opens, value-opens, variable-opens, listed-opens}
+use Rattle.ap_index.proofs.opening.adds_argument.Goals as goal
 
 pub returns-in-UnifyVariable-clause-opens : goal.returns-in-UnifyVariable-clause-opens
 returns-in-UnifyVariable-clause-opens c = λ b n is h.

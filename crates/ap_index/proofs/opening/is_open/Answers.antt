@@ -4,13 +4,13 @@ use Rattle.ap_instr.specs.Steps.{steps_from, skipped}
 use Rattle.ap_instr.proofs.Steps.{steps_law}
 use Rattle.ap_instr.specs.Runs.{IsOpen, AsksOpenly}
 use Rattle.ap_needs.specs.Needs.{is_transfer}
-use Rattle.ap_steps.proofs.Places.{steps-next}
-use Rattle.ap_control.specs.declared.taking.Way.TheVariants.{On, Structure}
-use Rattle.ap_control.specs.Taking.{IsOpenInside, LeadsBy}
-use Rattle.ap_control.proofs.Building.{inside-none, inside-open}
-use Rattle.ap_control.proofs.Openness.{past}
-use Rattle.ap_control.proofs.taking.is_open.Goals.{in-On, in-Structure}
-use Rattle.ap_control.proofs.taking.is_open.Goals as goal
+use Rattle.ap_index.proofs.Openness.{steps-next}
+use Rattle.ap_index.specs.declared.opening.Way.TheVariants.{On, Structure}
+use Rattle.ap_index.specs.Opening.{IsOpenInside, LeadsBy}
+use Rattle.ap_index.proofs.Building.{inside-none, inside-open}
+use Rattle.ap_index.proofs.Openness.{past}
+use Rattle.ap_index.proofs.opening.is_open.Goals.{in-On, in-Structure}
+use Rattle.ap_index.proofs.opening.is_open.Goals as goal
 
 pub loop-place-init : goal.loop-place-init
 loop-place-init c = record { opens = inside-open 0 (steps_from c.args.code.now c.args.at); openly = λ o. o }

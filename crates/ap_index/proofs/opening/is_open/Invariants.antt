@@ -1,7 +1,7 @@
 use Rattle.ap_instr.specs.Steps.{steps_from}
 use Rattle.ap_instr.specs.Runs.{IsOpen, AsksOpenly}
-use Rattle.ap_control.specs.Taking.{IsOpenInside}
-use Rattle.ap_control.proofs.taking.is_open.Given as goal
+use Rattle.ap_index.specs.Opening.{IsOpenInside}
+use Rattle.ap_index.proofs.opening.is_open.Given as goal
 
 abbrev pub invariant-loop-place : goal.invariant-loop-place
 invariant-loop-place l = record {

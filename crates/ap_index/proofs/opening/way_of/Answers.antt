@@ -2,12 +2,12 @@ use Rattle.std.proofs.Common.{refl, sym, subst, slice_get}
 use Rattle.ap_term.specs.Tree.{atom, none, more}
 use Rattle.ap_tracked.specs.Marks.{ground_mark, apart_mark, group_mark}
 use Rattle.ap_instr.specs.Runs.{set, read, set_x, set_y, applied, spread, lost}
-use Rattle.ap_control.specs.declared.taking.Way.TheVariants.{On, Structure, Goal}
-use Rattle.ap_control.specs.Taking.{LeadsBy}
+use Rattle.ap_index.specs.declared.opening.Way.TheVariants.{On, Structure, Goal}
+use Rattle.ap_index.specs.Opening.{LeadsBy}
 use Rattle.ap_instr.specs.Builtin.{builtin_name, builtin_arity}
-use Rattle.ap_control.proofs.Building.{structure-opens}
-use Rattle.ap_control.proofs.Unifying.{led-by-call, led-by-execute, led-by-push, by-listed}
-use Rattle.ap_control.proofs.taking.way_of.Goals as goal
+use Rattle.ap_index.proofs.Building.{structure-opens}
+use Rattle.ap_index.proofs.Openness.{led-by-call, led-by-execute, led-by-push, by-listed}
+use Rattle.ap_index.proofs.opening.way_of.Goals as goal
 
 pub returns-in-GetVariable : goal.returns-in-GetVariable
 returns-in-GetVariable c = subst (λ i. LeadsBy c.args.code.now i On) (sym c.in-GetVariable.is) (refl, λ is o x y. o (set_x c.in-GetVariable.field-0 (x c.in-GetVariable.field-1) x) (set_y c.in-GetVariable.field-0 (x c.in-GetVariable.field-1) y))

@@ -6,13 +6,16 @@ use Rattle.ap_instr.specs.declared.instruction.Slot.{Slot}
 use Rattle.ap_instr.specs.declared.instruction.Slot.TheVariants.{X, Y}
 use Rattle.ap_instr.specs.Step.{Step, put_structure, unify_variable, unify_value, unify_constant, with_integer}
 use Rattle.ap_instr.specs.Runs.{Runs, set, read, set_x, set_y, IsOpen}
-use Rattle.ap_steps.proofs.RegisterMaps.{funext}
-use Rattle.ap_control.specs.Taking.{IsApart, IsOpenInside}
+use Rattle.ap_index.specs.Opening.{IsApart, IsOpenInside}
 
 -- ---- where no argument is left
 
 pub inside-none : (a : ℕ) (is : List Step) → IsOpen is → IsOpenInside a 0 is
 inside-none a is o = λ x y. (none, refl, λ t. o (set x a t) y)
+
+-- two maps with the same values are the same
+funext : {A B : Type 0} (f g : A → B) → ((a : A) → f a ≡ g a) → f ≡ g
+funext f g h = λ i. λ a. h a i
 
 set-own : (x : ℕ → Tree) (a : ℕ) → set x a (x a) ≡ x
 set-own x a = funext (set x a (x a)) x (λ w. go w (w == a) refl)
