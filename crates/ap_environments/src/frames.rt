@@ -87,6 +87,7 @@ pub fn registers_of<'a>(slots: &'a [u32], frame: &Frame) -> &'a [u32]
 }
 
 /// Puts places into the first registers, as far as there are registers, and 0 into the others.
+#[inline(always)]
 pub fn fill_registers(registers: &mut [u32], places: &[u32])
     ensures held { (w : ℕ) → length places.now ≤ length registers.old → held registers.new w ≡ held places.now w }
     ensures len { length registers.new ≡ length registers.old }
