@@ -51,7 +51,18 @@ impl Pending {
     }
 }
 
+/// The value of a place's expression, by a list of the operations that wait for an operand, and None where it has none.
+#[inline(never)]
+fn eval_deep(cells: &Cells, place: usize, pending: &mut Pending) -> Result<Option<i64>, NoMemory>
+    requires { place < length cells.now.cells }
+    ensures { IfOk result (λ value. value ≡ eval (tree_at (trees cells.now.cells) place)) }
+{
+    pending.frames.clear();
+    Ok(run(cells, place, &mut pending.frames)?.ok())
+}
+
 /// The value of a place's expression, and None where it has none.
+#[inline(always)]
 pub fn eval(cells: &Cells, place: usize, pending: &mut Pending) -> Result<Option<i64>, NoMemory>
     requires { place < length cells.now.cells }
     ensures { IfOk result (λ value. value ≡ eval (tree_at (trees cells.now.cells) place)) }
@@ -59,14 +70,12 @@ pub fn eval(cells: &Cells, place: usize, pending: &mut Pending) -> Result<Option
     match operand(cells, place, LEVELS) {
         Turn::Close(value) => Ok(Some(value)),
         Turn::Stop(_) => Ok(None),
-        Turn::Open(deep) => {
-            pending.frames.clear();
-            Ok(run(cells, deep, &mut pending.frames)?.ok())
-        }
+        Turn::Open(deep) => eval_deep(cells, deep, pending),
     }
 }
 
 /// Whether two places' expressions have values that compare so.
+#[inline(always)]
 pub fn test(
     cells: &Cells,
     op: Op,

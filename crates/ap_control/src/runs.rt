@@ -26,6 +26,7 @@ pub fn used(registers: &[u32]) -> &[u32]
 }
 
 /// Takes the instructions from a place on up to the next one that leads elsewhere than to the one behind it.
+#[inline(always)]
 pub fn run_to_transfer(
     cells: &mut Cells,
     x: &mut [u32],

@@ -198,6 +198,7 @@ fn leads_on(code: &Code, at: usize) -> bool
 
 /// Whether the clause at a place can be taken, which is told by a run up to its first goal: then its head unifies with the
 /// call.
+#[inline(never)]
 pub fn can_take(
     cells: &mut Cells,
     x: &mut [u32],

@@ -174,6 +174,7 @@ impl Environments {
     }
 
     /// Takes off the innermost return, where there is one: its place, and its registers in the first ones of y.
+    #[inline(always)]
     pub fn pop(&mut self, y: &mut [u32]) -> Option<u32>
         ensures none { result ≡ None → self.old.returns ≡ [] }
         ensures none_kept { result ≡ None → self.new ≡ self.old }
@@ -207,6 +208,7 @@ impl Environments {
         self.keep_entry(Entry::Fork(fork), &[])
     }
 
+    #[inline(always)]
     fn keep_entry(&mut self, entry: Entry, registers: &[u32]) -> Result<(), NoMemory>
         ensures ok { OnOk result (self.new ≡ kept_of self.old.returns (put_entry entry (record { place = 0; y = registers.now } ∷ self.old.returns) (segments_in self.old))) }
         ensures err { OnErr result (self.new ≡ self.old) }

@@ -7,7 +7,11 @@ ghost use Rattle.ap_environments.specs.Frames.{LeadUp, AreFrames, chain, chains}
 use crate::environments::Frame;
 use ap_term::NoMemory;
 
+/// The most that 32 bits count.
+const MOST: usize = u32::MAX as usize;
+
 /// Puts a frame behind the others, and answers its number, counted from 1.
+#[inline(always)]
 pub fn push_frame(
     frames: &mut Vec<Frame>,
     slots: &mut Vec<u32>,
@@ -24,20 +28,15 @@ pub fn push_frame(
     ensures frames_kept { OnErr result (frames.new.items ≡ frames.old.items) }
     ensures slots_kept { OnErr result (slots.new.items ≡ slots.old.items) }
 {
-    let Ok(number) = u32::try_from(frames.len() + 1) else {
+    if frames.len() >= MOST || slots.len() > MOST || registers.len() > MOST {
         return Err(NoMemory);
-    };
-    let Ok(first) = u32::try_from(slots.len()) else {
-        return Err(NoMemory);
-    };
-    let Ok(count) = u32::try_from(registers.len()) else {
-        return Err(NoMemory);
-    };
+    }
+    let number = frames.len() as u32 + 1;
     let frame = Frame {
         place,
         up,
-        first,
-        count,
+        first: slots.len() as u32,
+        count: registers.len() as u32,
     };
     frames.push(frame)?;
     if slots.extend_from_slice(registers).is_err() {
@@ -88,6 +87,7 @@ pub fn registers_of<'a>(slots: &'a [u32], frame: &Frame) -> &'a [u32]
 }
 
 /// Puts places into the first registers, as far as there are registers, and 0 into the others.
+#[inline(always)]
 pub fn fill_registers(registers: &mut [u32], places: &[u32])
     ensures held { (w : ℕ) → length places.now ≤ length registers.old → held registers.new w ≡ held places.now w }
     ensures len { length registers.new ≡ length registers.old }

@@ -53,6 +53,7 @@ pub trait Hook {
 
 impl Search {
     /// Makes a call of a predicate, and counts it.
+    #[inline(always)]
     fn make_call(&mut self, sound: &Sound, number: u32) -> Result<(), NoMemory>
         requires is_for { IsFor sound.now self.old }
         requires due { (self.old.machine.now ≡ calling number) × ((q : Predicate) × (slice_get sound.now.predicates number ≡ Some q)) }
@@ -67,6 +68,7 @@ impl Search {
     }
 
     /// Solves a built-in goal, and counts it.
+    #[inline(always)]
     fn make_goal(&mut self, code: &Code, builtin: Builtin, at: usize) -> Result<(), NoMemory>
         requires is_for { IsFor code.now self.old }
         requires due { (self.old.machine.now ≡ inside at) × (slice_get code.now.instructions at ≡ Some (builtin_instr builtin)) }
@@ -81,6 +83,7 @@ impl Search {
     }
 
     /// Makes the call that is due.
+    #[inline(always)]
     fn make(&mut self, sound: &Sound, due: Due) -> Result<(), NoMemory>
         requires is_for { IsFor sound.now self.old }
         requires due { IsDue sound.now self.old.machine due }
@@ -100,6 +103,7 @@ impl Search {
     }
 
     /// Why the search ends where that is due. None where a call is, and the budget allows it.
+    #[inline(always)]
     fn end_at(&self, due: Due) -> Option<Turn>
         ensures end { IfSome result (λ end. IsEndOf self.now due end) }
         ensures turn { result ≡ None → IsTurnDue due }
@@ -118,6 +122,7 @@ impl Search {
     }
 
     /// Goes on to what is due, and makes the call, or tells why not. So many calls may be made.
+    #[inline(always)]
     fn turn<H: Hook>(
         &mut self,
         sound: &Sound,

@@ -38,6 +38,7 @@ pub(crate) fn predicate_at(code: &Code, number: u32) -> Option<Predicate>
 }
 
 /// Goes back to the newest choice point.
+#[inline(always)]
 fn back_to_newest(cells: &mut Cells, environments: &mut Environments, x: &mut [u32], y: &mut [u32])
     requires { CanGoBack cells.old environments.old.moments (length x.old) }
     ensures back { (m : Moment) (ms : List Moment) → environments.old.moments ≡ m ∷ ms → WentBack cells.old cells.new environments.old environments.new x.new y.new m }
@@ -55,6 +56,7 @@ fn back_to_newest(cells: &mut Cells, environments: &mut Environments, x: &mut [u
 }
 
 /// Whether the clause at a place can be taken, and back to the newest choice point.
+#[inline(never)]
 fn run_and_go_back(
     cells: &mut Cells,
     environments: &mut Environments,
@@ -128,6 +130,7 @@ impl Search {
     /// Enters a predicate of the table, which is a turn. Clauses that fail at once are passed over, and control goes right
     /// inside the first one that is left; a choice point keeps the next one, where its head surely unifies with the call.
     /// Where that isn't sure, the choice point keeps both, and is gone back to. Without memory nothing changes.
+    #[inline(always)]
     pub(crate) fn enter(&mut self, sound: &Sound, number: u32) -> Result<(), NoMemory>
         requires due { self.old.machine.now ≡ calling number }
         requires is_for { IsFor sound.now self.old }
@@ -258,6 +261,7 @@ impl Search {
     }
 
     /// Control is at a place in a clause.
+    #[inline(always)]
     pub(crate) fn resume(&mut self, place: usize)
         ensures { self.new ≡ record self.old { machine = record self.old.machine { now = inside place } } }
     {

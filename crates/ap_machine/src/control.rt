@@ -29,7 +29,7 @@ use ap_term::NoMemory;
 use ap_unify::Work;
 
 /// Keeps what registers hold, if that may be needed, in a vector whose memory is used again.
-#[inline]
+#[inline(always)]
 pub(crate) fn save(needed: bool, saved: &mut Vec<u32>, registers: &[u32]) -> Result<(), NoMemory>
     ensures { OnOk result (needed ≡ true → saved.new.items ≡ registers.now) }
 {
@@ -46,6 +46,7 @@ pub(crate) fn save(needed: bool, saved: &mut Vec<u32>, registers: &[u32]) -> Res
 }
 
 /// The place behind another one, where 32 bits hold it.
+#[inline(always)]
 pub(crate) fn behind(at: usize) -> Result<u32, NoMemory>
     ensures { IfOk result (λ place. place ≡ at + 1) }
 {
@@ -67,6 +68,7 @@ fn jump_from(code: &Code, at: usize) -> Option<usize>
 }
 
 /// Whether the table has a predicate.
+#[inline(always)]
 pub(crate) fn is_known(code: &Code, number: u32) -> bool
     ensures known { result ≡ true → (q : Predicate) × (slice_get code.now.predicates number ≡ Some q) }
     ensures unknown { result ≡ false → slice_get code.now.predicates number ≡ None }
@@ -78,6 +80,7 @@ pub(crate) fn is_known(code: &Code, number: u32) -> bool
 }
 
 /// Takes the instructions from a place on up to one of control. Where they can't be taken, the cells are as they were.
+#[inline(always)]
 fn run_or_undo(
     cells: &mut Cells,
     x: &mut [u32],
@@ -118,6 +121,7 @@ fn run_or_undo(
 impl Search {
     /// Control is at a place in a clause, and goes on to the next instruction of control, unless what stands between can't be
     /// taken. Without memory nothing changes.
+    #[inline(always)]
     pub(crate) fn run(
         &mut self,
         code: &Code,
@@ -166,6 +170,7 @@ impl Search {
 
     /// Control is at a place in a clause, and goes on to the next instruction of control that is no jump, unless what stands
     /// between can't be taken. Without memory it is at a jump's end, or where it was.
+    #[inline(always)]
     pub(crate) fn run_on(
         &mut self,
         code: &Code,
@@ -196,6 +201,7 @@ impl Search {
 
     /// Control is at an instruction of control, which leads on, or to what is due. Without memory nothing changes; a goal or
     /// the end of a group outside of one is want of memory, since no sound code leads there.
+    #[inline(always)]
     pub(crate) fn transfer(&mut self, code: &Code, at: usize) -> Result<Option<Due>, NoMemory>
         requires here { self.old.machine.now ≡ inside at }
         requires leads { IsTransferAt code.now at }
@@ -246,6 +252,7 @@ impl Search {
     }
 
     /// Control comes back to the innermost return. False where there is none.
+    #[inline(always)]
     pub(crate) fn come_back(&mut self) -> bool
         requires { self.old.machine.now ≡ returning }
         ensures holds { (code : Compiled) (ss : List Tracked) → Holds code self.old.machine ss → Holds code self.new.machine ss }

@@ -35,6 +35,7 @@ pub(crate) enum Due {
 
 impl Search {
     /// A predicate is to be called, which is due if the table has it.
+    #[inline(always)]
     fn at_call(&mut self, code: &Code, number: u32) -> Option<Due>
         requires here { self.old.machine.now ≡ calling number }
         ensures holds { KeepsStanding code.now self.old.machine self.new.machine }
@@ -51,6 +52,7 @@ impl Search {
     }
 
     /// Control is at a place in a clause, and goes on to an instruction of control.
+    #[inline(always)]
     fn go_inside(&mut self, code: &Code, room: &Room, at: usize) -> Result<Option<Due>, NoMemory>
         requires here { self.old.machine.now ≡ inside at }
         requires is_for { IsFor code.now self.old }
@@ -68,6 +70,7 @@ impl Search {
     }
 
     /// One move that is no call, or what is due.
+    #[inline(always)]
     fn go_on(&mut self, sound: &Sound) -> Result<Option<Due>, NoMemory>
         requires { IsFor sound.now self.old }
         ensures holds { GoesOn sound.now self.old.machine self.new.machine }
@@ -96,6 +99,7 @@ impl Search {
     }
 
     /// Goes on, without a call, to what is due.
+    #[inline(always)]
     pub(crate) fn find_due(&mut self, sound: &Sound) -> Result<Due, NoMemory>
         requires { IsFor sound.now self.old }
         ensures holds { GoesOn sound.now self.old.machine self.new.machine }

@@ -24,6 +24,7 @@ use ap_term::{NoMemory, Relation};
 use ap_unify::Work;
 
 /// The place behind an instruction.
+#[inline(always)]
 pub(crate) fn behind(code: &Code, at: usize) -> usize
     requires { at < length code.now.instructions }
     ensures { result ≡ at + 1 }
@@ -91,6 +92,7 @@ fn solve_goal(
 }
 
 /// What is next behind a goal.
+#[inline(always)]
 fn after_goal(holds: bool, to: usize) -> Now
     ensures { (at : ℕ) → to ≡ at + 1 → now_of result ≡ behind_goal at holds }
 {

@@ -94,6 +94,7 @@ impl Search {
     }
 
     /// What it does next.
+    #[inline(always)]
     pub(crate) fn now(&self) -> Now
         ensures { self.now.machine.now ≡ now_of result }
     {
@@ -101,6 +102,7 @@ impl Search {
     }
 
     /// Whether no call is left to make.
+    #[inline(always)]
     pub(crate) fn is_spent(&self) -> bool
         ensures spent { result ≡ true → self.now.budget ≤ self.now.spent }
         ensures left { result ≡ false → self.now.spent < self.now.budget }
@@ -110,6 +112,7 @@ impl Search {
     }
 
     /// What is being done leads nowhere.
+    #[inline(always)]
     pub(crate) fn fail(&mut self)
         ensures { self.new ≡ record self.old { machine = record self.old.machine { now = failed } } }
     {
@@ -117,6 +120,7 @@ impl Search {
     }
 
     /// Counts a call.
+    #[inline(always)]
     pub(crate) fn count(&mut self)
         requires { self.old.spent < 2 ^ 64 - 1 }
         ensures { self.new ≡ record self.old { spent = self.old.spent + 1 } }

@@ -43,6 +43,7 @@ fn modulo(x: i64, y: i64) -> Result<i64, Fault>
 
 /// The value of two values under an operation, or the fault that it meets: `ZeroDivisor` for a divisor of 0, else
 /// `Overflow` where 64 bits don't hold the value.
+#[inline(always)]
 pub fn applied(operation: Operation, x: i64, y: i64) -> Result<i64, Fault>
     ensures { result ≡ applied operation x y }
 {

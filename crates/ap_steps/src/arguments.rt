@@ -34,7 +34,7 @@ pub enum Parts {
 }
 
 /// `unify_variable V`: the register gets the argument's place, a new unbound cell.
-#[inline]
+#[inline(always)]
 pub fn build_variable(cells: &mut Cells, x: &mut [u32], y: &mut [u32], v: Slot)
     requires room { 0 < cells.old.spare }
     requires has { HasRegister v (length x.old) (length y.old) }
@@ -55,7 +55,7 @@ pub fn build_variable(cells: &mut Cells, x: &mut [u32], y: &mut [u32], v: Slot)
 }
 
 /// Whether a place has the cell of a constant.
-#[inline]
+#[inline(always)]
 fn is_constant(cells: &Cells, place: usize) -> bool
     requires { place < length cells.now.cells }
     ensures { result ≡ true → (x : ℕ) → occurs x (tree_at (trees cells.now.cells) place) ≡ false }
@@ -69,7 +69,7 @@ fn is_constant(cells: &Cells, place: usize) -> bool
 
 /// `unify_value V`: the argument is the register's term. Stuck where the register holds `whole`, the place of the structure
 /// itself, which is to come.
-#[inline]
+#[inline(always)]
 pub fn build_value(cells: &mut Cells, x: &[u32], y: &[u32], v: Slot) -> Parts
     requires room { 0 < cells.old.spare }
     ensures built { (whole : ℕ) → ((read v (held x.now) (held y.now) ≡ whole → ⊥) → read v (held x.now) (held y.now) < length cells.old.cells) → BuiltOr whole cells.old.cells (held x.now) (held y.now) (unify_value v) cells.new.cells (held x.now) (held y.now) (are_built result) }
@@ -92,7 +92,7 @@ pub fn build_value(cells: &mut Cells, x: &[u32], y: &[u32], v: Slot) -> Parts
 }
 
 /// The argument is a constant.
-#[inline]
+#[inline(always)]
 fn build_cell(cells: &mut Cells, cell: Cell)
     requires room { 0 < cells.old.spare }
     requires constant { (k : ℕ → Tree) → cell_tree k (length cells.old.cells) (raw_of cell) ≡ constant_of cell }
@@ -108,7 +108,7 @@ fn build_cell(cells: &mut Cells, cell: Cell)
 }
 
 /// `unify_constant C`: the argument is an atom.
-#[inline]
+#[inline(always)]
 pub fn build_atom(cells: &mut Cells, name: Atom)
     requires room { 0 < cells.old.spare }
     ensures built { (xs ys : List ℕ) → Built cells.old.cells (held xs) (held ys) (unify_constant (atom name)) cells.new.cells (held xs) (held ys) }
@@ -122,7 +122,7 @@ pub fn build_atom(cells: &mut Cells, name: Atom)
 }
 
 /// `unify_integer I`: the argument is an integer.
-#[inline]
+#[inline(always)]
 pub fn build_integer(cells: &mut Cells, value: i64)
     requires room { 0 < cells.old.spare }
     ensures built { (xs ys : List ℕ) → Built cells.old.cells (held xs) (held ys) (unify_constant (int value)) cells.new.cells (held xs) (held ys) }
@@ -136,7 +136,7 @@ pub fn build_integer(cells: &mut Cells, value: i64)
 }
 
 /// `unify_integer I`: the argument is an integer of the code's table. False where the table doesn't have it.
-#[inline]
+#[inline(always)]
 fn build_listed(cells: &mut Cells, code: &Code, i: u32) -> bool
     requires room { 0 < cells.old.spare }
     ensures built { (whole : ℕ) (xs ys : List ℕ) → BuiltOr whole cells.old.cells (held xs) (held ys) (with_integer (slice_get code.now.integers i) unify_constant) cells.new.cells (held xs) (held ys) result }

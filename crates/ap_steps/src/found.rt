@@ -18,7 +18,7 @@ use ap_term::{Atom, NoMemory};
 use ap_unify::Work;
 
 /// `unify_variable V`: the register gets the argument's place.
-#[inline]
+#[inline(always)]
 fn match_variable(cells: &Cells, x: &mut [u32], y: &mut [u32], v: Slot, place: usize)
     requires has { HasRegister v (length x.old) (length y.old) }
     requires inside { place < length cells.now.cells }
@@ -33,7 +33,7 @@ fn match_variable(cells: &Cells, x: &mut [u32], y: &mut [u32], v: Slot, place: u
 }
 
 /// `unify_value V`: what the register holds and the argument are made equal, if they can be.
-#[inline]
+#[inline(always)]
 fn match_value(
     cells: &mut Cells,
     x: &[u32],
@@ -56,7 +56,7 @@ fn match_value(
 }
 
 /// `unify_constant C`: the argument is made an atom, if it can be.
-#[inline]
+#[inline(always)]
 fn match_name(cells: &mut Cells, x: &[u32], y: &[u32], name: Atom, place: usize) -> bool
     requires x { HoldPlaces (length cells.old.cells) x.now }
     requires y { HoldPlaces (length cells.old.cells) y.now }
@@ -71,7 +71,7 @@ fn match_name(cells: &mut Cells, x: &[u32], y: &[u32], name: Atom, place: usize)
 
 /// `unify_integer I`: the argument is made an integer of the code's table, if it can be. False where the table doesn't have
 /// it, too.
-#[inline]
+#[inline(always)]
 fn match_listed(cells: &mut Cells, x: &[u32], y: &[u32], code: &Code, i: u32, place: usize) -> bool
     requires x { HoldPlaces (length cells.old.cells) x.now }
     requires y { HoldPlaces (length cells.old.cells) y.now }
@@ -130,6 +130,7 @@ fn match_argument(
 
 /// The arguments of a structure that is there, at places from `first` on, by the instructions from a place of the code on.
 /// False where one can't be matched, whatever comes behind them.
+#[inline(always)]
 pub fn match_arguments(
     cells: &mut Cells,
     x: &mut [u32],

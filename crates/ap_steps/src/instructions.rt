@@ -19,7 +19,7 @@ use ap_term::{Atom, NoMemory};
 use ap_unify::Work;
 
 /// `get_variable V, A`: the register gets what the argument holds.
-#[inline]
+#[inline(always)]
 pub fn get_variable(x: &mut [u32], y: &mut [u32], v: Slot, a: u32)
     requires { HasRegister v (length x.old) (length y.old) }
     ensures taken { (cs : List Raw) → Taken cs (held x.old) (held y.old) (get_variable v a) cs (held x.new) (held y.new) true }
@@ -33,7 +33,7 @@ pub fn get_variable(x: &mut [u32], y: &mut [u32], v: Slot, a: u32)
 }
 
 /// `get_value V, A`: what both hold is made equal, if it can be.
-#[inline]
+#[inline(always)]
 pub fn get_value(
     cells: &mut Cells,
     x: &[u32],
@@ -56,7 +56,7 @@ pub fn get_value(
 }
 
 /// `get_constant C, A`: the argument is made an atom, if it can be.
-#[inline]
+#[inline(always)]
 pub fn get_constant(cells: &mut Cells, x: &[u32], y: &[u32], name: Atom, a: u32) -> bool
     requires x { HoldPlaces (length cells.old.cells) x.now }
     requires y { HoldPlaces (length cells.old.cells) y.now }
@@ -69,7 +69,7 @@ pub fn get_constant(cells: &mut Cells, x: &[u32], y: &[u32], name: Atom, a: u32)
 }
 
 /// `get_integer I, A`: the argument is made an integer, if it can be.
-#[inline]
+#[inline(always)]
 pub fn get_integer(cells: &mut Cells, x: &[u32], y: &[u32], value: i64, a: u32) -> bool
     requires x { HoldPlaces (length cells.old.cells) x.now }
     requires y { HoldPlaces (length cells.old.cells) y.now }
@@ -82,7 +82,7 @@ pub fn get_integer(cells: &mut Cells, x: &[u32], y: &[u32], value: i64, a: u32) 
 }
 
 /// `put_value V, A`: the argument gets what the register holds.
-#[inline]
+#[inline(always)]
 pub fn put_value(x: &mut [u32], y: &[u32], v: Slot, a: u32)
     requires { a < length x.old }
     ensures taken { (cs : List Raw) → Taken cs (held x.old) (held y.now) (put_value v a) cs (held x.new) (held y.now) true }
@@ -94,7 +94,7 @@ pub fn put_value(x: &mut [u32], y: &[u32], v: Slot, a: u32)
 }
 
 /// `put_constant C, A` or `put_integer I, A`: the argument gets a new cell with the constant.
-#[inline]
+#[inline(always)]
 fn put_cell(cells: &mut Cells, x: &mut [u32], a: u32, cell: Cell)
     requires room { 0 < cells.old.spare }
     requires constant { (k : ℕ → Tree) → cell_tree k (length cells.old.cells) (raw_of cell) ≡ constant_of cell }
@@ -114,7 +114,7 @@ fn put_cell(cells: &mut Cells, x: &mut [u32], a: u32, cell: Cell)
 }
 
 /// `put_constant C, A`: the argument gets a new cell with an atom.
-#[inline]
+#[inline(always)]
 pub fn put_constant(cells: &mut Cells, x: &mut [u32], name: Atom, a: u32)
     requires room { 0 < cells.old.spare }
     requires has { a < length x.old }
@@ -129,7 +129,7 @@ pub fn put_constant(cells: &mut Cells, x: &mut [u32], name: Atom, a: u32)
 }
 
 /// `put_integer I, A`: the argument gets a new cell with an integer.
-#[inline]
+#[inline(always)]
 pub fn put_integer(cells: &mut Cells, x: &mut [u32], value: i64, a: u32)
     requires room { 0 < cells.old.spare }
     requires has { a < length x.old }
@@ -144,7 +144,7 @@ pub fn put_integer(cells: &mut Cells, x: &mut [u32], value: i64, a: u32)
 }
 
 /// `put_variable V, A`: the register and the argument get a new unbound cell.
-#[inline]
+#[inline(always)]
 pub fn put_variable(cells: &mut Cells, x: &mut [u32], y: &mut [u32], v: Slot, a: u32)
     requires room { 0 < cells.old.spare }
     requires has { HasRegister v (length x.old) (length y.old) }

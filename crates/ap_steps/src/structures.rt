@@ -19,7 +19,7 @@ use ap_term::{Atom, NoMemory};
 use ap_unify::Work;
 
 /// `put_structure F, A`: the argument gets a new structure. False where one of the structure's arguments can't be built.
-#[inline]
+#[inline(always)]
 pub fn put_structure(
     cells: &mut Cells,
     x: &mut [u32],
@@ -58,7 +58,7 @@ pub fn put_structure(
 }
 
 /// A structure that is built and bound to a variable, if it can be. Only what registers held can keep it from that.
-#[inline]
+#[inline(always)]
 fn build_structure(
     cells: &mut Cells,
     x: &mut [u32],
@@ -112,7 +112,7 @@ fn is_of(found: Atom, arity: u32, name: Atom, count: u8) -> bool
 
 /// `get_structure F, A`: the argument is made a structure, if it can be. Where it is one, its arguments are matched; where it is
 /// unbound, a new one is built for it.
-#[inline]
+#[inline(always)]
 pub fn get_structure(
     cells: &mut Cells,
     x: &mut [u32],
