@@ -10,21 +10,21 @@ use Rattle.ap_instr.specs.declared.instruction.Instr.{Instr}
 use Rattle.ap_instr.specs.declared.instruction.Instr.TheVariants.{GetInteger, PutInteger, UnifyInteger, Allocate, Deallocate, Call, Execute, Jump, Fail, Try, Retry, Trust, CheckGround, CheckIndep, AllocParcall, PushGoal, WaitAll}
 use Rattle.ap_instr.specs.declared.compiled.Predicate.{Predicate}
 use Rattle.ap_instr.specs.Code.{Compiled}
-use Rattle.ap_instr.specs.Step.{Step, get_constant, put_constant, unify_constant, call, execute, push, with_integer, with_predicate, step_of as said_by}
+use Rattle.ap_instr.specs.Step.{get_constant, put_constant, unify_constant, call, execute, push, with_integer, with_predicate, step_of as said_by}
 use Rattle.ap_instr.specs.Runs.{arguments}
-use Rattle.ap_codecheck.specs.Shape.{Shape, entry}
+use Rattle.ap_codecheck.specs.Shape.{entry}
 use Rattle.ap_codegen.specs.declared.steps.Step.{Step as Emitted}
 use Rattle.ap_codegen.specs.declared.steps.Step.TheVariants.{Execute as ExecuteStep, Proceed as ProceedStep, Allocate as EnterStep, Deallocate as LeaveStep, Jump as JumpStep, CheckGround as GroundStep, CheckIndep as IndepStep, AllocParcall as GroupStep, PushGoal as PushStep, WaitAll as WaitStep}
-use Rattle.ap_codegen.specs.Emitted.{step_of, steps_of, label_of, Lead, lead_of, leads_of}
+use Rattle.ap_codegen.specs.Emitted.{step_of, label_of, Lead, lead_of, leads_of}
 use Rattle.ap_codegen.specs.Temporary.{ends}
 use Rattle.ap_codegen.specs.Framed.{leaving}
 use Rattle.ap_codegen.specs.Grouped.{IsEnded, clause_leads}
 use Rattle.ap_codegen.specs.Said.{special_of, special_in, IsSaidAt, AreSaidAt, AreNumbered}
 use Rattle.ap_codegen.specs.Assembled.{AreAlone, IsAloneIn, AreAloneIn}
-use Rattle.ap_codegen.specs.Paces.{PacesTo, Paces, inside, StandsIn, PacesOn, PacesLeads, IsInRange, AreInRange, ArePacedLeads}
+use Rattle.ap_codegen.specs.Paces.{Paces, inside, PacesLeads, IsInRange, AreInRange, ArePacedLeads}
 use Rattle.ap_codegen.proofs.Walking.{plain_alone}
-use Rattle.ap_codegen.proofs.LeadPaces.{paces_on, clause_led}
-use Rattle.ap_codegen.proofs.LeadRanges.{one_paced, clause_range}
+use Rattle.ap_codegen.proofs.LeadPaces.{clause_led}
+use Rattle.ap_codegen.proofs.LeadRanges.{clause_range}
 use Rattle.ap_codegen.proofs.LeadWalks.{special_same, special_push, numbered_tail, said_at}
 
 -- ---- one instruction

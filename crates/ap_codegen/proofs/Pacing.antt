@@ -12,7 +12,7 @@ use Rattle.ap_instr.specs.Runs.{set, arguments}
 use Rattle.ap_codecheck.specs.Shape.{Shape, write, with_target, passed, behind_argument, after}
 use Rattle.ap_codecheck.specs.Rules.{ArgumentsSet, IsRoomFor}
 use Rattle.ap_codegen.specs.Permanent.{see, see_all, inner, place, fill, fills, see_built, see_nested, build, nested, puts, see_puts, goal_code, see_taken, see_opened, take, takes, get, opens, gets}
-use Rattle.ap_codegen.specs.Paces.{IsSlot, PacesTo, inside}
+use Rattle.ap_codegen.specs.Paces.{IsSlot, PacesTo}
 use Rattle.ap_codegen.proofs.Registers.{set_here, set_other}
 use Rattle.ap_codegen.proofs.PermanentReads.{has-push, place_below, place_apart, goal_sees, taken_sees}
 

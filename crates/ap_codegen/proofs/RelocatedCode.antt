@@ -3,14 +3,13 @@
 use Rattle.std.proofs.Common.{[], ◌≡◌, ℕ, zero, suc, ◌<◌, Bool, true, false, not, ◌&&◌, ◌||◌, List, ◌∷◌, ◌++◌, length, map, Option, Some, None, MatchOption, inl, inr, refl, ap, sym, ◌∙◌, subst, arith}
 use Rattle.std.proofs.lemmas.Bool.{false≢true, and_parts}
 use Rattle.std.specs.List.{list_all}
-use Rattle.ap_term.specs.Tree.{Tree, Trees, none, count_trees}
+use Rattle.ap_term.specs.Tree.{Tree, Trees, none}
 use Rattle.ap_term.specs.Goals.{Clause}
-use Rattle.ap_tracked.specs.Marks.{Unmarked}
 use Rattle.ap_instr.specs.declared.instruction.Slot.{Slot}
 use Rattle.ap_instr.specs.declared.instruction.Slot.TheVariants.{X, Y}
 use Rattle.ap_instr.specs.declared.instruction.Instr.TheVariants.{GetStructure, PutStructure, PutVariable as PutNew, Call as CallOf, WaitAll as Wait}
 use Rattle.ap_instr.specs.Step.{Step, get_variable, get_value, get_constant, get_structure, put_variable, put_value, put_constant, put_structure, unify_variable, unify_value, unify_constant, call, execute, builtin, proceed, jump, check_ground, check_indep, group, push, wait}
-use Rattle.ap_instr.specs.Runs.{Runs, read}
+use Rattle.ap_instr.specs.Runs.{read}
 use Rattle.ap_codecheck.specs.Shape.{Shape, entry, unset, write, behind_argument, with_group, after}
 use Rattle.ap_codecheck.specs.Rules.{IsNumbered}
 use Rattle.ap_codegen.specs.CodeOf.{calls_apart}
@@ -21,14 +20,12 @@ use Rattle.ap_codegen.specs.Grouped.{passed_over, flow, Unmarks, is_check, AreTu
 use Rattle.ap_codegen.specs.Framed.{leaving}
 use Rattle.ap_codegen.specs.Paces.{Paces, one_pushed, PacesOn, PacesLeads, IsInRange, AreInRange, ArePacedLeads, inside}
 use Rattle.ap_codegen.specs.declared.steps.Step.{Step as Emitted}
-use Rattle.ap_codegen.specs.declared.steps.Step.TheVariants.{GetVariable, PutValue, Call, Jump, CheckGround, CheckIndep, AllocParcall, PushGoal, WaitAll, Allocate, Deallocate}
+use Rattle.ap_codegen.specs.declared.steps.Step.TheVariants.{GetVariable, PutValue, Jump, CheckGround, CheckIndep, AllocParcall, PushGoal, WaitAll, Allocate, Deallocate}
 use Rattle.ap_codegen.specs.declared.relocating.Change.{Change as Chosen}
 use Rattle.ap_codegen.specs.declared.relocating.Change.TheVariants.{Kept, Dropped}
-use Rattle.ap_codegen.specs.Relocated.{Change, kept, dropped, olds, news, staying, relocated, register, placed, written, Known, former, latter, has_room, set_former, set_latter, set_both, behind_call, behind, behind_none, may_drop, fits, change_fits, IsSingle, Onward, NoChecks, AreKept, asks, all_open, IsBegun, within, changes_of, step_in, AreTested}
+use Rattle.ap_codegen.specs.Relocated.{Change, kept, dropped, olds, news, staying, relocated, register, placed, written, Known, former, latter, has_room, set_former, set_both, behind, may_drop, fits, change_fits, IsSingle, Onward, NoChecks, AreKept, asks, all_open, IsBegun, within, changes_of, step_in, AreTested}
 use Rattle.ap_codegen.proofs.EndedLeads.{ended_more}
 use Rattle.ap_codegen.proofs.FramedLeads.{framed_grouped}
-use Rattle.ap_codegen.proofs.Straight.{is_straight}
-use Rattle.ap_codegen.proofs.StraightLeads.{straight_leads}
 use Rattle.ap_codegen.proofs.RelocatedReads.{above_zero, Below, below_former, below_latter, below_both, below_call, below_forgets, Held, Same, Alike, passed_same, onward, alike}
 use Rattle.ap_codegen.proofs.RelocatedPaces.{Implies, relocated_paces}
 use Rattle.ap_codegen.proofs.RelocatedOpen.{open_leads, open_behind, asks_openly}

@@ -11,7 +11,7 @@ use Rattle.ap_instr.specs.Step.{Step, get_variable, get_value, get_constant, get
 use Rattle.ap_instr.specs.Runs.{Runs, read, set_x, set_y, set, spread, applied, lost, IsOpen, AsksOpenly}
 use Rattle.ap_codecheck.specs.Shape.{Shape, is_set, write, passed, behind_argument, with_group, after}
 use Rattle.ap_codegen.specs.Emitted.{Lead}
-use Rattle.ap_codegen.specs.Grouped.{passed_over, flow}
+use Rattle.ap_codegen.specs.Grouped.{flow}
 use Rattle.ap_codegen.specs.Paces.{one_pushed, PacesLeads}
 use Rattle.ap_codegen.specs.Relocated.{asks, tests_nothing, all_open}
 

@@ -1,5 +1,5 @@
 -- The walk over both codes on their ways: what is kept behind a change is kept before it.
-use Rattle.std.proofs.Common.{◌≡◌, ℕ, zero, suc, ◌+◌, ◌<◌, ◌==◌, nat_eq, Bool, true, false, not, if◌then◌else◌, List, [], ◌∷◌, refl, ap, sym, ◌∙◌, subst, arith}
+use Rattle.std.proofs.Common.{◌≡◌, ℕ, zero, suc, ◌+◌, ◌<◌, ◌==◌, Bool, true, false, not, if◌then◌else◌, List, [], ◌∷◌, refl, ap, sym, ◌∙◌, subst, arith}
 use Rattle.std.proofs.lemmas.Bool.{false≢true}
 use Rattle.std.proofs.lemmas.Bool.Decides.{Decides-eqb}
 use Rattle.ap_instr.specs.declared.instruction.Slot.{Slot}
@@ -10,7 +10,7 @@ use Rattle.ap_codegen.specs.declared.relocating.Way.{Way}
 use Rattle.ap_codegen.specs.declared.relocating.Way.TheVariants.{Sides, Turns}
 use Rattle.ap_codegen.specs.Grouped.{is_check}
 use Rattle.ap_codegen.specs.Temporary.{ends}
-use Rattle.ap_codegen.specs.Relocated.{Change, kept, dropped, Known, latter, behind, is_kept, does_same, passed, known_by, is_jump, is_test, is_leap, over, WayKept, is_end, is_next, leads_next, checks_nothing, Forgets, IsSingle, Onward, StaysOn, NoChecks, AreKept}
+use Rattle.ap_codegen.specs.Relocated.{Change, kept, dropped, Known, latter, behind, is_kept, does_same, passed, known_by, is_jump, is_test, is_leap, over, WayKept, is_end, is_next, leads_next, checks_nothing, Forgets, IsSingle, Onward, NoChecks, AreKept}
 use Rattle.ap_codegen.proofs.RelocatedReads.{forgets_itself, forgets_more}
 
 -- where less is known

@@ -15,7 +15,7 @@ use Rattle.ap_codecheck.specs.Shape.{Shape, passed, after}
 use Rattle.ap_codecheck.specs.Rules.{ReadsSet, HasRoom, FitsEnvironment, IsInTurn, FitsGroup, GoesOn, arity_in, ArgumentsSet, IsNumbered as IsFromOne}
 use Rattle.ap_codecheck.specs.Walk.{is_inner, elsewhere, Walks}
 use Rattle.ap_codegen.specs.Temporary.{ends}
-use Rattle.ap_codegen.specs.Paces.{IsSlot, PacesTo, Paces, inside}
+use Rattle.ap_codegen.specs.Paces.{IsSlot, PacesTo, Paces}
 use Rattle.ap_codegen.specs.Assembled.{IsAlone, AreAlone}
 
 pub room_of : (v : Slot) (s : Shape) → IsSlot v s → HasRoom v s

@@ -1,7 +1,7 @@
 -- The instructions of a clause each of whose variables has a place of its own in the environment: variable v in Y v.
 -- Temporaries stand in the X registers behind the arguments. Each is used again once what stood there is done with, so
 -- that there are as many as structures that wait for others: a list takes a few, however long it is.
-use Rattle.std.specs.Prelude.{[], ℕ, zero, suc, ◌+◌, Bool, false, not, ◌&&◌, ◌||◌, ◌==◌, is_some, if◌then◌else◌, List, ◌∷◌, ◌++◌}
+use Rattle.std.specs.Prelude.{[], ℕ, zero, suc, ◌+◌, Bool, false, ◌&&◌, ◌||◌, ◌==◌, is_some, if◌then◌else◌, List, ◌∷◌, ◌++◌}
 use Rattle.ap_term.specs.declared.fixed.TheConstants.{TRUE, FAIL}
 use Rattle.ap_term.specs.Tree.{Tree, Trees, var, int, atom, node, none, more, count_trees}
 use Rattle.ap_term.specs.Vars.{has, add_vars}

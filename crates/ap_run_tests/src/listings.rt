@@ -170,6 +170,35 @@ const APART_LISTED: &str = "s/0:
   execute c/2
 ";
 
+const GROUPS: &str = "t(X, Y) :- a(X) & b, c & d(Y).  a(1).  b.  c.  d(2).";
+
+/// X goes no further than the first group, and Y outlives it.
+const GROUPS_LISTED: &str = "t/2:
+  allocate 1
+  get_variable Y1 A2
+  alloc_parcall 2
+  push_goal 1 a/1
+  push_goal 2 b/0
+  wait_all
+  alloc_parcall 2
+  push_goal 1 c/0
+  put_value Y1 A1
+  push_goal 2 d/1
+  wait_all
+  deallocate
+  proceed
+a/1:
+  get_integer 1 A1
+  proceed
+b/0:
+  proceed
+c/0:
+  proceed
+d/1:
+  get_integer 2 A1
+  proceed
+";
+
 /// The sum of a list by halves. Only the halves may share a variable, so that they alone are checked, behind the call that makes them;
 /// the sums are made on both ways.
 const HALVES: &str = "total([], 0).
@@ -278,12 +307,13 @@ a/0:
   proceed
 ";
 
-const LISTINGS: [Command; 11] = [
+const LISTINGS: [Command; 12] = [
     (CODE, HALVES, "", HALVES_LISTED, Status::Done),
     (CODE, MANY, "", MANY_LISTED, Status::Done),
     (CODE, PAIRS, "", PAIRS_LISTED, Status::Done),
     (CODE, COPIES, "", COPIES_LISTED, Status::Done),
     (CODE, APART, "", APART_LISTED, Status::Done),
+    (CODE, GROUPS, "", GROUPS_LISTED, Status::Done),
     (CODE, PROGRAM, "", LISTED, Status::Done),
     (CODE, REVERSE, "", REVERSED, Status::Done),
     (

@@ -1,4 +1,4 @@
-use Rattle.std.proofs.Common.{◌≡◌, ℕ, OnOk, ap, sym, ◌∙◌, subst}
+use Rattle.std.proofs.Common.{◌≡◌, OnOk, ap, sym, ◌∙◌, subst}
 use Rattle.ap_instr.specs.declared.instruction.Slot.TheVariants.{X}
 use Rattle.ap_codegen.specs.Emitted.{step_of}
 use Rattle.ap_codegen.specs.Relocated.{Known, known_by, former, latter, set_former, set_latter, set_both, behind}

@@ -1,4 +1,4 @@
-use Rattle.std.proofs.Common.{◌≡◌, ◌<◌, ap, sym, ◌∙◌, subst}
+use Rattle.std.proofs.Common.{◌<◌, ap, sym, ◌∙◌, subst}
 use Rattle.ap_codegen.specs.Relocated.{Known, by}
 use Rattle.ap_codegen.proofs.WalkedWays.{single_left}
 use Rattle.ap_codegen.proofs.relocating.Numbers.settle.Goals as goal

@@ -1,4 +1,4 @@
-use Rattle.std.proofs.Common.{◌≡◌, ◌∷◌, sym, subst}
+use Rattle.std.proofs.Common.{◌∷◌, sym, subst}
 use Rattle.ap_codegen.specs.Relocated.{change_of, WayKept}
 use Rattle.ap_codegen.proofs.WalkedWays.{kept_end}
 use Rattle.ap_codegen.proofs.relocating.Walk.end.Goals as goal

@@ -1,4 +1,4 @@
-use Rattle.std.proofs.Common.{sym, ap, ◌∙◌, subst}
+use Rattle.std.proofs.Common.{sym, ◌∙◌, subst}
 use Rattle.ap_codegen.specs.Relocated.{change_of, known_by, NoChecks, AreKept}
 use Rattle.ap_codegen.proofs.RelocatedReads.{forgets_itself}
 use Rattle.ap_codegen.proofs.WalkedWays.{kept_leap, way_met}
