@@ -6,7 +6,7 @@ use Rattle.ap_term.proofs.Facts.{same_bool}
 use Rattle.ap_term.specs.Tree.{Tree, Trees, var, int, atom, node, none, more}
 use Rattle.ap_term.specs.Substitution.{instance}
 use Rattle.ap_term.specs.Vars.{occurs, occurs_all}
-use Rattle.ap_sharing.specs.VarSet.{has, just, union, both, meets}
+use Rattle.ap_sharing.specs.VarSet.{has, just, union, meets}
 use Rattle.ap_sharing.specs.Sets.{In, Is, join_sets, pairs, closure, too_many}
 use Rattle.ap_sharing.specs.Share.{Share, Member, nonground, norm, met}
 use Rattle.ap_sharing.specs.Covering.{CoversShare}

@@ -1,7 +1,5 @@
 -- What ground covers.
-use Rattle.std.proofs.Common.{◌≡◌, ℕ, ◌⊎◌, inl, inr, Bool, true, false, not, ◌||◌, ◌&&◌, nat_eq, cond, List, [], ◌∷◌, refl, ap, ap₂, sym, ◌∙◌, subst}
-use Rattle.std.proofs.lemmas.Bool.{false≢true}
-use Rattle.std.specs.List.{filter}
+use Rattle.std.proofs.Common.{◌≡◌, ℕ, Bool, true, false, nat_eq, refl, ap, sym, ◌∙◌}
 use Rattle.ap_term.specs.Tree.{Tree, var}
 use Rattle.ap_term.specs.Substitution.{instance}
 use Rattle.ap_term.specs.Vars.{occurs}

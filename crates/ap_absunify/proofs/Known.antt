@@ -1,17 +1,14 @@
 -- The state after variables are known to be ground covers.
-use Rattle.std.proofs.Common.{◌≡◌, ℕ, ℤ, ◌⊎◌, inl, inr, Bool, true, false, not, ◌||◌, ◌&&◌, ◌==◌, nat_eq, cond, if◌then◌else◌, List, [], ◌∷◌, ◌++◌, Option, Some, None, refl, ap, ap₂, sym, ◌∙◌, subst}
+use Rattle.std.proofs.Common.{◌≡◌, ℕ, ℤ, true, false, refl, sym}
 use Rattle.std.proofs.lemmas.Bool.{false≢true}
-use Rattle.std.proofs.lemmas.Bool.Decides.{Decides-eqb, Decides-int_eq}
-use Rattle.std.specs.Ordering.{int_eq}
 use Rattle.ap_term.specs.Tree.{Tree, var, int}
-use Rattle.ap_term.specs.Substitution.{instance, value}
+use Rattle.ap_term.specs.Substitution.{instance}
 use Rattle.ap_term.specs.Vars.{occurs}
 use Rattle.ap_sharing.specs.VarSet.{has}
 use Rattle.ap_absunify.specs.TermSets.{var_set}
 use Rattle.ap_absunify.specs.MostGeneral.{MostGeneral}
 use Rattle.ap_absunify.specs.declared.states.State.{State}
 use Rattle.ap_absunify.specs.State.{Covers, ground}
-use Rattle.ap_absunify.specs.AfterUnify.{side}
 use Rattle.ap_absunify.specs.AfterBuiltin.{after_is}
 use Rattle.ap_absunify.proofs.AfterUnify.{from_tree, into_tree, ground_side}
 use Rattle.ap_absunify.proofs.Grounding.{ground-covers}

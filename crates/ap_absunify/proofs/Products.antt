@@ -8,7 +8,7 @@ use Rattle.ap_sharing.specs.VarSet.{has, empty, union, meets, within}
 use Rattle.ap_sharing.specs.Sets.{In, join_sets, all_of, pairs, closure, too_many}
 use Rattle.ap_sharing.specs.Share.{Share, IsNormal, met, limited, norm}
 use Rattle.ap_sharing.proofs.Elements.{same_set, clash, has-empty, has-union, meets-at, meets-none, within-at}
-use Rattle.ap_sharing.proofs.Lists.{Elem, listed-Elem, In-some, In-elem, In-filter, In-join_left, In-join_right, In-join_cases, length-join, Elem-pairs, pairs-back}
+use Rattle.ap_sharing.proofs.Lists.{Elem, listed-Elem, In-some, In-elem, In-join_left, In-join_right, In-join_cases, length-join, Elem-pairs, pairs-back}
 use Rattle.ap_sharing.proofs.Closures.{In-closure, least}
 use Rattle.ap_absunify.specs.AfterUnify.{meeting, side, is_wide, widened_by, unify_share}
 

@@ -1,6 +1,5 @@
 -- Substitutions that are equal, or instances of one another, are covered alike.
 use Rattle.std.proofs.Common.{◌≡◌, ℕ, true, ap, sym, ◌∙◌, subst}
-use Rattle.std.specs.Ordering.{int_eq}
 use Rattle.ap_term.proofs.Facts.{same_bool}
 use Rattle.ap_term.specs.Tree.{Tree, var}
 use Rattle.ap_term.specs.Substitution.{instance}

@@ -1,5 +1,5 @@
 -- What a most general unifier binds and mentions.
-use Rattle.std.proofs.Common.{◌≡◌, ℕ, Option, None, Some, zero, suc, ◌⊎◌, inl, inr, Bool, true, false, ◌||◌, ◌&&◌, nat_eq, cond, refl, ap, sym, ◌∙◌, subst, arith}
+use Rattle.std.proofs.Common.{◌≡◌, ℕ, Option, None, Some, Bool, true, false, nat_eq, cond, refl, ap, sym, ◌∙◌, subst}
 use Rattle.std.proofs.lemmas.Bool.{false≢true}
 use Rattle.ap_term.specs.Tree.{Tree, var, int, atom, node}
 use Rattle.ap_term.specs.Substitution.{instance, Subst, value}

@@ -1,5 +1,5 @@
 -- United states, and projections, cover.
-use Rattle.std.proofs.Common.{◌≡◌, ℕ, true, ◌&&◌, cond, ap, sym, ◌∙◌, subst}
+use Rattle.std.proofs.Common.{◌≡◌, ℕ, true, cond, ap, sym, ◌∙◌, subst}
 use Rattle.std.proofs.lemmas.Bool.{and_parts}
 use Rattle.ap_term.specs.Tree.{Tree, atom}
 use Rattle.ap_sharing.specs.VarSet.{has, both}

@@ -1,5 +1,5 @@
 -- The state after a built-in goal succeeded.
-use Rattle.std.specs.Prelude.{ℕ, Option, Some, None, ◌==◌, if◌then◌else◌}
+use Rattle.std.specs.Prelude.{Option, Some, ◌==◌, if◌then◌else◌}
 use Rattle.ap_term.specs.declared.builtins.Relation.{Relation}
 use Rattle.ap_term.specs.declared.builtins.Relation.TheVariants.{Unify, Is, Compare}
 use Rattle.ap_term.specs.declared.fixed.TheConstants.{FAIL}

@@ -4,7 +4,6 @@ use Rattle.std.proofs.lemmas.Bool.{false≢true, eqb-true, eq-eqb, and_parts}
 use Rattle.std.proofs.lemmas.Nat.Bits.{bit_at_or, bit_at_and, bit_at_xor, bit_at-lt, bit_at-zero, bit_at-pow_same, bit_at-pow_other, same_from_bits}
 use Rattle.std.specs.Int.{bit_at}
 use Rattle.std.specs.Prelude.{bit_and}
-use Rattle.ap_term.proofs.Facts.{same_bool}
 use Rattle.ap_sharing.specs.VarSet.{has, empty, just, union, both, without, meets, within}
 
 pub same_test : (x : ℕ) → nat_eq x x ≡ true

@@ -1,5 +1,5 @@
 -- Lists that are made ascending, and what a search in one finds.
-use Rattle.std.proofs.Common.{◌≡◌, ℕ, zero, suc, ◌+◌, ◌<◌, ◌≤◌, Bool, true, false, ◌||◌, nat_eq, List, [], ◌∷◌, ◌++◌, map, length, get_or, take, drop, Result, Ok, Err, is_ok, refl, ap, ap₂, sym, ◌∙◌, subst, inl, inr, arith}
+use Rattle.std.proofs.Common.{◌≡◌, ℕ, zero, suc, ◌<◌, ◌≤◌, Bool, true, false, ◌||◌, nat_eq, List, [], ◌∷◌, ◌++◌, length, get_or, Result, Ok, Err, is_ok, refl, ap, sym, ◌∙◌, subst, inl, inr, arith}
 use Rattle.std.proofs.lemmas.Bool.{false≢true, eqb-true, ne_eqb, or_cases, or_left, or_right, or_from, cases_lt}
 use Rattle.std.proofs.lemmas.List.Kept.{Contains-dedup_nat, Contains-from_dedup, IsStrictlySortedBy-filter}
 use Rattle.std.proofs.lemmas.List.Sorted.{Contains-permutation, IsPermutation-sym, searched}
@@ -9,8 +9,7 @@ use Rattle.std.specs.List.Sorted.{IsPermutation, IsSorted, IsBinarySearchResult,
 use Rattle.std.specs.Ordering.{nat_cmp, is_eq}
 use Rattle.std.specs.declared.cmp.Ordering.TheVariants.{Equal}
 use Rattle.ap_term.proofs.Facts.{same_bool}
-use Rattle.ap_sharing.specs.VarSet.{union}
-use Rattle.ap_sharing.specs.Sets.{In, IsAscending, listed, insert_set, join_sets, sets_of, with_each, pairs}
+use Rattle.ap_sharing.specs.Sets.{IsAscending, listed, insert_set, join_sets, sets_of, with_each, pairs}
 use Rattle.ap_sharing.proofs.Elements.{same_test, union_comm}
 use Rattle.ap_sharing.proofs.Lists.{Elem, Elem-listed, listed-Elem, by_cmp, equal_order, one_list, listed-join, ascending-none, ascending-insert, ascending-join, join-append, Elem-pairs, pairs-back}
 

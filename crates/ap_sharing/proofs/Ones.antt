@@ -1,6 +1,6 @@
 -- One set becomes part of others.
 use Rattle.std.proofs.Common.{◌≡◌, ℕ, ◌+◌, ◌<◌, Bool, true, false, not, ◌||◌, cond, if◌then◌else◌, nat_eq, List, [], ◌∷◌, ◌++◌, length, get_or, drop, append_assoc, refl, ap, ap₂, sym, ◌∙◌}
-use Rattle.std.proofs.lemmas.Bool.{false≢true, or_right}
+use Rattle.std.proofs.lemmas.Bool.{false≢true}
 use Rattle.std.specs.List.{filter, flat_map}
 use Rattle.ap_sharing.specs.VarSet.{has, union, meets}
 use Rattle.ap_sharing.specs.Sets.{listed, join_sets, sets_of, with_each, pairs}

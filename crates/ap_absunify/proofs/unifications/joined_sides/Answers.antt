@@ -1,4 +1,4 @@
-use Rattle.std.proofs.Common.{◌≡◌, ℕ, not, List, [], ap, ap₂, sym, ◌∙◌}
+use Rattle.std.proofs.Common.{ℕ, not, List, ap, ap₂, sym, ◌∙◌}
 use Rattle.std.specs.List.{filter}
 use Rattle.ap_sharing.specs.VarSet.{union, meets}
 use Rattle.ap_sharing.specs.Share.{Share, norm}

@@ -1,7 +1,7 @@
 use Rattle.std.proofs.Common.{◌≡◌, ◌+◌, drop, ap, ap₂, sym, ◌∙◌, subst, cond, true, Some, None, arith}
-use Rattle.ap_sharing.specs.Sets.{IsAscending, join_sets, with_each, grown, grown_all, closure, too_many}
+use Rattle.ap_sharing.specs.Sets.{IsAscending, grown_all, closure, too_many}
 use Rattle.ap_sharing.proofs.Lists.{too_many-grown_all, ascending-none}
-use Rattle.ap_sharing.proofs.Closures.{IsClosed, closed_none, closed_grown, ascending-grown, grown_same}
+use Rattle.ap_sharing.proofs.Closures.{IsClosed, closed_none, closed_grown, grown_same}
 use Rattle.ap_sharing.proofs.Turns.{grown_all-turn, few_at, many_at}
 use Rattle.ap_sharing.proofs.sets.Sets.closure.Goals as goal
 

@@ -1,5 +1,5 @@
 use Rattle.std.proofs.Common.{IfOk, Some, None, cond, subst, ◌≡◌, List, ℕ}
-use Rattle.ap_sharing.specs.Sets.{pairs, too_many}
+use Rattle.ap_sharing.specs.Sets.{too_many}
 use Rattle.ap_sharing.proofs.Made.{pairs_comm}
 use Rattle.ap_sharing.proofs.sets.Sets.pairs.Goals as goal
 

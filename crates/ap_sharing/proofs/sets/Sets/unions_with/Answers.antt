@@ -1,5 +1,4 @@
 use Rattle.std.proofs.Common.{◌≡◌, ap, sym, ◌∙◌, cond, true, Some, None, arith}
-use Rattle.std.proofs.lemmas.List.{at_drop_all}
 use Rattle.std.specs.List.{flat_map}
 use Rattle.ap_sharing.specs.Sets.{join_sets, with_each, pairs, too_many}
 use Rattle.ap_sharing.proofs.Lists.{too_many-join}

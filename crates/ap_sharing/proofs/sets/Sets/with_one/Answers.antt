@@ -1,4 +1,4 @@
-use Rattle.std.proofs.Common.{IfOk, List, ℕ, ◌≡◌, ◌++◌, ◌∷◌, [], ap, ap₂, sym, ◌∙◌, subst, arith, append-nil}
+use Rattle.std.proofs.Common.{IfOk, List, ℕ, ◌≡◌, ◌++◌, ◌∷◌, [], ap, sym, ◌∙◌, subst, arith, append-nil}
 use Rattle.std.proofs.lemmas.List.{at_drop_all}
 use Rattle.ap_sharing.specs.Sets.{sets_of}
 use Rattle.ap_sharing.proofs.Ones.{with_one, sets_of-with_one, joined-turn, dropped-turn, kept-turn}
