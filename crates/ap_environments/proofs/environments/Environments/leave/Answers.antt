@@ -1,5 +1,5 @@
-use Rattle.std.proofs.Common.{◌≡◌, ap, ap₂, ◌∙◌}
-use Rattle.ap_environments.specs.Frames.{chain, kept_of, segments_in}
+use Rattle.std.proofs.Common.{ap, ap₂, ◌∙◌}
+use Rattle.ap_environments.specs.Frames.{kept_of, segments_in}
 use Rattle.ap_environments.proofs.Chains.{chain-none}
 use Rattle.ap_environments.proofs.environments.Environments.leave.Goals as goal
 
