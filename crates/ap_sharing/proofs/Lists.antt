@@ -1,7 +1,7 @@
 -- Lists of sets.
 use Rattle.std.proofs.Common.{◌≡◌, ℕ, suc, ◌≤◌, ◌<◌, ◌⊎◌, inl, inr, Bool, true, false, ◌||◌, nat_eq, ltb, cond, List, [], ◌∷◌, ◌++◌, map, length, refl, ap, ap₂, sym, ◌∙◌, subst, arith}
 use Rattle.std.proofs.lemmas.Bool.{false≢true, eqb-true, ne_eqb, ltb-true, ltb-false, lt-ltb, or_cases, or_left, or_right, or_from, eqb-false}
-use Rattle.std.specs.List.{filter, flat_map, list_any, AllByRecursion}
+use Rattle.std.specs.List.{filter, flat_map, AllByRecursion}
 use Rattle.std.specs.List.Sorted.{IsStrictlySortedBy}
 use Rattle.std.specs.declared.cmp.Ordering.TheVariants.{Less, Equal, Greater}
 use Rattle.std.specs.Ordering.{nat_cmp, match_ordering, is_eq}
@@ -152,10 +152,6 @@ equal_order s k = go (ltb s k) refl (nat_eq s k) refl
     go true h false i = refl
     go false h true i = refl
     go false h false i = refl
-
-pub listed-any : (s : ℕ) (ss : List ℕ) → list_any (λ k. is_eq (nat_cmp s k)) ss ≡ listed s ss
-listed-any s [] = refl
-listed-any s (t ∷ ts) = ap₂ (λ a b. a || b) (equal_order s t) (listed-any s ts)
 
 -- ---- lengths
 
