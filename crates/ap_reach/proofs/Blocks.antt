@@ -8,7 +8,8 @@ use Rattle.ap_term.proofs.Zips.{AllByRecursion-append}
 use Rattle.ap_term.specs.WellFormed.{IsProgram}
 use Rattle.ap_term.specs.Search.{start}
 use Rattle.ap_term.specs.Blocks.{End, no_more, budget_spent, stopped, error, IsBlock, Begins, IsAllUpTo, IsEnd, IsPrefix}
-use Rattle.ap_reach.specs.Reached.{Key, IsReached, heads, clauses_for, gathered}
+use Rattle.ap_reach.specs.declared.called.Called.{Called}
+use Rattle.ap_reach.specs.Reached.{is_beside, leads, clauses_for, contribution, gathered, IsReached}
 use Rattle.ap_reach.proofs.Same.{restriction, answers}
 
 module _ {L : Type 0} (line : Trees → L) (p : Program) (q : Query) (r : Program) (good : IsProgram p) (part : IsReached p q r) where
@@ -39,17 +40,21 @@ block line p q r budget limit ls end good part b = same-block line p q r good pa
 -- ---- what each clause keeps
 
 module _ (P : Clause → Type 0) where
-  one-left : (k : Key) (p : Program) → AllByRecursion P p → AllByRecursion P (clauses_for k p)
+  one-left : (k : Called) (p : Program) → AllByRecursion P p → AllByRecursion P (clauses_for k p)
   one-left k [] h = tt
-  one-left k (c ∷ p) h = go (heads k c.head) (one-left k p h.1)
+  one-left k (c ∷ p) h = go (leads k c.head) (one-left k p h.1)
     where
       go : (b : Bool) → AllByRecursion P (clauses_for k p) → AllByRecursion P (if b then c ∷ clauses_for k p else clauses_for k p)
       go true r = (h.0, r)
       go false r = r
 
-  all-left : (ks : List Key) (p : Program) → AllByRecursion P p → AllByRecursion P (gathered ks p)
-  all-left [] p h = tt
-  all-left (k ∷ ks) p h = AllByRecursion-append P (clauses_for k p) (gathered ks p) (one-left k p h) (all-left ks p h)
+  unless-beside : (b : Bool) (cs : Program) → AllByRecursion P cs → AllByRecursion P (if b then [] else cs)
+  unless-beside true cs h = tt
+  unless-beside false cs h = h
+
+  all-left : (ks ls : List Called) (p : Program) → AllByRecursion P p → AllByRecursion P (gathered ks ls p)
+  all-left ks [] p h = tt
+  all-left ks (k ∷ ls) p h = AllByRecursion-append P (contribution ks p k) (gathered ks ls p) (unless-beside (is_beside ks k) (clauses_for k p) (one-left k p h)) (all-left ks ls p h)
 
   left-of : (p l : Program) → AllByRecursion P (p ++ l) → AllByRecursion P p
   left-of [] l h = tt
@@ -60,7 +65,7 @@ module _ (P : Clause → Type 0) where
   right-of (c ∷ p) l h = right-of p l h.1
 
   pub of-program : (p : Program) (q : Query) (r : Program) → IsReached p q r → AllByRecursion P p → AllByRecursion P r
-  of-program p q r part h = subst (AllByRecursion P) (sym part.clauses) (all-left part.keys p h)
+  of-program p q r part h = subst (AllByRecursion P) (sym part.clauses) (all-left part.called part.called p h)
 
   pub of-joined : (p : Program) (q : Query) (r : Program) → IsReached p q r → AllByRecursion P (joined p q) → AllByRecursion P (joined r q)
   of-joined p q r part h = AllByRecursion-append P r (q.question ∷ q.lifted) (of-program p q r part (left-of p (q.question ∷ q.lifted) h)) (right-of p (q.question ∷ q.lifted) h)

@@ -6,20 +6,21 @@ use Rattle.ap_term.specs.WellFormed.{IsProgram}
 use Rattle.ap_term.specs.Blocks.{End, IsBlock}
 use Rattle.ap_term.specs.Goals.{Program, Query, joined, plain_goals}
 use Rattle.ap_term.specs.Search.{State, search, start, clause_way, answers_to_depth}
-use Rattle.ap_reach.specs.Reached.{Key, IsAmong, AreAmong, CallsAmong, IsReached}
+use Rattle.ap_reach.specs.declared.called.Called.{Called}
+use Rattle.ap_reach.specs.Reached.{IsAmong, AreAmong, CallsAmong, IsReached}
 
--- each goal of one of the predicates has the same ways on by the clauses of either program
-abbrev pub AreSameFor : List Key → Program → Program → Type 0
-AreSameFor ks p r = (n : ℕ) (g : Tree) → IsAmong ks g → flat_map (clause_way n g) r ≡ flat_map (clause_way n g) p
+-- each goal that is among those that are called has the same ways on by the clauses of either program
+abbrev pub AreSameFor : Program → List Called → Program → Program → Type 0
+AreSameFor w ks p r = (n : ℕ) (g : Tree) → IsAmong w ks g → flat_map (clause_way n g) r ≡ flat_map (clause_way n g) p
 
-abbrev pub IsStateAmong : List Key → State → Type 0
-IsStateAmong ks s = AreAmong ks (plain_goals s.goals)
+abbrev pub IsStateAmong : Program → List Called → State → Type 0
+IsStateAmong w ks s = AreAmong w ks (plain_goals s.goals)
 
--- Where all goals of a program and of some states have these predicates, any program that has the same ways on from such goals has
--- the same search of those states.
+-- Where all goals of a program and of some states are among those that are called, any program that has the same ways on from such
+-- goals has the same search of those states.
 abbrev pub SameSearchLaw : Type 0
 SameSearchLaw =
-    (ks : List Key) (p r : Program) → CallsAmong ks r → AreSameFor ks p r → (n : ℕ) (ss : List State) → AllByRecursion (IsStateAmong ks) ss → search r n ss ≡ search p n ss
+    (w : Program) (ks : List Called) (p r : Program) → CallsAmong w ks r → AreSameFor w ks p r → (n : ℕ) (ss : List State) → AllByRecursion (IsStateAmong w ks) ss → search r n ss ≡ search p n ss
 
 -- Beside the part that it reaches a query has the search that it has beside the whole program.
 abbrev pub RestrictionLaw : Type 0

@@ -1,4 +1,4 @@
-//! The predicates of goals, and clauses that are put into a part.
+//! What goals call, and clauses that are put into a part.
 
 ghost use Rattle.std.specs.Prelude.{◌≡◌, ◌++◌, map, OnOk};
 ghost use Rattle.std.specs.List.{All};
@@ -6,87 +6,103 @@ ghost use Rattle.ap_term.specs.TermView.{tree_of};
 ghost use Rattle.ap_term.specs.GoalView.{part_of};
 ghost use Rattle.ap_reach.specs.Reached.{Extends, IsNamed, IsPartNamed, BodyIsAmong, CallsAmong};
 
-use crate::keys::Keys;
+use crate::called::{Called, Calls};
+use crate::predicates::Predicates;
 use ap_term::{Clause, NoMemory, Part, Program, Term, copy_clause};
 use std::alloc::Global;
 
-/// Adds the predicate of a goal.
-fn add_goal(keys: &mut Keys, goal: &Term) -> Result<(), NoMemory>
-    ensures extends { OnOk result (Extends keys.old keys.new) }
-    ensures named { OnOk result (IsNamed keys.new (tree_of goal.now)) }
+/// Adds what a goal calls.
+fn add_goal(program: &Predicates<'_>, calls: &mut Calls, goal: &Term) -> Result<(), NoMemory>
+    ensures extends { OnOk result (Extends calls.old calls.new) }
+    ensures named { OnOk result (IsNamed program.now calls.new (tree_of goal.now)) }
 {
     match goal {
         Term::Var(_) | Term::Int(_) => Ok(()),
-        Term::Atom(a) => keys.add(*a, 0),
-        Term::Node(a, args) => keys.add(*a, args.len()),
+        Term::Atom(a) => calls.add(Called::All(a.number(), 0)),
+        Term::Node(a, args) => calls.add(program.called(a.number(), args.as_slice())),
     }
 }
 
-/// Adds the predicates of goals.
-fn add_goals(keys: &mut Keys, goals: &[Term]) -> Result<(), NoMemory>
-    ensures extends { OnOk result (Extends keys.old keys.new) }
-    ensures named { OnOk result (All (λ t. IsNamed keys.new (tree_of t)) goals.now) }
+/// Adds what goals call.
+fn add_goals(program: &Predicates<'_>, calls: &mut Calls, goals: &[Term]) -> Result<(), NoMemory>
+    ensures extends { OnOk result (Extends calls.old calls.new) }
+    ensures named { OnOk result (All (λ t. IsNamed program.now calls.new (tree_of t)) goals.now) }
 {
     for goal in goals {
-        add_goal(keys, goal)?;
+        add_goal(program, calls, goal)?;
     }
     Ok(())
 }
 
-/// Adds the predicates of the goals of a body's part.
-fn add_part(keys: &mut Keys, part: &Part) -> Result<(), NoMemory>
-    ensures extends { OnOk result (Extends keys.old keys.new) }
-    ensures named { OnOk result (IsPartNamed keys.new (part_of part.now)) }
+/// Adds what the goals of a body's part call.
+fn add_part(program: &Predicates<'_>, calls: &mut Calls, part: &Part) -> Result<(), NoMemory>
+    ensures extends { OnOk result (Extends calls.old calls.new) }
+    ensures named { OnOk result (IsPartNamed program.now calls.new (part_of part.now)) }
 {
     match part {
-        Part::Call(goal) => add_goal(keys, goal),
-        Part::Group { calls, .. } => add_goals(keys, calls.as_slice()),
+        Part::Call(goal) => add_goal(program, calls, goal),
+        Part::Group { calls: goals, .. } => add_goals(program, calls, goals.as_slice()),
     }
 }
 
-/// Adds the predicates of the goals of a body.
-fn add_parts(keys: &mut Keys, parts: &[Part]) -> Result<(), NoMemory>
-    ensures extends { OnOk result (Extends keys.old keys.new) }
-    ensures named { OnOk result (All (λ p. IsPartNamed keys.new (part_of p)) parts.now) }
+/// Adds what the goals of a body call.
+fn add_parts(program: &Predicates<'_>, calls: &mut Calls, parts: &[Part]) -> Result<(), NoMemory>
+    ensures extends { OnOk result (Extends calls.old calls.new) }
+    ensures named { OnOk result (All (λ p. IsPartNamed program.now calls.new (part_of p)) parts.now) }
 {
     for part in parts {
-        add_part(keys, part)?;
+        add_part(program, calls, part)?;
     }
     Ok(())
 }
 
-/// Adds the predicates of the goals of a clause.
-pub fn add_calls(keys: &mut Keys, clause: &Clause) -> Result<(), NoMemory>
-    ensures extends { OnOk result (Extends keys.old keys.new) }
-    ensures among { OnOk result (BodyIsAmong keys.new clause.now) }
-{
-    add_parts(keys, clause.body().as_slice())
-}
-
-/// Adds the predicates of the goals of clauses.
-pub fn add_all_calls(keys: &mut Keys, clauses: &[Clause]) -> Result<(), NoMemory>
-    ensures extends { OnOk result (Extends keys.old keys.new) }
-    ensures among { OnOk result (CallsAmong keys.new clauses.now) }
-{
-    for clause in clauses {
-        add_calls(keys, clause)?;
-    }
-    Ok(())
-}
-
-/// Adds clauses, and the predicates of their goals.
-pub fn add_clauses(
-    alloc: Global,
-    clauses: &[&Clause],
-    keys: &mut Keys,
-    part: &mut Program,
+/// Adds what the goals of a clause call.
+pub fn add_body(
+    program: &Predicates<'_>,
+    calls: &mut Calls,
+    clause: &Clause,
 ) -> Result<(), NoMemory>
-    ensures extends { OnOk result (Extends keys.old keys.new) }
-    ensures clauses { OnOk result (part.new ≡ part.old ++ map (λ c. c.now) clauses.now) }
-    ensures among { OnOk result (CallsAmong keys.old part.old → CallsAmong keys.new part.new) }
+    ensures extends { OnOk result (Extends calls.old calls.new) }
+    ensures among { OnOk result (BodyIsAmong program.now calls.new clause.now) }
+{
+    add_parts(program, calls, clause.body().as_slice())
+}
+
+/// Adds what the goals of clauses call.
+pub fn add_bodies(
+    program: &Predicates<'_>,
+    calls: &mut Calls,
+    clauses: &[Clause],
+) -> Result<(), NoMemory>
+    ensures extends { OnOk result (Extends calls.old calls.new) }
+    ensures among { OnOk result (CallsAmong program.now calls.new clauses.now) }
 {
     for clause in clauses {
-        add_calls(keys, clause)?;
+        add_body(program, calls, clause)?;
+    }
+    Ok(())
+}
+
+/// Adds what the goals of clauses call that are lent one by one.
+pub fn add_all_calls(
+    program: &Predicates<'_>,
+    calls: &mut Calls,
+    clauses: &[&Clause],
+) -> Result<(), NoMemory>
+    ensures extends { OnOk result (Extends calls.old calls.new) }
+    ensures among { OnOk result (CallsAmong program.now calls.new (map (λ c. c.now) clauses.now)) }
+{
+    for clause in clauses {
+        add_body(program, calls, clause)?;
+    }
+    Ok(())
+}
+
+/// Puts copies of clauses behind a part.
+pub fn add_copies(alloc: Global, clauses: &[&Clause], part: &mut Program) -> Result<(), NoMemory>
+    ensures { OnOk result (part.new ≡ part.old ++ map (λ c. c.now) clauses.now) }
+{
+    for clause in clauses {
         part.push(copy_clause(alloc, clause)?)?;
     }
     Ok(())

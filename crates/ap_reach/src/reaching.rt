@@ -1,28 +1,66 @@
 //! The clauses that the search of a query can come to, found from goal to goal.
 
-ghost use Rattle.std.specs.Prelude.{IfOk};
-ghost use Rattle.ap_reach.specs.Reached.{IsReached};
+ghost use Rattle.std.specs.Prelude.{◌≡◌, ◌++◌, if◌then◌else◌, [], IfOk, OnOk};
+ghost use Rattle.std.specs.List.{IsDistinct};
+ghost use Rattle.ap_reach.specs.Reached.{Extends, is_called, CallsAmong, clauses_for, all_called, contribution, gathered, is_beside, IsReached};
 
-use crate::calls::{add_all_calls, add_calls};
-use crate::keys::Keys;
+use crate::called::{Called, Calls};
+use crate::calls::{add_bodies, add_body};
 use crate::predicates::Predicates;
 use ap_term::{NoMemory, Program, Query};
 use std::alloc::Global;
 
-/// The part of a program that a query can call: all clauses of each predicate that a goal of the query, of what is lifted from it, or of
-/// the part has. Fails only for want of memory.
+/// Adds what the clauses that are called call, and so on.
+fn find(program: &Predicates<'_>, calls: &mut Calls) -> Result<(), NoMemory>
+    ensures extends { OnOk result (Extends calls.old calls.new) }
+    ensures among { OnOk result (CallsAmong program.now calls.new (all_called calls.new program.now)) }
+{
+    for number in 0..4294967295usize {
+        let Some(call) = calls.at(number) else {
+            return Ok(());
+        };
+        program.add_calls(call, calls)?;
+    }
+    Err(NoMemory)
+}
+
+/// Puts the clauses that are called behind a part, unless all of their predicate are called beside them.
+fn add_called(
+    alloc: Global,
+    program: &Predicates<'_>,
+    calls: &Calls,
+    call: Called,
+    part: &mut Program,
+) -> Result<(), NoMemory>
+    ensures { OnOk result (part.new ≡ part.old ++ contribution calls.now program.now call) }
+{
+    if calls.is_beside(call) {
+        return Ok(());
+    }
+    program.add_clauses(alloc, call, part)
+}
+
+/// The clauses that are called, each once.
+fn gather(alloc: Global, program: &Predicates<'_>, calls: &Calls) -> Result<Program, NoMemory>
+    ensures clauses { IfOk result (λ part. part ≡ gathered calls.now calls.now program.now) }
+    ensures once { IsDistinct is_called calls.now }
+{
+    let mut part = Program::new(alloc);
+    for call in calls.as_slice() {
+        add_called(alloc, program, calls, *call, &mut part)?;
+    }
+    Ok(part)
+}
+
+/// The part of a program that a query can call: the clauses of each predicate that a goal of the query, of what is lifted from it, or
+/// of the part has; of a predicate whose clauses all have another first argument than a variable, those alone for the constants that
+/// goals have there, where each goal has one. Fails only for want of memory.
 pub fn reached(alloc: Global, program: &Predicates<'_>, query: &Query) -> Result<Program, NoMemory>
     ensures { IfOk result (λ part. IsReached program.now query.now part) }
 {
-    let mut keys = Keys::new(alloc);
-    add_calls(&mut keys, query.question())?;
-    add_all_calls(&mut keys, query.lifted())?;
-    let mut part = Program::new(alloc);
-    for number in 0..4294967295usize {
-        let Some(key) = keys.at(number) else {
-            return Ok(part);
-        };
-        program.add_clauses(alloc, key, &mut keys, &mut part)?;
-    }
-    Err(NoMemory)
+    let mut calls = Calls::new(alloc);
+    add_body(program, &mut calls, query.question())?;
+    add_bodies(program, &mut calls, query.lifted())?;
+    find(program, &mut calls)?;
+    gather(alloc, program, &calls)
 }

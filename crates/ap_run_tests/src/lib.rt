@@ -21,6 +21,8 @@ mod loads;
 #[cfg(test)]
 mod meeting;
 #[cfg(test)]
+mod parts;
+#[cfg(test)]
 mod shown;
 #[cfg(test)]
 mod workers;

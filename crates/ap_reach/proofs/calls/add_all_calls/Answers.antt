@@ -1,12 +1,18 @@
-use Rattle.std.proofs.Common.{arith}
+use Rattle.std.proofs.Common.{Bor, arith}
+use Rattle.std.proofs.lemmas.List.Elements.{All-map}
+use Rattle.ap_term.specs.Goals.{Clause}
 use Rattle.ap_reach.specs.Reached.{BodyIsAmong}
-use Rattle.ap_reach.proofs.Naming.{body_more, clauses_turn, done}
+use Rattle.ap_reach.proofs.Naming.{body_more, turn, done}
 use Rattle.ap_reach.proofs.calls.add_all_calls.Goals as goal
 
 pub loop-clause-preserved : goal.loop-clause-preserved
 loop-clause-preserved c =
-    clauses_turn c.args.clauses.now c.loop-clause.clause-index c.clause-item.result c.args.keys.now c.loop-clause.keys c.add_calls.new.keys (omega arith) c.clause-item.is c.loop-clause.invariant.0
-    c.in_ok-add_calls.ensures.extends c.in_ok-add_calls.ensures.among c.loop-clause.invariant.1
+    let p = c.args.program.now in
+    turn (λ ks (r : Bor Clause). BodyIsAmong p ks r.now) (λ ks ls (r : Bor Clause). body_more p ks ls r.now) c.args.clauses.now c.loop-clause.clause-index c.clause-item.result c.args.calls.now c.loop-clause.calls c.add_body.new.calls (omega arith)
+    c.clause-item.is c.loop-clause.invariant.0 c.in_ok-add_body.ensures.extends c.in_ok-add_body.ensures.among c.loop-clause.invariant.1
 
 pub returns-clause-among : goal.returns-clause-among
-returns-clause-among c = done BodyIsAmong body_more c.args.clauses.now c.loop-clause.clause-index c.loop-clause.keys (omega arith) c.loop-clause.invariant.1
+returns-clause-among c =
+    let p = c.args.program.now in
+    All-map (BodyIsAmong p c.loop-clause.calls) (λ (r : Bor Clause). r.now) c.args.clauses.now
+    (done (λ ks (r : Bor Clause). BodyIsAmong p ks r.now) (λ ks ls (r : Bor Clause). body_more p ks ls r.now) c.args.clauses.now c.loop-clause.clause-index c.loop-clause.calls (omega arith) c.loop-clause.invariant.1)

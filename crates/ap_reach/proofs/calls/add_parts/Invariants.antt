@@ -5,4 +5,4 @@ use Rattle.ap_reach.specs.Reached.{Extends, IsPartNamed}
 use Rattle.ap_reach.proofs.calls.add_parts.Given as goal
 
 abbrev pub invariant-loop-part : goal.invariant-loop-part
-invariant-loop-part l = Extends l.fn.keys l.keys × All (λ p. IsPartNamed l.keys (part_of p)) (take l.part-index l.parts)
+invariant-loop-part l = Extends l.fn.calls l.calls × All (λ p. IsPartNamed l.program l.calls (part_of p)) (take l.part-index l.parts)

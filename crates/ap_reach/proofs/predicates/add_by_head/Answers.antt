@@ -1,0 +1,19 @@
+use Rattle.std.proofs.Common.{◌≡◌, ◌∷◌, ◌++◌, [], if◌then◌else◌, sym, ap, ◌∙◌}
+use Rattle.std.proofs.lemmas.Result.{on_ok_weaker}
+use Rattle.ap_term.specs.Tree.{Tree, node}
+use Rattle.ap_term.specs.TermView.{tree_of, trees_of}
+use Rattle.ap_reach.specs.declared.called.Called.TheVariants.{All as Whole}
+use Rattle.ap_reach.specs.Reached.{is_called, leads, leads_first}
+use Rattle.ap_reach.specs.Index.{clauses_at}
+use Rattle.ap_reach.proofs.Naming.{head_turn}
+use Rattle.ap_reach.proofs.predicates.add_by_head.Goals as goal
+
+pub returns-in_ok-add_clause-in-Node : goal.returns-in_ok-add_clause-in-Node
+returns-in_ok-add_clause-in-Node c =
+    let head : c.args.clause.now.head ≡ node c.in-Node.a c.in-Node.args = sym c.head.ensures.head ∙ ap tree_of c.in-Node.is in
+    on_ok_weaker c.add_by_first.result
+    (λ h k.
+    head_turn k c.in-Node.a c.len.result c.in-Node.args (clauses_at c.args.index.now k) (clauses_at c.add_clause-in-Node.new.index k) (clauses_at c.add_by_first.new.index k) c.args.clause.now c.len.ensures
+    (c.in_ok-add_clause-in-Node.ensures k ∙ ap (λ a. if is_called (Whole a c.len.result) k then clauses_at c.args.index.now k ++ c.args.clause.now ∷ [] else clauses_at c.args.index.now k) c.number-in-Node.ensures)
+    (h k ∙ ap (λ (t : Tree). if leads_first k t then clauses_at c.add_clause-in-Node.new.index k ++ c.args.clause.now ∷ [] else clauses_at c.add_clause-in-Node.new.index k) (ap (λ a. node a (trees_of c.as_slice.result.now)) c.number-in-Node-2.ensures ∙ ap (node c.in-Node.a) c.as_slice.ensures))
+    ∙ ap (λ (t : Tree). if leads k t then clauses_at c.args.index.now k ++ c.args.clause.now ∷ [] else clauses_at c.args.index.now k) (sym head)) c.add_by_first.ensures
