@@ -1,6 +1,6 @@
 -- How the arguments of a call stand to what a head asks of them.
-use Rattle.std.proofs.Common.{◌≡◌, ℕ, zero, suc, ◌+◌, List, [], ◌∷◌, ◌++◌, take, slice_get, Option, Some, None, Bool, true, false, refl, ap, sym, ◌∙◌, subst, arith}
-use Rattle.std.specs.Prelude.{IfSome}
+use Rattle.std.proofs.Common.{◌≡◌, ℕ, zero, suc, ◌+◌, ◌≤◌, List, [], ◌∷◌, ◌++◌, take, slice_get, Option, Some, None, Bool, true, false, refl, ap, sym, ◌∙◌, subst, arith}
+use Rattle.std.specs.Prelude.{IfSome, if◌then◌else◌}
 use Rattle.std.specs.List.{AllByRecursion}
 use Rattle.ap_term.specs.Tree.{Tree}
 use Rattle.ap_cells.specs.declared.cells.Raw.{Raw}
@@ -9,15 +9,17 @@ use Rattle.ap_instr.specs.Code.{Compiled}
 use Rattle.ap_index.specs.declared.key.Key.{Key}
 use Rattle.ap_index.specs.declared.head.Ask.{Ask}
 use Rattle.ap_index.specs.declared.head.Head.{Head}
-use Rattle.ap_index.specs.Keys.{IsKeyOf}
+use Rattle.ap_index.specs.Keys.{same_key, IsKeyOf}
 use Rattle.ap_index.specs.Heads.{IsMet, IsHeadOf}
+use Rattle.ap_index.proofs.Same.{true-same}
 use Rattle.ap_match.specs.Fits.{Fits}
 use Rattle.ap_match.proofs.Maps.{fits-own}
 use Rattle.ap_control.specs.declared.choosing.Fit.{Fit}
 use Rattle.ap_control.specs.declared.choosing.Fit.TheVariants.{Has, Takes, Lacks, Open}
 use Rattle.ap_control.specs.Heads.{IsShut}
 use Rattle.ap_control.specs.Taking.{CanTake}
-use Rattle.ap_control.specs.Choosing.{Under, both, chance_by, Alike, AreFit, IsAskFit, IsChance, HasKey}
+use Rattle.ap_control.proofs.Keys.{clash}
+use Rattle.ap_control.specs.Choosing.{Under, both, chance_by, fit_known, Alike, AreFit, IsAskFit, IsChance, HasKey}
 
 -- two things at once
 both-under : (cs : List Raw) (P Q : (ℕ → Tree) → Type 0) (f g : Fit) → Under cs P f → Under cs Q g → Under cs (λ k. P k × Q k) (both f g)
@@ -103,6 +105,17 @@ module _ (cs : List Raw) (x : ℕ → ℕ) (arity : ℕ) (asks : List Ask) where
 pub has-key : (cs : List Raw) (x : ℕ → ℕ) (o : Option Key) (p : ℕ) → p ≡ x 1 → IfSome o (λ key. (k : ℕ → Tree) → Fits cs k → IsKeyOf key (k p)) → HasKey cs x o
 has-key cs x None p e h = tt
 has-key cs x (Some key) p e h = subst (λ p. (k : ℕ → Tree) → Fits cs k → IsKeyOf key (k p)) e h
+
+-- an argument of a known key
+pub known-fit : (cs : List Raw) (x : ℕ → ℕ) (arity : ℕ) (own : Key) (a : Ask) → HasKey cs x (Some own) → a.argument ≡ 1 → a.argument ≤ arity → IsAskFit cs x arity a (fit_known own a.key)
+known-fit cs x arity own a known first within = λ z alike. go z (alike a.argument within) (same_key own a.key) refl
+  where
+    there : (z : ℕ → ℕ) → z a.argument ≡ x a.argument → z a.argument ≡ x 1
+    there z e = e ∙ ap x first
+
+    go : (z : ℕ → ℕ) → z a.argument ≡ x a.argument → (b : Bool) → same_key own a.key ≡ b → Under cs (λ k. IsMet (λ w. k (z w)) a) (if b then Has else Lacks)
+    go z e true q = λ k fits. subst (λ p. IsKeyOf a.key (k p)) (sym (there z e)) (subst (λ key. IsKeyOf key (k (x 1))) (true-same own a.key q) (known k fits))
+    go z e false q = λ k fits met. clash own a.key (k (x 1)) q (known k fits) (subst (λ p. IsKeyOf a.key (k p)) (there z e) met)
 
 -- ---- the clause
 

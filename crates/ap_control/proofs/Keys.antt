@@ -25,7 +25,7 @@ use Rattle.ap_index.specs.Keys.{same_key, integer_key, first_key, IsKeyOf}
 use Rattle.ap_control.specs.Heads.{IsShut, PassesOver}
 
 -- a tree has one key
-clash : (a b : Key) (t : Tree) → same_key a b ≡ false → IsKeyOf a t → IsKeyOf b t → ⊥
+pub clash : (a b : Key) (t : Tree) → same_key a b ≡ false → IsKeyOf a t → IsKeyOf b t → ⊥
 clash (Atom a) (Atom b) t d h g = let e : a ≡ b = cc in let y : (a == b) ≡ true = eq-eqb a b e in cc
 clash (Integer a) (Integer b) t d h g = let e : a ≡ b = cc in let y = (Decides-int_eq a b).1 e in cc
 clash (Structure f n) (Structure g m) t d h k =

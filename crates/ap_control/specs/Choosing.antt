@@ -1,12 +1,12 @@
 -- Clauses that a call may enter, by what their heads ask of its arguments.
-use Rattle.std.specs.Prelude.{◌≡◌, ℕ, ◌≤◌, Bool, true, false, List, [], ◌∷◌, Option, Some, None}
+use Rattle.std.specs.Prelude.{◌≡◌, ℕ, ◌≤◌, Bool, true, false, if◌then◌else◌, List, [], ◌∷◌, Option, Some, None}
 use Rattle.std.specs.List.{AllByRecursion}
 use Rattle.ap_term.specs.Tree.{Tree}
 use Rattle.ap_cells.specs.declared.cells.Raw.{Raw}
 use Rattle.ap_instr.specs.Code.{Compiled}
 use Rattle.ap_index.specs.declared.key.Key.{Key}
 use Rattle.ap_index.specs.declared.head.Ask.{Ask}
-use Rattle.ap_index.specs.Keys.{IsKeyOf}
+use Rattle.ap_index.specs.Keys.{same_key, IsKeyOf}
 use Rattle.ap_index.specs.Heads.{IsMet}
 use Rattle.ap_match.specs.Fits.{Fits}
 use Rattle.ap_standing.specs.Machine.{places_from}
@@ -28,6 +28,10 @@ Under cs P Open = Unit {0}
 -- how a place's tree stands to a key
 abbrev pub IsFit : List Raw → ℕ → Key → Fit → Type 0
 IsFit cs p key fit = Under cs (λ k. IsKeyOf key (k p)) fit
+
+-- how a term of one key stands to another one
+abbrev pub fit_known : Key → Key → Fit
+fit_known own asked = if same_key own asked then Has else Lacks
 
 -- argument registers up to one of that number are the same
 abbrev pub Alike : ℕ → (ℕ → ℕ) → (ℕ → ℕ) → Type 0

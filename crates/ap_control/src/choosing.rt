@@ -6,22 +6,39 @@ ghost use Rattle.ap_term.specs.Tree.{Tree};
 ghost use Rattle.ap_cells.specs.declared.cells.Raw.{Raw};
 ghost use Rattle.ap_instr.specs.StandsFor.{clause_places};
 ghost use Rattle.ap_index.specs.declared.key.Key.TheVariants.{Atom as AtomKey, Integer as IntegerKey, Structure as StructureKey};
-ghost use Rattle.ap_index.specs.Keys.{IsKeyOf};
-ghost use Rattle.ap_index.specs.Index.{IsRestOf, IsLinkOf, IsRowOf};
+ghost use Rattle.ap_index.specs.Keys.{same_key, IsKeyOf};
+ghost use Rattle.ap_index.specs.Index.{IsRowOf};
 ghost use Rattle.ap_match.specs.Fits.{Fits};
 ghost use Rattle.ap_steps.specs.Moves.{held, HoldPlaces};
 ghost use Rattle.ap_standing.specs.Machine.{places_from};
 ghost use Rattle.ap_control.specs.Heads.{PassesOver};
 ghost use Rattle.ap_control.specs.Taking.{CanTake};
-ghost use Rattle.ap_control.specs.Choosing.{both, chance_by, IsFit, IsAskFit, AreFit, IsChance, HasKey, Alike, possible_places};
+ghost use Rattle.ap_control.specs.Choosing.{both, chance_by, fit_known, IsFit, IsAskFit, AreFit, IsChance, HasKey, Alike, possible_places};
 
 use crate::alternatives::{Alternative, chosen, first, following};
-use crate::heads::key_of;
 use ap_cells::{Cells, Top};
 use ap_codecheck::Sound;
 use ap_index::{Ask, Head, Key, Row};
 use ap_instr::Predicate;
 use ap_steps::registers::place_in;
+
+/// What is looked up of an atom, an integer or a structure at a place; none of an unbound variable.
+fn key_of(cells: &Cells, place: usize) -> Option<Key>
+    requires { place < length cells.now.cells }
+    ensures { IfSome result (λ key. (k : ℕ → Tree) → Fits cells.now.cells k → IsKeyOf key (k place)) }
+{
+    match cells.top(place) {
+        Top::Free(_) => None,
+        Top::Atom(name) => Some(Key::Atom(name.number())),
+        Top::Int(value) => Some(Key::Integer(value)),
+        Top::Node(name, _, count) => {
+            if count > 255 {
+                return None;
+            }
+            Some(Key::Structure(name.number(), count as u8))
+        }
+    }
+}
 
 /// How what there is stands to what is asked.
 #[derive(Clone, Copy)]
@@ -64,13 +81,7 @@ fn fit_integer(cells: &Cells, place: usize, value: i64) -> Fit
 {
     match cells.top(place) {
         Top::Free(_) => Fit::Takes,
-        Top::Int(found) => {
-            if found == value {
-                Fit::Has
-            } else {
-                Fit::Lacks
-            }
-        }
+        Top::Int(found) => { if found == value { Fit::Has } else { Fit::Lacks } }
         Top::Atom(_) => Fit::Lacks,
         Top::Node(_, _, _) => Fit::Lacks,
     }
@@ -112,16 +123,49 @@ fn fit_key(cells: &Cells, place: usize, key: Key) -> Fit
     }
 }
 
-/// How an argument of a call with so many stands to what it is asked.
+/// Whether two keys are the same.
 #[inline(always)]
-fn fit_ask(cells: &Cells, x: &[u32], arity: u8, ask: &Ask) -> Fit
-    requires { HoldPlaces (length cells.now.cells) x.now }
+fn is_same_key(own: Key, asked: Key) -> bool
+    ensures { result ≡ same_key own asked }
+{
+    match own {
+        Key::Atom(name) => matches!(asked, Key::Atom(other) if name == other),
+        Key::Integer(value) => matches!(asked, Key::Integer(other) if value == other),
+        Key::Structure(name, count) => {
+            matches!(asked, Key::Structure(other, others) if name == other && count == others)
+        }
+    }
+}
+
+/// How a term of a known key stands to one that is asked.
+#[inline(always)]
+fn fit_known(own: Key, asked: Key) -> Fit
+    ensures { result ≡ fit_known own asked }
+{
+    if is_same_key(own, asked) {
+        Fit::Has
+    } else {
+        Fit::Lacks
+    }
+}
+
+/// How an argument of a call with so many stands to what it is asked, where the first one's key may be known.
+#[inline(always)]
+fn fit_ask(cells: &Cells, x: &[u32], arity: u8, key: Option<Key>, ask: &Ask) -> Fit
+    requires holds { HoldPlaces (length cells.now.cells) x.now }
+    requires key { HasKey cells.now.cells (held x.now) key }
     ensures { IsAskFit cells.now.cells (held x.now) arity ask.now result }
 {
     if ask.argument > arity as u32 {
         return Fit::Open;
     }
-    fit_key(cells, place_in(x, ask.argument), ask.key)
+    if ask.argument != 1 {
+        return fit_key(cells, place_in(x, ask.argument), ask.key);
+    }
+    match key {
+        Some(own) => fit_known(own, ask.key),
+        None => fit_key(cells, place_in(x, ask.argument), ask.key),
+    }
 }
 
 /// How all of what is asked is, where some of it was so and one more is so. Of two that take a variable it isn't told, since that may be
@@ -141,13 +185,14 @@ fn both(some: Fit, one: Fit) -> Fit
 
 /// How the arguments of a call stand to what they are asked.
 #[inline(always)]
-fn fit_all(cells: &Cells, x: &[u32], arity: u8, asks: &[Ask]) -> Fit
-    requires { HoldPlaces (length cells.now.cells) x.now }
+fn fit_all(cells: &Cells, x: &[u32], arity: u8, key: Option<Key>, asks: &[Ask]) -> Fit
+    requires holds { HoldPlaces (length cells.now.cells) x.now }
+    requires key { HasKey cells.now.cells (held x.now) key }
     ensures { AreFit cells.now.cells (held x.now) arity asks.now result }
 {
     let mut fit = Fit::Has;
     for ask in asks {
-        match fit_ask(cells, x, arity, ask) {
+        match fit_ask(cells, x, arity, key, ask) {
             Fit::Has => {}
             Fit::Lacks => return Fit::Lacks,
             other => fit = both(fit, other),
@@ -184,12 +229,20 @@ fn chance_by(fit: Fit, head: &Head) -> Chance
 
 /// Whether the clause at a place can be entered by a call on so many argument registers, by what its head asks of them.
 #[inline(always)]
-fn chance_of(cells: &Cells, x: &[u32], arity: u8, sound: &Sound, at: usize) -> Chance
-    requires { HoldPlaces (length cells.now.cells) x.now }
+fn chance_of(
+    cells: &Cells,
+    x: &[u32],
+    arity: u8,
+    sound: &Sound,
+    key: Option<Key>,
+    at: usize,
+) -> Chance
+    requires holds { HoldPlaces (length cells.now.cells) x.now }
+    requires key { HasKey cells.now.cells (held x.now) key }
     ensures { IsChance sound.now cells.now.cells (held x.now) arity at result }
 {
     match sound.head(at) {
-        Some(head) => chance_by(fit_all(cells, x, arity, head.asks()), head),
+        Some(head) => chance_by(fit_all(cells, x, arity, key, head.asks()), head),
         None => Chance::Open,
     }
 }
@@ -221,24 +274,24 @@ pub struct Possible {
     pub sure: bool,
 }
 
-/// The first clause behind a choice that isn't passed over.
+/// The first clause from a choice on that isn't passed over.
 fn possible_from(
     cells: &Cells,
     x: &[u32],
     arity: u8,
     sound: &Sound,
     key: Option<Key>,
-    behind: Option<usize>,
+    from: Option<usize>,
 ) -> Option<Possible>
     requires holds { HoldPlaces (length cells.now.cells) x.now }
     requires key { HasKey cells.now.cells (held x.now) key }
-    ensures passes { PassesOver sound.now cells.now.cells (held x.now) (places_from sound.now behind) (possible_places sound.now result) }
+    ensures passes { PassesOver sound.now cells.now.cells (held x.now) (places_from sound.now from) (possible_places sound.now result) }
     ensures sure { IfSome result (λ p. p.sure ≡ true → (z : ℕ → ℕ) → Alike arity (held x.now) z → CanTake sound.now cells.now.cells z p.alternative.place) }
 {
     let code = sound.code();
-    let mut rest = next_choice(sound, key, behind);
+    let mut rest = from;
     while let Some(found) = following(code, rest) {
-        match chance_of(cells, x, arity, sound, found.place as usize) {
+        match chance_of(cells, x, arity, sound, key, found.place as usize) {
             Chance::Never => {}
             Chance::Sure => {
                 return Some(Possible {
@@ -274,7 +327,8 @@ pub fn next_possible(
         return None;
     }
     let key = key_of(cells, place_in(x, 1));
-    possible_from(cells, x, arity, sound, key, behind)
+    let from = next_choice(sound, key, behind);
+    possible_from(cells, x, arity, sound, key, from)
 }
 
 /// The clause that a call enters, and the next one that isn't passed over, if there is one.
@@ -282,6 +336,40 @@ pub fn next_possible(
 pub struct Chosen {
     pub first: Alternative,
     pub next: Option<Possible>,
+}
+
+/// The clauses that are left from one on, where the others are left from a choice on.
+fn chosen_among(
+    cells: &Cells,
+    x: &[u32],
+    arity: u8,
+    sound: &Sound,
+    key: Option<Key>,
+    found: Alternative,
+    from: Option<usize>,
+) -> Chosen
+    requires holds { HoldPlaces (length cells.now.cells) x.now }
+    requires key { HasKey cells.now.cells (held x.now) key }
+    requires from { PassesOver sound.now cells.now.cells (held x.now) (places_from sound.now found.behind) (places_from sound.now from) }
+    ensures first { PassesOver sound.now cells.now.cells (held x.now) (found.place ∷ places_from sound.now found.behind) (result.first.place ∷ places_from sound.now result.first.behind) }
+    ensures next { PassesOver sound.now cells.now.cells (held x.now) (places_from sound.now result.first.behind) (possible_places sound.now result.next) }
+    ensures sure { IfSome result.next (λ p. p.sure ≡ true → (z : ℕ → ℕ) → Alike arity (held x.now) z → CanTake sound.now cells.now.cells z p.alternative.place) }
+{
+    let next = possible_from(cells, x, arity, sound, key, from);
+    let Some(second) = next else {
+        return Chosen { first: found, next };
+    };
+    match chance_of(cells, x, arity, sound, key, found.place as usize) {
+        Chance::Never => {
+            let rest = next_choice(sound, key, second.alternative.behind);
+            let third = possible_from(cells, x, arity, sound, key, rest);
+            Chosen {
+                first: second.alternative,
+                next: third,
+            }
+        }
+        _ => Chosen { first: found, next },
+    }
 }
 
 /// The clauses that are left from one on. That one is asked for nothing where there is no other.
@@ -300,25 +388,23 @@ fn chosen_from(
     ensures next { PassesOver sound.now cells.now.cells (held x.now) (places_from sound.now result.first.behind) (possible_places sound.now result.next) }
     ensures sure { IfSome result.next (λ p. p.sure ≡ true → (z : ℕ → ℕ) → Alike arity (held x.now) z → CanTake sound.now cells.now.cells z p.alternative.place) }
 {
-    let next = possible_from(cells, x, arity, sound, key, found.behind);
-    let Some(second) = next else {
-        return Chosen { first: found, next };
-    };
-    match chance_of(cells, x, arity, sound, found.place as usize) {
-        Chance::Never => {
-            let third = possible_from(cells, x, arity, sound, key, second.alternative.behind);
-            Chosen {
-                first: second.alternative,
-                next: third,
-            }
-        }
-        _ => Chosen { first: found, next },
+    match next_choice(sound, key, found.behind) {
+        None => Chosen {
+            first: found,
+            next: None,
+        },
+        from => chosen_among(cells, x, arity, sound, key, found, from),
     }
 }
 
 /// A predicate's first clause for the first argument, by its row.
 #[inline(always)]
-fn first_of_row(sound: &Sound, predicate: &Predicate, row: &Row, key: Option<Key>) -> Option<Alternative>
+fn first_of_row(
+    sound: &Sound,
+    predicate: &Predicate,
+    row: &Row,
+    key: Option<Key>,
+) -> Option<Alternative>
     requires { IsRowOf sound.now predicate.now.start row.now }
     ensures none { result ≡ None → (cs : List Raw) (x : ℕ → ℕ) → HasKey cs x key → PassesOver sound.now cs x (clause_places sound.now predicate.now) [] }
     ensures some { IfSome result (λ a. (cs : List Raw) (x : ℕ → ℕ) → HasKey cs x key → PassesOver sound.now cs x (clause_places sound.now predicate.now) (a.place ∷ places_from sound.now a.behind)) }
@@ -334,12 +420,8 @@ fn first_of_row(sound: &Sound, predicate: &Predicate, row: &Row, key: Option<Key
 }
 
 /// The clauses of a predicate that a call on its argument registers may enter.
-pub fn choose(
-    cells: &Cells,
-    x: &[u32],
-    sound: &Sound,
-    predicate: &Predicate,
-) -> Option<Chosen>
+#[inline(always)]
+pub fn choose(cells: &Cells, x: &[u32], sound: &Sound, predicate: &Predicate) -> Option<Chosen>
     requires { HoldPlaces (length cells.now.cells) x.now }
     ensures none { result ≡ None → PassesOver sound.now cells.now.cells (held x.now) (clause_places sound.now predicate.now) [] }
     ensures first { IfSome result (λ c. PassesOver sound.now cells.now.cells (held x.now) (clause_places sound.now predicate.now) (c.first.place ∷ places_from sound.now c.first.behind)) }

@@ -1,24 +1,22 @@
-//! Floor: engine. What a machine's control needs of code: the clauses of a predicate one after another, and which of them unify with a call,
-//! runs of instructions up to one that leads elsewhere, the built-in goals on two places, and the checks of groups.
+//! Floor: engine. What a machine's control needs of code: the clauses of a predicate that a call may enter, runs of instructions up to
+//! one that leads elsewhere, the built-in goals on two places, and the checks of groups.
 //!
-//! Stands on `ap_steps` and `ap_standing`. What is used above: `run_to_transfer`, behind which the code asks for the same goals,
-//! `can_take`, which is so just where a clause's head unifies with the call, and `solve`, by which cells become what a built-in
-//! goal asks.
+//! Stands on `ap_steps` and `ap_standing`. What is used above: `choose` and `next_possible`, which pass over clauses that can ask for
+//! nothing, and say of some that their heads surely unify with the call; `can_take`, which is so just where a clause's head does;
+//! `run_to_transfer`, behind which the code asks for the same goals; and `solve`, by which cells become what a built-in goal asks.
 #![tactic(auto)]
 
 mod alternatives;
 mod checks;
 mod choosing;
-mod heads;
 mod relations;
 mod runs;
 mod taking;
 
 pub use alternatives::{Alternative, first, following, instruction_at};
 pub use ap_codecheck::Sound;
-pub use choosing::{Chosen, Possible, choose, next_possible};
 pub use checks::{are_apart, is_ground};
-pub use heads::{fails_at_once, first_possible, pass_over};
+pub use choosing::{Chosen, Possible, choose, next_possible};
 pub use relations::solve;
 pub use runs::{run_to_transfer, used};
-pub use taking::{can_take, surely_unifies};
+pub use taking::can_take;

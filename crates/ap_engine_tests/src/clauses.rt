@@ -3,8 +3,9 @@ ghost use Rattle.std.specs.Prelude.{◌≡◌, ℕ, ◌<◌, ◌≤◌, length, 
 ghost use Rattle.ap_steps.specs.Moves.{held};
 
 use ap_cells::{Cell, Cells, Top};
-use ap_control::{run_to_transfer, surely_unifies};
-use ap_instr::{Builtin, Code, Instr, Slot};
+use ap_codecheck::{Sound, check};
+use ap_control::{next_possible, run_to_transfer};
+use ap_instr::{Builtin, Code, Instr, Predicate, Slot};
 use ap_match::push_new;
 use ap_needs::{Room, widths_of};
 use ap_steps::registers::argument;
@@ -130,11 +131,11 @@ fn takes_structures(rt: HostRuntime) -> Result<(), Fail> {
     Ok(())
 }
 
-// Whether the head of p(X, true) :- .. is told to unify surely with a call p(T, T), where T is the term of a place.
-fn tells(alloc: Global, cells: &Cells, place: u32) -> Result<bool, Fail>
-    requires { place < length cells.now.cells }
-{
+// Code of p(X, true) :- .., as both clauses of p.
+fn make_choices(alloc: Global) -> Result<Code, Fail> {
     let instructions = vec![in alloc;
+        Instr::Try(2),
+        Instr::Trust(2),
         Instr::Allocate(1),
         Instr::GetVariable(Slot::Y(1), 1),
         Instr::GetConstant(Atom::at(fixed::TRUE), 2),
@@ -144,9 +145,28 @@ fn tells(alloc: Global, cells: &Cells, place: u32) -> Result<bool, Fail>
         Instr::Deallocate,
         Instr::Proceed,
     ]?;
-    let code = Code::new(instructions, Vec::new(alloc), Vec::new(alloc), None);
+    let predicates = vec![in alloc;
+        Predicate {
+            name: Atom::at(fixed::PLUS),
+            arity: 2,
+            start: 0,
+            end: 10,
+            is_listed: true,
+        },
+    ]?;
+    Ok(Code::new(instructions, Vec::new(alloc), predicates, None))
+}
+
+// Whether the head of the second clause is told to unify surely with a call p(T, T), where T is the term of a place, unless that
+// clause is passed over.
+fn tells(alloc: Global, cells: &Cells, sound: &Sound, place: u32) -> Result<Option<bool>, Fail>
+    requires { place < length cells.now.cells }
+{
     let x = registers(alloc, 3, place)?;
-    Ok(surely_unifies(cells, &x, &code, 0))
+    match next_possible(cells, &x, 2, sound, Some(1)) {
+        Some(possible) => Ok(Some(possible.sure)),
+        None => Ok(None),
+    }
 }
 
 #[test]
@@ -157,9 +177,10 @@ fn tells_heads_that_surely_unify(rt: HostRuntime) -> Result<(), Fail> {
     push_new(&mut cells, Cell::Atom(Atom::at(fixed::TRUE)));
     push_new(&mut cells, Cell::Atom(Atom::at(fixed::FAIL)));
     push_new(&mut cells, Cell::Free);
-    for (place, surely) in [(0, true), (1, false), (2, true)] {
+    let sound = check(alloc, make_choices(alloc)?).expect(&rt, "sound code");
+    for (place, surely) in [(0, Some(true)), (1, None), (2, Some(true))] {
         assert!(rt; (place as usize) < cells.len());
-        assert_eq!(rt; tells(alloc, &cells, place)?, surely, "{place}");
+        assert_eq!(rt; tells(alloc, &cells, &sound, place)?, surely, "{place}");
     }
     Ok(())
 }

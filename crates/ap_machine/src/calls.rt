@@ -14,6 +14,7 @@ ghost use Rattle.ap_standing.specs.Machine.{Point, calling, inside, failed, plac
 ghost use Rattle.ap_standing.specs.Laws.{IsTurn, KeepsStanding};
 ghost use Rattle.ap_control.specs.Heads.{PassesOver};
 ghost use Rattle.ap_control.specs.Taking.{CanTake};
+ghost use Rattle.ap_control.specs.Choosing.{Alike, possible_places};
 ghost use Rattle.ap_machine.specs.View.{IsFor};
 ghost use Rattle.ap_machine.specs.Live.{UnifiesAtNewest, KeepsLive};
 ghost use Rattle.ap_machine.specs.Choices.{Stays, AtNewest, Returned, LeavesOut, places_of, called_point, points_left};
@@ -23,7 +24,7 @@ ghost use Rattle.ap_machine.specs.Back.{CanGoBack, WentBack};
 use crate::state::{Now, Search};
 use ap_cells::{CellMark, Cells};
 use ap_codecheck::Sound;
-use ap_control::{Alternative, can_take, first_possible, following, pass_over, surely_unifies};
+use ap_control::{Alternative, Chosen, Possible, can_take, choose, next_possible};
 use ap_environments::{Choice, Environments};
 use ap_instr::{Code, Predicate};
 use ap_needs::Room;
@@ -83,28 +84,22 @@ fn run_and_go_back(
 }
 
 impl Search {
-    /// The first clause of a predicate that doesn't fail at once on the argument registers.
-    fn first_clause(&self, sound: &Sound, predicate: &Predicate) -> Option<Alternative>
+    /// The clauses of a predicate that a call on the argument registers may enter.
+    fn chosen(&self, sound: &Sound, predicate: &Predicate) -> Option<Chosen>
         ensures none { result ≡ None → PassesOver sound.now self.now.machine.cells (held self.now.machine.x) (clause_places sound.now predicate.now) [] }
-        ensures some { IfSome result (λ a. PassesOver sound.now self.now.machine.cells (held self.now.machine.x) (clause_places sound.now predicate.now) (a.place ∷ places_from sound.now a.behind)) }
+        ensures first { IfSome result (λ c. PassesOver sound.now self.now.machine.cells (held self.now.machine.x) (clause_places sound.now predicate.now) (c.first.place ∷ places_from sound.now c.first.behind)) }
+        ensures next { IfSome result (λ c. PassesOver sound.now self.now.machine.cells (held self.now.machine.x) (places_from sound.now c.first.behind) (possible_places sound.now c.next)) }
+        ensures sure { IfSome result (λ c. IfSome c.next (λ p. p.sure ≡ true → (z : ℕ → ℕ) → Alike predicate.now.arity (held self.now.machine.x) z → CanTake sound.now self.now.machine.cells z p.alternative.place)) }
     {
-        first_possible(&self.cells, &self.x, sound, predicate)
+        choose(&self.cells, &self.x, sound, predicate)
     }
 
-    /// The first choice, from one on, whose clause doesn't fail at once on the argument registers.
-    fn choice_from(&self, sound: &Sound, behind: Option<usize>) -> Option<usize>
-        ensures { PassesOver sound.now self.now.machine.cells (held self.now.machine.x) (places_from sound.now behind) (places_from sound.now result) }
+    /// The next clause behind a choice that isn't passed over on the argument registers.
+    fn possible(&self, sound: &Sound, behind: Option<usize>) -> Option<Possible>
+        ensures passes { PassesOver sound.now self.now.machine.cells (held self.now.machine.x) (places_from sound.now behind) (possible_places sound.now result) }
+        ensures sure { IfSome result (λ p. p.sure ≡ true → CanTake sound.now self.now.machine.cells (held self.now.machine.x) p.alternative.place) }
     {
-        pass_over(&self.cells, &self.x, sound, behind)
-    }
-
-    /// Whether the head of a clause surely unifies with the call of a predicate of so many arguments.
-    fn surely_takes(&self, code: &Code, arity: u8, place: u32) -> bool
-        requires { arity < length self.now.machine.x }
-        ensures { result ≡ true → CanTake code.now self.now.machine.cells (held (take (arity + 1) self.now.machine.x)) place }
-    {
-        let arguments = &self.x[..arity as usize + 1];
-        surely_unifies(&self.cells, arguments, code, place as usize)
+        next_possible(&self.cells, &self.x, u8::MAX, sound, behind)
     }
 
     /// Keeps a choice point for the call of a predicate of so many arguments.
@@ -144,21 +139,19 @@ impl Search {
             self.fail();
             return Ok(());
         };
-        let Some(first) = self.first_clause(sound, &predicate) else {
+        let Some(Chosen { first, next }) = self.chosen(sound, &predicate) else {
             self.fail();
             return Ok(());
         };
-        let rest = self.choice_from(sound, first.behind);
-        let Some(next) = following(code, rest) else {
+        let Some(second) = next else {
             self.resume(first.place as usize);
             return Ok(());
         };
-        let arity = predicate.arity;
-        if self.surely_takes(code, arity, next.place) {
-            self.keep(number, arity, next)?;
+        if second.sure {
+            self.keep(number, predicate.arity, second.alternative)?;
             self.resume(first.place as usize);
         } else {
-            self.keep(number, arity, first)?;
+            self.keep(number, predicate.arity, first)?;
             self.fail();
         }
         Ok(())
@@ -185,8 +178,7 @@ impl Search {
         );
     }
 
-    /// Whether the clause at a place can be taken at the newest choice point, where the search stands. A head that surely
-    /// unifies with the call isn't run for that.
+    /// Whether the clause at a place can be taken at the newest choice point, where the search stands.
     fn try_clause(&mut self, code: &Code, room: &Room, place: u32) -> Result<bool, NoMemory>
         requires is_for { IsFor code.now self.old }
         requires room { IsRoomOf code.now room.now }
@@ -195,9 +187,6 @@ impl Search {
         ensures stuck { IfOk result (λ b. b ≡ false → IsStuck self.old.machine.cells (held self.old.machine.x) (held self.old.machine.y) (steps_from code.now place)) }
         ensures back { Returned self.old self.new }
     {
-        if surely_unifies(&self.cells, &self.x, code, place as usize) {
-            return Ok(true);
-        }
         self.cells.reserve(room.cells)?;
         run_and_go_back(
             &mut self.cells,
@@ -210,7 +199,8 @@ impl Search {
         )
     }
 
-    /// The first clause behind a choice whose head unifies with the call of the newest choice point.
+    /// The first clause behind a choice whose head unifies with the call of the newest choice point. A head that surely does isn't
+    /// run for that.
     fn next_match(
         &mut self,
         sound: &Sound,
@@ -223,12 +213,16 @@ impl Search {
         ensures back { Returned self.old self.new }
     {
         let code = sound.code();
-        let mut rest = self.choice_from(sound, behind);
-        while let Some(found) = following(code, rest) {
-            if self.try_clause(code, sound.room(), found.place)? {
-                return Ok(Some(found));
+        let mut rest = behind;
+        while let Some(found) = self.possible(sound, rest) {
+            let alternative = found.alternative;
+            if found.sure {
+                return Ok(Some(alternative));
             }
-            rest = self.choice_from(sound, found.behind);
+            if self.try_clause(code, sound.room(), alternative.place)? {
+                return Ok(Some(alternative));
+            }
+            rest = alternative.behind;
         }
         Ok(None)
     }

@@ -8,4 +8,4 @@ abbrev pub decreases-loop-found : goal.decreases-loop-found
 decreases-loop-found l = length (places_from l.sound l.rest)
 
 abbrev pub invariant-loop-found : goal.invariant-loop-found
-invariant-loop-found l = PassesOver l.sound l.cells.cells (held l.x) (places_from l.sound l.fn.behind) (places_from l.sound l.rest)
+invariant-loop-found l = PassesOver l.sound l.cells.cells (held l.x) (places_from l.sound l.fn.from) (places_from l.sound l.rest)

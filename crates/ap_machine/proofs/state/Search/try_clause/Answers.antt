@@ -2,7 +2,7 @@ use Rattle.std.proofs.Common.{◌≡◌, ℕ, true, false, List, length, ap, sym
 use Rattle.std.specs.Prelude.{IfOk}
 use Rattle.ap_cells.specs.Store.{Keeps}
 use Rattle.ap_cells.specs.declared.cells.Raw.{Raw}
-use Rattle.ap_control.specs.Taking.{CanAsk, CanTake}
+use Rattle.ap_control.specs.Taking.{CanTake}
 use Rattle.ap_control.proofs.Marks.{Keeps-trans}
 use Rattle.ap_steps.specs.Moves.{held, IsStuck}
 use Rattle.ap_instr.specs.Steps.{steps_from}
@@ -61,18 +61,6 @@ returns-clause-back c =
     (Keeps-trans i.cells c.reserve.new.self b.ensures.back.0 (Keeps-same i.cells c.reserve.new.self c.reserve.ensures.cells c.reserve.ensures.trail) b.ensures.back.1) b.ensures.back.2
     (b.ensures.x_len ∙ ap length c.deref_mut.ensures.value) (b.ensures.y_len ∙ ap length c.deref_mut-2.ensures.value)
     _ _ (written i.x.len b.new.x i.x.items (b.ensures.x_len ∙ c.deref_mut.ensures.len)) (written i.y.len b.new.y i.y.items (b.ensures.y_len ∙ c.deref_mut-2.ensures.len))
-
-pub returns-then-surely_unifies-clause-taken : goal.returns-then-surely_unifies-clause-taken
-returns-then-surely_unifies-clause-taken c = λ b openly.
-    let i = c.self.inside in
-    let s = c.args.self.now in
-    let is = steps_from c.args.code.now c.args.place in
-    let y : ℕ → ℕ = λ w. 0 in (
-      y,
-      subst (λ (cs : List Raw). CanAsk cs (held s.machine.x) y is) (ap (λ (t : Paused). t.machine.cells) c.self.view_is)
-          (subst (λ (xs : List ℕ). CanAsk i.cells.cells (held xs) y is) (c.deref.ensures.value ∙ ap (λ (t : Paused). t.machine.x) c.self.view_is)
-          (c.surely_unifies.ensures c.if-surely_unifies.true openly y)),
-    )
 
 pub returns-clause-taken : goal.returns-clause-taken
 returns-clause-taken c =

@@ -1,0 +1,42 @@
+use Rattle.std.proofs.Common.{ℕ, List, ◌∷◌, refl, subst}
+use Rattle.ap_steps.specs.Moves.{held}
+use Rattle.ap_standing.specs.Machine.{places_from}
+use Rattle.ap_control.specs.Heads.{IsShut, PassesOver}
+use Rattle.ap_control.specs.Choosing.{IsChance, possible_places}
+use Rattle.ap_control.proofs.Passed.{passes-none, passes-one, passes-then}
+use Rattle.ap_control.proofs.choosing.chosen_among.Goals as goal
+
+pub returns-in-Never-clause-first : goal.returns-in-Never-clause-first
+returns-in-Never-clause-first c =
+    let code = c.args.sound.now in
+    let cs = c.args.cells.now.cells in
+    let x = held c.args.x.now in
+    let behind = places_from code c.args.found.behind in
+    let from = places_from code c.args.from in
+    let second : List ℕ = c.in-Some.second.alternative.place ∷ places_from code c.in-Some.second.alternative.behind in
+    let shut : IsShut code cs x c.args.found.place = subst (IsChance code cs x c.args.arity c.args.found.place) c.in-Never.is c.chance_of.ensures in
+    passes-then code cs x (c.args.found.place ∷ behind) behind second (passes-one code cs x (c.args.found.place ∷ behind) behind c.args.found.place refl shut)
+    (passes-then code cs x behind from second c.requires.from (subst (λ next. PassesOver code cs x from (possible_places code next)) c.in-Some.is c.possible_from-next.ensures.passes))
+
+pub returns-in-Never-clause-next : goal.returns-in-Never-clause-next
+returns-in-Never-clause-next c =
+    let code = c.args.sound.now in
+    let cs = c.args.cells.now.cells in
+    let x = held c.args.x.now in
+    passes-then code cs x (places_from code c.in-Some.second.alternative.behind) (places_from code c.next_choice-rest.result) (possible_places code c.possible_from-third.result)
+    (c.next_choice-rest.ensures cs x c.requires.key) c.possible_from-third.ensures.passes
+
+pub returns-in_default-chance_of : goal.returns-in_default-chance_of
+returns-in_default-chance_of c =
+    let code = c.args.sound.now in
+    let cs = c.args.cells.now.cells in
+    let x = held c.args.x.now in
+    let behind = places_from code c.args.found.behind in
+    let from = places_from code c.args.from in
+    let second : List ℕ = c.in-Some.second.alternative.place ∷ places_from code c.in-Some.second.alternative.behind in
+    let all : List ℕ = c.args.found.place ∷ behind in
+    record {
+      first = passes-none code cs x all all refl;
+      next = passes-then code cs x behind from second c.requires.from (subst (λ next. PassesOver code cs x from (possible_places code next)) c.in-Some.is c.possible_from-next.ensures.passes);
+      sure = c.in-Some.ensures.sure;
+    }
