@@ -14,7 +14,7 @@ use Rattle.ap_desk.specs.Looks.{Missed}
 use Rattle.ap_desk.specs.Offered.{JobsStay, goal_of, taken_of}
 use Rattle.ap_post.specs.declared.job.Job.{Job}
 use Rattle.ap_post.specs.declared.outcome.Outcome.{Outcome}
-use Rattle.ap_post.specs.Posted.{Posted, posted}
+use Rattle.ap_post.specs.Posted.{posted}
 use Rattle.ap_post.proofs.Noted.{V, gives, given, posted_same}
 use Rattle.ap_post.proofs.Changes.{jobs_stay, goes}
 

@@ -3,7 +3,7 @@
 ghost use Rattle.std.specs.Prelude.{◌≡◌, ℕ, ◌<◌, ◌≤◌, true, [], length, slice_get, Some, IfSome, MatchBool, MatchOption};
 ghost use Rattle.ap_desk.specs.declared.note.Note.{Note};
 ghost use Rattle.ap_open.specs.Away.{IsOutcomeOf};
-ghost use Rattle.ap_post.specs.Jobs.{outcome_of, IsReadyEnding};
+ghost use Rattle.ap_post.specs.Jobs.{outcome_of, IsReadyEnding, IsPaid};
 ghost use Rattle.ap_post.specs.Posted.{Posted, posted_at};
 ghost use Rattle.ap_post.specs.Posts.{posted_in, SamePosted, SameBelow, SameJobs, IsLess, IsMore};
 
@@ -78,7 +78,7 @@ impl<'a, 'b> Post<'a, 'b> {
     // Collects the outcome of a note's goal, with the goal's place. None where its taker hasn't finished it.
     fn collect_note(&mut self, k: usize) -> Option<(usize, Outcome)>
         requires { k < length self.old.desk.4 }
-        ensures told { (n : Note) → slice_get self.old.desk.4 k ≡ Some n → MatchOption result (SamePosted self.old self.new × (length self.new.desk.4 ≡ length self.old.desk.4)) (λ r. (a : Posted) × (a.away.place ≡ r.0) × IsLess n.frame a self.old self.new × IsOutcomeOf a.code a.away.key (outcome_of r.1.ending) × IsReadyEnding a.code r.1.ending) }
+        ensures told { (n : Note) → slice_get self.old.desk.4 k ≡ Some n → MatchOption result (SamePosted self.old self.new × (length self.new.desk.4 ≡ length self.old.desk.4)) (λ r. (a : Posted) × (a.away.place ≡ r.0) × IsLess n.frame a self.old self.new × IsOutcomeOf a.code a.away.key (outcome_of r.1.ending) × IsReadyEnding a.code r.1.ending × IsPaid a.code a.away.key r.1) }
         ensures jobs { SameJobs self.old self.new }
         ensures next { self.new.next ≡ self.old.next }
     {
@@ -89,7 +89,7 @@ impl<'a, 'b> Post<'a, 'b> {
 
     /// Collects the outcome of a goal of a frame whose taker has finished it, with the goal's place. None where there is none.
     pub fn collect(&mut self, frame: u64) -> Option<(usize, Outcome)>
-        ensures told { MatchOption result (SamePosted self.old self.new) (λ r. (a : Posted) × (a.away.place ≡ r.0) × IsLess frame a self.old self.new × IsOutcomeOf a.code a.away.key (outcome_of r.1.ending) × IsReadyEnding a.code r.1.ending) }
+        ensures told { MatchOption result (SamePosted self.old self.new) (λ r. (a : Posted) × (a.away.place ≡ r.0) × IsLess frame a self.old self.new × IsOutcomeOf a.code a.away.key (outcome_of r.1.ending) × IsReadyEnding a.code r.1.ending × IsPaid a.code a.away.key r.1) }
         ensures jobs { SameJobs self.old self.new }
         ensures next { self.new.next ≡ self.old.next }
     {

@@ -29,7 +29,8 @@ use Rattle.ap_section.proofs.Levels.{slots_now, stack_now, view_of-roll, view_of
 use Rattle.ap_section.proofs.Parts.{FramesReady, IsShutNow, part_now, shut-out}
 use Rattle.ap_section.proofs.Newest.{Top, frames-front, length-rows, length-before}
 use Rattle.ap_section.proofs.Shown.{redo-shown}
-use Rattle.ap_section.proofs.Shut.{seen_now, shut-now-ready, same-most}
+use Rattle.ap_section.proofs.Owed.{owes-closed}
+use Rattle.ap_section.proofs.Shut.{seen_now, shut-now-ready, shut-closed, same-most}
 use Rattle.ap_section.proofs.Forked.{Leads, Came, came}
 
 -- ---- no frame is left
@@ -75,11 +76,17 @@ module _ (law : ReachingLaw) (code : Compiled) (s : Section-F Section) (p : Paus
         let top : seen_now back ≡ section p.machine q.spent q.budget (stack_now (g ∷ hs) (f ∷ reverse before)) =
         same ∙ ap (λ gs. section p.machine q.spent q.budget (stack_now gs (reverse s.frames.items))) e ∙ ap (λ fs. section p.machine q.spent q.budget (stack_now (g ∷ hs) fs)) reversed in
         let goes = law.comes code q.machine p.machine q.spent q.budget st end.0 end.1 (record { now = k.now; returns = k.returns; roots_stay = k.roots; points = k.points }) in
+        let still : IsShutNow code back = ((is_for, subst (λ gs. AreMatched code gs (part_now s).frames) (sym older) shut.0.1, shut.0.2), shut.1) in
         let count : length f.slots.items ≡ length g.forked.goals = (subst (λ gs. AreMatched code gs (shape_of f ∷ map shape_of (reverse before))) e matched).0 in (
           record {
-            moved = record { goes = subst (Goes code (seen_now s)) (sym same) goes; more = same-most q.spent p.spent k.spent; budget = k.budget };
+            moved = record {
+              goes = subst (Goes code (seen_now s)) (sym same) goes;
+              more = same-most q.spent p.spent k.spent;
+              budget = k.budget;
+              owes = owes-closed (seen_now s) (seen_now back) (shut-closed code back still) (same-most q.spent p.spent k.spent);
+            };
             spent = k.spent;
-            ready = shut-now-ready code back ((is_for, subst (λ gs. AreMatched code gs (part_now s).frames) (sym older) shut.0.1, shut.0.2), shut.1);
+            ready = shut-now-ready code back still;
           },
           subst IsAtFrame (sym top) (
             record { now = k.now; returns = k.returns; roots_stay = refl; points = k.points },
@@ -116,17 +123,23 @@ module _ (law : ReachingLaw) (code : Compiled) (s : Section-F Section) (p : Paus
         let drops = law.drops code n p.machine q.spent q.budget g.forked f.rest w g.points st stands (redo-shown f.slots.items ∙ none) (record { now = k.now; returns = k.returns; roots_stay = k.roots; points = k.points }) in
         let goes = law.goes_on code (seen_now s) (section n q.spent q.budget (parcall g.forked f.rest Closed w g.points st)) (section p.machine q.spent q.budget st) comes drops in
         let rest = (subst (λ gs. AreMatched code gs (shape_of f ∷ map shape_of (reverse before))) e matched).2 in
+        let still : IsShutNow code dropped = (
+          (
+            is_for,
+            subst (λ fs. AreMatched code p.older (map shape_of (reverse fs))) (sym left) (subst (λ gs. AreMatched code gs (map shape_of (reverse before))) (sym k.older) rest),
+            subst (λ fs. AreShut (map shape_of (reverse fs))) (sym left) closed.1,
+          ),
+          subst (FramesReady code) (sym left) (frames-front code before (f ∷ []) (subst (FramesReady code) items shut.1)),
+        ) in
         record {
-          moved = record { goes = subst (Goes code (seen_now s)) (sym same) goes; more = same-most q.spent p.spent k.spent; budget = k.budget };
+          moved = record {
+            goes = subst (Goes code (seen_now s)) (sym same) goes;
+            more = same-most q.spent p.spent k.spent;
+            budget = k.budget;
+            owes = owes-closed (seen_now s) (seen_now dropped) (shut-closed code dropped still) (same-most q.spent p.spent k.spent);
+          };
           spent = k.spent;
-          ready = shut-now-ready code dropped (
-            (
-              is_for,
-              subst (λ fs. AreMatched code p.older (map shape_of (reverse fs))) (sym left) (subst (λ gs. AreMatched code gs (map shape_of (reverse before))) (sym k.older) rest),
-              subst (λ fs. AreShut (map shape_of (reverse fs))) (sym left) closed.1,
-            ),
-            subst (FramesReady code) (sym left) (frames-front code before (f ∷ []) (subst (FramesReady code) items shut.1)),
-          );
+          ready = shut-now-ready code dropped still;
         }
 
     pub dropped-leads : Leads code s dropped

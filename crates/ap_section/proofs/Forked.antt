@@ -17,8 +17,8 @@ use Rattle.ap_machine.specs.Stands.{IsAtGroup}
 use Rattle.ap_machine.specs.Forking.{HasForked, HasPlainWay, HasGonePlain, IsCut, HasGoneOn}
 use Rattle.ap_tie.specs.Sections as seen
 use Rattle.ap_tie.specs.Sections.{section, Slots, Stack, parcall, rows, machine_in}
-use Rattle.ap_tie.specs.Settled.{HasFailed}
-use Rattle.ap_tied.specs.Ties.{Goes, IsPlaced, ready_slots}
+use Rattle.ap_tie.specs.Settled.{AreClosed, HasFailed}
+use Rattle.ap_tied.specs.Ties.{Goes, IsPlaced, stack_in, ready_slots}
 use Rattle.ap_tied.specs.Reaching.{ReachingLaw}
 use Rattle.ap_section.specs.declared.section.Section.{Section}
 use Rattle.ap_section.specs.declared.section.Section.TheOpen.{Section-F}
@@ -31,9 +31,11 @@ use Rattle.std.proofs.Common.{None}
 use Rattle.ap_section.specs.Ready.{shape_of, IsReadyPart, AreMatched, AreInOrder, IsAtNewest, IsReady}
 use Rattle.ap_section.specs.Slots.{IsAtFrame, IsSlotOf}
 use Rattle.ap_section.specs.Moving.{IsShut, HasMoved, IsOpened}
+use Rattle.ap_section.specs.Owed.{frame_cost}
 use Rattle.ap_section.proofs.Levels.{slots_now, stack_now, seen_as, view_of-roll, view_of-out}
 use Rattle.ap_section.proofs.Parts.{SlotsReady, FramesReady, IsReadyNow, IsShutNow, part_now, ready-roll, shut-out}
 use Rattle.ap_section.proofs.Newest.{frames-join}
+use Rattle.ap_section.proofs.Owed.{owes-free, owes-closed, ready-free}
 use Rattle.ap_section.proofs.Shut.{seen_now, shut-now-ready, shut-closed, same-most, moved-none, moved-same}
 
 -- ---- slots of a first round
@@ -165,7 +167,12 @@ module _ (s : Section-F Section) (p : Paused) (v : Vec (Frame Section Trees) Glo
         let goes = law.forks code q.machine p.machine q.spent q.budget (stack_now q.older (reverse s.frames.items)) h.at h.to h.forked h.there_x h.there_y h.behind
         (shut-closed code s shut) h.here (group-at code q.machine h.at h.here here) (h.returns_before, h.roots_before) h.gathered h.returns h.place h.y (placed code q p h) has-failed in
         record {
-          moved = record { goes = subst (Goes code (seen_now s)) (sym seen-forked) goes; more = same-most q.spent p.spent h.at_fork.spent; budget = h.at_fork.budget };
+          moved = record {
+            goes = subst (Goes code (seen_now s)) (sym seen-forked) goes;
+            more = same-most q.spent p.spent h.at_fork.spent;
+            budget = h.at_fork.budget;
+            owes = owes-free (seen_now s) (seen_now with_frame) (ap (λ v. frame_cost (stack_in v)) seen-forked ∙ ready-free (length h.forked.goals)) (same-most q.spent p.spent h.at_fork.spent);
+          };
           spent = h.at_fork.spent;
           ready = forked-ready shut is_for;
         }
@@ -193,7 +200,12 @@ module _ (code : Compiled) (s : Section-F Section) (p : Paused) (v : Vec (Frame 
   gone-leads : (m : Machine) → p.machine ≡ m → p.spent ≡ s.search.spent → p.budget ≡ s.search.budget → p.older ≡ s.search.older → IsFor code p → IsShutNow code s
       → Goes code (seen_now s) (section m s.search.spent s.search.budget (stack_now s.search.older (reverse s.frames.items))) → Leads code s gone
   gone-leads m em ec eb eo is_for shut goes = record {
-    moved = record { goes = subst (Goes code (seen_now s)) (sym (gone-seen m em ec eb eo)) goes; more = same-most s.search.spent p.spent ec; budget = eb };
+    moved = record {
+      goes = subst (Goes code (seen_now s)) (sym (gone-seen m em ec eb eo)) goes;
+      more = same-most s.search.spent p.spent ec;
+      budget = eb;
+      owes = owes-closed (seen_now s) (seen_now gone) (subst (λ v. AreClosed (stack_in v)) (sym (gone-seen m em ec eb eo)) (shut-closed code s shut)) (same-most s.search.spent p.spent ec);
+    };
     spent = ec;
     ready = gone-ready eo is_for shut;
   }

@@ -20,24 +20,27 @@ use Rattle.ap_section.specs.Views.{view_of, spent_in, budget_in}
 use Rattle.ap_section.specs.Ready.{IsReady}
 use Rattle.ap_section.specs.Slots.{IsAtFrame, verdict_in, slots_in, round_in, is_held, held_spent}
 use Rattle.ap_section.specs.Settles.{IsOpenIn, IsSettled}
+use Rattle.ap_section.specs.Owed.{OwesNoMore}
 use Rattle.ap_section.specs.Closes.{closed_in, charged_in, IsForgotten, IsBack, HasMetIn, CannotMeet, stays_in, MayBreak, CannotBreak, IsNearlyReady, IsOutcome}
 use Rattle.ap_section.proofs.Closes.{ready-nearly, nearly-ready}
+use Rattle.ap_section.proofs.Shut.{ready-behind}
+use Rattle.ap_section.proofs.Owed.{no-more-same, no-more-back, no-more-joined, no-more-closed, no-more-forgotten}
 use Rattle.ap_section.proofs.Goings.{stays-there, goes-back, at-back, stack-back, charged-back, charged-none, goes-joined, goes-unmet, joined-charged, joined-now, joined-stack, goes-broken, goes-closed, broken-charged, broken-now, closed-charged, closed-now}
 
 -- ---- nothing is done
 
 pub none-open : (s : Section) → IsOpenIn (verdict_in (view_of s)) (slots_in (view_of s)) → IsOutcome s s (Ok Open)
-none-open s h = record { goes = λ code k. stays-there code (view_of s); settled = (refl, charged-none (view_of s), h); err = tt; ready = λ code k. k }
+none-open s h = record { goes = λ code k. stays-there code (view_of s); settled = (refl, charged-none (view_of s), h); err = tt; ready = λ code k. k; owes = λ code k. no-more-same (view_of s) }
 
 pub no-memory : (s : Section) (e : NoMemory) → IsAtFrame (view_of s) → IsOutcome s s (Err e)
-no-memory s e at = record { goes = λ code k. stays-there code (view_of s); settled = tt; err = (at, refl, charged-none (view_of s)); ready = λ code k. k }
+no-memory s e at = record { goes = λ code k. stays-there code (view_of s); settled = tt; err = (at, refl, charged-none (view_of s)); ready = λ code k. k; owes = λ code k. no-more-same (view_of s) }
 
 pub none-spent : (s : Section) → verdict_in (view_of s) ≡ SpentBy → IsOutcome s s (Ok Spent)
-none-spent s h = record { goes = λ code k. stays-there code (view_of s); settled = (h, refl); err = tt; ready = λ code k. k }
+none-spent s h = record { goes = λ code k. stays-there code (view_of s); settled = (h, refl); err = tt; ready = λ code k. k; owes = λ code k. no-more-same (view_of s) }
 
 pub to-redo : (s : Section) (i : ℕ) → round_in (view_of s) ≡ Closed → next_redo (rows (slots_in (view_of s))) ≡ Some i → is_held (held_in i (slots_in (view_of s))) ≡ true
     → held_spent (held_in i (slots_in (view_of s))) + (budget_in (view_of s) - spent_in (view_of s)) < 2 ^ 64 → IsOutcome s s (Ok (Redo i))
-to-redo s i c d h f = record { goes = λ code k. stays-there code (view_of s); settled = (refl, c, d, h, f); err = tt; ready = λ code k. k }
+to-redo s i c d h f = record { goes = λ code k. stays-there code (view_of s); settled = (refl, c, d, h, f); err = tt; ready = λ code k. k; owes = λ code k. no-more-same (view_of s) }
 
 -- ---- the search went back to the fork
 
@@ -50,6 +53,7 @@ back-without s t e at b n = record {
   settled = tt;
   err = (at-back (view_of s) (view_of t) at b, stack-back (view_of s) (view_of t) b, charged-back (view_of s) (view_of t) b);
   ready = still-ready s t at b n;
+  owes = λ code k. no-more-back (view_of s) (view_of t) b;
 }
 
 pub back-unmet : SettlingLaw → (s t : Section) (e : ℕ) (ts : List Trees) → IsAtFrame (view_of s) → verdict_in (view_of s) ≡ JoinedBy e → AreAnswersOf (slots_in (view_of s)) ts → IsBack (view_of s) (view_of t) × CannotMeet (view_of s) ts
@@ -59,6 +63,7 @@ back-unmet law s t e ts at v a b n = record {
   settled = (stack-back (view_of s) (view_of t) b.0, charged-back (view_of s) (view_of t) b.0, subst (λ x. IsOpenIn x (slots_in (view_of s))) (sym v) tt);
   err = tt;
   ready = still-ready s t at b.0 n;
+  owes = λ code k. no-more-back (view_of s) (view_of t) b.0;
 }
 
 pub open-joined : (s : Section) (e : ℕ) → verdict_in (view_of s) ≡ JoinedBy e → IsOpenIn (verdict_in (view_of s)) (slots_in (view_of s))
@@ -80,6 +85,7 @@ was-joined law s r d t e ts at v a m x y f g h =
           (e, v, joined-charged (view_of s) (view_of r) e ts m, joined-now (view_of s) (view_of r) e ts m, joined-stack (view_of s) (view_of r) e ts m);
       err = tt;
       ready = λ code k. h code (g code (f code (ready-nearly code s k)));
+      owes = λ code k. subst (OwesNoMore (view_of s)) is (no-more-joined (view_of s) (view_of r) e ts v m);
     }
 
 -- ---- broken
@@ -94,6 +100,7 @@ was-closed law s d t e b at v stays is_true may x y g h =
       settled = subst (λ z. IsSettled (view_of s) z Broken) is (e, v, closed-charged (view_of s) e, closed-now (view_of s) e at);
       err = tt;
       ready = λ code k. h code (g code (ready-nearly code s k));
+      owes = λ code k. subst (OwesNoMore (view_of s)) is (no-more-closed (view_of s) e at v);
     }
 
 pub was-forgotten : SettlingLaw → (s d t : Section) (e : ℕ) (b : Bool) → IsAtFrame (view_of s) → verdict_in (view_of s) ≡ BrokenBy e → b ≡ stays_in (view_of s) → b ≡ false → MayBreak b (slots_in (view_of s))
@@ -106,6 +113,7 @@ was-forgotten law s d t e b at v stays is_false may x y g h =
       settled = (e, v, broken-charged (view_of s) (view_of t) e gone, broken-now (view_of s) (view_of t) e gone);
       err = tt;
       ready = λ code k. h code (g code (ready-nearly code s k));
+      owes = λ code k. no-more-forgotten (view_of s) (view_of t) e (ready-behind code s k) v gone;
     }
 
 pub open-waiting : (s : Section) → verdict_in (view_of s) ≡ Wait → IsOpenIn (verdict_in (view_of s)) (slots_in (view_of s))

@@ -87,7 +87,7 @@ stays-at s n f o e at v k =
 
 -- ---- the slot that is redone next
 
-place-of : {A : Type 0} (f : A → Bool) (xs : List A) (i : ℕ) → rightmost f xs ≡ Some i → (0 < i) × (i ≤ length xs)
+pub place-of : {A : Type 0} (f : A → Bool) (xs : List A) (i : ℕ) → rightmost f xs ≡ Some i → (0 < i) × (i ≤ length xs)
 place-of f [] i e = absurd (cc)
 place-of f (x ∷ xs) i e = go (rightmost f xs) (place-of f xs) (f x) e
   where

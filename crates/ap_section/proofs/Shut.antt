@@ -24,6 +24,7 @@ use Rattle.ap_section.specs.Moving.{IsShut, HasMoved}
 use Rattle.ap_section.proofs.Levels.{slots_now, stack_now, seen_as, view_of-out}
 use Rattle.ap_section.proofs.Parts.{FramesReady, IsReadyNow, IsShutNow, part_now, ready-out, shut-out, out-shut, out-ready}
 use Rattle.ap_section.proofs.Newest.{Top, view-top, length-rows}
+use Rattle.ap_section.proofs.Owed.{owes-same, owes-closed, AreClosedBehind}
 
 -- a level as its view has it
 abbrev pub seen_now : Section-F Section → seen.Section
@@ -41,7 +42,7 @@ shut-now-ready code s h = ((h.0.0, h.0.1, order-shut s.search (part_now s).frame
 pub shut-ready : (code : Compiled) (s : Section) → IsShut code s → IsReady code s
 shut-ready code s h = out-ready code s (shut-now-ready code (out-Section s) (shut-out code s h))
 
-closed-stack : (code : Compiled) (gs : List Segment) (fs : List (Frame Section Trees)) → AreMatched code gs (map shape_of fs) → AreShut (map shape_of fs) → AreClosed (stack_now gs fs)
+pub closed-stack : (code : Compiled) (gs : List Segment) (fs : List (Frame Section Trees)) → AreMatched code gs (map shape_of fs) → AreShut (map shape_of fs) → AreClosed (stack_now gs fs)
 closed-stack code [] [] h k = tt
 closed-stack code [] (f ∷ fs) h k = absurd h
 closed-stack code (g ∷ gs) [] h k = absurd h
@@ -123,10 +124,15 @@ moved-same code v w v' w' e f h = subst (λ u. HasMoved code u w') (sym e) (subs
 
 module _ (law : ReachingLaw) where
   pub moved-none : (code : Compiled) (v w : seen.Section) → w ≡ v → HasMoved code v w
-  moved-none code v w e = subst (HasMoved code v) (sym e) (record { goes = law.stays code v; more = same-most (spent_in v) (spent_in v) refl; budget = refl })
+  moved-none code v w e = subst (HasMoved code v) (sym e) (record { goes = law.stays code v; more = same-most (spent_in v) (spent_in v) refl; budget = refl; owes = owes-same v v refl })
 
   pub moved-on : (code : Compiled) (u v w : seen.Section) → HasMoved code u v → HasMoved code v w → HasMoved code u w
-  moved-on code u v w h k = record { goes = law.goes_on code u v w h.goes k.goes; more = omega (arith, h.more, k.more); budget = k.budget ∙ h.budget }
+  moved-on code u v w h k = record {
+    goes = law.goes_on code u v w h.goes k.goes;
+    more = omega (arith, h.more, k.more);
+    budget = k.budget ∙ h.budget;
+    owes = omega (arith, h.more, k.more, h.owes, k.owes);
+  }
 
   -- ---- turns of the search
 
@@ -143,7 +149,12 @@ module _ (law : ReachingLaw) where
       let goes = law.turns code q.machine p.machine q.spent q.budget (p.spent - q.spent) st (left-over p.spent q.budget q.spent h.more few) (shut-closed code s shut) h.roots h.turned in
       let same : section p.machine (q.spent + (p.spent - q.spent)) q.budget st ≡ seen_now (record s { search = p }) =
       ap (λ c. section p.machine c q.budget st) (whole-again p.spent q.spent h.more) ∙ ap (λ b. section p.machine p.spent b st) (sym h.budget) ∙ ap (λ gs. section p.machine p.spent p.budget (stack_now gs (reverse s.frames.items))) (sym h.older) in
-      record { goes = subst (Goes code (seen_now s)) same goes; more = h.more; budget = h.budget }
+      record {
+        goes = subst (Goes code (seen_now s)) same goes;
+        more = h.more;
+        budget = h.budget;
+        owes = owes-closed (seen_now s) (seen_now (record s { search = p })) (subst (λ v. AreClosed (stack_in v)) same (shut-closed code s shut)) h.more;
+      }
 
 pub turned-shut : (code : Compiled) (s : Section-F Section) (p : Paused) → Advanced code s.search p → IsFor code p → IsShutNow code s → IsShutNow code (record s { search = p })
 turned-shut code s p h is_for shut = ((is_for, subst (λ gs. AreMatched code gs (part_now s).frames) (sym h.older) shut.0.1, shut.0.2), shut.1)
@@ -174,3 +185,15 @@ fresh-ready code x e o is_for = shut-now-ready code x (
 
 pub few-on : (d e c n before now : ℕ) → before ≡ d → now ≡ e → d ≤ e → e ≤ d + n → c ≤ e + (n - (now - before)) → c ≤ d + n
 few-on d e c n before now b a h k l = omega (arith, b, a, h, k, l)
+
+-- the frames behind the first one are closed
+behind-stack : (code : Compiled) (p : Paused) (gs : List Segment) (fs : List (Frame Section Trees)) → AreMatched code gs (map shape_of fs) → AreInOrder p (map shape_of fs) → AreClosedBehind (stack_now gs fs)
+behind-stack code p [] fs h k = tt
+behind-stack code p (g ∷ gs) [] h k = absurd h
+behind-stack code p (g ∷ gs) (f ∷ fs) h k = closed-stack code gs fs h.2 k.1
+
+pub ready-behind : (code : Compiled) (s : Section) → IsReady code s → AreClosedBehind (stack_in (view_of s))
+ready-behind code s r =
+    let x = out-Section s in
+    let k = ready-out code s r in
+    subst (λ v. AreClosedBehind (stack_in v)) (sym (view_of-out s)) (behind-stack code x.search x.search.older (reverse x.frames.items) k.0.1 k.0.2)

@@ -25,6 +25,7 @@ use Rattle.ap_section.specs.Views.{view_of}
 use Rattle.ap_section.specs.Ready.{Shape, Part, AreMatched, AreShut, IsShutPart, parts_of, IsReady}
 use Rattle.ap_section.specs.Slots.{IsAtFrame, round_in, slots_in, closed_stack}
 use Rattle.ap_section.specs.Settles.{HasCharged, IsSettled}
+use Rattle.ap_section.specs.Owed.{OwesNoMore}
 
 -- ---- answers that slots hold
 
@@ -123,3 +124,4 @@ pub record IsOutcome (s t : Section) (r : Result Settled NoMemory) : Type 0 wher
   pub settled : IfOk r (λ settled. IsSettled (view_of s) (view_of t) settled)
   pub err : OnErr r (IsAtFrame (view_of t) × (stack_in (view_of t) ≡ stack_in (view_of s)) × HasCharged 0 (view_of s) (view_of t))
   pub ready : (code : Compiled) → IsReady code s → IsReady code t
+  pub owes : (code : Compiled) → IsReady code s → OwesNoMore (view_of s) (view_of t)

@@ -1,5 +1,5 @@
 -- What a section is after some moves.
-use Rattle.std.specs.Prelude.{◌≡◌, ℕ, ◌+◌, ◌<◌, ◌≤◌, replicate, false}
+use Rattle.std.specs.Prelude.{◌≡◌, ℕ, ◌+◌, ◌-◌, ◌<◌, ◌≤◌, replicate, false}
 use Rattle.std.specs.List.{AllByRecursion}
 use Rattle.ap_term.specs.Tree.{Trees}
 use Rattle.ap_frames.specs.declared.frame.Frame.{Frame}
@@ -17,16 +17,18 @@ use Rattle.ap_section.specs.Views.{spent_in, budget_in}
 use Rattle.ap_section.specs.Ready.{parts_of, IsShutPart}
 use Rattle.ap_section.specs.declared.advance.Turn.{Turn}
 use Rattle.ap_section.specs.Ends.{IsCallNext, Ends}
+use Rattle.ap_section.specs.Owed.{owed}
 
 -- it goes on by the code, and all frames are closed
 abbrev pub IsShut : Compiled → Section → Type 0
 IsShut code s = AllByRecursion (IsShutPart code) (parts_of s)
 
--- events of the core lead there, and no call was taken back
+-- events of the core lead there, no call was taken back, and no more is owed but what was called
 pub record HasMoved (code : Compiled) (s t : seen.Section) : Type 0 where
   pub goes : Goes code s t
   pub more : spent_in s ≤ spent_in t
   pub budget : budget_in t ≡ budget_in s
+  pub owes : owed t ≤ owed s + (spent_in t - spent_in s)
 
 -- a first round of so many goals, with that rest
 abbrev pub IsOpened : ℕ → ℕ → Frame Section Trees → Type 0

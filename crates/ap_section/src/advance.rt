@@ -14,6 +14,7 @@ ghost use Rattle.ap_section.specs.Ready.{IsReady};
 ghost use Rattle.ap_section.specs.Slots.{IsAtFrame};
 ghost use Rattle.ap_section.specs.Moving.{IsShut, HasMoved, IsOpened, IsEndedBy, IsRested};
 ghost use Rattle.ap_section.specs.Ends.{Ends};
+ghost use Rattle.ap_section.specs.Owed.{owed};
 
 use crate::section::Section;
 use ap_codecheck::Sound;
@@ -249,6 +250,7 @@ impl Section {
         ensures budget { budget_in (view_of self.new) ≡ budget_in (view_of self.old) }
         ensures within { spent_in (view_of self.new) ≤ max (budget_in (view_of self.old)) (spent_in (view_of self.old)) }
         ensures few { spent_in (view_of self.new) ≤ spent_in (view_of self.old) + inferences }
+        ensures owes { owed (view_of self.new) ≤ owed (view_of self.old) + (spent_in (view_of self.new) - spent_in (view_of self.old)) }
         ensures share { share.new ≡ capped (share.old + (spent_in (view_of self.new) - spent_in (view_of self.old))) }
         ensures end { IfOk result (λ turn. Ends sound.now inferences (view_of self.old) (view_of self.new) turn) }
         ensures stopped { result ≡ Ok Turn.Stopped → H.asked hook.new }

@@ -15,6 +15,7 @@ ghost use Rattle.ap_section.specs.Views.{view_of, spent_in, budget_in};
 ghost use Rattle.ap_section.specs.Ready.{IsReady};
 ghost use Rattle.ap_section.specs.Slots.{IsAtFrame, IsPlaceIn, verdict_in, slots_in, told_of, round_in, taken_in, held_spent, is_held, IsGoneOn};
 ghost use Rattle.ap_section.specs.Settles.{HasCharged, IsSettled};
+ghost use Rattle.ap_section.specs.Owed.{OwesNoMore};
 ghost use Rattle.ap_section.specs.Closes.{IsStandAnswer, AreSlotAnswers, HasFrame, IsAtFirst, closed_in, charged_in, IsForgotten, IsBack, IsRejoined, stays_by, stays_in, IsNearlyReady, IsShut, MayBreak, CannotBreak, IsOutcome};
 
 use crate::section::Section;
@@ -292,6 +293,7 @@ impl Section {
         ensures settled { IfOk result (λ settled. IsSettled (view_of self.old) (view_of self.new) settled) }
         ensures err { OnErr result (IsAtFrame (view_of self.new) × (stack_in (view_of self.new) ≡ stack_in (view_of self.old)) × HasCharged 0 (view_of self.old) (view_of self.new)) }
         ensures ready { (code : Compiled) → IsReady code self.old → IsReady code self.new }
+        ensures owes { (code : Compiled) → IsReady code self.old → OwesNoMore (view_of self.old) (view_of self.new) }
     {
         self.settle_by(alloc, self.verdict())
     }

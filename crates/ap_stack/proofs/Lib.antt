@@ -7,4 +7,6 @@ pub mod Elsewhere
 mod Offers
 mod Places
 mod Returns
-mod Endings
+pub mod Endings
+pub mod Counts
+mod Debts

@@ -16,11 +16,13 @@ use Rattle.ap_tie.specs.Sections.{Held}
 use Rattle.ap_tied.specs.Happened.{happened}
 use Rattle.ap_tied.specs.SlotCalls.{stood}
 use Rattle.ap_tied.specs.Ties as tied
-use Rattle.ap_open.specs.Away.{Away, Level, Carries}
+use Rattle.ap_open.specs.Away.{Away, Level, OpenBeside, Carries}
 use Rattle.ap_open.specs.Sharing.{SharingLaw}
 use Rattle.ap_section.specs.Views.{view_of}
 use Rattle.ap_section.specs.Ready.{IsReady}
 use Rattle.ap_section.specs.Slots.{IsAtFrame, told_of, readied_in}
+use Rattle.ap_section.specs.Owed.{OwesNoMore}
+use Rattle.ap_section.proofs.Owed.{no-more-same}
 use Rattle.ap_section.proofs.Stood.{first-runs, ready-apart, place-stood, told-else, place-readied, first-readied}
 use Rattle.ap_post.specs.declared.post.Post.{Post}
 use Rattle.ap_post.specs.Posted.{Posted}
@@ -28,7 +30,8 @@ use Rattle.ap_post.specs.Posts.{posted_in, SamePosted, SameJobs}
 use Rattle.ap_stack.specs.declared.stack.Open.{Open}
 use Rattle.ap_stack.specs.declared.stack.Stack.{Stack}
 use Rattle.ap_stack.specs.Levels.{aways_of, aways_in, level_of, levels_of, IsOut, AreNotAt, AreOut, IsOpen, Rise}
-use Rattle.ap_stack.specs.Stacks.{code_in, levels_in, section_in, away_in, IsGood, Goes}
+use Rattle.ap_stack.specs.Stacks.{code_in, levels_in, section_in, away_in, IsGood, Pays, Goes}
+use Rattle.ap_stack.proofs.Counts.{rest-stood, rest-readied, stays-pays}
 
 -- ---- events one after another
 
@@ -77,6 +80,7 @@ each-stood code i e h s (a ∷ out) apart all =
         code_is = all.0.code_is;
         place = place-stood j i e h s all.0.place;
         first = told-else may_be_given_back j i e h s all.0.place.0 apart.0 ∙ all.0.first;
+        rest = all.0.rest ∙ sym (rest-stood i e h s);
       },
       each-stood code i e h s out apart.1 all.1,
     )
@@ -93,6 +97,7 @@ each-readied code i s (a ∷ out) all =
         code_is = all.0.code_is;
         place = place-readied j i s all.0.place;
         first = first-readied j i s all.0.first;
+        rest = all.0.rest ∙ sym (rest-readied i s);
       },
       each-readied code i s out all.1,
     )
@@ -191,6 +196,7 @@ goes-posted law p q s same jobs more good =
       first = refl;
       carries = subst (λ out. Carries code (levels_in p s) (section_in s) (away_in p s) (levels_in q s) (section_in s) out) away
           (subst (λ ls. Carries code (levels_in p s) (section_in s) (away_in p s) ls (section_in s) (away_in p s)) levels (law.stays code (levels_in p s) (section_in s) (away_in p s)));
+      pays = λ b r o u tie h. h;
       below = λ g l. same g;
       jobs = jobs;
       next = more;
@@ -214,6 +220,9 @@ goes-then p q r s t u a b = record {
   first = b.first ∙ a.first;
   carries = carries-then (code_in s) (levels_in p s) (levels_in q t) (levels_in r u) (section_in s) (section_in t) (section_in u) (away_in p s) (away_in q t) (away_in r u) a.carries
       (subst (λ c. Carries c (levels_in q t) (section_in t) (away_in q t) (levels_in r u) (section_in u) (away_in r u)) a.sound b.carries);
+  pays = λ n rules o task tie h.
+      let led = a.carries rules o task tie in
+      b.pays n rules o led.1 (subst (λ c. OpenBeside c rules o (levels_in q t) (section_in t) (away_in q t) led.1) (sym a.sound) led.3) (a.pays n rules o task tie h);
   below = λ g l. b.below g (subst (λ n. g < n) (sym a.first) l) ∙ a.below g l;
   jobs = record { jobs = b.jobs.jobs ∙ a.jobs.jobs; asked = b.jobs.asked ∙ a.jobs.asked };
   next = le-then p.next q.next r.next a.next b.next;
@@ -224,8 +233,8 @@ goes-then p q r s t u a b = record {
 module _ (p : Post) (s t : Stack) (outer : t.outer.items ≡ s.outer.items) (sound : code_in t ≡ code_in s) (first : t.first ≡ s.first) (frame : t.frame ≡ s.frame) where
   -- where the newest one is moved, and all others stay
   pub moved : IsGood p s → IsReady (code_in s) t.newest → (t.tends ≡ true → IsAtFrame (section_in t)) → (t.tends ≡ false → posted_in p s.frame ≡ []) → AreOut (code_in s) (section_in t) (posted_in p s.frame)
-      → Carries (code_in s) (levels_in p s) (section_in s) (away_in p s) (levels_in p s) (section_in t) (away_in p s) → Goes p s p t
-  moved good ready at none out carries =
+      → Carries (code_in s) (levels_in p s) (section_in s) (away_in p s) (levels_in p s) (section_in t) (away_in p s) → Pays p s t → Goes p s p t
+  moved good ready at none out carries pays =
       let code = code_in s in
       record {
         good = record {
@@ -241,36 +250,39 @@ module _ (p : Post) (s t : Stack) (outer : t.outer.items ≡ s.outer.items) (sou
         first = first;
         carries = subst (λ es. Carries code (levels_in p s) (section_in s) (away_in p s) (levels_of p es) (section_in t) (away_in p t)) (sym outer)
             (subst (λ f. Carries code (levels_in p s) (section_in s) (away_in p s) (levels_in p s) (section_in t) (aways_in p f)) (sym frame) carries);
+        pays = pays;
         below = λ g l. refl;
         jobs = same-jobs p;
         next = le-then p.next p.next p.next (omega arith) (omega arith);
       }
 
   -- where none of its goals is out
-  pub moved-alone : SharingLaw → IsGood p s → posted_in p s.frame ≡ [] → IsReady (code_in s) t.newest → (t.tends ≡ true → IsAtFrame (section_in t)) → tied.Goes (code_in s) (section_in s) (section_in t) → Goes p s p t
-  moved-alone law good none ready at goes =
+  pub moved-alone : SharingLaw → IsGood p s → posted_in p s.frame ≡ [] → IsReady (code_in s) t.newest → (t.tends ≡ true → IsAtFrame (section_in t)) → tied.Goes (code_in s) (section_in s) (section_in t) → Pays p s t
+      → Goes p s p t
+  moved-alone law good none ready at goes pays =
       let code = code_in s in
       let away : [] ≡ away_in p s = sym (ap aways_of none) in
       moved good ready at (λ h. none) (out-none code (section_in t) (posted_in p s.frame) none)
-      (subst (λ out. Carries code (levels_in p s) (section_in s) out (levels_in p s) (section_in t) out) away (law.moves code (levels_in p s) (section_in s) (section_in t) goes))
+      (subst (λ out. Carries code (levels_in p s) (section_in s) out (levels_in p s) (section_in t) out) away (law.moves code (levels_in p s) (section_in s) (section_in t) goes)) pays
 
 -- nothing of it has changed
-pub kept : SharingLaw → (p : Post) (s t : Stack) → t.outer.items ≡ s.outer.items → code_in t ≡ code_in s → t.first ≡ s.first → t.frame ≡ s.frame → t.newest ≡ s.newest → t.tends ≡ s.tends → IsGood p s → Goes p s p t
-kept law p s t outer sound first frame newest tends good =
+pub kept : SharingLaw → (p : Post) (s t : Stack) → t.outer.items ≡ s.outer.items → code_in t ≡ code_in s → t.first ≡ s.first → t.frame ≡ s.frame → t.newest ≡ s.newest → t.tends ≡ s.tends → t.share ≡ s.share → IsGood p s → Goes p s p t
+kept law p s t outer sound first frame newest tends share good =
     let code = code_in s in
     moved p s t outer sound first frame good (subst (IsReady code) (sym newest) good.ready) (λ h. subst (λ x. IsAtFrame (view_of x)) (sym newest) (good.at_frame (sym tends ∙ h)))
     (λ h. good.none_out (sym tends ∙ h)) (subst (λ x. AreOut code (view_of x) (posted_in p s.frame)) (sym newest) good.out)
     (subst (λ x. Carries code (levels_in p s) (section_in s) (away_in p s) (levels_in p s) (view_of x) (away_in p s)) (sym newest) (law.stays code (levels_in p s) (section_in s) (away_in p s)))
+    (stays-pays p s t outer share (subst (λ x. OwesNoMore (section_in s) (view_of x)) (sym newest) (no-more-same (section_in s))))
 
-pub kept-good : SharingLaw → (p : Post) (s t : Stack) → t.outer.items ≡ s.outer.items → code_in t ≡ code_in s → t.first ≡ s.first → t.frame ≡ s.frame → t.newest ≡ s.newest → t.tends ≡ s.tends → IsGood p s → IsGood p t
-kept-good law p s t outer sound first frame newest tends good = (kept law p s t outer sound first frame newest tends good).good
+pub kept-good : SharingLaw → (p : Post) (s t : Stack) → t.outer.items ≡ s.outer.items → code_in t ≡ code_in s → t.first ≡ s.first → t.frame ≡ s.frame → t.newest ≡ s.newest → t.tends ≡ s.tends → t.share ≡ s.share → IsGood p s → IsGood p t
+kept-good law p s t outer sound first frame newest tends share good = (kept law p s t outer sound first frame newest tends share good).good
 
 -- ---- one section more
 
 module _ (p : Post) (s t : Stack) (e : Open) (outer : t.outer.items ≡ s.outer.items ++ e ∷ []) (sound : code_in t ≡ code_in s) (first : t.first ≡ s.first) where
   pub pushed : IsGood p s → IsOpen (code_in s) p e → e.frame ≡ s.frame → s.frame < t.frame → t.frame < p.next → posted_in p t.frame ≡ [] → t.tends ≡ false → IsReady (code_in s) t.newest
-      → Carries (code_in s) (levels_in p s) (section_in s) (away_in p s) (levels_in p s ++ level_of p e ∷ []) (section_in t) [] → Goes p s p t
-  pushed good one same more under none tends ready carries =
+      → Carries (code_in s) (levels_in p s) (section_in s) (away_in p s) (levels_in p s ++ level_of p e ∷ []) (section_in t) [] → Pays p s t → Goes p s p t
+  pushed good one same more under none tends ready carries pays =
       let code = code_in s in
       record {
         good = record {
@@ -287,6 +299,7 @@ module _ (p : Post) (s t : Stack) (e : Open) (outer : t.outer.items ≡ s.outer.
         first = first;
         carries = subst (λ ls. Carries code (levels_in p s) (section_in s) (away_in p s) ls (section_in t) (away_in p t)) (sym (ap (levels_of p) outer ∙ map-append (level_of p) s.outer.items (e ∷ [])))
             (subst (λ out. Carries code (levels_in p s) (section_in s) (away_in p s) (levels_in p s ++ level_of p e ∷ []) (section_in t) out) (sym (ap aways_of none)) carries);
+        pays = pays;
         below = λ g l. refl;
         jobs = same-jobs p;
         next = le-then p.next p.next p.next (omega arith) (omega arith);
@@ -301,8 +314,8 @@ module _ (p : Post) (s : Stack) (es : List Open) (e : Open) (outer : s.outer.ite
 
   pub popped : (t : Stack) → t.outer.items ≡ es → code_in t ≡ code_in s → t.first ≡ s.first → t.frame ≡ e.frame → t.tends ≡ true → IsGood p s → posted_in p s.frame ≡ [] → IsReady (code_in s) t.newest → IsAtFrame (section_in t)
       → AreOut (code_in s) (section_in t) (posted_in p e.frame)
-      → Carries (code_in s) (levels_of p es ++ level_of p e ∷ []) (section_in s) [] (levels_of p es) (section_in t) (aways_in p e.frame) → Goes p s p t
-  popped t same sound first frame tends good none ready at out carries =
+      → Carries (code_in s) (levels_of p es ++ level_of p e ∷ []) (section_in s) [] (levels_of p es) (section_in t) (aways_in p e.frame) → Pays p s t → Goes p s p t
+  popped t same sound first frame tends good none ready at out carries pays =
       let code = code_in s in
       let rise = rise-pop s.first s.frame es e (subst (λ xs. Rise s.first xs s.frame) outer good.rise) in
       record {
@@ -321,6 +334,7 @@ module _ (p : Post) (s : Stack) (es : List Open) (e : Open) (outer : s.outer.ite
             (subst (λ out. Carries code (levels_of p es ++ level_of p e ∷ []) (section_in s) out (levels_in p t) (section_in t) (away_in p t)) (sym (ap aways_of none))
             (subst (λ xs. Carries code (levels_of p es ++ level_of p e ∷ []) (section_in s) [] (levels_of p xs) (section_in t) (away_in p t)) (sym same)
             (subst (λ f. Carries code (levels_of p es ++ level_of p e ∷ []) (section_in s) [] (levels_of p es) (section_in t) (aways_in p f)) (sym frame) carries)));
+        pays = pays;
         below = λ g l. refl;
         jobs = same-jobs p;
         next = le-then p.next p.next p.next (omega arith) (omega arith);
@@ -329,10 +343,10 @@ module _ (p : Post) (s : Stack) (es : List Open) (e : Open) (outer : s.outer.ite
   -- its slot stands so then
   pub ended : (st : Stand (Unit {0})) (h : Held) (t : Stack) → t.outer.items ≡ es → code_in t ≡ code_in s → t.first ≡ s.first → t.frame ≡ e.frame → t.tends ≡ true → IsGood p s → posted_in p s.frame ≡ [] → IsReady (code_in s) t.newest → IsAtFrame (section_in t)
       → section_in t ≡ stood e.place st h (view_of e.section)
-      → Carries (code_in s) (levels_of p es ++ level_of p e ∷ []) (section_in s) [] (levels_of p es) (stood e.place st h (view_of e.section)) (aways_in p e.frame) → Goes p s p t
-  ended st h t same sound first frame tends good none ready at is carries =
+      → Carries (code_in s) (levels_of p es ++ level_of p e ∷ []) (section_in s) [] (levels_of p es) (stood e.place st h (view_of e.section)) (aways_in p e.frame) → Pays p s t → Goes p s p t
+  ended st h t same sound first frame tends good none ready at is carries pays =
       let code = code_in s in
       let one = (popped-open good).1 in
       popped t same sound first frame tends good none ready at
       (subst (λ v. AreOut code v (posted_in p e.frame)) (sym is) (out-stood code e.place st h (view_of e.section) (posted_in p e.frame) one.elsewhere one.out))
-      (subst (λ v. Carries code (levels_of p es ++ level_of p e ∷ []) (section_in s) [] (levels_of p es) v (aways_in p e.frame)) (sym is) carries)
+      (subst (λ v. Carries code (levels_of p es ++ level_of p e ∷ []) (section_in s) [] (levels_of p es) v (aways_in p e.frame)) (sym is) carries) pays

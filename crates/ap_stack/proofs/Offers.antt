@@ -33,7 +33,8 @@ use Rattle.ap_post.specs.Posts.{posted_in, OthersPosted, SameJobs, IsMore}
 use Rattle.ap_stack.specs.declared.stack.Open.{Open}
 use Rattle.ap_stack.specs.declared.stack.Stack.{Stack}
 use Rattle.ap_stack.specs.Levels.{aways_of, aways_in, level_of, levels_of, AreNotAt, AreOut, IsOpen, Rise}
-use Rattle.ap_stack.specs.Stacks.{code_in, levels_in, section_in, away_in, IsGood, Goes}
+use Rattle.ap_stack.specs.Stacks.{code_in, levels_in, section_in, away_in, IsGood, Pays, Goes}
+use Rattle.ap_stack.proofs.Counts.{rest-stood, budget-stood, no-more-stood, stays-pays, outer-counts}
 use Rattle.ap_stack.proofs.Outs.{all-split, outs-started, aways-append}
 use Rattle.ap_stack.proofs.Elsewhere.{rise-at-most, SameIn, rise-same, opens-same, levels-same}
 
@@ -85,8 +86,8 @@ below-first g lo f h k e = omega arith
 
 pub newest-goes : (p : Post) (s : Stack) (q : Post) (t : Stack) → IsGood p s → SameButNewest s t → SameJobs p q → q.next ≡ p.next → OthersPosted s.frame p q
     → IsReady (code_in s) t.newest → IsAtFrame (section_in t) → AreOut (code_in s) (section_in t) (posted_in q s.frame)
-    → Carries (code_in s) (levels_in p s) (section_in s) (away_in p s) (levels_in p s) (section_in t) (aways_in q s.frame) → Goes p s q t
-newest-goes p s q t good same jobs next others ready at out carries =
+    → Carries (code_in s) (levels_in p s) (section_in s) (away_in p s) (levels_in p s) (section_in t) (aways_in q s.frame) → Pays p s t → Goes p s q t
+newest-goes p s q t good same jobs next others ready at out carries pays =
     let code = code_in s in
     let unmoved : SameIn p q s.outer.items = rise-same p q s.outer.items s.first s.frame (λ g l u. others g (not-below g s.frame u)) good.rise in
     let opened : AllByRecursion (IsOpen code q) t.outer.items = subst (AllByRecursion (IsOpen code q)) (sym same.outer) (opens-same code p q s.outer.items unmoved good.outer) in
@@ -110,6 +111,7 @@ newest-goes p s q t good same jobs next others ready at out carries =
       sound = same.sound;
       first = same.first;
       carries = subst (λ f. Carries code (levels_in p s) (section_in s) (away_in p s) (levels_in q t) (section_in t) (aways_in q f)) (sym same.frame) c1;
+      pays = pays;
       below = λ g l. others g (below-first g s.first s.frame l least);
       jobs = jobs;
       next = omega arith;
@@ -119,20 +121,21 @@ newest-goes p s q t good same jobs next others ready at out carries =
 
 pub offered-goes : SharingLaw → (p : Post) (s : Stack) (q : Post) (t : Stack) (i : ℕ) (a : Posted) → IsGood p s → s.tends ≡ true → SameButNewest s t → SameJobs p q → q.next ≡ p.next
     → IsMore s.frame a p q → a.code ≡ code_in s → a.away.place ≡ i → IsKeyOf (code_in s) i (section_in s) a.away.key → IsReadyAt i (section_in s)
-    → section_in t ≡ stood i (Running First) nothing (section_in s) → IsAtFrame (section_in t) → IsReady (code_in s) t.newest → Goes p s q t
-offered-goes law p s q t i a good tends same jobs next more coded placed is-key-of ready stands at ready' =
+    → section_in t ≡ stood i (Running First) nothing (section_in s) → IsAtFrame (section_in t) → IsReady (code_in s) t.newest → t.share ≡ s.share → Goes p s q t
+offered-goes law p s q t i a good tends same jobs next more coded placed is-key-of ready stands at ready' share =
     let code = code_in s in
     let j = a.away.place in
     let ps = posted_in p s.frame in
     let ready-j : IsReadyAt j (section_in s) = subst (λ k. IsReadyAt k (section_in s)) (sym placed) ready in
     let key-j : IsKeyOf code j (section_in s) a.away.key = subst (λ k. IsKeyOf code k (section_in s) a.away.key) (sym placed) is-key-of in
     let stands-j : section_in t ≡ stood j (Running First) nothing (section_in s) = stands ∙ ap (λ k. stood k (Running First) nothing (section_in s)) (sym placed) in
-    let outs = outs-started code (section_in s) ps a good.out coded ready-j.0 ready-j.1 in
+    let outs = outs-started code (section_in s) ps a good.out coded ready-j.0 ready-j.1 key-j.rest in
     let outs' = subst (λ v. AreOut code v (ps ++ a ∷ [])) (sym stands-j) outs in
     let left = law.leaves code (levels_in p s) (section_in s) (away_in p s) j a.away.key (may-begin j (section_in s) (good.at_frame tends) ready-j) key-j in
     let c1 = subst (λ v. Carries code (levels_in p s) (section_in s) (away_in p s) (levels_in p s) v (away_in p s ++ a.away ∷ [])) (sym stands-j) left in
     let c2 = subst (Carries code (levels_in p s) (section_in s) (away_in p s) (levels_in p s) (section_in t)) (sym (ap aways_of more.now ∙ aways-append ps (a ∷ []))) c1 in
     newest-goes p s q t good same jobs next more.others ready' at (subst (AreOut code (section_in t)) (sym more.now) outs') c2
+    (stays-pays p s t same.outer share (no-more-stood i (Running First) nothing (section_in s) (section_in t) refl stands))
 
 -- ---- a goal of a frame further out goes out
 
@@ -152,15 +155,15 @@ levels-split p before e after = map-append (level_of p) before (e ∷ after)
 
 -- the section that waits, once slot i of it was begun elsewhere
 begun-open : (code : Compiled) (p q : Post) (e d : Open) (a : Posted) → IsOpen code p e → d.place ≡ e.place → d.frame ≡ e.frame → posted_in q e.frame ≡ posted_in p e.frame ++ a ∷ [] → a.code ≡ code
-    → IsReadyAt a.away.place (view_of e.section) → view_of d.section ≡ stood a.away.place (Running First) nothing (view_of e.section) → IsAtFrame (view_of d.section) → IsReady code d.section → IsOpen code q d
-begun-open code p q e d a waits place frame now coded ready stands at ready' =
+    → IsReadyAt a.away.place (view_of e.section) → view_of d.section ≡ stood a.away.place (Running First) nothing (view_of e.section) → IsAtFrame (view_of d.section) → IsReady code d.section → a.away.key.rest ≡ rest_in (view_of e.section) → IsOpen code q d
+begun-open code p q e d a waits place frame now coded ready stands at ready' rest =
     let j = a.away.place in
     let ps = posted_in p e.frame in
     let v = view_of e.section in
     let t = stood j (Running First) nothing v in
     let now-d : posted_in q d.frame ≡ ps ++ a ∷ [] = ap (posted_in q) frame ∙ now in
     let apart : e.place ≡ j → ⊥ = λ e'. ready-apart j e.place v ready.1 waits.runs (sym e') in
-    let outs = subst (λ x. AreOut code x (ps ++ a ∷ [])) (sym stands) (outs-started code v ps a waits.out coded ready.0 ready.1) in
+    let outs = subst (λ x. AreOut code x (ps ++ a ∷ [])) (sym stands) (outs-started code v ps a waits.out coded ready.0 ready.1 rest) in
     let place-e : IsPlaceIn e.place (view_of d.section) = subst (IsPlaceIn e.place) (sym stands) (place-stood e.place j (Running First) nothing v waits.place) in
     let runs-e : told_of is_running e.place (view_of d.section) ≡ true = ap (told_of is_running e.place) stands ∙ told-else is_running e.place j (Running First) nothing v waits.place.0 apart ∙ waits.runs in
     let not-e : AreNotAt e.place (ps ++ a ∷ []) = AllByRecursion-append (λ x. x.away.place ≡ e.place → ⊥) ps (a ∷ []) waits.elsewhere ((λ e'. apart (sym e')), tt) in
@@ -185,6 +188,7 @@ pub record SameBut (s t : Stack) (before : List Open) (e d : Open) (after : List
   pub place : d.place ≡ e.place
   pub since : d.since ≡ e.since
   pub number : d.frame ≡ e.frame
+  pub share : t.share ≡ s.share
 
 abbrev level_by : seen.Section → ℕ → ℕ → List Away → Level
 level_by v i n ps = record { section = v; place = i; since = n; aways = ps }
@@ -212,7 +216,7 @@ offered-below law p s q t before e d after i a good same jobs next more coded pl
     let same-own : posted_in q s.frame ≡ posted_in p s.frame = more.others s.frame (not-above s.frame e.frame last-e) in
     let opens = subst (AllByRecursion (IsOpen code p)) same.was good.outer in
     let open-parts = all-split (IsOpen code p) before (e ∷ after) opens in
-    let open-d : IsOpen code q d = begun-open code p q e d a open-parts.1.0 same.place same.number more.now coded ready-j stands-j at ready' in
+    let open-d : IsOpen code q d = begun-open code p q e d a open-parts.1.0 same.place same.number more.now coded ready-j stands-j at ready' key-j.rest in
     let opens' : AllByRecursion (IsOpen code q) (before ++ d ∷ after) =
     AllByRecursion-append (IsOpen code q) before (d ∷ after) (opens-same code p q before same-before open-parts.0) (open-d, opens-same code p q after same-after open-parts.1.1) in
     let opens'' : AllByRecursion (IsOpen code q) t.outer.items = subst (AllByRecursion (IsOpen code q)) (sym same.is) opens' in
@@ -249,6 +253,9 @@ offered-below law p s q t before e d after i a good same jobs next more coded pl
       sound = same.sound;
       first = same.first;
       carries = subst (Carries code (levels_in p s) (section_in s) (away_in p s) (levels_in q t) (section_in t)) (sym away-is) c3;
+      pays = λ b r o u tie h.
+          outer-counts b s t before e d after same.was same.is same.newest same.share same.since (ap views.budget_in stands ∙ budget-stood i (Running First) nothing v)
+          (ap rest_in stands ∙ rest-stood i (Running First) nothing v) (no-more-stood i (Running First) nothing v (view_of d.section) refl stands).owes h;
       below = λ g l. more.others g (below-first g s.first e.frame l first-e);
       jobs = jobs;
       next = omega arith;

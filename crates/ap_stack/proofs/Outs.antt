@@ -11,11 +11,13 @@ use Rattle.ap_frames.specs.Slots.{is_startable, may_be_given_back}
 use Rattle.ap_instr.specs.Code.{Compiled}
 use Rattle.ap_tie.specs.Sections.{Section, Held, nothing}
 use Rattle.ap_tied.specs.SlotCalls.{stood}
+use Rattle.ap_open.specs.Opened.{rest_in}
 use Rattle.ap_open.specs.Away.{Away, without}
 use Rattle.ap_section.specs.Slots.{IsPlaceIn, told_of}
 use Rattle.ap_section.proofs.Stood.{first-runs, ready-apart, place-stood, told-else, first-stood}
 use Rattle.ap_post.specs.Posted.{Posted}
 use Rattle.ap_stack.specs.Levels.{aways_of, IsOut, AreNotAt, AreApart, AreOut}
+use Rattle.ap_stack.proofs.Counts.{rest-stood}
 
 -- ---- what holds of each
 
@@ -45,6 +47,7 @@ out-stood code s i y h a out n = record {
   code_is = out.code_is;
   place = place-stood a.away.place i y h s out.place;
   first = told-else may_be_given_back a.away.place i y h s out.place.0 n ∙ out.first;
+  rest = out.rest ∙ sym (rest-stood i y h s);
 }
 
 pub outs-stood : (code : Compiled) (s : Section) (i : ℕ) (y : Stand (Unit {0})) (h : Held) (ps : List Posted) → AreOut code s ps → AreNotAt i ps → AreOut code (stood i y h s) ps
@@ -71,15 +74,16 @@ outs-more code s ps b outs n out = record {
 }
 
 -- one that could be started is
-pub outs-started : (code : Compiled) (s : Section) (ps : List Posted) (b : Posted) → AreOut code s ps → b.code ≡ code → IsPlaceIn b.away.place s → told_of is_startable b.away.place s ≡ true
+pub outs-started : (code : Compiled) (s : Section) (ps : List Posted) (b : Posted) → AreOut code s ps → b.code ≡ code → IsPlaceIn b.away.place s → told_of is_startable b.away.place s ≡ true → b.away.key.rest ≡ rest_in s
     → AreOut code (stood b.away.place (Running First) nothing s) (ps ++ b ∷ [])
-outs-started code s ps b outs coded place ready =
+outs-started code s ps b outs coded place ready rest =
     let n = ready-elsewhere code s b.away.place ps ready outs in
     let t = stood b.away.place (Running First) nothing s in
     outs-more code t ps b (outs-stood code s b.away.place (Running First) nothing ps outs n) n (record {
       code_is = coded;
       place = place-stood b.away.place b.away.place (Running First) nothing s place;
       first = first-stood b.away.place nothing s place;
+      rest = rest ∙ sym (rest-stood b.away.place (Running First) nothing s);
     })
 
 -- ---- one less is

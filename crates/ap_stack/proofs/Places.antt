@@ -57,7 +57,16 @@ pub good-aged : (p : Post) (s : Stack) (k : ℕ) → IsGood p s → IsGood p (re
 good-aged p s k good = record { ready = good.ready; outer = good.outer; at_frame = good.at_frame; none_out = good.none_out; out = good.out; rise = good.rise; below = good.below }
 
 pub goes-aged : (p : Post) (s : Stack) (q : Post) (t : Stack) (k : ℕ) → Goes p (record s { oldest = k }) q t → Goes p s q t
-goes-aged p s q t k goes = record { good = goes.good; sound = goes.sound; first = goes.first; carries = goes.carries; below = goes.below; jobs = goes.jobs; next = goes.next }
+goes-aged p s q t k goes = record {
+  good = goes.good;
+  sound = goes.sound;
+  first = goes.first;
+  carries = goes.carries;
+  pays = λ b r o u tie h. goes.pays b r o u tie (record { given = h.given; paid = h.paid });
+  below = goes.below;
+  jobs = goes.jobs;
+  next = goes.next;
+}
 
 pub goes-ages : (p : Post) (s : Stack) (q : Post) (t : Stack) (k : ℕ) → Goes p s q t → Goes p s q (record t { oldest = k })
-goes-ages p s q t k goes = record { good = good-aged q t k goes.good; sound = goes.sound; first = goes.first; carries = goes.carries; below = goes.below; jobs = goes.jobs; next = goes.next }
+goes-ages p s q t k goes = record { good = good-aged q t k goes.good; sound = goes.sound; first = goes.first; carries = goes.carries; pays = λ b r o u tie h. let k = goes.pays b r o u tie h in record { given = k.given; paid = k.paid }; below = goes.below; jobs = goes.jobs; next = goes.next }

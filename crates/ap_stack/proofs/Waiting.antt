@@ -105,19 +105,6 @@ gone-on-spent r (section m c b st) = refl
 
 -- ---- where a section comes to rest
 
-pub is-answering : (code : Compiled) (n : ℕ) (s t : Section) → Ends code n s t turn.Answer → IsAnswering t
-is-answering code n s (section m c b st) e = record { at = e.0; closed = e.1 }
-
-pub is-done : (code : Compiled) (n : ℕ) (s t : Section) → Ends code n s t turn.Failed → IsDone t
-is-done code n s (section m c b st) e = record { now = e.0; points = e.1; stack = e.2 }
-
-pub is-spent : (code : Compiled) (n : ℕ) (s t : Section) → Ends code n s t turn.Spent → IsSpent code t
-is-spent code n s (section m c b st) e = inl e
-
-pub frame-spent : (code : Compiled) (s : Section) → IsAtFrame s → verdict_in s ≡ SpentBy → IsSpent code s
-frame-spent code (section m c b bottom) at e = absurd at
-frame-spent code (section m c b (parcall f q rd w qs st)) at e = inr (at.0, e)
-
 pub at-frame : (code : Compiled) (n : ℕ) (s t : Section) → Ends code n s t turn.Fork → IsAtFrame t
 at-frame code n s (section m c b bottom) e = e
 at-frame code n s (section m c b (parcall f q rd w qs st)) e = e
@@ -128,6 +115,3 @@ has-more code (section m c b st) more none some = record { none = none; some = s
 -- what a search cost in this round
 pub cost-is : (s : Section) (n cost since : ℕ) → n ≡ seen.spent_in s → cost ≡ n - since → cost ≡ spent_in s - since
 cost-is (section m c b st) n cost since e f = f ∙ ap (λ k. k - since) e
-
-pub past-is : (s : Section) → left_behind s ≡ past_answer s
-past-is (section m c b st) = refl

@@ -4,6 +4,7 @@ use Rattle.std.specs.List.{AllByRecursion}
 use Rattle.ap_frames.specs.Slots.{is_running, may_be_given_back}
 use Rattle.ap_instr.specs.Code.{Compiled}
 use Rattle.ap_tie.specs.Sections as seen
+use Rattle.ap_open.specs.Opened.{rest_in}
 use Rattle.ap_open.specs.Away.{Away, Level}
 use Rattle.ap_section.specs.Views.{view_of}
 use Rattle.ap_section.specs.Ready.{IsReady}
@@ -30,11 +31,12 @@ levels_of p es = map (level_of p) es
 
 -- ---- goals of a section's newest frame that are out
 
--- its slot runs from its goal on, by that code
+-- its slot runs from its goal on, by that code, with all that is left
 pub record IsOut (code : Compiled) (s : seen.Section) (a : Posted) : Type 0 where
   pub code_is : a.code ≡ code
   pub place : IsPlaceIn a.away.place s
   pub first : told_of may_be_given_back a.away.place s ≡ true
+  pub rest : a.away.key.rest ≡ rest_in s
 
 -- none of them is of slot i
 abbrev pub AreNotAt : ℕ → List Posted → Type 0

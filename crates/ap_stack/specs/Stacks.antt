@@ -1,9 +1,12 @@
 -- The open sections of a search, and what becomes of them.
 use Rattle.std.specs.Prelude.{◌≡◌, ℕ, ◌<◌, ◌≤◌, true, false, List, []}
 use Rattle.std.specs.List.{AllByRecursion}
+use Rattle.ap_core.specs.Tasks.{Task}
+use Rattle.ap_core.specs.Relation.{Rules}
+use Rattle.ap_tracked.specs.Tracked.{Tracked}
 use Rattle.ap_instr.specs.Code.{Compiled}
 use Rattle.ap_tie.specs.Sections as seen
-use Rattle.ap_open.specs.Away.{Away, Level, Carries}
+use Rattle.ap_open.specs.Away.{Away, Level, OpenBeside, Carries}
 use Rattle.ap_open.specs.Calling.{IsAnswering, IsDone, IsSpent}
 use Rattle.ap_open.specs.Opened.{spent_in}
 use Rattle.ap_open.specs.Sharing.{first_of}
@@ -16,6 +19,7 @@ use Rattle.ap_stack.specs.declared.stack.Stack.{Stack}
 use Rattle.ap_stack.specs.declared.stack.Step.{Step}
 use Rattle.ap_stack.specs.declared.stack.Step.TheVariants.{Went, Waits, Began, Finished, Answer, Ended}
 use Rattle.ap_stack.specs.declared.stack.Ending.TheVariants.{Failed, Spent}
+use Rattle.ap_stack.specs.Counts.{Counts}
 use Rattle.ap_stack.specs.Levels.{aways_in, levels_of, AreOut, IsOpen, Rise}
 
 -- ---- as the laws name it
@@ -53,6 +57,10 @@ pub record IsGood (p : Post) (s : Stack) : Type 0 where
 
 -- ---- what a move does
 
+-- where the sections are tied to anything, and the share counts what they owe, it counts what they owe then
+abbrev pub Pays : Post → Stack → Stack → Type 0
+Pays p s t = (b : ℕ) (r : Rules) (o : Tracked) (u : Task) → OpenBeside (code_in s) r o (levels_in p s) (section_in s) (away_in p s) u → Counts b s → Counts b t
+
 -- The search goes on from there to here: whatever the sections are tied to, events lead it to what they are tied to then. No goal
 -- of a search with smaller numbers is touched, and none that was taken.
 pub record Goes (p : Post) (s : Stack) (q : Post) (t : Stack) : Type 0 where
@@ -60,6 +68,7 @@ pub record Goes (p : Post) (s : Stack) (q : Post) (t : Stack) : Type 0 where
   pub sound : code_in t ≡ code_in s
   pub first : t.first ≡ s.first
   pub carries : Carries (code_in s) (levels_in p s) (section_in s) (away_in p s) (levels_in q t) (section_in t) (away_in q t)
+  pub pays : Pays p s t
   pub below : SameBelow s.first p q
   pub jobs : SameJobs p q
   pub next : p.next ≤ q.next

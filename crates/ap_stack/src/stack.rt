@@ -96,6 +96,7 @@ impl<'a> Stack<'a> {
         ensures alone { result.outer.items ≡ [] }
         ensures newest { result.newest ≡ newest }
         ensures number { (result.first ≡ frame) × (result.frame ≡ frame) × (result.tends ≡ false) }
+        ensures share { result.share ≡ 0 }
         ensures good { (p : Posting) → IsReady sound.now newest → posted_in p frame ≡ [] → frame < p.next → IsGood p result }
     {
         Stack {
@@ -135,6 +136,7 @@ impl<'a> Stack<'a> {
         ensures outer { self.new.outer.items ≡ self.old.outer.items ++ record { section = self.old.newest; place = place; since = since; frame = self.old.frame; turn = self.old.turns } ∷ [] }
         ensures newest { (self.new.newest ≡ section) × (self.new.frame ≡ frame) × (self.new.tends ≡ false) }
         ensures same { (self.new.sound.now ≡ self.old.sound.now) × (self.new.first ≡ self.old.first) }
+        ensures share { self.new.share ≡ self.old.share }
     {
         let below = mem::replace(&mut self.newest, section);
         self.outer.push_reserved(Open {
@@ -154,6 +156,7 @@ impl<'a> Stack<'a> {
         ensures section { IfSome result (λ e. (e.section ≡ self.old.newest) × (self.new.tends ≡ true)) }
         ensures outer { IfSome result (λ e. self.old.outer.items ≡ self.new.outer.items ++ record { section = self.new.newest; place = e.place; since = e.since; frame = self.new.frame; turn = e.turn } ∷ []) }
         ensures same { (self.new.sound.now ≡ self.old.sound.now) × (self.new.first ≡ self.old.first) }
+        ensures share { self.new.share ≡ self.old.share }
     {
         if self.outer.is_empty() {
             return None;
@@ -194,13 +197,16 @@ impl<'a> Stack<'a> {
     pub fn redo(&mut self)
         ensures behind { section_in self.new ≡ left_behind (section_in self.old) }
         ensures same { (self.new.sound.now ≡ self.old.sound.now) × (self.new.outer ≡ self.old.outer) × (self.new.frame ≡ self.old.frame) × (self.new.first ≡ self.old.first) × (self.new.tends ≡ self.old.tends) }
+        ensures share { self.new.share ≡ self.old.share }
         ensures ready { (code : Compiled) → IsReady code self.old.newest → IsReady code self.new.newest }
     {
         self.newest.redo();
     }
 
     /// Drops the sections one after another, however deep frames are nested in them, and gives the calls that were made.
-    pub fn release(self, alloc: Global) -> Share {
+    pub fn release(self, alloc: Global) -> Share
+        ensures { result ≡ self.entry.share }
+    {
         let Stack {
             outer,
             newest,

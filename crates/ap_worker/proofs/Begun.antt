@@ -26,6 +26,8 @@ use Rattle.ap_tied.specs.Ties.{IsSearched}
 use Rattle.ap_open.specs.Away.{Key, IsGoalOf, IsSearch}
 use Rattle.ap_open.specs.Sharing.{OutcomeLaw}
 use Rattle.ap_section.specs.Ends.{Begins}
+use Rattle.ap_section.specs.Views.{budget_in}
+use Rattle.ap_section.specs.Owed.{owed}
 use Rattle.ap_post.specs.declared.job.Job.{Job}
 use Rattle.ap_post.specs.declared.post.Post.{Post}
 use Rattle.ap_post.specs.Arities.{arity_of}
@@ -34,6 +36,7 @@ use Rattle.ap_post.specs.Posts.{posted_in}
 use Rattle.ap_stack.specs.declared.stack.Stack.{Stack}
 use Rattle.ap_stack.specs.Levels.{aways_of, levels_of}
 use Rattle.ap_stack.specs.Stacks.{section_in, IsGood}
+use Rattle.ap_stack.proofs.Counts.{fresh-counts}
 use Rattle.ap_worker.specs.Workers.{IsTaken}
 
 -- ---- variables
@@ -124,6 +127,7 @@ known-arity (Some q) n e = (q, refl, (cc))
 pub begun-taken : OutcomeLaw → (p : Post) (s : Stack) (j : Job) → s.sound.now ≡ j.sound.now → s.outer.items ≡ [] → (j.sound.now.query ≡ Some j.predicate → ⊥)
     → Begins j.sound.now j.tuple j.predicate j.rest (section_in s) → posted_in p s.frame ≡ [] → IsGood p s → IsTaken p s j
 begun-taken law p s j code outer other begins clear good = record {
+  counts = λ r g n is searched. fresh-counts j.rest s outer (ap budget_in begins.3) (ap owed begins.3);
   good = good;
   code = code;
   search = λ r g n is searched.

@@ -29,8 +29,8 @@ use Rattle.ap_stack.specs.Levels.{level_of}
 use Rattle.ap_stack.specs.Stacks.{code_in, section_in, spent_outside, IsStep}
 use Rattle.ap_worker.specs.declared.emission.End.{End}
 use Rattle.ap_worker.specs.declared.emission.End.TheVariants.{NoMore, Spent, Stopped}
-use Rattle.ap_worker.specs.declared.emission.Ended.{Ended}
-use Rattle.ap_worker.specs.Charged.{IsChargedBlock, charge_after}
+use Rattle.ap_worker.specs.declared.emission.Answered.{Answered}
+use Rattle.ap_worker.specs.Charged.{IsChargedEnd, charge_after}
 use Rattle.ap_worker.specs.Ends.{end_of}
 use Rattle.ap_worker.specs.Leads.{end_after}
 use Rattle.ap_worker.proofs.Finding.{Finding, FindingBy, alone}
@@ -55,8 +55,8 @@ module _ (line : Trees → List ℕ) (code : Compiled) (p : Rules) (q : Query) (
   abbrev pub Bare : Type 0
   Bare = IsUngrouped p.program × AreCalls q.question.body
 
-  abbrev pub Charged : Ended → List (List ℕ) → Type 0
-  Charged e put = IsChargedBlock line p.program (start q) budget limit Bare e put
+  abbrev pub Charged : Answered → List (List ℕ) → Type 0
+  Charged e put = IsChargedEnd line p.program (start q) budget limit Bare e.end e.charged put
 
   -- nothing was asked for
   pub nothing-asked : (a : Option (List (List ℕ))) (s : Section) → IsSolvingBeside code p (tracked_start q) (start q) budget [] s [] [] → 0 ≡ limit → Puts a a (Charged (record { end = Stopped; charged = 0 }))
@@ -96,7 +96,7 @@ module _ (line : Trees → List ℕ) (code : Compiled) (p : Rules) (q : Query) (
       },
     )
 
-    module _ (r : Ended) (short : n < limit) where
+    module _ (r : Answered) (short : n < limit) where
       few : length m.given < limit
       few = let e = m.count_is in omega arith
 
@@ -147,7 +147,7 @@ module _ (line : Trees → List ℕ) (code : Compiled) (p : Rules) (q : Query) (
           either k (inr h) = block.charges_all line code p q budget s m.given names good solves spent k h
 
   -- the search of the query has ended
-  pub charged-at-ending : (n : ℕ) (a b : Option (List (List ℕ))) (w : Post) (t : Stack) (e : Ending) (r : Ended) → code_in t ≡ code → IsStep w t (step.Ended e) → n < limit
+  pub charged-at-ending : (n : ℕ) (a b : Option (List (List ℕ))) (w : Post) (t : Stack) (e : Ending) (r : Answered) → code_in t ≡ code → IsStep w t (step.Ended e) → n < limit
       → r.end ≡ end_after e → r.charged ≡ charge_after e (spent_outside w t) budget → FindingBy line code p q budget n a b w t → Puts a b (Charged r)
   charged-at-ending n a b w t ending.Failed r is d short end c m =
       charged-at-end n a b (section_in t) (alone line code p q budget n a b w t d.0 d.1 m) r short end (c ∙ spent-alone w t d.0) d.2

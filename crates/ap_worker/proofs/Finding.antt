@@ -1,5 +1,5 @@
 -- The lines of a query's answers, while searches find them.
-use Rattle.std.proofs.Common.{◌≡◌, ℕ, suc, ◌+◌, ◌<◌, ◌≤◌, false, inr, List, [], ◌∷◌, ◌++◌, map, length, Option, Result, Err, refl, ap, sym, ◌∙◌, subst, arith}
+use Rattle.std.proofs.Common.{◌≡◌, ℕ, suc, ◌+◌, ◌^◌, ◌<◌, ◌≤◌, max, false, inr, List, [], ◌∷◌, ◌++◌, map, length, Option, Result, Err, refl, ap, sym, ◌∙◌, subst, arith, rules}
 use Rattle.std.proofs.lemmas.List.{map-append, length-append}
 use Rattle.ap_outside.specs.Pieces.{Adds, Puts, PrefixOf, FrontOf}
 use Rattle.ap_outside.specs.Halting.{AnyOf, Finishes, Prints}
@@ -19,7 +19,7 @@ use Rattle.ap_instr.specs.Code.{Compiled}
 use Rattle.ap_tie.specs.Sections.{Section}
 use Rattle.ap_tied.specs.Settling.{IsAnswerIn}
 use Rattle.ap_open.specs.Opened.{IsSolving}
-use Rattle.ap_open.specs.Away.{Away, Level, Carries, IsSolvingBeside}
+use Rattle.ap_open.specs.Away.{Away, Level, OpenBeside, Carries, IsSolvingBeside}
 use Rattle.ap_open.specs.Calling.{IsAnswering, IsDone, IsSpent}
 use Rattle.ap_open.specs.Sharing.{OutcomeLaw}
 use Rattle.ap_open.specs.Solving.{past_answer, IsUpToNames, SolvingLaw, BlockLaw}
@@ -31,11 +31,15 @@ use Rattle.ap_stack.specs.declared.stack.Ending.TheVariants as ending
 use Rattle.ap_stack.specs.declared.stack.Step.TheVariants as step
 use Rattle.ap_stack.specs.declared.stack.Step.TheVariants.{Answer}
 use Rattle.ap_stack.specs.Levels.{level_of, aways_of}
-use Rattle.ap_stack.specs.Stacks.{code_in, levels_in, section_in, away_in, IsStep}
+use Rattle.ap_ledger.specs.Counts.{capped}
+use Rattle.ap_stack.specs.Counts.{Counts}
+use Rattle.ap_stack.specs.Stacks.{code_in, levels_in, section_in, away_in, spent_outside, IsStep}
+use Rattle.ap_stack.proofs.Endings.{first-paid, spent-paid}
 use Rattle.ap_worker.specs.declared.emission.End.{End}
-use Rattle.ap_worker.specs.declared.emission.Ended.{Ended}
+use Rattle.ap_worker.specs.declared.emission.Answered.{Answered}
 use Rattle.ap_worker.specs.declared.emission.End.TheVariants.{NoMore, Spent, Stopped}
 use Rattle.ap_worker.specs.declared.lead.Lead.{Lead}
+use Rattle.ap_worker.specs.Charged.{charge_after}
 use Rattle.ap_worker.specs.Ends.{end_of}
 use Rattle.ap_worker.specs.Leads.{IsLeading, LeadGoes, IsLineAt, end_after}
 use Rattle.ap_worker.proofs.Emitted.{of-end, end_of-of-end}
@@ -61,7 +65,7 @@ module _ (line : Trees → List ℕ) (code : Compiled) (p : Rules) (q : Query) (
 
   module _ (law : SolvingLaw) (laws : OutcomeLaw) (block : BlockLaw) (names : IsUpToNames line) (good : IsQuery q) (limit : ℕ) where
     -- the lines that go with an end
-    abbrev pub Lines : Ended → List (List ℕ) → Type 0
+    abbrev pub Lines : Answered → List (List ℕ) → Type 0
     Lines e put = IsBlock line p.program (start q) budget limit put (end_of e.end)
 
     abbrev EndsBy : End → List (List ℕ) → Type 0
@@ -115,7 +119,7 @@ module _ (line : Trees → List ℕ) (code : Compiled) (p : Rules) (q : Query) (
               }
 
           -- putting it failed
-          pub one-lost : (r : Result (Unit {0}) Halt) (r' : Result Ended Halt) (h : Halt) → r ≡ Err h → r' ≡ Err h → Prints b c (IsLineAt line s) r → Finishes a c Lines r'
+          pub one-lost : (r : Result (Unit {0}) Halt) (r' : Result Answered Halt) (h : Halt) → r ≡ Err h → r' ≡ Err h → Prints b c (IsLineAt line s) r → Finishes a c Lines r'
           one-lost r r' h was same prints =
               let P : List (List ℕ) → Type 0 = λ ps. ps ≡ map line m.given in
               let E : Unit {0} → List (List ℕ) → Type 0 = λ _ put. IsLineAt line s put in
@@ -160,3 +164,33 @@ at-ending line code p q budget law laws block names good limit n a b w t ending.
     at-end line code p q budget law laws block names good limit n a b (section_in t) (alone line code p q budget n a b w t d.0 d.1 m) short d.2
 at-ending line code p q budget law laws block names good limit n a b w t ending.Spent is d short m =
     at-spent line code p q budget law laws block names good limit n a b (section_in t) (alone line code p q budget n a b w t d.0 d.1 m) short (subst (λ k. IsSpent k (section_in t)) is d.2)
+
+-- ---- what the query's search is charged was counted
+
+abbrev IsFor : Compiled → Rules → Query → ℕ → Post → Stack → List Trees → Type 0
+IsFor code p q budget w s given = IsSolvingBeside code p (tracked_start q) (start q) budget (levels_in w s) (section_in s) (away_in w s) given
+
+pub paid-on : (code : Compiled) (p : Rules) (q : Query) (budget : ℕ) (given : List Trees) (l m : Lead) → code_in l.query ≡ code → LeadGoes l m → IsFor code p q budget l.worker.post l.query given → Counts budget l.query → Counts budget m.query
+paid-on code p q budget given l m is go h counts =
+    go.pays budget p (tracked_start q) h.core.root
+    (subst (λ k. OpenBeside k p (tracked_start q) (levels_in l.worker.post l.query) (section_in l.query) (away_in l.worker.post l.query) h.core.root) (sym is) h.opened) counts
+
+small : (c n : ℕ) → c < 2 ^ 64 → capped c ≤ n → c ≤ n
+small c n l h = search rules
+
+-- at an answer
+pub paid-at-limit : (w : Post) (s : Stack) (budget c : ℕ) → c < 2 ^ 64 → c ≡ spent_outside w s → Counts budget s → c ≤ s.share
+paid-at-limit w s budget c few is counts = small c s.share few (first-paid w s budget c is counts)
+
+both-paid : (a b n : ℕ) → capped a ≤ n → capped b ≤ n → capped (max a b) ≤ n
+both-paid a b n h k = search rules
+
+-- where it has ended
+pub paid-at-ending : (code : Compiled) (p : Rules) (q : Query) (budget : ℕ) (given : List Trees) (w : Post) (s : Stack) (e : Ending) (c : ℕ) → c < 2 ^ 64 → code_in s ≡ code → IsStep w s (step.Ended e) → c ≡ charge_after e (spent_outside w s) budget
+    → IsFor code p q budget w s given → Counts budget s → c ≤ s.share
+paid-at-ending code p q budget given w s ending.Failed c few is d count h counts = paid-at-limit w s budget c few count counts
+paid-at-ending code p q budget given w s ending.Spent c few is d count h counts =
+    let tie = subst (λ k. OpenBeside k p (tracked_start q) (levels_in w s) (section_in s) (away_in w s) h.core.root) (sym is) h.opened in
+    let made = first-paid w s budget (spent_outside w s) refl counts in
+    let all = spent-paid w s budget p (tracked_start q) h.core.root d.0 d.2 tie counts in
+    small c s.share few (subst (λ n. capped n ≤ s.share) (sym count) (both-paid (spent_outside w s) budget s.share made all))

@@ -8,7 +8,9 @@ use Rattle.ap_post.specs.declared.outcome.Ending.{Ending}
 use Rattle.ap_post.specs.declared.outcome.Ending.TheVariants.{NoMemory}
 use Rattle.ap_post.specs.declared.outcome.Outcome.{Outcome}
 use Rattle.ap_post.specs.declared.post.Post.{Post}
-use Rattle.ap_post.specs.Jobs.{IsOf, IsReadyEnding, cause_of, key_of, outcome_of}
+use Rattle.ap_ledger.specs.Counts.{capped}
+use Rattle.ap_post.specs.Jobs.{IsOf, IsReadyEnding, cause_of, cost_by, key_of, outcome_of}
+use Rattle.ap_stack.proofs.Endings.{none-paid}
 use Rattle.ap_post.specs.Posts.{posted_in, jobs_in, SamePosted}
 use Rattle.ap_worker.specs.declared.worker.Worker.{Worker}
 use Rattle.ap_worker.specs.Workers.{IsStaffed, IsAwaiting, WorkerHelps}
@@ -56,7 +58,8 @@ awaiting-some v j h =
 
 pub no-memory-fits : (o : Outcome) (j : Job) → o.ending ≡ NoMemory → IsOf j o
 no-memory-fits o j e =
-    subst (λ (x : Ending). IsOutcomeOf j.sound.now (key_of j) (outcome_of x) × IsReadyEnding j.sound.now x) (sym e) ((λ r g n is searched. tt), tt)
+    let fits = subst (λ (x : Ending). IsOutcomeOf j.sound.now (key_of j) (outcome_of x) × IsReadyEnding j.sound.now x) (sym e) ((λ r g n is searched. tt), tt) in
+    (fits.0, fits.1, (λ r g n is searched. subst (λ (x : Ending). capped (cost_by j.rest x) ≤ o.share) (sym e) (none-paid o.share)))
 
 pub no-memory-cause : (o : Outcome) (asked : Option ℕ) (n : ℕ) → o.ending ≡ NoMemory → IsCauseAt (cause_of o.ending) asked n
 no-memory-cause o asked n e = subst (λ x. IsCauseAt (cause_of x) asked n) (sym e) tt

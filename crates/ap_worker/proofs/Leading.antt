@@ -6,6 +6,7 @@ use Rattle.ap_open.specs.Away.{Away, Level, Carries}
 use Rattle.ap_open.specs.Sharing.{SharingLaw}
 use Rattle.ap_post.specs.Posts.{SameBelow}
 use Rattle.ap_stack.specs.declared.stack.Stack.{Stack}
+use Rattle.ap_stack.specs.Counts.{Counts}
 use Rattle.ap_stack.specs.Stacks.{code_in, levels_in, section_in, away_in, IsGood, Goes}
 use Rattle.ap_stack.proofs.Elsewhere.{levels-elsewhere, good-elsewhere}
 use Rattle.ap_stack.specs.Levels.{aways_of}
@@ -63,6 +64,7 @@ goes-then-stays l m n a b = record {
   code = ap code_in b.query ∙ a.code;
   carries = carries-to (code_in l.query) (levels_in l.worker.post l.query) (levels_in m.worker.post m.query) (levels_in n.worker.post n.query) (section_in l.query) (section_in m.query) (section_in n.query)
       (away_in l.worker.post l.query) (away_in m.worker.post m.query) (away_in n.worker.post n.query) a.carries b.levels (ap section_in b.query) b.away;
+  pays = λ k r o u tie h. subst (Counts k) (sym b.query) (a.pays k r o u tie h);
 }
 
 pub stays-goes : SharingLaw → (l m : Lead) → LeadStays l m → LeadGoes l m
@@ -72,6 +74,7 @@ stays-goes law l m b = record {
   carries = carries-to (code_in l.query) (levels_in l.worker.post l.query) (levels_in l.worker.post l.query) (levels_in m.worker.post m.query) (section_in l.query) (section_in l.query) (section_in m.query)
       (away_in l.worker.post l.query) (away_in l.worker.post l.query) (away_in m.worker.post m.query)
       (law.stays (code_in l.query) (levels_in l.worker.post l.query) (section_in l.query) (away_in l.worker.post l.query)) b.levels (ap section_in b.query) b.away;
+  pays = λ k r o u tie h. subst (Counts k) (sym b.query) h;
 }
 
 -- by its own step, where no search of another's goal is open
@@ -86,4 +89,5 @@ query-goes l m free items floor goes h =
       };
       code = goes.sound;
       carries = goes.carries;
+      pays = goes.pays;
     }

@@ -2,7 +2,7 @@
 use Rattle.std.proofs.Common.{◌≡◌, ℕ, suc, ◌≤◌, ◌<◌, List, [], ◌∷◌, ◌++◌, length, Some, None, refl, ap, ap₂, sym, ◌∙◌, subst, arith}
 use Rattle.std.specs.Prelude.{Option}
 use Rattle.ap_tracked.specs.Forks.{alone}
-use Rattle.ap_open.specs.Away.{IsSearch, Carries, FitsAs}
+use Rattle.ap_open.specs.Away.{OpenBeside, IsSearch, Carries, FitsAs}
 use Rattle.ap_open.specs.Sharing.{OutcomeLaw}
 use Rattle.ap_post.specs.declared.job.Job.{Job}
 use Rattle.ap_post.specs.declared.outcome.Outcome.{Outcome}
@@ -36,6 +36,7 @@ as-elsewhere p q s (Some j) same next h = record {
   search = λ r g n is searched.
       subst (λ ls. IsSearch j.sound.now r (alone g n) j.rest ls (section_in s) (away_in q s)) (sym (levels-elsewhere p q s (suc s.frame) h.good (omega arith) same))
       (subst (λ out. IsSearch j.sound.now r (alone g n) j.rest (levels_in p s) (section_in s) out) (sym (ap aways_of (same s.frame (omega arith)))) (h.search r g n is searched));
+  counts = h.counts;
 }
 
 -- where it goes on
@@ -47,6 +48,9 @@ as-gone law p q s t (Some j) goes h = record {
   search = λ r g n is searched.
       law.searches j.sound.now r (alone g n) j.rest (levels_in p s) (levels_in q t) (section_in s) (section_in t) (away_in p s) (away_in q t)
       (subst (λ code. Carries code (levels_in p s) (section_in s) (away_in p s) (levels_in q t) (section_in t) (away_in q t)) h.code goes.carries) (h.search r g n is searched);
+  counts = λ r g n is searched.
+      let found = h.search r g n is searched in
+      goes.pays j.rest r (alone g n) found.task (subst (λ code. OpenBeside code r (alone g n) (levels_in p s) (section_in s) (away_in p s) found.task) (sym h.code) found.opened) (h.counts r g n is searched);
 }
 
 -- what it comes to is an outcome of its job
@@ -56,6 +60,8 @@ as-fits p s j o out h = (
       subst (λ code. FitsAs code j.rest r g n (outcome_of o.ending)) h.code
       (out.fits r g n j.rest (subst (λ code. IsSearch code r (alone g n) j.rest (levels_in p s) (section_in s) (away_in p s)) (sym h.code) (h.search r g n is searched)))),
   subst (λ code. IsReadyEnding code o.ending) h.code out.ready,
+  (λ r g n is searched.
+      out.paid r g n j.rest (subst (λ code. IsSearch code r (alone g n) j.rest (levels_in p s) (section_in s) (away_in p s)) (sym h.code) (h.search r g n is searched)) (h.counts r g n is searched)),
 )
 
 -- ---- rows

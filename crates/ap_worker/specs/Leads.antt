@@ -8,7 +8,7 @@ use Rattle.ap_stack.specs.declared.stack.Step.{Step}
 use Rattle.ap_stack.specs.declared.stack.Step.TheVariants.{Answer, Ended}
 use Rattle.ap_stack.specs.declared.stack.Ending.{Ending}
 use Rattle.ap_stack.specs.declared.stack.Ending.TheVariants.{Failed, Spent}
-use Rattle.ap_stack.specs.Stacks.{code_in, levels_in, section_in, away_in, IsGood, IsStep}
+use Rattle.ap_stack.specs.Stacks.{code_in, levels_in, section_in, away_in, IsGood, Pays, IsStep}
 use Rattle.ap_worker.specs.declared.emission.End.{End}
 use Rattle.ap_worker.specs.declared.emission.End.TheVariants as end
 use Rattle.ap_worker.specs.declared.emission.End.TheVariants.{NoMore}
@@ -21,11 +21,13 @@ pub record IsLeading (l : Lead) : Type 0 where
   pub good : IsGood l.worker.post l.query
   pub above : l.worker.taken.items ≢ [] → l.query.frame < l.worker.floor
 
--- whatever the query's sections are tied to, events lead it to what they are tied to then
+-- whatever the query's sections are tied to, events lead it to what they are tied to then; where its share counts what they owe, it
+-- does so then
 pub record LeadGoes (l m : Lead) : Type 0 where
   pub leads : IsLeading m
   pub code : code_in m.query ≡ code_in l.query
   pub carries : Carries (code_in l.query) (levels_in l.worker.post l.query) (section_in l.query) (away_in l.worker.post l.query) (levels_in m.worker.post m.query) (section_in m.query) (away_in m.worker.post m.query)
+  pub pays : Pays l.worker.post l.query m.query
 
 -- the query's search stays, and what is out of it
 pub record LeadStays (l m : Lead) : Type 0 where

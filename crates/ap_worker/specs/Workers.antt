@@ -12,16 +12,18 @@ use Rattle.ap_post.specs.Jobs.{key_of}
 use Rattle.ap_post.specs.Posts.{jobs_in, SameBelow, SamePosted, IsNew}
 use Rattle.ap_stack.specs.declared.stack.Stack.{Stack}
 use Rattle.ap_stack.specs.declared.stack.Step.{Step}
+use Rattle.ap_stack.specs.Counts.{Counts}
 use Rattle.ap_stack.specs.Stacks.{code_in, levels_in, section_in, away_in, IsGood, IsStep}
 use Rattle.ap_worker.specs.declared.taken.Taken.{Taken}
 use Rattle.ap_worker.specs.declared.worker.Worker.{Worker}
 
--- The search is one of the job's goal, whatever that goal's variables are named.
+-- The search is one of the job's goal, whatever that goal's variables are named, and its share counts what it owes.
 pub record IsTaken (p : Post) (s : Stack) (j : Job) : Type 0 where
   pub good : IsGood p s
   pub code : code_in s ≡ j.sound.now
   pub search : (r : Rules) (g : Tree) (n : ℕ) → IsGoalOf j.sound.now (key_of j) g n → IsSearched j.sound.now r (alone g n)
       → IsSearch j.sound.now r (alone g n) j.rest (levels_in p s) (section_in s) (away_in p s)
+  pub counts : (r : Rules) (g : Tree) (n : ℕ) → IsGoalOf j.sound.now (key_of j) g n → IsSearched j.sound.now r (alone g n) → Counts j.rest s
 
 abbrev pub IsTakenAs : Post → Stack → Option Job → Type 0
 IsTakenAs p s None = ⊥

@@ -1,5 +1,10 @@
-//! How answers end, and what was charged for them.
+//! How answers end, what was charged for them, and which calls were made.
 
+ghost use Rattle.std.specs.Prelude.{◌≡◌, ◌^◌, ◌<◌, IfOk};
+ghost use Rattle.ap_worker.specs.Totals.{ended_with};
+
+use ap_ledger::Total;
+use ap_outside::Halt;
 use ap_term::Fault;
 
 /// How a query's answers end.
@@ -17,8 +22,31 @@ pub enum End {
 
 /// How a query's answers end, and what its search was charged.
 #[derive(Clone, Copy, Debug, PartialEq, Eq)]
+pub(crate) struct Answered {
+    pub(crate) end: End,
+    /// With fewer calls sequential search doesn't end, and finds no more.
+    pub(crate) charged: u64,
+}
+
+/// How a query's answers end, what its search was charged, and the calls that all workers made for it.
+#[derive(Clone, Copy, Debug, PartialEq, Eq)]
 pub struct Ended {
     pub end: End,
     /// With fewer calls sequential search doesn't end, and finds no more.
     pub charged: u64,
+    /// What is charged is a part of them.
+    pub total: Total,
+}
+
+/// The same with the total.
+pub(crate) fn with_total(found: Result<Answered, Halt>, total: Total) -> Result<Ended, Halt>
+    ensures with { result ≡ ended_with total found }
+    ensures small { IfOk found (λ e. e.charged < 2 ^ 64) }
+{
+    let found = found?;
+    Ok(Ended {
+        end: found.end,
+        charged: found.charged,
+        total,
+    })
 }

@@ -1,6 +1,6 @@
 //! The answers of a query, as the searches of workers find them.
 
-ghost use Rattle.std.specs.Prelude.{◌≡◌, ℕ, List, [], ◌∷◌, OnOk, IfOk, false};
+ghost use Rattle.std.specs.Prelude.{◌≡◌, ◌≤◌, ℕ, List, [], ◌∷◌, OnOk, IfOk, false};
 ghost use Rattle.ap_outside.specs.Halting.{Finishes, Prints, SinkCount};
 ghost use Rattle.ap_outside.specs.Pieces.{Puts};
 ghost use Rattle.ap_term.specs.Goals.{Query};
@@ -15,14 +15,15 @@ ghost use Rattle.ap_open.specs.Solving.{past_answer};
 ghost use Rattle.ap_open.specs.Ungrouped.{AreCalls, IsUngrouped};
 ghost use Rattle.ap_post.specs.declared.post.Post.{Post as Posting};
 ghost use Rattle.ap_post.specs.Posts.{posted_in};
+ghost use Rattle.ap_stack.specs.Counts.{Counts};
 ghost use Rattle.ap_stack.specs.Stacks.{code_in, section_in, IsGood, IsStep};
-ghost use Rattle.ap_worker.specs.Charged.{IsChargedBlock, charge_after};
+ghost use Rattle.ap_worker.specs.Charged.{IsChargedEnd, charge_after};
 ghost use Rattle.ap_worker.specs.Ends.{end_of};
 ghost use Rattle.ap_worker.specs.Leads.{IsLeading, IsLineAt, end_after};
 
 use crate::answers::Answers;
 use crate::bounds::Bounds;
-use crate::emission::{End, Ended};
+use crate::emission::{Answered, End};
 use crate::lead::Lead;
 use ap_open::{block_law, outcome_law, solving_law};
 use ap_outside::{Gate, Halt, Sink, put_line};
@@ -31,16 +32,16 @@ use crossbeam_utils::Backoff;
 use std::alloc::Global;
 
 // How answers end by how their search did, and what it is charged, where it has made so many calls itself.
-fn ended(ending: Ending, made: u64, budget: u64) -> Ended
+fn ended(ending: Ending, made: u64, budget: u64) -> Answered
     ensures end { result.end ≡ end_after ending }
     ensures charged { result.charged ≡ charge_after ending made budget }
 {
     match ending {
-        Ending::Failed => Ended {
+        Ending::Failed => Answered {
             end: End::NoMore,
             charged: made,
         },
-        Ending::Spent => Ended {
+        Ending::Spent => Answered {
             end: End::Spent,
             charged: made.max(budget),
         },
@@ -59,6 +60,7 @@ fn put_answer<A: Answers, K: Sink>(
     ensures lines { Prints (K.pieces out.old) (K.pieces out.new) (IsLineAt (A.line answers.now) (section_in query.old)) result }
     ensures count { SinkCount (K.faults out.old) (K.faults out.new) result }
     ensures past { OnOk result (section_in query.new ≡ past_answer (section_in query.old)) }
+    ensures share { query.new.share ≡ query.old.share }
     ensures same { (code_in query.new ≡ code_in query.old) × (query.new.outer ≡ query.old.outer) × (query.new.frame ≡ query.old.frame) × (query.new.first ≡ query.old.first) × (query.new.tends ≡ query.old.tends) }
     ensures good { (p : Posting) → IsGood p query.old → query.old.tends ≡ false → IsGood p query.new }
 {
@@ -85,20 +87,21 @@ pub(crate) fn put_found<G: Gate, A: Answers, K: Sink>(
     bounds: Bounds,
     answers: &A,
     out: &mut K,
-) -> Result<Ended, Halt>
+) -> Result<Answered, Halt>
     requires width { A.width answers.now ≡ width }
     requires leads { IsLeading lead.old }
     requires alone { lead.old.query.outer.items ≡ [] }
     requires none { posted_in lead.old.worker.post lead.old.query.frame ≡ [] }
     ensures lines { (p : Rules) (q : Query) → IsQuery q → IsSolvingBeside (code_in lead.old.query) p (tracked_start q) (start q) bounds.budget [] (section_in lead.old.query) [] [] → Finishes (K.pieces out.old) (K.pieces out.new) (λ e put. IsBlock (A.line answers.now) p.program (start q) bounds.budget bounds.limit put (end_of e.end)) result }
-    ensures charged { (p : Rules) (q : Query) → IsQuery q → IsSolvingBeside (code_in lead.old.query) p (tracked_start q) (start q) bounds.budget [] (section_in lead.old.query) [] [] → IfOk result (λ e. Puts (K.pieces out.old) (K.pieces out.new) (IsChargedBlock (A.line answers.now) p.program (start q) bounds.budget bounds.limit (IsUngrouped p.program × AreCalls q.question.body) e)) }
+    ensures charged { (p : Rules) (q : Query) → IsQuery q → IsSolvingBeside (code_in lead.old.query) p (tracked_start q) (start q) bounds.budget [] (section_in lead.old.query) [] [] → IfOk result (λ e. Puts (K.pieces out.old) (K.pieces out.new) (IsChargedEnd (A.line answers.now) p.program (start q) bounds.budget bounds.limit (IsUngrouped p.program × AreCalls q.question.body) e.end e.charged)) }
+    ensures paid { (p : Rules) (q : Query) → IsQuery q → IsSolvingBeside (code_in lead.old.query) p (tracked_start q) (start q) bounds.budget [] (section_in lead.old.query) [] [] → Counts bounds.budget lead.old.query → IfOk result (λ e. e.charged ≤ lead.new.query.share) }
     ensures count { SinkCount (K.faults out.old) (K.faults out.new) result }
 {
     solving_law();
     outcome_law();
     block_law();
     if bounds.limit == 0 {
-        return Ok(Ended {
+        return Ok(Answered {
             end: End::Stopped,
             charged: 0,
         });
@@ -116,7 +119,7 @@ pub(crate) fn put_found<G: Gate, A: Answers, K: Sink>(
                 put_answer(alloc, &mut lead.query, width, answers, out)?;
                 count += 1;
                 if count == bounds.limit {
-                    return Ok(Ended {
+                    return Ok(Answered {
                         end: End::Stopped,
                         charged: lead.query.spent(),
                     });

@@ -1,9 +1,10 @@
 //! The worker that searches the query.
 
-ghost use Rattle.std.specs.Prelude.{IfOk};
+ghost use Rattle.std.specs.Prelude.{◌^◌, ◌≤◌, min, IfOk};
 ghost use Rattle.ap_worker.specs.Leads.{IsLeading, LeadGoes, LeadStays, IsStepOfQuery};
 
 use crate::worker::Worker;
+use ap_ledger::Share;
 use ap_open::sharing_law;
 use ap_outside::Gate;
 use ap_stack::{Stack, Step};
@@ -53,9 +54,13 @@ impl<'a, 'b> Lead<'a, 'b> {
         }
     }
 
-    /// Drops the searches one after another, however deep frames are nested in them.
-    pub(crate) fn release(self, alloc: Global) {
-        let Lead { query, .. } = self;
-        let _share = query.release(alloc);
+    /// Drops the searches one after another, however deep frames are nested in them, and gives the calls that were made.
+    pub(crate) fn release(self, alloc: Global) -> Share
+        ensures { min self.entry.query.share (2 ^ 64) ≤ result }
+    {
+        let Lead { worker, query } = self;
+        let mut share = query.release(alloc);
+        share.merge(worker.release(alloc));
+        share
     }
 }

@@ -1,6 +1,6 @@
 //! From a query to the lines of its answers, by workers that run its goals side by side.
 
-ghost use Rattle.std.specs.Prelude.{◌≡◌, ℕ, [], All, length, IfOk};
+ghost use Rattle.std.specs.Prelude.{◌≡◌, ◌+◌, ◌-◌, ◌^◌, ◌≤◌, ℕ, min, [], All, length, IfOk};
 ghost use Rattle.ap_outside.specs.Halting.{Finishes, SinkCount};
 ghost use Rattle.ap_outside.specs.Pieces.{Puts};
 ghost use Rattle.ap_term.specs.Goals as goals;
@@ -21,17 +21,19 @@ ghost use Rattle.ap_section.specs.Ready.{IsReady};
 ghost use Rattle.ap_open.specs.Reading.{AreRead, IsSafeQuery, rules_beside};
 ghost use Rattle.ap_open.specs.Ungrouped.{AreCalls, IsUngrouped};
 ghost use Rattle.ap_post.specs.Posts.{posted_in};
+ghost use Rattle.ap_stack.specs.Counts.{Counts};
 ghost use Rattle.ap_stack.specs.Stacks.{code_in, section_in};
-ghost use Rattle.ap_worker.specs.Charged.{IsChargedBlock};
+ghost use Rattle.ap_worker.specs.Charged.{IsChargedBlock, IsChargedEnd};
 ghost use Rattle.ap_worker.specs.Ends.{end_of};
 ghost use Rattle.ap_worker.specs.Leads.{IsLeading};
+ghost use Rattle.ap_worker.specs.Totals.{IsFresh};
 ghost use Rattle.ap_worker.specs.Workers.{IsStaffed, IsIdle};
 ghost use Rattle.ap_worker.specs.Sought.{MayBeAsked};
 
 use crate::answers::Answers;
 use crate::bounds::Bounds;
 use crate::crew::Crew;
-use crate::emission::Ended;
+use crate::emission::{Answered, Ended, with_total};
 use crate::found::put_found;
 use crate::lead::Lead;
 use crate::serving::serve_all;
@@ -40,6 +42,7 @@ use ap_board::{BoardSeat, open_board};
 use ap_codecheck::{CodeErr, Sound, check};
 use ap_codegen::compile;
 use ap_copy::new_variables;
+use ap_ledger::{Total, gather};
 use ap_open::{outcome_law, reading_law, solving_law};
 use ap_outside::{Gate, Halt, Sink};
 use ap_post::{Common, Job, JobBoard, Outcome, open_posts};
@@ -69,6 +72,7 @@ fn sound_code(alloc: Global, program: &Program, query: &Query) -> Result<Sound, 
 fn begun(alloc: Global, sound: &Sound, query: &Query, budget: u64) -> Result<Section, NoMemory>
     requires { (p : goals.Program) × IsAsked sound.now p query.now }
     ensures ready { IfOk result (λ section. IsReady sound.now section) }
+    ensures fresh { IfOk result (λ section. IsFresh budget (view_of section)) }
     ensures solves { IfOk result (λ section. (p : goals.Program) → IsAsked sound.now p query.now → IsSearched sound.now (rules_beside p query.now) (tracked_start query.now) → IsSolving sound.now (rules_beside p query.now) (tracked_start query.now) (start query.now) budget [] (view_of section) []) }
 {
     solving_law();
@@ -91,6 +95,7 @@ fn leading<'a, 'b>(
     requires ready { IsReady sound.now section }
     ensures leads { IfOk result (λ lead. IsLeading lead) }
     ensures alone { IfOk result (λ lead. (lead.query.outer.items ≡ []) × (posted_in lead.worker.post lead.query.frame ≡ [])) }
+    ensures share { IfOk result (λ lead. lead.query.share ≡ 0) }
     ensures query { IfOk result (λ lead. (code_in lead.query ≡ sound.now) × (section_in lead.query ≡ view_of section)) }
 {
     let frame = worker.post.number()?;
@@ -126,13 +131,14 @@ fn lead_on<G: Gate, A: Answers, K: Sink>(
     bounds: Bounds,
     answers: &A,
     out: &mut K,
-) -> Result<Ended, Halt>
+) -> Result<Answered, Halt>
     requires width { A.width answers.now ≡ width }
     requires leads { IsLeading lead.old }
     requires alone { lead.old.query.outer.items ≡ [] }
     requires none { posted_in lead.old.worker.post lead.old.query.frame ≡ [] }
     ensures lines { (p : Rules) (q : Asked) → IsQuery q → IsSolvingBeside (code_in lead.old.query) p (tracked_start q) (start q) bounds.budget [] (section_in lead.old.query) [] [] → Finishes (K.pieces out.old) (K.pieces out.new) (λ e put. IsBlock (A.line answers.now) p.program (start q) bounds.budget bounds.limit put (end_of e.end)) result }
-    ensures charged { (p : Rules) (q : Asked) → IsQuery q → IsSolvingBeside (code_in lead.old.query) p (tracked_start q) (start q) bounds.budget [] (section_in lead.old.query) [] [] → IfOk result (λ e. Puts (K.pieces out.old) (K.pieces out.new) (IsChargedBlock (A.line answers.now) p.program (start q) bounds.budget bounds.limit (IsUngrouped p.program × AreCalls q.question.body) e)) }
+    ensures charged { (p : Rules) (q : Asked) → IsQuery q → IsSolvingBeside (code_in lead.old.query) p (tracked_start q) (start q) bounds.budget [] (section_in lead.old.query) [] [] → IfOk result (λ e. Puts (K.pieces out.old) (K.pieces out.new) (IsChargedEnd (A.line answers.now) p.program (start q) bounds.budget bounds.limit (IsUngrouped p.program × AreCalls q.question.body) e.end e.charged)) }
+    ensures paid { (p : Rules) (q : Asked) → IsQuery q → IsSolvingBeside (code_in lead.old.query) p (tracked_start q) (start q) bounds.budget [] (section_in lead.old.query) [] [] → Counts bounds.budget lead.old.query → IfOk result (λ e. e.charged ≤ lead.new.query.share) }
     ensures count { SinkCount (K.faults out.old) (K.faults out.new) result }
 {
     let found = put_found(alloc, gate, lead, width, bounds, answers, out);
@@ -150,14 +156,15 @@ fn search_beside<R: Threads + Wait + Sync, G: Gate, A: Answers, K: Sink>(
     bounds: Bounds,
     answers: &A,
     out: &mut K,
-) -> Result<Ended, Halt>
+) -> Result<Answered, Halt>
     requires width { A.width answers.now ≡ width }
     requires idle { All IsIdle others.old.items }
     requires leads { IsLeading lead.old }
     requires alone { lead.old.query.outer.items ≡ [] }
     requires none { posted_in lead.old.worker.post lead.old.query.frame ≡ [] }
     ensures lines { (p : Rules) (q : Asked) → IsQuery q → IsSolvingBeside (code_in lead.old.query) p (tracked_start q) (start q) bounds.budget [] (section_in lead.old.query) [] [] → Finishes (K.pieces out.old) (K.pieces out.new) (λ e put. IsBlock (A.line answers.now) p.program (start q) bounds.budget bounds.limit put (end_of e.end)) result }
-    ensures charged { (p : Rules) (q : Asked) → IsQuery q → IsSolvingBeside (code_in lead.old.query) p (tracked_start q) (start q) bounds.budget [] (section_in lead.old.query) [] [] → IfOk result (λ e. Puts (K.pieces out.old) (K.pieces out.new) (IsChargedBlock (A.line answers.now) p.program (start q) bounds.budget bounds.limit (IsUngrouped p.program × AreCalls q.question.body) e)) }
+    ensures charged { (p : Rules) (q : Asked) → IsQuery q → IsSolvingBeside (code_in lead.old.query) p (tracked_start q) (start q) bounds.budget [] (section_in lead.old.query) [] [] → IfOk result (λ e. Puts (K.pieces out.old) (K.pieces out.new) (IsChargedEnd (A.line answers.now) p.program (start q) bounds.budget bounds.limit (IsUngrouped p.program × AreCalls q.question.body) e.end e.charged)) }
+    ensures paid { (p : Rules) (q : Asked) → IsQuery q → IsSolvingBeside (code_in lead.old.query) p (tracked_start q) (start q) bounds.budget [] (section_in lead.old.query) [] [] → Counts bounds.budget lead.old.query → IfOk result (λ e. e.charged ≤ lead.new.query.share) }
     ensures count { SinkCount (K.faults out.old) (K.faults out.new) result }
 {
     let rt = crew.rt;
@@ -169,10 +176,11 @@ fn search_beside<R: Threads + Wait + Sync, G: Gate, A: Answers, K: Sink>(
         &mut ||
             requires { All IsIdle others.now.items }
         { serve_all(rt, there, gate, others) },
-        &mut || -> Result<Ended, Halt>
+        &mut || -> Result<Answered, Halt>
             requires { (A.width answers.now ≡ width) × IsLeading lead.now × (lead.now.query.outer.items ≡ []) × (posted_in lead.now.worker.post lead.now.query.frame ≡ []) }
             ensures lines { (p : Rules) (q : Asked) → IsQuery q → IsSolvingBeside (code_in lead.entry.now.query) p (tracked_start q) (start q) bounds.budget [] (section_in lead.entry.now.query) [] [] → Finishes (K.pieces out.entry.now) (K.pieces out.exit.now) (λ e put. IsBlock (A.line answers.entry.now) p.program (start q) bounds.budget bounds.limit put (end_of e.end)) result }
-            ensures charged { (p : Rules) (q : Asked) → IsQuery q → IsSolvingBeside (code_in lead.entry.now.query) p (tracked_start q) (start q) bounds.budget [] (section_in lead.entry.now.query) [] [] → IfOk result (λ e. Puts (K.pieces out.entry.now) (K.pieces out.exit.now) (IsChargedBlock (A.line answers.entry.now) p.program (start q) bounds.budget bounds.limit (IsUngrouped p.program × AreCalls q.question.body) e)) }
+            ensures charged { (p : Rules) (q : Asked) → IsQuery q → IsSolvingBeside (code_in lead.entry.now.query) p (tracked_start q) (start q) bounds.budget [] (section_in lead.entry.now.query) [] [] → IfOk result (λ e. Puts (K.pieces out.entry.now) (K.pieces out.exit.now) (IsChargedEnd (A.line answers.entry.now) p.program (start q) bounds.budget bounds.limit (IsUngrouped p.program × AreCalls q.question.body) e.end e.charged)) }
+            ensures paid { (p : Rules) (q : Asked) → IsQuery q → IsSolvingBeside (code_in lead.entry.now.query) p (tracked_start q) (start q) bounds.budget [] (section_in lead.entry.now.query) [] [] → Counts bounds.budget lead.entry.now.query → IfOk result (λ e. e.charged ≤ lead.exit.now.query.share) }
             ensures count { SinkCount (K.faults out.entry.now) (K.faults out.exit.now) result }
         { lead_on(alloc, gate, lead, width, bounds, answers, out) },
     );
@@ -189,14 +197,15 @@ fn search<R: Threads + Wait + Sync, G: Gate, A: Answers, K: Sink>(
     bounds: Bounds,
     answers: &A,
     out: &mut K,
-) -> Result<Ended, Halt>
+) -> Result<Answered, Halt>
     requires width { A.width answers.now ≡ width }
     requires idle { All IsIdle others.old.items }
     requires leads { IsLeading lead.old }
     requires alone { lead.old.query.outer.items ≡ [] }
     requires none { posted_in lead.old.worker.post lead.old.query.frame ≡ [] }
     ensures lines { (p : Rules) (q : Asked) → IsQuery q → IsSolvingBeside (code_in lead.old.query) p (tracked_start q) (start q) bounds.budget [] (section_in lead.old.query) [] [] → Finishes (K.pieces out.old) (K.pieces out.new) (λ e put. IsBlock (A.line answers.now) p.program (start q) bounds.budget bounds.limit put (end_of e.end)) result }
-    ensures charged { (p : Rules) (q : Asked) → IsQuery q → IsSolvingBeside (code_in lead.old.query) p (tracked_start q) (start q) bounds.budget [] (section_in lead.old.query) [] [] → IfOk result (λ e. Puts (K.pieces out.old) (K.pieces out.new) (IsChargedBlock (A.line answers.now) p.program (start q) bounds.budget bounds.limit (IsUngrouped p.program × AreCalls q.question.body) e)) }
+    ensures charged { (p : Rules) (q : Asked) → IsQuery q → IsSolvingBeside (code_in lead.old.query) p (tracked_start q) (start q) bounds.budget [] (section_in lead.old.query) [] [] → IfOk result (λ e. Puts (K.pieces out.old) (K.pieces out.new) (IsChargedEnd (A.line answers.now) p.program (start q) bounds.budget bounds.limit (IsUngrouped p.program × AreCalls q.question.body) e.end e.charged)) }
+    ensures paid { (p : Rules) (q : Asked) → IsQuery q → IsSolvingBeside (code_in lead.old.query) p (tracked_start q) (start q) bounds.budget [] (section_in lead.old.query) [] [] → Counts bounds.budget lead.old.query → IfOk result (λ e. e.charged ≤ lead.new.query.share) }
     ensures count { SinkCount (K.faults out.old) (K.faults out.new) result }
 {
     if others.is_empty() {
@@ -205,9 +214,21 @@ fn search<R: Threads + Wait + Sync, G: Gate, A: Answers, K: Sink>(
     search_beside(alloc, crew, others, lead, width, bounds, answers, out)
 }
 
+/// Gathers the calls that all workers made, those of the search that leads among them.
+fn gathered(alloc: Global, lead: Lead<'_, '_>, others: Vec<Worker<'_, '_>>) -> Total
+    ensures { min lead.entry.query.share (2 ^ 64 - 1) ≤ result.sum }
+{
+    let mut share = lead.release(alloc);
+    for worker in others {
+        share.merge(worker.release(alloc));
+    }
+    gather(&[share])
+}
+
 /// Searches a query beside a program by code, with its groups, and puts the lines of its answers as they are found, as many as
 /// the limit at most. They are a block of any query and program that these are without their groups, however many workers there are
-/// and however they take turns. With fewer calls than were charged for them sequential search hasn't ended.
+/// and however they take turns. With fewer calls than were charged for them sequential search hasn't ended, and all calls that were
+/// charged were made.
 pub fn solve<R: Threads + Wait + Sync, G: Gate, A: Answers, K: Sink>(
     alloc: Global,
     crew: &Crew<R, G>,
@@ -223,6 +244,7 @@ pub fn solve<R: Threads + Wait + Sync, G: Gate, A: Answers, K: Sink>(
     requires safe { IsSafeQuery program.now query.now }
     ensures lines { (p : goals.Program) (q : Asked) → IsProgram p → IsQuery q → AreRead p q program.now query.now → Finishes (K.pieces out.old) (K.pieces out.new) (λ e put. IsBlock (A.line answers.now) (joined p q) (start q) budget limit put (end_of e.end)) result }
     ensures charged { (p : goals.Program) (q : Asked) → IsProgram p → IsQuery q → AreRead p q program.now query.now → IfOk result (λ e. Puts (K.pieces out.old) (K.pieces out.new) (IsChargedBlock (A.line answers.now) (joined p q) (start q) budget limit (IsUngrouped (joined program.now query.now)) e)) }
+    ensures total { IfOk result (λ e. e.charged ≤ e.total.sum) }
     ensures count { SinkCount (K.faults out.old) (K.faults out.new) result }
 {
     reading_law();
@@ -260,6 +282,5 @@ pub fn solve<R: Threads + Wait + Sync, G: Gate, A: Answers, K: Sink>(
         answers,
         out,
     );
-    lead.release(alloc);
-    found
+    with_total(found, gathered(alloc, lead, workers))
 }

@@ -12,6 +12,7 @@ ghost use Rattle.ap_stack.specs.Stacks.{IsGood};
 ghost use Rattle.ap_worker.specs.Workers.{IsIdle, IsStaffed, IsShort, IsOff, IsAwaiting, IsStepOf, WorkerGoes, WorkerHelps};
 
 use crate::taken::Taken;
+use ap_ledger::Share;
 use ap_open::outcome_law;
 use ap_outside::{Gate, Spot};
 use ap_post::{Common, Ending, Job, Outcome, Post};
@@ -40,6 +41,16 @@ impl<'a, 'b> Worker<'a, 'b> {
             taken: Vec::new(alloc),
             floor: 0,
         }
+    }
+
+    /// Drops the searches of others' goals, and gives the calls that were made for them.
+    pub(crate) fn release(self, alloc: Global) -> Share {
+        let Worker { taken, .. } = self;
+        let mut share = Share::new();
+        for Taken { stack, .. } in taken {
+            share.merge(stack.release(alloc));
+        }
+        share
     }
 
     /// Whether no search of another's goal is open.

@@ -5,13 +5,15 @@ use Rattle.ap_term.specs.Blocks.{IsBlock}
 use Rattle.ap_open.specs.Opened.{spent_in}
 use Rattle.ap_open.specs.Solving.{past_answer}
 use Rattle.ap_post.specs.Posts.{posted_in}
+use Rattle.ap_stack.specs.Counts.{Counts}
+use Rattle.ap_stack.proofs.Counts.{past-counts}
 use Rattle.ap_stack.specs.Stacks.{code_in, section_in, IsStep}
 use Rattle.ap_worker.specs.declared.lead.Lead.{Lead}
 use Rattle.ap_worker.specs.Charged.{charge_after}
 use Rattle.ap_worker.specs.Ends.{end_of}
 use Rattle.ap_worker.specs.Leads.{IsLeading}
 use Rattle.ap_worker.proofs.Charging.{charged-at-limit, charged-at-ending, spent-alone, nothing-asked}
-use Rattle.ap_worker.proofs.Finding.{FindingBy, broken-off, at-limit, at-answer, at-ending, one-more, one-lost, stepped, alone, not-alone}
+use Rattle.ap_worker.proofs.Finding.{FindingBy, broken-off, at-limit, at-answer, at-ending, one-more, one-lost, stepped, alone, not-alone, paid-on, paid-at-limit, paid-at-ending}
 use Rattle.ap_worker.proofs.found.put_found.Goals as goal
 use Rattle.ap_worker.proofs.found.put_found.Goals.{in-Waits, in-Answer+in_ok-put_answer-in-Answer+else-count-bounds, in_default-step}
 
@@ -91,6 +93,36 @@ returns-then-count-bounds-clause-charged g c = λ p q good h.
     (one-more line code p q c.args.bounds.budget c.solving_law.ensures c.outcome_law.ensures c.block_law.ensures (λ x y. g.met.A.Answers.names c.args.answers.now x y) good c.args.bounds.limit _ _ _ (section_in t.query) m i.short x.3 _ e.lines)
     c.spent-then-count-bounds.result (c.spent-then-count-bounds.ensures t.worker.post ∙ spent-alone t.worker.post u outer ∙ ap spent_in e.past) c.if-count-bounds.true
 
+pub returns-in-Ended-clause-paid : goal.returns-in-Ended-clause-paid
+returns-in-Ended-clause-paid g c = λ p q good h k.
+    let i = c.loop-step.invariant in
+    let line = g.A.Answers.line c.args.answers.now in
+    let code = code_in c.args.lead.now.query in
+    let t = c.step.new.self in
+    let go = c.in-Ok.ensures.goes in
+    let d = subst (IsStep t.worker.post t.query) c.in-Ended.is c.in-Ok.ensures.step in
+    let found = i.found p q good h in
+    let then = stepped line code p q c.args.bounds.budget _ _ _ c.outcome_law.ensures c.loop-step.lead t i.code go found in
+    paid-at-ending code p q c.args.bounds.budget _ t.worker.post t.query c.in-Ended.ending c.ended.result.charged (omega arith) (go.code ∙ i.code) d
+    (c.ended.ensures.charged ∙ ap (λ n. charge_after c.in-Ended.ending n c.args.bounds.budget) (c.spent.ensures t.worker.post)) then.solves
+    (paid-on code p q c.args.bounds.budget _ c.loop-step.lead t i.code go found.solves (i.counts p q good h k))
+
+pub returns-then-count-bounds-clause-paid : goal.returns-then-count-bounds-clause-paid
+returns-then-count-bounds-clause-paid g c = λ p q good h k.
+    let i = c.loop-step.invariant in
+    let code = code_in c.args.lead.now.query in
+    let t = c.step.new.self in
+    let go = c.in-Ok.ensures.goes in
+    let d = subst (IsStep t.worker.post t.query) c.in-Answer.is c.in-Ok.ensures.step in
+    let x = at-answer t go.leads d in
+    let e = c.in_ok-put_answer-in-Answer.ensures in
+    let u = c.put_answer.new.query in
+    let before = x.0 in
+    let kept = e.same.1 in
+    let outer : u.outer.items ≡ [] = cc in
+    paid-at-limit t.worker.post u c.args.bounds.budget c.spent-then-count-bounds.result (omega arith) (c.spent-then-count-bounds.ensures t.worker.post)
+    (past-counts c.args.bounds.budget t.query u (outer ∙ sym before) e.past c.put_answer.ensures.share (paid-on code p q c.args.bounds.budget _ c.loop-step.lead t i.code go (i.found p q good h).solves (i.counts p q good h k)))
+
 pub loop-step-preserved : goal.loop-step-preserved
 loop-step-preserved g c =
     let i = c.loop-step.invariant in
@@ -110,6 +142,8 @@ loop-step-preserved g c =
             (subst (λ k. FindingBy line code p q c.args.bounds.budget c.match-step-2.count first (g.K.Sink.pieces k) t.worker.post t.query) (sym w.out-is)
             (subst (λ n. FindingBy line code p q c.args.bounds.budget n first (g.K.Sink.pieces c.loop-step.out) t.worker.post t.query) (sym w.count-is)
             (stepped line code p q c.args.bounds.budget _ _ _ c.outcome_law.ensures c.loop-step.lead t i.code go (i.found p q good h))));
+        counts = λ p q good h k.
+            subst (λ (l : Lead). Counts c.args.bounds.budget l.query) (sym w.lead-is) (paid-on code p q c.args.bounds.budget _ c.loop-step.lead t i.code go (i.found p q good h).solves (i.counts p q good h k));
       }
       | in-Answer+in_ok-put_answer-in-Answer+else-count-bounds w ↦
           let d = subst (IsStep t.worker.post t.query) w.in-Answer.is c.in-Ok.ensures.step in
@@ -137,6 +171,9 @@ loop-step-preserved g c =
                 (subst (λ k. FindingBy line code p q c.args.bounds.budget c.match-step-2.count first (g.K.Sink.pieces k) s.worker.post s.query) (sym w.out-is)
                 (subst (λ n. FindingBy line code p q c.args.bounds.budget n first (g.K.Sink.pieces w.put_answer.new.out) s.worker.post s.query) (sym w.count-is)
                 (not-alone line code p q c.args.bounds.budget _ _ _ s.worker.post s.query _ outer none e.past more)));
+            counts = λ p q good h k.
+                subst (λ (l : Lead). Counts c.args.bounds.budget l.query) (sym w.lead-is)
+                (past-counts c.args.bounds.budget t.query s.query (outer ∙ sym before) e.past w.put_answer.ensures.share (paid-on code p q c.args.bounds.budget _ c.loop-step.lead t i.code go (i.found p q good h).solves (i.counts p q good h k)));
           }
       | in_default-step w ↦ record {
         leads = subst IsLeading (sym w.lead-is) go.leads;
@@ -148,6 +185,8 @@ loop-step-preserved g c =
             (subst (λ k. FindingBy line code p q c.args.bounds.budget c.match-step-2.count first (g.K.Sink.pieces k) t.worker.post t.query) (sym w.out-is)
             (subst (λ n. FindingBy line code p q c.args.bounds.budget n first (g.K.Sink.pieces c.loop-step.out) t.worker.post t.query) (sym w.count-is)
             (stepped line code p q c.args.bounds.budget _ _ _ c.outcome_law.ensures c.loop-step.lead t i.code go (i.found p q good h))));
+        counts = λ p q good h k.
+            subst (λ (l : Lead). Counts c.args.bounds.budget l.query) (sym w.lead-is) (paid-on code p q c.args.bounds.budget _ c.loop-step.lead t i.code go (i.found p q good h).solves (i.counts p q good h k));
       }
     ]
 

@@ -26,6 +26,7 @@ returns-clause-told c = let d = c.args.self.now.desk in let e = c.collect.new.se
       record { before = l.0; behind = l.1; was = l.2; left = l.3; others = λ g ne. comes_back_other d.1 e.1 d.2 d.4 e.4 k n g stay at t.3 (λ is. ne (sym is)) },
       t.2.0,
       t.2.1,
+      t.2.2,
     )
 
 pub returns-clause-jobs : goal.returns-clause-jobs

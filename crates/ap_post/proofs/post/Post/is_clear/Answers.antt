@@ -1,5 +1,4 @@
-use Rattle.std.proofs.Common.{◌≡◌, ◌<◌, ℕ, below_more, length, slice_get, Some, arith}
-use Rattle.ap_desk.specs.declared.note.Note.{Note}
+use Rattle.std.proofs.Common.{arith}
 use Rattle.ap_desk.proofs.Rows.{at_below}
 use Rattle.ap_post.proofs.Noted.{posted_nothing}
 use Rattle.ap_post.proofs.post.Post.is_clear.Goals as goal

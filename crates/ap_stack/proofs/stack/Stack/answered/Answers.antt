@@ -1,8 +1,9 @@
-use Rattle.std.proofs.Common.{◌≡◌, true, refl, ap, sym, ◌∙◌, subst}
+use Rattle.std.proofs.Common.{◌≡◌, ◌-◌, true, refl, ap, sym, ◌∙◌, subst}
 use Rattle.ap_frames.specs.Slots.{has_answer}
 use Rattle.ap_tie.specs.Sections.{held}
 use Rattle.ap_tied.specs.SlotCalls.{stood, answered}
-use Rattle.ap_section.specs.Views.{view_of, spent_in}
+use Rattle.ap_open.specs.Opened as seen
+use Rattle.ap_section.specs.Views.{view_of, spent_in, budget_in}
 use Rattle.ap_section.specs.Ready.{IsReady}
 use Rattle.ap_section.specs.Slots.{IsPlaceIn, told_of}
 use Rattle.ap_stack.specs.declared.stack.Open.{Open}
@@ -10,6 +11,7 @@ use Rattle.ap_stack.specs.declared.stack.Stack.{Stack}
 use Rattle.ap_stack.specs.Levels.{level_of, levels_of}
 use Rattle.ap_stack.specs.Stacks.{code_in, section_in, Goes}
 use Rattle.ap_stack.proofs.Waiting.{cost-is, has-more, put-answer}
+use Rattle.ap_stack.proofs.Counts.{budget-stood, popped-counts, closed-owes, ended-owes}
 use Rattle.ap_stack.proofs.Moves.{popped-open, ended, goes-then}
 use Rattle.ap_stack.proofs.stack.Stack.answered.Goals as goal
 
@@ -35,7 +37,9 @@ restart_behind-requires-clause-good c =
     ∙ ap (λ n. stood d.place (answered n has.result) (held x) (view_of b.newest)) cost in
     let first : Goes p s p t = ended p s b.outer.items e is _ (held x) t refl c.in-Some.ensures.same.0 c.in-Some.ensures.same.1 refl c.in-Some.ensures.section.1 good (good.none_out c.requires.runs)
     (put.ready code waits.ready (subst (IsReady code) (sym section) good.ready)) put.at_frame stands
-    (c.sharing_law.ensures.answers code (levels_of p b.outer.items) (level_of p e) x has.result c.requires.answering more) in
+    (c.sharing_law.ensures.answers code (levels_of p b.outer.items) (level_of p e) x has.result c.requires.answering more)
+    (λ n r o u tie h. popped-counts n s t b.outer.items e is refl c.in-Some.ensures.share (ap budget_in stands ∙ budget-stood d.place (answered (seen.spent_in x - d.since) has.result) (held x) (view_of b.newest))
+    (λ k. ended-owes d.place (answered (seen.spent_in x - d.since) has.result) (held x) (view_of b.newest) x (section_in t) d.since refl (closed-owes x c.requires.answering.closed) stands) h) in
     first.good
 
 pub restart_behind-requires-clause-place : goal.restart_behind-requires-clause-place
@@ -76,5 +80,7 @@ returns-clause-goes c =
     ∙ ap (λ n. stood d.place (answered n has.result) (held x) (view_of b.newest)) cost in
     let first : Goes p s p t = ended p s b.outer.items e is _ (held x) t refl c.in-Some.ensures.same.0 c.in-Some.ensures.same.1 refl c.in-Some.ensures.section.1 good (good.none_out c.requires.runs)
     (put.ready code waits.ready (subst (IsReady code) (sym section) good.ready)) put.at_frame stands
-    (c.sharing_law.ensures.answers code (levels_of p b.outer.items) (level_of p e) x has.result c.requires.answering more) in
+    (c.sharing_law.ensures.answers code (levels_of p b.outer.items) (level_of p e) x has.result c.requires.answering more)
+    (λ n r o u tie h. popped-counts n s t b.outer.items e is refl c.in-Some.ensures.share (ap budget_in stands ∙ budget-stood d.place (answered (seen.spent_in x - d.since) has.result) (held x) (view_of b.newest))
+    (λ k. ended-owes d.place (answered (seen.spent_in x - d.since) has.result) (held x) (view_of b.newest) x (section_in t) d.since refl (closed-owes x c.requires.answering.closed) stands) h) in
     goes-then p p p s t c.restart_behind.new.self first c.restart_behind.ensures.goes

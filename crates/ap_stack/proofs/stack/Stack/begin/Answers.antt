@@ -4,6 +4,7 @@ use Rattle.ap_frames.specs.declared.slots.Run.TheVariants.{First}
 use Rattle.ap_tie.specs.Sections.{nothing}
 use Rattle.ap_open.specs.Away.{Carries}
 use Rattle.ap_section.specs.Views.{view_of}
+use Rattle.ap_section.specs.Ends.{Begins}
 use Rattle.ap_section.specs.Ready.{IsReady}
 use Rattle.ap_post.specs.Posts.{posted_in}
 use Rattle.ap_stack.specs.declared.stack.Open.{Open}
@@ -11,6 +12,7 @@ use Rattle.ap_stack.specs.declared.stack.Stack.{Stack}
 use Rattle.ap_stack.specs.Levels.{level_of, AreOut}
 use Rattle.ap_stack.specs.Stacks.{code_in, levels_in, section_in, away_in}
 use Rattle.ap_stack.proofs.Calls.{begun-carries}
+use Rattle.ap_stack.proofs.Counts.{begun-counts}
 use Rattle.ap_stack.proofs.Moves.{no-less, one-more, fresh-above, fresh-below, kept, pushed, goes-posted, goes-then, out-stood, elsewhere-ready}
 use Rattle.ap_stack.proofs.stack.Stack.begin.Goals as goal
 
@@ -23,7 +25,7 @@ start-requires c =
 pub returns-in_err-reserve : goal.returns-in_err-reserve
 returns-in_err-reserve c =
     let s = c.args.self.now in
-    record { goes = kept c.sharing_law.ensures c.args.post.now s (record s { outer = c.reserve.new.self }) c.in_err-reserve.ensures.items refl refl refl refl refl c.requires.good }
+    record { goes = kept c.sharing_law.ensures c.args.post.now s (record s { outer = c.reserve.new.self }) c.in_err-reserve.ensures.items refl refl refl refl refl refl c.requires.good }
 
 pub returns-in_err-frame : goal.returns-in_err-frame
 returns-in_err-frame c =
@@ -31,7 +33,7 @@ returns-in_err-frame c =
     let s = c.args.self.now in
     let t : Stack = record s { outer = c.reserve.new.self } in
     let law = c.sharing_law.ensures in
-    let first = kept law p s t c.in_ok-reserve.ensures.items refl refl refl refl refl c.requires.good in
+    let first = kept law p s t c.in_ok-reserve.ensures.items refl refl refl refl refl refl c.requires.good in
     let number = c.in_err-frame.ensures in
     record { goes = goes-then p p c.number.new.self s t t first (goes-posted law p c.number.new.self t number.posted number.jobs (no-less p.next c.number.new.self.next number.err) first.good) }
 
@@ -60,5 +62,6 @@ returns c =
           (pushed q s t e is c.push.ensures.same.0 c.push.ensures.same.1 first.good (record { ready = begun.ready code good.ready; at_frame = begun.at_frame; place = begun.place; runs = begun.runs; out = out; elsewhere = apart }) refl
           (fresh-above s.frame p.next t.frame (newest.1 ∙ number.number.0) good.below) (fresh-below p.next t.frame q.next (newest.1 ∙ number.number.0) number.number.1) (ap (posted_in q) newest.1 ∙ number.none)
           newest.2 (subst (IsReady code) (sym newest.0) c.in_ok-section.ensures.ready)
-          (subst (λ x. Carries code (levels_in q s) (section_in s) (away_in q s) (levels_in q s ++ level_of q e ∷ []) (view_of x) []) (sym newest.0) carries));
+          (subst (λ x. Carries code (levels_in q s) (section_in s) (away_in q s) (levels_in q s ++ level_of q e ∷ []) (view_of x) []) (sym newest.0) carries)
+          (λ n r o u tie h. begun-counts n s t e i code c.in_ok-tuple.tuple c.goal-predicate.result c.rest-rest.result is c.push.ensures.share refl begun.stands (subst (λ x. Begins code c.in_ok-tuple.tuple c.goal-predicate.result c.rest-rest.result (view_of x)) (sym newest.0) c.in_ok-section.ensures.begins) c.rest-rest.ensures h));
     }

@@ -4,7 +4,7 @@ use Rattle.ap_open.specs.Away.{returned}
 use Rattle.ap_section.specs.Slots.{IsPlaceIn, told_of}
 use Rattle.ap_post.specs.Jobs.{outcome_of, IsReadyEnding}
 use Rattle.ap_stack.specs.Stacks.{code_in, section_in}
-use Rattle.ap_stack.proofs.Returns.{out-of, returned-goes, posted-goes}
+use Rattle.ap_stack.proofs.Returns.{out-of, returned-goes, returned-pays, posted-goes}
 use Rattle.ap_stack.proofs.stack.Stack.collect.Goals as goal
 
 pub returns-in_default-clause-goes : goal.returns-in_default-clause-goes
@@ -32,3 +32,4 @@ returns-clause-goes c =
     returned-goes c.sharing_law.ensures c.args.post.now s c.collect.new.self _ w.0 (outcome_of e) c.requires.good c.requires.tends (record { sound = refl; outer = refl; frame = refl; first = refl; tends = c.requires.tends })
     c.in-Some.ensures.jobs c.in-Some.ensures.next w.2 w.3 (c.put_ending.ensures.stands ∙ ap (λ k. returned k (outcome_of e) (section_in s)) (sym w.1))
     c.put_ending.ensures.at_frame (c.put_ending.ensures.ready (code_in s) c.requires.good.ready (subst (λ k. IsReadyEnding k e) out.code_is w.4))
+    (returned-pays c.args.post.now s c.collect.new.self _ w.0 c.in-Some.outcome c.requires.good refl w.2 w.5 (c.put_ending.ensures.stands ∙ ap (λ k. returned k (outcome_of e) (section_in s)) (sym w.1)) c.merge.ensures)

@@ -1,14 +1,16 @@
-use Rattle.std.proofs.Common.{refl, ap, ◌∙◌}
+use Rattle.std.proofs.Common.{◌-◌, refl, ap, ◌∙◌}
 use Rattle.ap_frames.specs.declared.slots.Stand.TheVariants.{Ended}
 use Rattle.ap_frames.specs.declared.slots.Ending.TheVariants.{Failed}
 use Rattle.ap_tie.specs.Sections.{nothing}
 use Rattle.ap_tied.specs.SlotCalls.{stood}
-use Rattle.ap_section.specs.Views.{view_of, spent_in}
+use Rattle.ap_open.specs.Opened as seen
+use Rattle.ap_section.specs.Views.{view_of, spent_in, budget_in}
 use Rattle.ap_stack.specs.declared.stack.Open.{Open}
 use Rattle.ap_stack.specs.declared.stack.Stack.{Stack}
 use Rattle.ap_stack.specs.Levels.{level_of, levels_of}
 use Rattle.ap_stack.specs.Stacks.{code_in, section_in}
 use Rattle.ap_stack.proofs.Waiting.{cost-is}
+use Rattle.ap_stack.proofs.Counts.{budget-stood, popped-counts, done-owes, ended-owes}
 use Rattle.ap_stack.proofs.Moves.{popped-open, ended}
 use Rattle.ap_stack.proofs.stack.Stack.failed.Goals as goal
 
@@ -28,3 +30,5 @@ returns-clause-goes c =
     let stands = put.stands ∙ ap (λ n. stood d.place (Ended Failed n) nothing (view_of b.newest)) cost in
     ended p s b.outer.items e is _ nothing t refl c.in-Some.ensures.same.0 c.in-Some.ensures.same.1 refl c.in-Some.ensures.section.1 c.requires.good c.requires.none (put.ready code waits.ready) put.at_frame stands
     (c.sharing_law.ensures.fails code (levels_of p b.outer.items) (level_of p e) (section_in s) c.requires.done)
+    (λ n r o u tie h. popped-counts n s t b.outer.items e is refl c.in-Some.ensures.share (ap budget_in stands ∙ budget-stood d.place (Ended Failed (seen.spent_in (section_in s) - d.since)) nothing (view_of b.newest))
+    (λ k. ended-owes d.place (Ended Failed (seen.spent_in (section_in s) - d.since)) nothing (view_of b.newest) (section_in s) (section_in t) d.since refl (done-owes (section_in s) c.requires.done) stands) h)

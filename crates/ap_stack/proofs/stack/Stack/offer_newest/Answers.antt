@@ -12,4 +12,4 @@ returns-clause-goes c =
     let s = c.args.self.now in
     let key = rw c.in-Some.is at c.in_ok-job.ensures in
     offered-goes c.sharing_law.ensures c.args.post.now s c.offer.new.self _ c.args.i _ c.requires.good c.requires.tends (record { sound = refl; outer = refl; frame = refl; first = refl; tends = c.requires.tends })
-    c.offer.ensures.jobs c.offer.ensures.next c.if-not-offer.ensures.told key.2 key.1 key.0 c.requires.ready c.start_slot.ensures.stands c.start_slot.ensures.at_frame (c.start_slot.ensures.ready s.sound.now c.requires.good.ready)
+    c.offer.ensures.jobs c.offer.ensures.next c.if-not-offer.ensures.told key.2 key.1 key.0 c.requires.ready c.start_slot.ensures.stands c.start_slot.ensures.at_frame (c.start_slot.ensures.ready s.sound.now c.requires.good.ready) refl

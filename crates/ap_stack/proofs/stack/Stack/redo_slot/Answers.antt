@@ -1,6 +1,8 @@
-use Rattle.std.proofs.Common.{◌≡◌, ◌∷◌, [], ◌++◌, refl, ap, sym, ◌∙◌, subst}
+use Rattle.std.proofs.Common.{◌≡◌, ◌-◌, ◌∷◌, [], ◌++◌, refl, ap, sym, ◌∙◌, subst}
 use Rattle.ap_open.specs.Away.{Carries}
-use Rattle.ap_section.specs.Views.{view_of}
+use Rattle.ap_tied.specs.SlotCalls.{held_in}
+use Rattle.ap_section.specs.Slots.{slots_in, IsGoneOn}
+use Rattle.ap_section.specs.Views.{view_of, spent_in, budget_in}
 use Rattle.ap_section.specs.Ready.{IsReady}
 use Rattle.ap_post.specs.Posts.{posted_in}
 use Rattle.ap_stack.specs.declared.stack.Open.{Open}
@@ -8,6 +10,7 @@ use Rattle.ap_stack.specs.declared.stack.Stack.{Stack}
 use Rattle.ap_stack.specs.Levels.{aways_of, aways_in, level_of}
 use Rattle.ap_stack.specs.Stacks.{code_in, levels_in, section_in}
 use Rattle.ap_stack.proofs.Calls.{level, redone-carries}
+use Rattle.ap_stack.proofs.Debts.{redone-pays}
 use Rattle.ap_stack.proofs.Moves.{no-less, one-more, fresh-above, fresh-below, kept, pushed, goes-posted, goes-then, out-none, not-at-none}
 use Rattle.ap_stack.proofs.stack.Stack.redo_slot.Goals as goal
 
@@ -17,7 +20,7 @@ returns-in_err-frame c =
     let s = c.args.self.now in
     let t : Stack = record s { outer = c.reserve.new.self } in
     let law = c.sharing_law.ensures in
-    let first = kept law p s t c.in_ok-reserve.ensures.items refl refl refl refl refl c.requires.good in
+    let first = kept law p s t c.in_ok-reserve.ensures.items refl refl refl refl refl refl c.requires.good in
     let number = c.in_err-frame.ensures in
     record { goes = goes-then p p c.number.new.self s t t first (goes-posted law p c.number.new.self t number.posted number.jobs (no-less p.next c.number.new.self.next number.err) first.good) }
 
@@ -48,5 +51,8 @@ returns c =
           (fresh-above s.frame p.next t.frame (newest.1 ∙ number.number.0) good.below) (fresh-below p.next t.frame q.next (newest.1 ∙ number.number.0) number.number.1) (ap (posted_in q) newest.1 ∙ number.none)
           newest.2 (subst (IsReady code) (sym newest.0) both.1)
           (subst (λ x. Carries code (levels_in q s) (section_in s) (aways_in q s.frame) (levels_in q s ++ level_of q e ∷ []) (view_of x) []) (sym newest.0)
-          (subst (λ out. Carries code (levels_in q s) (section_in s) out (levels_in q s ++ level (view_of e.section) i since out ∷ []) (view_of c.take_section-section.result) []) (sym (ap aways_of none)) carries)));
+          (subst (λ out. Carries code (levels_in q s) (section_in s) out (levels_in q s ++ level (view_of e.section) i since out ∷ []) (view_of c.take_section-section.result) []) (sym (ap aways_of none)) carries))
+          (redone-pays q s t e i is c.push.ensures.share (good.at_frame c.requires.tends) c.requires.closed c.requires.next c.requires.there
+          (subst (λ x. IsGoneOn (budget_in (section_in s) - spent_in (section_in s)) (held_in i (slots_in (section_in s))) (view_of x)) (sym newest.0) taken.section) taken.taken
+          (c.spent-since.ensures ∙ ap (λ x. spent_in (view_of x)) (sym newest.0))));
     }

@@ -5,6 +5,7 @@ use Rattle.ap_section.specs.Ends.{Ends}
 use Rattle.ap_stack.specs.declared.stack.Stack.{Stack}
 use Rattle.ap_stack.specs.Stacks.{code_in, section_in}
 use Rattle.ap_stack.proofs.Waiting.{at-frame}
+use Rattle.ap_stack.proofs.Counts.{went-pays}
 use Rattle.ap_stack.proofs.Moves.{moved-alone, goes-then}
 use Rattle.ap_stack.proofs.stack.Stack.search_on.Goals as goal
 
@@ -15,6 +16,7 @@ returns-in_err-turn-clause-goes c =
     let good = c.requires.good in
     let t : Stack = record s { newest = c.advance.new.self; share = c.advance.new.share } in
     moved-alone p s t refl refl refl refl c.sharing_law.ensures good (good.none_out c.requires.runs) c.advance.ensures.ready (λ h. absurd (false≢true (sym c.requires.runs ∙ h))) c.advance.ensures.goes
+    (went-pays p s t refl c.advance.ensures.budget c.advance.ensures.owes c.advance.ensures.share)
 
 pub returns-in-Answer-clause-goes : goal.returns-in-Answer-clause-goes
 returns-in-Answer-clause-goes c =
@@ -22,7 +24,8 @@ returns-in-Answer-clause-goes c =
     let s = c.args.self.now in
     let good = c.requires.good in
     let t : Stack = record s { newest = c.advance.new.self; share = c.advance.new.share } in
-    let first = moved-alone p s t refl refl refl refl c.sharing_law.ensures good (good.none_out c.requires.runs) c.advance.ensures.ready (λ h. absurd (false≢true (sym c.requires.runs ∙ h))) c.advance.ensures.goes in
+    let first = moved-alone p s t refl refl refl refl c.sharing_law.ensures good (good.none_out c.requires.runs) c.advance.ensures.ready (λ h. absurd (false≢true (sym c.requires.runs ∙ h))) c.advance.ensures.goes
+    (went-pays p s t refl c.advance.ensures.budget c.advance.ensures.owes c.advance.ensures.share) in
     goes-then p p p s t c.answered.new.self first c.answered.ensures.goes
 
 pub returns-in-Failed-clause-goes : goal.returns-in-Failed-clause-goes
@@ -31,7 +34,8 @@ returns-in-Failed-clause-goes c =
     let s = c.args.self.now in
     let good = c.requires.good in
     let t : Stack = record s { newest = c.advance.new.self; share = c.advance.new.share } in
-    let first = moved-alone p s t refl refl refl refl c.sharing_law.ensures good (good.none_out c.requires.runs) c.advance.ensures.ready (λ h. absurd (false≢true (sym c.requires.runs ∙ h))) c.advance.ensures.goes in
+    let first = moved-alone p s t refl refl refl refl c.sharing_law.ensures good (good.none_out c.requires.runs) c.advance.ensures.ready (λ h. absurd (false≢true (sym c.requires.runs ∙ h))) c.advance.ensures.goes
+    (went-pays p s t refl c.advance.ensures.budget c.advance.ensures.owes c.advance.ensures.share) in
     goes-then p p p s t c.failed.new.self first c.failed.ensures.goes
 
 pub returns-in-Spent-clause-goes : goal.returns-in-Spent-clause-goes
@@ -40,7 +44,8 @@ returns-in-Spent-clause-goes c =
     let s = c.args.self.now in
     let good = c.requires.good in
     let t : Stack = record s { newest = c.advance.new.self; share = c.advance.new.share } in
-    let first = moved-alone p s t refl refl refl refl c.sharing_law.ensures good (good.none_out c.requires.runs) c.advance.ensures.ready (λ h. absurd (false≢true (sym c.requires.runs ∙ h))) c.advance.ensures.goes in
+    let first = moved-alone p s t refl refl refl refl c.sharing_law.ensures good (good.none_out c.requires.runs) c.advance.ensures.ready (λ h. absurd (false≢true (sym c.requires.runs ∙ h))) c.advance.ensures.goes
+    (went-pays p s t refl c.advance.ensures.budget c.advance.ensures.owes c.advance.ensures.share) in
     goes-then p p p s t c.spent_all.new.self first c.spent_all.ensures.goes
 
 pub returns-in-More-clause-goes : goal.returns-in-More-clause-goes
@@ -50,6 +55,7 @@ returns-in-More-clause-goes c =
     let good = c.requires.good in
     let t : Stack = record s { newest = c.advance.new.self; share = c.advance.new.share } in
     moved-alone p s t refl refl refl refl c.sharing_law.ensures good (good.none_out c.requires.runs) c.advance.ensures.ready (λ h. absurd (false≢true (sym c.requires.runs ∙ h))) c.advance.ensures.goes
+    (went-pays p s t refl c.advance.ensures.budget c.advance.ensures.owes c.advance.ensures.share)
 
 pub returns-in-Fork-clause-goes : goal.returns-in-Fork-clause-goes
 returns-in-Fork-clause-goes c =
@@ -60,3 +66,4 @@ returns-in-Fork-clause-goes c =
     let t : Stack = record s { newest = c.advance.new.self; share = c.advance.new.share; tends = true } in
     let at = at-frame (code_in s) 0 (section_in s) x (subst (Ends (code_in s) _ (section_in s) x) c.in-Fork.is c.in_ok-turn.ensures.end) in
     moved-alone p s t refl refl refl refl c.sharing_law.ensures good (good.none_out c.requires.runs) c.advance.ensures.ready (λ h. at) c.advance.ensures.goes
+    (went-pays p s t refl c.advance.ensures.budget c.advance.ensures.owes c.advance.ensures.share)

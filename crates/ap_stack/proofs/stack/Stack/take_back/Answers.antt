@@ -1,9 +1,12 @@
-use Rattle.std.proofs.Common.{◌≡◌, true, refl, ap, sym, ◌∙◌, subst}
+use Rattle.std.proofs.Common.{◌≡◌, true, false, refl, ap, sym, ◌∙◌, subst}
 use Rattle.ap_frames.specs.Slots.{may_be_given_back}
+use Rattle.ap_frames.specs.Rows.{stopped}
+use Rattle.ap_tie.specs.Sections.{nothing}
 use Rattle.ap_open.specs.Away.{given_back, returned}
 use Rattle.ap_section.specs.Slots.{IsPlaceIn, told_of}
 use Rattle.ap_section.proofs.Stood.{first-runs}
 use Rattle.ap_stack.specs.Stacks.{code_in, section_in}
+use Rattle.ap_stack.proofs.Counts.{no-more-stood, stays-pays}
 use Rattle.ap_stack.proofs.Returns.{out-of, returned-goes, posted-goes}
 use Rattle.ap_stack.proofs.stack.Stack.take_back.Goals as goal
 
@@ -37,3 +40,4 @@ returns-clause-goes c =
     returned-goes c.sharing_law.ensures c.args.post.now s c.reclaim.new.self _ w.0 given_back c.requires.good c.requires.tends (record { sound = refl; outer = refl; frame = refl; first = refl; tends = c.requires.tends })
     c.in-Some.ensures.jobs c.in-Some.ensures.next w.2 (λ r g n is searched. tt) (c.put_stopped.ensures.stands ∙ ap (λ k. returned k given_back (section_in s)) (sym w.1))
     c.put_stopped.ensures.at_frame (c.put_stopped.ensures.ready (code_in s) c.requires.good.ready)
+    (stays-pays c.args.post.now s _ refl refl (no-more-stood c.in-Some.i (stopped (Unit {0}) false 0) nothing (section_in s) _ refl c.put_stopped.ensures.stands))

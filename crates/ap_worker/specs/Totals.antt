@@ -1,0 +1,19 @@
+-- The calls that all workers make for a query.
+use Rattle.std.specs.Prelude.{◌≡◌, ℕ, Result, Ok, Err}
+use Rattle.ap_ledger.specs.declared.share.Total.{Total}
+use Rattle.ap_outside.specs.declared.halting.Halt.{Halt}
+use Rattle.ap_tie.specs.Sections.{Section}
+use Rattle.ap_section.specs.Views.{budget_in}
+use Rattle.ap_section.specs.Owed.{owed}
+use Rattle.ap_worker.specs.declared.emission.Answered.{Answered}
+use Rattle.ap_worker.specs.declared.emission.Ended.{Ended}
+
+-- a section that has made no call, and may make so many
+pub record IsFresh (budget : ℕ) (s : Section) : Type 0 where
+  pub given : budget_in s ≡ budget
+  pub owes : owed s ≡ 0
+
+-- the same with the total
+abbrev pub ended_with : Total → Result Answered Halt → Result Ended Halt
+ended_with t (Ok a) = Ok (record { end = a.end; charged = a.charged; total = t })
+ended_with t (Err h) = Err h
