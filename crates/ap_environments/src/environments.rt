@@ -165,6 +165,7 @@ impl Environments {
     }
 
     /// Puts on a return to a place, with the registers of its environment.
+    #[inline(always)]
     pub fn push(&mut self, place: u32, y: &[u32]) -> Result<(), NoMemory>
         ensures ok { OnOk result (self.new ≡ record self.old { returns = record { place = place; y = y.now } ∷ self.old.returns }) }
         ensures err { OnErr result (self.new ≡ self.old) }
