@@ -246,6 +246,7 @@ impl Environments {
 
     /// Goes back to the newest choice point, which is still kept, with its arguments in the first registers of x. Without
     /// one it changes nothing.
+    #[inline(always)]
     pub fn go_back(&mut self, x: &mut [u32])
         ensures back { (m : Moment) (ms : List Moment) → self.old.moments ≡ m ∷ ms → self.new ≡ record self.old { returns = m.returns } }
         ensures arguments { (m : Moment) (ms : List Moment) → self.old.moments ≡ m ∷ ms → length m.arguments ≤ length x.old → (n : ℕ) → held x.new n ≡ held m.arguments n }

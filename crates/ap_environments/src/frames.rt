@@ -51,7 +51,8 @@ pub fn push_frame(
         count: registers.len() as u32,
     };
     slots.reserve(registers.len())?;
-    frames.push(frame)?;
+    frames.reserve(1)?;
+    frames.push_reserved(frame);
     append(slots, registers);
     Ok(number)
 }
