@@ -95,10 +95,26 @@ fn conditions_in(alloc: Global, t: &Term) -> Result<Vec<Condition>, NoMemory>
     Ok(conditions)
 }
 
+/// A term of its own with the same tree. Its list of arguments takes no more room than it needs: most of a program's
+/// memory are such lists.
+#[tactic(auto, using(ap_term::proofs::TermLists::arguments))]
+fn copy(alloc: Global, t: &Term) -> Result<Term, NoMemory>
+    ensures { IfOk result (λ u. tree_of u ≡ tree_of t.now) }
+{
+    let Term::Node(name, args) = t else {
+        return copy_term(alloc, t);
+    };
+    let mut copies = Vec::with_capacity(alloc, args.len())?;
+    for arg in args.as_slice() {
+        copies.push(copy_term(alloc, arg)?)?;
+    }
+    Ok(Term::Node(*name, Args::from_vec(copies)))
+}
+
 fn goal(alloc: Global, t: &Term) -> Result<Body, NoMemory>
     ensures { IfOk result (λ b. body_of b ≡ body.goal (tree_of t.now)) }
 {
-    let copy = copy_term(alloc, t)?;
+    let copy = copy(alloc, t)?;
     Ok(Body::Goal(copy))
 }
 
@@ -173,7 +189,7 @@ fn clause_halves(alloc: Global, t: Term) -> Result<(Term, Option<Body>), NoMemor
     ensures { IfOk result (λ h. (tree_of h.0, body_if h.1) ≡ spec.clause_halves (tree_of t)) }
 {
     if let Some((head, rest)) = about_neck(&t) {
-        let head = copy_term(alloc, head)?;
+        let head = copy(alloc, head)?;
         let body = body_in(alloc, rest)?;
         return Ok((head, Some(body)));
     }
