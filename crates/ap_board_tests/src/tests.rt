@@ -7,7 +7,7 @@ use crate::player::{Game, Player};
 use crate::rows::{Move, ROWS, Row, Seat};
 use crate::sitting::{four, three};
 use ap_board::Ticket;
-use ap_goalstack::{Unruled, open};
+use ap_goalstack::{GoalStack, Thief, Unruled, open};
 use crossbeam_utils::atomic::AtomicCell;
 use std::alloc::{AllocError, Global};
 use std::sync::Wait;
@@ -202,5 +202,76 @@ fn the_owner_pops_the_newest_and_thieves_steal_the_oldest(rt: HostRuntime) -> Re
     assert!(rt; stack.pop() == Some(Ticket { pad: 2, round: 0 }));
     assert!(rt; stack.pop() == Some(Ticket { pad: 1, round: 0 }));
     assert!(rt; stack.pop().is_none() && thief.steal().is_none());
+    Ok(())
+}
+
+// Offers a parcel, and pushes its ticket.
+fn pushed(
+    board: &Game,
+    me: &mut Player,
+    stack: &mut GoalStack<Unruled>,
+    number: u32,
+) -> Option<Ticket>
+    requires { me.old ≡ board.now.table.shared.table_id }
+    ensures { me.new ≡ me.old }
+{
+    let ticket = me.offer(board, number)?;
+    match stack.push(ticket) {
+        Ok(()) => Some(ticket),
+        Err(_) => None,
+    }
+}
+
+// Ends a round of the first player's pad: the second one takes the parcel and finishes it, and the outcome is collected.
+fn ends_by_outcome(board: &Game, first: &mut Player, second: &mut Player, ticket: Ticket) -> bool
+    requires { (first.old ≡ board.now.table.shared.table_id) × (second.old ≡ board.now.table.shared.table_id) }
+    ensures { (first.new ≡ first.old) × (second.new ≡ second.old) }
+{
+    second.take(board, ticket).ok() == Some(Some(1))
+        && second.finish(board, ticket, 11).is_ok()
+        && first.collect(board, ticket).ok() == Some(Some(11))
+}
+
+// Three rounds of the first player's pad, whose tickets are all pushed: the first two are over.
+fn plays_three(
+    board: &Game,
+    first: &mut Player,
+    second: &mut Player,
+    stack: &mut GoalStack<Unruled>,
+) -> Option<bool>
+    requires { (first.old ≡ board.now.table.shared.table_id) × (second.old ≡ board.now.table.shared.table_id) }
+    ensures { (first.new ≡ first.old) × (second.new ≡ second.old) }
+{
+    let ticket = pushed(board, first, stack, 1)?;
+    let ended = ends_by_outcome(board, first, second, ticket);
+    let ticket = pushed(board, first, stack, 2)?;
+    let back = first.reclaim(board, ticket).ok() == Some(Some(2));
+    let _last = pushed(board, first, stack, 3)?;
+    Some(ended && back)
+}
+
+// Steals a ticket, and takes what is offered by it.
+fn take_stolen(board: &Game, me: &mut Player, thief: &mut Thief<Unruled>) -> Option<Option<u32>>
+    requires { me.old ≡ board.now.table.shared.table_id }
+    ensures { me.new ≡ me.old }
+{
+    let ticket = thief.steal()?;
+    me.take(board, ticket).ok()
+}
+
+#[test]
+fn stolen_tickets_of_ended_rounds_take_nothing(rt: HostRuntime) -> Result<(), Fail> {
+    let Some((board, mut a, mut b, mut c)) = three(rt.alloc(), 1) else {
+        panic!(rt; "no memory")
+    };
+    let (mut stack, mut thieves) = open::<Unruled>(rt.alloc(), 4, 1)?;
+    let Some(mut thief) = thieves.pop() else {
+        panic!(rt; "no thief")
+    };
+    assert!(rt; plays_three(&board, &mut a, &mut b, &mut stack) == Some(true));
+    assert!(rt; take_stolen(&board, &mut c, &mut thief) == Some(None));
+    assert!(rt; take_stolen(&board, &mut c, &mut thief) == Some(None));
+    assert!(rt; take_stolen(&board, &mut c, &mut thief) == Some(Some(3)));
+    assert!(rt; thief.steal().is_none());
     Ok(())
 }

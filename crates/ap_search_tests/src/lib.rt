@@ -6,6 +6,10 @@
 #![tactic(auto)]
 
 #[cfg(test)]
+mod explorer;
+#[cfg(test)]
+mod histories;
+#[cfg(test)]
 mod programs;
 #[cfg(test)]
 mod reading;

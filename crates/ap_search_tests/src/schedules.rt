@@ -12,30 +12,30 @@ use std::alloc::Global;
 use std::test::Fail;
 
 /// What is searched: a program and its query.
-type Problem = (&'static str, &'static str);
+pub(crate) type Problem = (&'static str, &'static str);
 
-const TWO_BY_TWO: Problem = (
+pub(crate) const TWO_BY_TWO: Problem = (
     "q(X,Y) :- a(X) & b(Y). a(1). a(2). b(1). b(2).",
     "?- q(X,Y).",
 );
 
-const TWO_BY_NONE: Problem = ("q(X,Y) :- a(X) & b(Y). a(1). a(2).", "?- q(X,Y).");
+pub(crate) const TWO_BY_NONE: Problem = ("q(X,Y) :- a(X) & b(Y). a(1). a(2).", "?- q(X,Y).");
 
 const ONE_BY_ONE: Problem = ("q(X,Y) :- a(X) & b(Y). a(1). b(1).", "?- q(X,Y).");
 
-const THREE: Problem = (
+pub(crate) const THREE: Problem = (
     "s(X,Y,Z) :- b(X) & q(Y,Z). q(Y,Z) :- b(Y) & b(Z). b(0). b(1).",
     "?- s(X,Y,Z).",
 );
 
 /// Its left goal calls arithmetic, by a predicate whose clause stands last.
-const LOUD_BY_NONE: Problem = (
+pub(crate) const LOUD_BY_NONE: Problem = (
     "q(X,Y) :- a(X) & b(Y). a(1). a(X) :- c(X). c(X) :- X is 1 + 1.",
     "?- q(X,Y).",
 );
 
 /// A core before any event.
-fn core_of(alloc: Global, problem: Problem, budget: u64) -> Result<Core, Fail> {
+pub(crate) fn core_of(alloc: Global, problem: Problem, budget: u64) -> Result<Core, Fail> {
     let mut atoms = new_atoms(alloc)?;
     let program = program_of(alloc, problem.0, &mut atoms)?;
     let query = query_of(alloc, problem.1, &program, &mut atoms)?;
@@ -49,7 +49,12 @@ fn step(core: &mut Core, kind: Kind, path: Path) -> Result<(), StepErr> {
 }
 
 /// Whether an event is legal.
-fn make(alloc: Global, core: &mut Core, kind: Kind, places: &[usize]) -> Result<bool, Fail> {
+pub(crate) fn make(
+    alloc: Global,
+    core: &mut Core,
+    kind: Kind,
+    places: &[usize],
+) -> Result<bool, Fail> {
     let path = Path::from_vec(Vec::from_slice(alloc, places)?);
     match step(core, kind, path) {
         Ok(()) => Ok(true),
