@@ -338,7 +338,8 @@ pub struct Chosen {
     pub next: Option<Possible>,
 }
 
-/// The clauses that are left from one on, where the others are left from a choice on.
+/// The clauses that are left from one on, where the others are left from a choice on. None where none of them can be entered.
+#[inline(always)]
 fn chosen_among(
     cells: &Cells,
     x: &[u32],
@@ -347,28 +348,29 @@ fn chosen_among(
     key: Option<Key>,
     found: Alternative,
     from: Option<usize>,
-) -> Chosen
+) -> Option<Chosen>
     requires holds { HoldPlaces (length cells.now.cells) x.now }
     requires key { HasKey cells.now.cells (held x.now) key }
     requires from { PassesOver sound.now cells.now.cells (held x.now) (places_from sound.now found.behind) (places_from sound.now from) }
-    ensures first { PassesOver sound.now cells.now.cells (held x.now) (found.place ∷ places_from sound.now found.behind) (result.first.place ∷ places_from sound.now result.first.behind) }
-    ensures next { PassesOver sound.now cells.now.cells (held x.now) (places_from sound.now result.first.behind) (possible_places sound.now result.next) }
-    ensures sure { IfSome result.next (λ p. p.sure ≡ true → (z : ℕ → ℕ) → Alike arity (held x.now) z → CanTake sound.now cells.now.cells z p.alternative.place) }
+    ensures none { result ≡ None → PassesOver sound.now cells.now.cells (held x.now) (found.place ∷ places_from sound.now found.behind) [] }
+    ensures first { IfSome result (λ c. PassesOver sound.now cells.now.cells (held x.now) (found.place ∷ places_from sound.now found.behind) (c.first.place ∷ places_from sound.now c.first.behind)) }
+    ensures next { IfSome result (λ c. PassesOver sound.now cells.now.cells (held x.now) (places_from sound.now c.first.behind) (possible_places sound.now c.next)) }
+    ensures sure { IfSome result (λ c. IfSome c.next (λ p. p.sure ≡ true → (z : ℕ → ℕ) → Alike arity (held x.now) z → CanTake sound.now cells.now.cells z p.alternative.place)) }
 {
     let next = possible_from(cells, x, arity, sound, key, from);
-    let Some(second) = next else {
-        return Chosen { first: found, next };
-    };
     match chance_of(cells, x, arity, sound, key, found.place as usize) {
         Chance::Never => {
+            let Some(second) = next else {
+                return None;
+            };
             let rest = next_choice(sound, key, second.alternative.behind);
             let third = possible_from(cells, x, arity, sound, key, rest);
-            Chosen {
+            Some(Chosen {
                 first: second.alternative,
                 next: third,
-            }
+            })
         }
-        _ => Chosen { first: found, next },
+        _ => Some(Chosen { first: found, next }),
     }
 }
 
@@ -381,18 +383,19 @@ fn chosen_from(
     sound: &Sound,
     key: Option<Key>,
     found: Alternative,
-) -> Chosen
+) -> Option<Chosen>
     requires holds { HoldPlaces (length cells.now.cells) x.now }
     requires key { HasKey cells.now.cells (held x.now) key }
-    ensures first { PassesOver sound.now cells.now.cells (held x.now) (found.place ∷ places_from sound.now found.behind) (result.first.place ∷ places_from sound.now result.first.behind) }
-    ensures next { PassesOver sound.now cells.now.cells (held x.now) (places_from sound.now result.first.behind) (possible_places sound.now result.next) }
-    ensures sure { IfSome result.next (λ p. p.sure ≡ true → (z : ℕ → ℕ) → Alike arity (held x.now) z → CanTake sound.now cells.now.cells z p.alternative.place) }
+    ensures none { result ≡ None → PassesOver sound.now cells.now.cells (held x.now) (found.place ∷ places_from sound.now found.behind) [] }
+    ensures first { IfSome result (λ c. PassesOver sound.now cells.now.cells (held x.now) (found.place ∷ places_from sound.now found.behind) (c.first.place ∷ places_from sound.now c.first.behind)) }
+    ensures next { IfSome result (λ c. PassesOver sound.now cells.now.cells (held x.now) (places_from sound.now c.first.behind) (possible_places sound.now c.next)) }
+    ensures sure { IfSome result (λ c. IfSome c.next (λ p. p.sure ≡ true → (z : ℕ → ℕ) → Alike arity (held x.now) z → CanTake sound.now cells.now.cells z p.alternative.place)) }
 {
     match next_choice(sound, key, found.behind) {
-        None => Chosen {
+        None => Some(Chosen {
             first: found,
             next: None,
-        },
+        }),
         from => chosen_among(cells, x, arity, sound, key, found, from),
     }
 }
@@ -438,9 +441,9 @@ pub fn choose(cells: &Cells, x: &[u32], sound: &Sound, predicate: &Predicate) ->
             });
         }
         let key = key_of(cells, place_in(x, 1));
-        return Some(chosen_from(cells, x, predicate.arity, sound, key, found));
+        return chosen_from(cells, x, predicate.arity, sound, key, found);
     };
     let key = key_of(cells, place_in(x, 1));
     let found = first_of_row(sound, predicate, row, key)?;
-    Some(chosen_from(cells, x, predicate.arity, sound, key, found))
+    chosen_from(cells, x, predicate.arity, sound, key, found)
 }

@@ -6,9 +6,8 @@ ghost use Rattle.ap_steps.specs.Moves.{held, HoldPlaces};
 ghost use Rattle.ap_needs.specs.Needs.{AllHaveTargets, room, wants};
 ghost use Rattle.ap_control.specs.Runs.{RanOrStuck, IsTransferAt};
 
-use crate::alternatives::instruction_at;
 use ap_cells::Cells;
-use ap_instr::Code;
+use ap_instr::{Code, Instr};
 use ap_steps::run::{Outcome, step};
 use ap_term::NoMemory;
 use ap_unify::Work;
@@ -23,6 +22,14 @@ pub fn used(registers: &[u32]) -> &[u32]
         count -= 1;
     }
     &registers[..count]
+}
+
+/// The instruction at a place.
+#[inline(always)]
+fn instruction_in(instructions: &[Instr], at: usize) -> Option<Instr>
+    ensures { result ≡ slice_get instructions.now at }
+{
+    instructions.get(at).copied()
 }
 
 /// Takes the instructions from a place on up to the next one that leads elsewhere than to the one behind it.
@@ -47,9 +54,10 @@ pub fn run_to_transfer(
     ensures y_len { length y.new ≡ length y.old }
     ensures keeps { Keeps cells.old cells.new }
 {
-    let places = code.instructions().len();
+    let instructions = code.instructions();
+    let places = instructions.len();
     let mut place = at;
-    'run: while let Some(instr) = instruction_at(code, place) {
+    'run: while let Some(instr) = instruction_in(instructions, place) {
         prove!(place < places);
         let outcome = step(cells, x, y, code, place + 1, instr, work)?;
         match outcome {

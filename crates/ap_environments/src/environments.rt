@@ -165,6 +165,7 @@ impl Environments {
     }
 
     /// Puts on a return to a place, with the registers of its environment.
+    #[inline(always)]
     pub fn push(&mut self, place: u32, y: &[u32]) -> Result<(), NoMemory>
         ensures ok { OnOk result (self.new ≡ record self.old { returns = record { place = place; y = y.now } ∷ self.old.returns }) }
         ensures err { OnErr result (self.new ≡ self.old) }
@@ -245,6 +246,7 @@ impl Environments {
 
     /// Goes back to the newest choice point, which is still kept, with its arguments in the first registers of x. Without
     /// one it changes nothing.
+    #[inline(always)]
     pub fn go_back(&mut self, x: &mut [u32])
         ensures back { (m : Moment) (ms : List Moment) → self.old.moments ≡ m ∷ ms → self.new ≡ record self.old { returns = m.returns } }
         ensures arguments { (m : Moment) (ms : List Moment) → self.old.moments ≡ m ∷ ms → length m.arguments ≤ length x.old → (n : ℕ) → held x.new n ≡ held m.arguments n }
