@@ -2,3 +2,4 @@ pub mod Mending
 pub mod Turns
 pub mod Certifying
 pub mod Ending
+pub mod Untouched

@@ -1,3 +1,4 @@
+pub mod Lone
 pub mod Mended
 pub mod Made
 pub mod Laws

@@ -11,6 +11,7 @@ ghost use Rattle.ap_mel.specs.Made.{IsFirst, IsMade};
 ghost use Rattle.ap_certify.specs.Scopes.{IsScopeOf};
 
 use crate::entries::certified;
+use crate::lone::{as_written, is_lone};
 use crate::passes::{Pass, pass_over};
 use ap_certify::Certified;
 use ap_cge::{Annotated, hand_written};
@@ -49,12 +50,8 @@ fn first(alloc: Global, kind: Kind, program: &Program, table: &Table) -> Result<
     }
 }
 
-/// The program with groups that may run side by side in every search of a query that is as the entries say. The groups are
-/// made by the table of the program as it is written. Then passes follow, each by the table of the program before it, until
-/// one leaves the program as it is: a group gets the checks that its state no longer gives; one whose condition holds
-/// nowhere becomes a sequence, and so does one that was made without checks and would need some. The passes end, since
-/// each but the last adds checks of a group's full condition or takes groups away.
-pub fn annotate_sound(
+/// The program with its groups, passed over until a pass leaves it as it is.
+fn annotate_by_passes(
     alloc: Global,
     program: &Program,
     entries: &Entries,
@@ -76,4 +73,27 @@ pub fn annotate_sound(
         }
         current = annotated;
     }
+}
+
+/// The program with groups that may run side by side in every search of a query that is as the entries say. The groups are
+/// made by the table of the program as it is written. Then passes follow, each by the table of the program before it, until
+/// one leaves the program as it is: a group gets the checks that its state no longer gives; one whose condition holds
+/// nowhere becomes a sequence, and so does one that was made without checks and would need some. The passes end, since
+/// each but the last adds checks of a group's full condition or takes groups away. Where no clause has two goals there is
+/// nothing to group, and no table is made.
+pub fn annotate_sound(
+    alloc: Global,
+    program: &Program,
+    entries: &Entries,
+    kind: Kind,
+) -> Result<Certified, NoMemory>
+    requires { IsMarked entries.now }
+    ensures made { IfOk result (λ c. IsMade kind entries.now program.now c.program) }
+    ensures scope { IfOk result (λ c. IsScopeOf entries.now c.scope) }
+    ensures sound { IfOk result (λ c. IsSoundAnnotation program.now c.program (Of entries.now)) }
+{
+    if is_lone(program) {
+        return as_written(alloc, program, entries);
+    }
+    annotate_by_passes(alloc, program, entries, kind)
 }

@@ -8,6 +8,7 @@
 mod annotations;
 mod entries;
 pub mod laws;
+mod lone;
 mod passes;
 
 pub use annotations::{Kind, annotate, annotate_sound};

@@ -1,25 +1,26 @@
 -- Predicates that are put behind others.
-use Rattle.std.proofs.Common.{◌≡◌, ℕ, zero, suc, ◌+◌, ◌<◌, ◌≤◌, ℤ, Bool, true, false, not, ◌||◌, ◌&&◌, if◌then◌else◌, List, [], ◌∷◌, ◌++◌, map, length, take, slice_get, get_or, nat_le, Option, Some, None, refl, ap, ap₂, sym, ◌∙◌, subst, arith, append_assoc, append-nil, IsTrue}
+use Rattle.std.proofs.Common.{◌≡◌, ℕ, zero, suc, ◌+◌, ◌<◌, ◌≤◌, ℤ, Bool, true, false, not, ◌||◌, ◌&&◌, ◌==◌, if◌then◌else◌, ◌⊎◌, inl, inr, List, [], ◌∷◌, ◌++◌, map, length, take, slice_get, get_or, nat_le, nat_lt, Option, Some, None, refl, ap, ap₂, sym, ◌∙◌, subst, arith, append_assoc, append-nil, IsTrue}
 use Rattle.std.proofs.Common.{Vec, Global, Bor, cond}
 use Rattle.std.specs.Map.{lookup}
 use Rattle.ap_reach.specs.contracts.called.CalledPartialEq.TheImpl.{eq-value}
 use Rattle.ap_reach.specs.Index.{listed}
-use Rattle.std.specs.List.{All, filter, list_all}
+use Rattle.std.specs.List.{All, filter, list_all, list_any}
+use Rattle.std.specs.Ordering.{int_eq}
 use Rattle.std.proofs.lemmas.List.{take_more, take-append-le, take_all, map-append}
 use Rattle.std.proofs.lemmas.List.Folds.{list_any-append}
 use Rattle.std.proofs.lemmas.List.Elements.{All-nil, All-append, All-cons, All-head, All-tail, All-more, All-weaker}
-use Rattle.std.proofs.lemmas.Bool.{false≢true}
+use Rattle.std.proofs.lemmas.Bool.{false≢true, and_parts}
+use Rattle.std.proofs.lemmas.Bool.Decides.{Decides-eqb, Decides-ltb, Decides-int_eq}
 use Rattle.std.proofs.lemmas.Grind.{flat_map-append}
 use Rattle.ap_term.specs.Tree.{Tree, Trees, var, int, atom, node, none, more, append_trees, count_trees}
 use Rattle.ap_term.specs.declared.terms.Term.{Term}
-use Rattle.ap_term.specs.declared.terms.Term.TheVariants.{Atom as AtomTerm, Int as IntTerm}
-use Rattle.ap_term.proofs.TermLists.{count-trees_of}
 use Rattle.ap_term.specs.TermView.{tree_of, trees_of}
 use Rattle.ap_term.specs.Goals.{Part, call, group, Clause, Program, plain_goals}
 use Rattle.ap_term.specs.WellFormed.{callable, all_callable, numbered, numbered_all, numbered_check, well_formed_part}
 use Rattle.ap_reach.specs.declared.called.Called.{Called}
 use Rattle.ap_reach.specs.declared.called.Called.TheVariants.{All as Whole, Atom, Integer}
-use Rattle.ap_reach.specs.Reached.{Key, is_called, has_call, is_beside, Extends, heads_open, is_open, leads, leads_first, clauses_for, all_called, contribution, gathered, has_constant, is_among, IsAmong, AreAmong, BodyIsAmong, CallsAmong, IsNamed, AreNamed, IsPartNamed}
+use Rattle.ap_reach.specs.Reached.{is_key, Place, is_place, is_called, has_call, key_of, place_of, is_beside, Extends, heads, argument, argument_of, is_variable, fits, fits_in, heads_open, is_open, is_open_before, is_before, leads, leads_before, is_for, is_closed, answers, clauses_for, all_called, contribution, gathered, is_among, IsAmong, AreAmong, BodyIsAmong, CallsAmong, IsNamed, AreNamed, IsPartNamed}
+use Rattle.ap_reach.proofs.Same.{both, own_key, own_call, same_call}
 
 pub extends_none : (ks : List Called) → Extends ks ks
 extends_none ks = ([], sym (append-nil ks))
@@ -27,31 +28,12 @@ extends_none ks = ([], sym (append-nil ks))
 pub extends_on : (ks ls ms : List Called) → Extends ks ls → Extends ls ms → Extends ks ms
 extends_on ks ls ms g h = (g.0 ++ h.0, h.1 ∙ ap (λ l. l ++ h.0) g.1 ∙ append_assoc ks g.0 h.0)
 
-has_more : (ks ls : List Called) (k : Called) → Extends ks ls → has_call ks k ≡ true → has_call ls k ≡ true
-has_more ks ls k g h = ap (λ l. has_call l k) g.1 ∙ list_any-append (is_called k) ks g.0 ∙ ap (λ b. b || has_call g.0 k) h
-
-either : (a b c d e : Bool) → (a ≡ true → d ≡ true) → (b ≡ true → e ≡ true) → (a || (c && b)) ≡ true → (d || (c && e)) ≡ true
-either true b c d e f g h = ap (λ x. x || (c && e)) (f refl)
-either false true true true e f g h = refl
-either false true true false e f g h = g refl
-either false false true d e f g h = absurd (false≢true h)
-either false b false d e f g h = absurd (false≢true h)
-
-constant_more : (ks ls : List Called) (a : ℕ) (ts : Trees) → Extends ks ls → has_constant ks a ts ≡ true → has_constant ls a ts ≡ true
-constant_more ks ls a none g h = h
-constant_more ks ls a (more (var x) ts) g h = h
-constant_more ks ls a (more (int z) ts) g h = has_more ks ls (Integer a (count_trees (more (int z) ts)) z) g h
-constant_more ks ls a (more (atom b) ts) g h = has_more ks ls (Atom a (count_trees (more (atom b) ts)) b) g h
-constant_more ks ls a (more (node b us) ts) g h = h
+any_more : (P : Called → Bool) (ks ls : List Called) → Extends ks ls → list_any P ks ≡ true → list_any P ls ≡ true
+any_more P ks ls g h = ap (list_any P) g.1 ∙ list_any-append P ks g.0 ∙ ap (λ b. b || list_any P g.0) h
 
 module _ (w : Program) where
   among_more : (ks ls : List Called) (t : Tree) → Extends ks ls → IsAmong w ks t → IsAmong w ls t
-  among_more ks ls (var x) g h = h
-  among_more ks ls (int z) g h = h
-  among_more ks ls (atom a) g h = has_more ks ls (Whole a 0) g h
-  among_more ks ls (node a ts) g h =
-      either (has_call ks (Whole a (count_trees ts))) (has_constant ks a ts) (not (is_open (a, count_trees ts) w)) (has_call ls (Whole a (count_trees ts))) (has_constant ls a ts)
-      (has_more ks ls (Whole a (count_trees ts)) g) (constant_more ks ls a ts g) h
+  among_more ks ls t g h = any_more (λ k. answers w k t) ks ls g h
 
   all_among_more : (ks ls : List Called) (ts : Trees) → Extends ks ls → AreAmong w ks ts → AreAmong w ls ts
   all_among_more ks ls none g h = tt
@@ -193,15 +175,38 @@ reached_calls p ks c l r b h a e =
 
 -- ---- what a goal calls
 
-pub among-whole : (p : Program) (ks : List Called) (f : ℕ) (ts : Trees) → has_call ks (Whole f (count_trees ts)) ≡ true → is_among p ks (node f ts) ≡ true
-among-whole p ks f ts h = ap (λ b. b || (not (is_open (f, count_trees ts) p) && has_constant ks f ts)) h
-
-pub among-constant : (p : Program) (ks : List Called) (f : ℕ) (ts : Trees) → is_open (f, count_trees ts) p ≡ false → has_constant ks f ts ≡ true → is_among p ks (node f ts) ≡ true
-among-constant p ks f ts o h = ap₂ (λ b c. has_call ks (Whole f (count_trees ts)) || (not b && c)) o h ∙ last (has_call ks (Whole f (count_trees ts)))
+-- a goal of a call that is there is among them
+pub among-call : (p : Program) (ks : List Called) (k : Called) (t : Tree) → has_call ks k ≡ true → answers p k t ≡ true → is_among p ks t ≡ true
+among-call p [] k t h a = h
+among-call p (l ∷ ks) k t h a = go (is_called k l) refl h (among-call p ks k t)
   where
-    last : (b : Bool) → (b || true) ≡ true
-    last true = refl
-    last false = refl
+    behind : (b c : Bool) → c ≡ true → (b || c) ≡ true
+    behind true c e = refl
+    behind false c e = e
+
+    go : (b : Bool) → is_called k l ≡ b → (b || has_call ks k) ≡ true → (has_call ks k ≡ true → answers p k t ≡ true → is_among p ks t ≡ true) → (answers p l t || is_among p ks t) ≡ true
+    go true e i ih = ap (λ b. b || is_among p ks t) (ap (λ m. answers p m t) (sym (same_call k l e)) ∙ a)
+    go false e i ih = behind (answers p l t) (is_among p ks t) (ih i a)
+
+pub heads-count : (f n : ℕ) (ts : Trees) → n ≡ count_trees ts → heads (f, n) (node f ts) ≡ true
+heads-count f n ts e = ap (λ m. is_key (f, count_trees ts) (f, m)) e ∙ own_key (f, count_trees ts)
+
+pub whole-answers : (p : Program) (f : ℕ) (ts : Trees) → answers p (Whole f (count_trees ts)) (node f ts) ≡ true
+whole-answers p f ts = own_key (f, count_trees ts)
+
+-- all of its predicate answer what those for a constant do
+pub whole-instead : (p : Program) (k : Called) (t : Tree) → answers p k t ≡ true → answers p (Whole (key_of k).0 (key_of k).1) t ≡ true
+whole-instead p k t h = (and_parts (fits_in k t) (heads (key_of k) t) (and_parts (is_closed p k) (leads k t) h).1).1
+
+pub atom-answers : (p : Program) (f n i a : ℕ) (t : Tree) → is_open ((f, n), i) p ≡ false → heads (f, n) t ≡ true → argument_of t i ≡ Some (atom a) → answers p (Atom f n i a) t ≡ true
+atom-answers p f n i a t o h e =
+    both (not (is_open ((f, n), i) p)) (leads (Atom f n i a) t) (ap not o)
+    (both (fits_in (Atom f n i a) t) (heads (f, n) t) (ap (fits (Atom f n i a)) e ∙ (Decides-eqb a a).1 refl) h)
+
+pub integer-answers : (p : Program) (f n i : ℕ) (z : ℤ) (t : Tree) → is_open ((f, n), i) p ≡ false → heads (f, n) t ≡ true → argument_of t i ≡ Some (int z) → answers p (Integer f n i z) t ≡ true
+integer-answers p f n i z t o h e =
+    both (not (is_open ((f, n), i) p)) (leads (Integer f n i z) t) (ap not o)
+    (both (fits_in (Integer f n i z) t) (heads (f, n) t) (ap (fits (Integer f n i z)) e ∙ (Decides-int_eq z z).1 refl) h)
 
 -- ---- clauses by predicate
 
@@ -228,9 +233,9 @@ index_turn k cs i c old new l e n o = n ∙ ap (λ p. if leads k c.head then p +
 pub index_end : (k : Called) (cs : Program) (i : ℕ) (old : Program) → length cs ≤ i → old ≡ clauses_for k (take i cs) → old ≡ clauses_for k cs
 index_end k cs i old l o = o ∙ ap (clauses_for k) (take_all i cs l)
 
--- ---- predicates with a variable as a first argument
+-- ---- places with a variable
 
-pub open_turn : (k : Key) (cs : Program) (i : ℕ) (c : Clause) (old new : Bool) → i < length cs → c ≡ get_or cs i c → new ≡ (old || heads_open k c.head) → old ≡ is_open k (take i cs) → new ≡ is_open k (take (i + 1) cs)
+pub open_turn : (k : Place) (cs : Program) (i : ℕ) (c : Clause) (old new : Bool) → i < length cs → c ≡ get_or cs i c → new ≡ (old || heads_open k c.head) → old ≡ is_open k (take i cs) → new ≡ is_open k (take (i + 1) cs)
 open_turn k cs i c old new l e n o =
     n ∙ ap (λ b. b || heads_open k c.head) o
     ∙ sym (ap (is_open k) (take_more cs i c l) ∙ ap (λ d. is_open k (take i cs ++ d ∷ [])) (sym e) ∙ list_any-append (λ c. heads_open k c.head) (take i cs) (c ∷ []) ∙ ap (λ b. is_open k (take i cs) || b) (last (heads_open k c.head)))
@@ -239,51 +244,250 @@ open_turn k cs i c old new l e n o =
     last true = refl
     last false = refl
 
-pub open_end : (k : Key) (cs : Program) (i : ℕ) (old : Bool) → length cs ≤ i → old ≡ is_open k (take i cs) → old ≡ is_open k cs
+pub open_end : (k : Place) (cs : Program) (i : ℕ) (old : Bool) → length cs ≤ i → old ≡ is_open k (take i cs) → old ≡ is_open k cs
 open_end k cs i old l o = o ∙ ap (is_open k) (take_all i cs l)
 
 -- ---- arguments
 
-pub atom_called : (ks : List Called) (f : ℕ) (ts : List Term) (t : Term) (a : ℕ) → slice_get ts 0 ≡ Some t → t ≡ AtomTerm a → has_call ks (Atom f (length ts) a) ≡ true → has_constant ks f (trees_of ts) ≡ true
-atom_called ks f [] t a e d h = cc
-atom_called ks f (u ∷ ts) t a e d h =
-    let same : u ≡ t = cc in
-    subst (λ v. has_constant ks f (trees_of (v ∷ ts)) ≡ true) (sym (same ∙ d)) (ap (λ m. has_call ks (Atom f m a)) (count-trees_of (AtomTerm a ∷ ts)) ∙ h)
+pub argument-trees_of : (ts : List Term) (i : ℕ) (t : Term) → i < length ts → t ≡ get_or ts i t → argument (trees_of ts) i ≡ Some (tree_of t)
+argument-trees_of [] i t l e = absurd (omega arith)
+argument-trees_of (u ∷ ts) zero t l e = ap (λ v. Some (tree_of v)) (sym e)
+argument-trees_of (u ∷ ts) (suc i) t l e = argument-trees_of ts i t (omega arith) e
 
-pub integer_called : (ks : List Called) (f : ℕ) (ts : List Term) (t : Term) (z : ℤ) → slice_get ts 0 ≡ Some t → t ≡ IntTerm z → has_call ks (Integer f (length ts) z) ≡ true → has_constant ks f (trees_of ts) ≡ true
-integer_called ks f [] t z e d h = cc
-integer_called ks f (u ∷ ts) t z e d h =
-    let same : u ≡ t = cc in
-    subst (λ v. has_constant ks f (trees_of (v ∷ ts)) ≡ true) (sym (same ∙ d)) (ap (λ m. has_call ks (Integer f m z)) (count-trees_of (IntTerm z ∷ ts)) ∙ h)
+argument-within : (ts : Trees) (i : ℕ) (t : Tree) → argument ts i ≡ Some t → i < count_trees ts
+argument-within none i t e = cc
+argument-within (more u ts) zero t e = omega arith
+argument-within (more u ts) (suc i) t e = let r = argument-within ts i t e in omega arith
 
-atom_first : (k : Called) (f a : ℕ) (ts : List Term) → leads_first k (node f (trees_of (AtomTerm a ∷ ts))) ≡ is_called (Atom f (length (AtomTerm a ∷ ts)) a) k
-atom_first (Whole g n) f a ts = refl
-atom_first (Atom g n b) f a ts = ap (λ m. is_called (Atom f m a) (Atom g n b)) (count-trees_of (AtomTerm a ∷ ts))
-atom_first (Integer g n z) f a ts = refl
+-- the i-th place
+abbrev is_at : ℕ → Option ℕ → Bool
+is_at i None = false
+is_at i (Some j) = i == j
 
-integer_first : (k : Called) (f : ℕ) (z : ℤ) (ts : List Term) → leads_first k (node f (trees_of (IntTerm z ∷ ts))) ≡ is_called (Integer f (length (IntTerm z ∷ ts)) z) k
-integer_first (Whole g n) f z ts = refl
-integer_first (Atom g n b) f z ts = refl
-integer_first (Integer g n y) f z ts = ap (λ m. is_called (Integer f m z) (Integer g n y)) (count-trees_of (IntTerm z ∷ ts))
+before_more : (i : ℕ) (o : Option ℕ) → is_before (i + 1) o ≡ (is_before i o || is_at i o)
+before_more i None = refl
+before_more i (Some j) = go (nat_lt j i) refl (i == j) refl
+  where
+    go : (b : Bool) → nat_lt j i ≡ b → (c : Bool) → (i == j) ≡ c → nat_lt j (i + 1) ≡ (b || c)
+    go true e c f = let l = (Decides-ltb j i).0 e in (Decides-ltb j (i + 1)).1 (omega arith)
+    go false e true f = let s : i ≡ j = (Decides-eqb i j).0 f in (Decides-ltb j (i + 1)).1 (omega arith)
+    go false e false f = last (nat_lt j (i + 1)) refl
+      where
+        last : (d : Bool) → nat_lt j (i + 1) ≡ d → d ≡ false
+        last false g = refl
+        last true g = absurd (false≢true (sym (other (nat_lt j i) refl) ∙ either (i == j) refl))
+          where
+            other : (x : Bool) → nat_lt j i ≡ x → nat_lt j i ≡ false
+            other x y = e
 
-pub atom_leads : (k : Called) (f : ℕ) (ts : List Term) (t : Term) (a : ℕ) → slice_get ts 0 ≡ Some t → t ≡ AtomTerm a → is_called (Atom f (length ts) a) k ≡ leads_first k (node f (trees_of ts))
-atom_leads k f [] t a e d = cc
-atom_leads k f (u ∷ ts) t a e d =
-    let same : u ≡ t = cc in
-    subst (λ v. is_called (Atom f (length (v ∷ ts)) a) k ≡ leads_first k (node f (trees_of (v ∷ ts)))) (sym (same ∙ d)) (sym (atom_first k f a ts))
+            either : (x : Bool) → (i == j) ≡ x → nat_lt j i ≡ true
+            either x y = let l = (Decides-ltb j (i + 1)).0 g in (Decides-ltb j i).1 (below l)
+              where
+                below : j < i + 1 → j < i
+                below l = let n : (i ≡ j → ⊥) = λ s. false≢true (sym f ∙ (Decides-eqb i j).1 s) in omega arith
 
-pub integer_leads : (k : Called) (f : ℕ) (ts : List Term) (t : Term) (z : ℤ) → slice_get ts 0 ≡ Some t → t ≡ IntTerm z → is_called (Integer f (length ts) z) k ≡ leads_first k (node f (trees_of ts))
-integer_leads k f [] t z e d = cc
-integer_leads k f (u ∷ ts) t z e d =
-    let same : u ≡ t = cc in
-    subst (λ v. is_called (Integer f (length (v ∷ ts)) z) k ≡ leads_first k (node f (trees_of (v ∷ ts)))) (sym (same ∙ d)) (sym (integer_first k f z ts))
+before_once : (i : ℕ) (o : Option ℕ) → (is_before i o && is_at i o) ≡ false
+before_once i None = refl
+before_once i (Some j) = go (nat_lt j i) refl (i == j) refl
+  where
+    go : (b : Bool) → nat_lt j i ≡ b → (c : Bool) → (i == j) ≡ c → (b && c) ≡ false
+    go true e true f = let l = (Decides-ltb j i).0 e in let s : i ≡ j = (Decides-eqb i j).0 f in absurd (omega arith)
+    go true e false f = refl
+    go false e c f = refl
 
--- a clause that was put in for its predicate, and then for its first argument
+shuffle : (a b c d : Bool) → (a && (b && (c && d))) ≡ (c && (d && (a && b)))
+shuffle true true true true = refl
+shuffle true true true false = refl
+shuffle true true false d = refl
+shuffle true false true true = refl
+shuffle true false true false = refl
+shuffle true false false d = refl
+shuffle false b true true = refl
+shuffle false b true false = refl
+shuffle false b false d = refl
+
+never : (a : Bool) → false ≡ (a && false)
+never true = refl
+never false = refl
+
+is_for-atom : (f n i : ℕ) (t : Tree) (g m j b : ℕ) → is_for f n i t (Atom g m j b) ≡ (is_at i (Some j) && (fits (Atom g m j b) (Some t) && is_key (f, n) (g, m)))
+is_for-atom f n i (var x) g m j b = never (i == j)
+is_for-atom f n i (int z) g m j b = never (i == j)
+is_for-atom f n i (node c ts) g m j b = never (i == j)
+is_for-atom f n i (atom a) g m j b = shuffle (f == g) (n == m) (i == j) (a == b)
+
+is_for-integer : (f n i : ℕ) (t : Tree) (g m j : ℕ) (b : ℤ) → is_for f n i t (Integer g m j b) ≡ (is_at i (Some j) && (fits (Integer g m j b) (Some t) && is_key (f, n) (g, m)))
+is_for-integer f n i (var x) g m j b = never (i == j)
+is_for-integer f n i (atom a) g m j b = never (i == j)
+is_for-integer f n i (node c ts) g m j b = never (i == j)
+is_for-integer f n i (int z) g m j b = shuffle (f == g) (n == m) (i == j) (int_eq z b)
+
+is_for-whole : (f n i : ℕ) (t : Tree) (g m : ℕ) → is_for f n i t (Whole g m) ≡ false
+is_for-whole f n i (var x) g m = refl
+is_for-whole f n i (atom a) g m = refl
+is_for-whole f n i (int z) g m = refl
+is_for-whole f n i (node c ts) g m = refl
+
+-- where the place is the i-th, its argument is
+at_place : (P : Option Tree → Bool) (ts : Trees) (i j : ℕ) (t : Tree) → argument ts i ≡ Some t → ((i == j) && P (Some t)) ≡ ((i == j) && P (argument ts j))
+at_place P ts i j t e = go (i == j) refl
+  where
+    go : (b : Bool) → (i == j) ≡ b → (b && P (Some t)) ≡ (b && P (argument ts j))
+    go true f = ap P (sym e ∙ ap (argument ts) ((Decides-eqb i j).0 f))
+    go false f = refl
+
+is_for-leads : (k : Called) (f n i : ℕ) (ts : Trees) (t : Tree) → n ≡ count_trees ts → argument ts i ≡ Some t → is_for f n i t k ≡ (is_at i (place_of k) && leads k (node f ts))
+is_for-leads (Whole g m) f n i ts t c e = is_for-whole f n i t g m
+is_for-leads (Atom g m j b) f n i ts t c e =
+    is_for-atom f n i t g m j b ∙ at_place (λ o. fits (Atom g m j b) o && is_key (f, n) (g, m)) ts i j t e
+    ∙ ap (λ x. (i == j) && (fits (Atom g m j b) (argument ts j) && is_key (f, x) (g, m))) c
+is_for-leads (Integer g m j b) f n i ts t c e =
+    is_for-integer f n i t g m j b ∙ at_place (λ o. fits (Integer g m j b) o && is_key (f, n) (g, m)) ts i j t e
+    ∙ ap (λ x. (i == j) && (fits (Integer g m j b) (argument ts j) && is_key (f, x) (g, m))) c
+
+put_more : (a b l : Bool) (old : Program) (c : Clause) → (a && b) ≡ false → (if b && l then (if a && l then old ++ c ∷ [] else old) ++ c ∷ [] else (if a && l then old ++ c ∷ [] else old)) ≡ (if (a || b) && l then old ++ c ∷ [] else old)
+put_more true true l old c e = absurd (false≢true (sym e))
+put_more true false l old c e = refl
+put_more false true true old c e = refl
+put_more false true false old c e = refl
+put_more false false l old c e = refl
+
+-- a clause that was put in for one more argument
+pub place_turn : (k : Called) (f n i : ℕ) (ts : Trees) (t : Tree) (old mid new : Program) (c : Clause) → n ≡ count_trees ts → argument ts i ≡ Some t → mid ≡ (if leads_before i k (node f ts) then old ++ c ∷ [] else old)
+    → new ≡ (if is_for f n i t k then mid ++ c ∷ [] else mid) → new ≡ (if leads_before (i + 1) k (node f ts) then old ++ c ∷ [] else old)
+place_turn k f n i ts t old mid new c e d m h =
+    let l = leads k (node f ts) in
+    let a = is_before i (place_of k) in
+    let b = is_at i (place_of k) in
+    h ∙ ap₂ (λ x (p : Program). if x then p ++ c ∷ [] else p) (is_for-leads k f n i ts t e d) m ∙ put_more a b l old c (before_once i (place_of k))
+    ∙ ap (λ x. if x && l then old ++ c ∷ [] else old) (sym (before_more i (place_of k)))
+
+before_none : (o : Option ℕ) → is_before 0 o ≡ false
+before_none None = refl
+before_none (Some j) = go (nat_lt j 0) refl
+  where
+    go : (b : Bool) → nat_lt j 0 ≡ b → b ≡ false
+    go true e = let l = (Decides-ltb j 0).0 e in absurd (omega arith)
+    go false e = refl
+
+pub place_first : (k : Called) (t : Tree) (old : Program) (c : Clause) → old ≡ (if leads_before 0 k t then old ++ c ∷ [] else old)
+place_first k t old c = ap (λ b. if b && leads k t then old ++ c ∷ [] else old) (sym (before_none (place_of k)))
+
+pub place_end : (k : Called) (i n : ℕ) (t : Tree) (old new : Program) (c : Clause) → i ≡ n → new ≡ (if leads_before i k t then old ++ c ∷ [] else old) → new ≡ (if leads_before n k t then old ++ c ∷ [] else old)
+place_end k i n t old new c e h = h ∙ ap (λ j. if leads_before j k t then old ++ c ∷ [] else old) e
+
+-- all places are before the end
+fits-before : (k : Called) (j n : ℕ) (ts : Trees) (l : Bool) (old : Program) (c : Clause) → n ≡ count_trees ts → ((x : Bool) → fits k None ≡ x → x ≡ false)
+    → (if nat_lt j n && (fits k (argument ts j) && l) then old ++ c ∷ [] else old) ≡ (if fits k (argument ts j) && l then old ++ c ∷ [] else old)
+fits-before k j n ts l old c e v = go (argument ts j) refl
+  where
+    go : (o : Option Tree) → argument ts j ≡ o → (if nat_lt j n && (fits k o && l) then old ++ c ∷ [] else old) ≡ (if fits k o && l then old ++ c ∷ [] else old)
+    go (Some t) d = let w = argument-within ts j t d in ap (λ b. if b && (fits k (Some t) && l) then old ++ c ∷ [] else old) ((Decides-ltb j n).1 (omega arith))
+    go None d = ap (λ b. if nat_lt j n && (b && l) then old ++ c ∷ [] else old) (v (fits k None) refl) ∙ none (nat_lt j n) ∙ ap (λ b. if b && l then old ++ c ∷ [] else old) (sym (v (fits k None) refl))
+      where
+        none : (b : Bool) → (if b && false then old ++ c ∷ [] else old) ≡ old
+        none true = refl
+        none false = refl
+
+-- a clause that was put in for its predicate, and then for its arguments
 pub head_turn : (k : Called) (a n : ℕ) (ts : Trees) (old mid new : Program) (c : Clause) → n ≡ count_trees ts → mid ≡ (if is_called (Whole a n) k then old ++ c ∷ [] else old)
-    → new ≡ (if leads_first k (node a ts) then mid ++ c ∷ [] else mid) → new ≡ (if leads k (node a ts) then old ++ c ∷ [] else old)
+    → new ≡ (if leads_before n k (node a ts) then mid ++ c ∷ [] else mid) → new ≡ (if leads k (node a ts) then old ++ c ∷ [] else old)
 head_turn (Whole f m) a n ts old mid new c e d h = h ∙ d ∙ ap (λ i. if is_called (Whole a i) (Whole f m) then old ++ c ∷ [] else old) e
-head_turn (Atom f m b) a n ts old mid new c e d h = h ∙ ap (λ (p : Program). if leads_first (Atom f m b) (node a ts) then p ++ c ∷ [] else p) d
-head_turn (Integer f m b) a n ts old mid new c e d h = h ∙ ap (λ (p : Program). if leads_first (Integer f m b) (node a ts) then p ++ c ∷ [] else p) d
+head_turn (Atom f m i b) a n ts old mid new c e d h =
+    h ∙ ap (λ (p : Program). if leads_before n (Atom f m i b) (node a ts) then p ++ c ∷ [] else p) d
+    ∙ fits-before (Atom f m i b) i n ts (is_key (a, count_trees ts) (f, m)) old c e (λ x f. sym f)
+head_turn (Integer f m i b) a n ts old mid new c e d h =
+    h ∙ ap (λ (p : Program). if leads_before n (Integer f m i b) (node a ts) then p ++ c ∷ [] else p) d
+    ∙ fits-before (Integer f m i b) i n ts (is_key (a, count_trees ts) (f, m)) old c e (λ x f. sym f)
+
+-- ---- variables among arguments
+
+open_more : (k : Place) (f n i : ℕ) (ts : Trees) (t : Tree) → n ≡ count_trees ts → argument ts i ≡ Some t
+    → is_open_before (i + 1) k (node f ts) ≡ (is_open_before i k (node f ts) || (is_variable (Some t) && is_place ((f, n), i) k))
+open_more k f n i ts t c e =
+    ap (λ x. x && heads_open k (node f ts)) (before_more i (Some k.1))
+    ∙ apart (nat_lt k.1 i) (i == k.1) (heads_open k (node f ts))
+    ∙ ap (λ x. is_open_before i k (node f ts) || x)
+    (sym (at_place (λ o. is_variable o && is_key (f, count_trees ts) k.0) ts i k.1 t e) ∙ ap (λ x. (i == k.1) && (is_variable (Some t) && is_key (f, x) k.0)) (sym c)
+    ∙ turned (i == k.1) (is_variable (Some t)) (is_key (f, n) k.0))
+  where
+    apart : (a b l : Bool) → ((a || b) && l) ≡ ((a && l) || (b && l))
+    apart true true true = refl
+    apart true true false = refl
+    apart true false true = refl
+    apart true false false = refl
+    apart false b l = refl
+
+    turned : (a b l : Bool) → (a && (b && l)) ≡ (b && (l && a))
+    turned true true true = refl
+    turned true true false = refl
+    turned true false l = refl
+    turned false true true = refl
+    turned false true false = refl
+    turned false false l = refl
+
+pub open_place_turn : (k : Place) (f n i : ℕ) (ts : Trees) (t : Tree) (old mid new : Bool) → n ≡ count_trees ts → argument ts i ≡ Some t → mid ≡ (old || is_open_before i k (node f ts))
+    → new ≡ (mid || (is_variable (Some t) && is_place ((f, n), i) k)) → new ≡ (old || is_open_before (i + 1) k (node f ts))
+open_place_turn k f n i ts t old mid new c e m h =
+    h ∙ ap (λ x. x || (is_variable (Some t) && is_place ((f, n), i) k)) m
+    ∙ grouped old (is_open_before i k (node f ts)) (is_variable (Some t) && is_place ((f, n), i) k) ∙ ap (λ x. old || x) (sym (open_more k f n i ts t c e))
+  where
+    grouped : (a b l : Bool) → ((a || b) || l) ≡ (a || (b || l))
+    grouped true b l = refl
+    grouped false b l = refl
+
+pub open_place_first : (k : Place) (t : Tree) (old : Bool) → old ≡ (old || is_open_before 0 k t)
+open_place_first k t old = sym (ap (λ b. old || (b && heads_open k t)) (before_none (Some k.1)) ∙ last old)
+  where
+    last : (b : Bool) → (b || false) ≡ b
+    last true = refl
+    last false = refl
+
+pub open_before_all : (k : Place) (n f : ℕ) (ts : Trees) → n ≡ count_trees ts → is_open_before n k (node f ts) ≡ heads_open k (node f ts)
+open_before_all k n f ts e = go (argument ts k.1) refl
+  where
+    go : (o : Option Tree) → argument ts k.1 ≡ o → (nat_lt k.1 n && (is_variable o && is_key (f, count_trees ts) k.0)) ≡ (is_variable o && is_key (f, count_trees ts) k.0)
+    go (Some t) d = let w = argument-within ts k.1 t d in ap (λ b. b && (is_variable (Some t) && is_key (f, count_trees ts) k.0)) ((Decides-ltb k.1 n).1 (omega arith))
+    go None d = sym (never (nat_lt k.1 n))
+
+-- the test of the code
+pub called_eq : (k l : Called) → eq-value.it k l ≡ is_called k l
+called_eq (Whole f n) (Whole g m) = refl
+called_eq (Whole f n) (Atom g m j b) = refl
+called_eq (Whole f n) (Integer g m j b) = refl
+called_eq (Atom f n i a) (Whole g m) = refl
+called_eq (Atom f n i a) (Atom g m j b) = refl
+called_eq (Atom f n i a) (Integer g m j b) = refl
+called_eq (Integer f n i a) (Whole g m) = refl
+called_eq (Integer f n i a) (Atom g m j b) = refl
+called_eq (Integer f n i a) (Integer g m j b) = refl
+
+-- ---- what is put in
+
+pub place_kept : (b : Bool) (place : ℕ) (old new : Option ℕ) → (b ≡ true → old ≡ None) → new ≡ cond b (Some place) old → (i : ℕ) → old ≡ Some i → new ≡ Some i
+place_kept true place old new s e i h = let none = s refl in cc
+place_kept false place old new s e i h = e ∙ h
+
+any_same : (f g : Called → Bool) → ((x : Called) → f x ≡ g x) → (ks : List Called) → list_any f ks ≡ list_any g ks
+any_same f g h [] = refl
+any_same f g h (k ∷ ks) = ap₂ (λ a b. a || b) (h k) (any_same f g h ks)
+
+pub has_new : (b : Bool) (ks new : List Called) (v : Called) → list_any (eq-value.it v) ks ≡ b → new ≡ (if b then ks else ks ++ v ∷ []) → has_call new v ≡ true
+has_new true ks new v h e = ap (λ l. has_call l v) e ∙ sym (any_same (eq-value.it v) (is_called v) (called_eq v) ks) ∙ h
+has_new false ks new v h e = ap (λ l. has_call l v) e ∙ list_any-append (is_called v) ks (v ∷ []) ∙ ap (λ b. has_call ks v || (b || false)) (own_call v) ∙ last (has_call ks v)
+  where
+    last : (b : Bool) → (b || true) ≡ true
+    last true = refl
+    last false = refl
+
+pub has_old : (b : Bool) (ks new : List Called) (v k : Called) → new ≡ (if b then ks else ks ++ v ∷ []) → has_call new k ≡ true → (has_call ks k ≡ true) ⊎ (k ≡ v)
+has_old true ks new v k e h = inl (ap (λ l. has_call l k) (sym e) ∙ h)
+has_old false ks new v k e h = go (has_call ks k) refl (is_called k v) refl (sym (ap (λ l. has_call l k) e ∙ list_any-append (is_called k) ks (v ∷ [])) ∙ h)
+  where
+    go : (a : Bool) → has_call ks k ≡ a → (b : Bool) → is_called k v ≡ b → (a || (b || false)) ≡ true → (has_call ks k ≡ true) ⊎ (k ≡ v)
+    go true f b g i = inl f
+    go false f true g i = inr (same_call k v g)
+    go false f false g i = absurd (false≢true i)
 
 -- ---- clauses in an index
 
@@ -294,18 +498,6 @@ put_turn true before between after same own new c e f n s o =
     ap listed e ∙ ap (map (λ (r : Bor Clause). r.now)) n ∙ map-append (λ (r : Bor Clause). r.now) own.items (c ∷ [])
     ∙ ap (λ z. z ++ c.now ∷ []) (sym o ∙ ap listed (s refl))
 put_turn false before between after same own new c e f n s o = ap listed (e ∙ f)
-
--- the test of the code
-pub called_eq : (k l : Called) → eq-value.it k l ≡ is_called k l
-called_eq (Whole f n) (Whole g m) = refl
-called_eq (Whole f n) (Atom g m b) = refl
-called_eq (Whole f n) (Integer g m b) = refl
-called_eq (Atom f n a) (Whole g m) = refl
-called_eq (Atom f n a) (Atom g m b) = refl
-called_eq (Atom f n a) (Integer g m b) = refl
-called_eq (Integer f n a) (Whole g m) = refl
-called_eq (Integer f n a) (Atom g m b) = refl
-called_eq (Integer f n a) (Integer g m b) = refl
 
 pub lookup_same : {X : Type 0} (f g : Called → Bool) → ((x : Called) → f x ≡ g x) → (es : List (Called × X)) → lookup f es ≡ lookup g es
 lookup_same f g h [] = refl

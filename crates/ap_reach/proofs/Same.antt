@@ -1,6 +1,6 @@
 -- Programs that have the same ways on from each goal that comes up.
-use Rattle.std.proofs.Common.{◌≡◌, ℕ, zero, suc, ◌+◌, ◌-◌, ◌==◌, ℤ, Bool, true, false, not, ◌&&◌, ◌||◌, if◌then◌else◌, List, [], ◌∷◌, ◌++◌, map, Option, Some, None, refl, ap, ap₂, sym, ◌∙◌, subst, IsTrue}
-use Rattle.std.specs.List.{AllByRecursion, IsDistinct, flat_map}
+use Rattle.std.proofs.Common.{◌≡◌, ℕ, zero, suc, ◌+◌, ◌-◌, ◌==◌, Bool, true, false, not, ◌&&◌, ◌||◌, if◌then◌else◌, List, [], ◌∷◌, ◌++◌, map, option_map, Option, Some, None, refl, ap, ap₂, sym, ◌∙◌, subst, IsTrue}
+use Rattle.std.specs.List.{AllByRecursion, IsDistinct, flat_map, list_any}
 use Rattle.std.proofs.lemmas.Bool.{false≢true, and_parts}
 use Rattle.std.proofs.lemmas.Bool.Decides.{Decides-eqb, Decides-int_eq}
 use Rattle.std.specs.Ordering.{int_eq}
@@ -22,52 +22,53 @@ use Rattle.ap_term.proofs.TreeLists.{count_trees-instance_all}
 use Rattle.ap_term.proofs.GoalLists.{plain_goals-append, plain_goals-instance, plain_goals-opened}
 use Rattle.ap_reach.specs.declared.called.Called.{Called}
 use Rattle.ap_reach.specs.declared.called.Called.TheVariants.{All as Whole, Atom, Integer}
-use Rattle.ap_reach.specs.Reached.{Key, is_key, is_called, has_call, is_beside, heads, heads_open, is_open, leads, clauses_for, contribution, gathered, has_constant, IsAmong, AreAmong, BodyIsAmong, CallsAmong, IsReached}
+use Rattle.ap_reach.specs.Reached.{Key, is_key, is_called, has_call, key_of, place_of, is_beside, ArePlaced, heads, argument, argument_of, is_variable, fits, fits_in, heads_open, is_open, leads, is_closed, answers as answers_by, clauses_for, contribution, gathered, IsAmong, AreAmong, BodyIsAmong, CallsAmong, IsReached}
 use Rattle.ap_reach.specs.Laws.{AreSameFor, IsStateAmong}
 
 -- ---- calls
 
-same_key : (k l : Key) → is_key k l ≡ true → k ≡ l
+pub same_key : (k l : Key) → is_key k l ≡ true → k ≡ l
 same_key k l e =
     let b = and_parts (k.0 == l.0) (k.1 == l.1) e in
     let f : k.0 ≡ l.0 = (Decides-eqb k.0 l.0).0 b.0 in
     let g : k.1 ≡ l.1 = (Decides-eqb k.1 l.1).0 b.1 in
     ap (λ n. (n, k.1)) f ∙ ap (λ n. (l.0, n)) g
 
-own_key : (k : Key) → is_key k k ≡ true
+pub own_key : (k : Key) → is_key k k ≡ true
 own_key k = ap (λ b. b && (k.1 == k.1)) ((Decides-eqb k.0 k.0).1 refl) ∙ (Decides-eqb k.1 k.1).1 refl
-
-abbrev key_of : Called → Key
-key_of (Whole f n) = (f, n)
-key_of (Atom f n a) = (f, n)
-key_of (Integer f n z) = (f, n)
 
 pub same_call : (k l : Called) → is_called k l ≡ true → k ≡ l
 same_call (Whole f n) (Whole g m) e =
     let b = and_parts (f == g) (n == m) e in
     ap₂ (λ x y. Whole x y) ((Decides-eqb f g).0 b.0) ((Decides-eqb n m).0 b.1)
-same_call (Atom f n a) (Atom g m c) e =
-    let b = and_parts (f == g) ((n == m) && (a == c)) e in
-    let d = and_parts (n == m) (a == c) b.1 in
-    ap₂ (λ x y. Atom x y a) ((Decides-eqb f g).0 b.0) ((Decides-eqb n m).0 d.0) ∙ ap (Atom g m) ((Decides-eqb a c).0 d.1)
-same_call (Integer f n a) (Integer g m c) e =
-    let b = and_parts (f == g) ((n == m) && int_eq a c) e in
-    let d = and_parts (n == m) (int_eq a c) b.1 in
-    ap₂ (λ x y. Integer x y a) ((Decides-eqb f g).0 b.0) ((Decides-eqb n m).0 d.0) ∙ ap (Integer g m) ((Decides-int_eq a c).0 d.1)
-same_call (Whole f n) (Atom g m c) e = absurd (false≢true e)
-same_call (Whole f n) (Integer g m c) e = absurd (false≢true e)
-same_call (Atom f n a) (Whole g m) e = absurd (false≢true e)
-same_call (Atom f n a) (Integer g m c) e = absurd (false≢true e)
-same_call (Integer f n a) (Whole g m) e = absurd (false≢true e)
-same_call (Integer f n a) (Atom g m c) e = absurd (false≢true e)
+same_call (Atom f n i a) (Atom g m j c) e =
+    let b = and_parts (f == g) ((n == m) && ((i == j) && (a == c))) e in
+    let d = and_parts (n == m) ((i == j) && (a == c)) b.1 in
+    let x = and_parts (i == j) (a == c) d.1 in
+    ap₂ (λ y z. Atom y z i a) ((Decides-eqb f g).0 b.0) ((Decides-eqb n m).0 d.0) ∙ ap₂ (λ y z. Atom g m y z) ((Decides-eqb i j).0 x.0) ((Decides-eqb a c).0 x.1)
+same_call (Integer f n i a) (Integer g m j c) e =
+    let b = and_parts (f == g) ((n == m) && ((i == j) && int_eq a c)) e in
+    let d = and_parts (n == m) ((i == j) && int_eq a c) b.1 in
+    let x = and_parts (i == j) (int_eq a c) d.1 in
+    ap₂ (λ y z. Integer y z i a) ((Decides-eqb f g).0 b.0) ((Decides-eqb n m).0 d.0) ∙ ap₂ (λ y z. Integer g m y z) ((Decides-eqb i j).0 x.0) ((Decides-int_eq a c).0 x.1)
+same_call (Whole f n) (Atom g m j c) e = absurd (false≢true e)
+same_call (Whole f n) (Integer g m j c) e = absurd (false≢true e)
+same_call (Atom f n i a) (Whole g m) e = absurd (false≢true e)
+same_call (Atom f n i a) (Integer g m j c) e = absurd (false≢true e)
+same_call (Integer f n i a) (Whole g m) e = absurd (false≢true e)
+same_call (Integer f n i a) (Atom g m j c) e = absurd (false≢true e)
 
-both : (a b : Bool) → a ≡ true → b ≡ true → (a && b) ≡ true
+pub both : (a b : Bool) → a ≡ true → b ≡ true → (a && b) ≡ true
 both a b e f = ap (λ c. c && b) e ∙ f
 
-own_call : (k : Called) → is_called k k ≡ true
+pub own_call : (k : Called) → is_called k k ≡ true
 own_call (Whole f n) = both (f == f) (n == n) ((Decides-eqb f f).1 refl) ((Decides-eqb n n).1 refl)
-own_call (Atom f n a) = both (f == f) ((n == n) && (a == a)) ((Decides-eqb f f).1 refl) (both (n == n) (a == a) ((Decides-eqb n n).1 refl) ((Decides-eqb a a).1 refl))
-own_call (Integer f n a) = both (f == f) ((n == n) && int_eq a a) ((Decides-eqb f f).1 refl) (both (n == n) (int_eq a a) ((Decides-eqb n n).1 refl) ((Decides-int_eq a a).1 refl))
+own_call (Atom f n i a) =
+    both (f == f) ((n == n) && ((i == i) && (a == a))) ((Decides-eqb f f).1 refl)
+    (both (n == n) ((i == i) && (a == a)) ((Decides-eqb n n).1 refl) (both (i == i) (a == a) ((Decides-eqb i i).1 refl) ((Decides-eqb a a).1 refl)))
+own_call (Integer f n i a) =
+    both (f == f) ((n == n) && ((i == i) && int_eq a a)) ((Decides-eqb f f).1 refl)
+    (both (n == n) ((i == i) && int_eq a a) ((Decides-eqb n n).1 refl) (both (i == i) (int_eq a a) ((Decides-eqb i i).1 refl) ((Decides-int_eq a a).1 refl)))
 
 other_call : (k l : Called) → is_called k l ≡ false → is_called l k ≡ false
 other_call k l e = go (is_called l k) refl
@@ -78,25 +79,53 @@ other_call k l e = go (is_called l k) refl
 
 -- ---- goals that are among those that are called
 
-either : (a b c d : Bool) → (b ≡ true → d ≡ true) → (a || (c && b)) ≡ true → (a || (c && d)) ≡ true
-either true b c d f h = refl
-either false b true d f h = f h
-either false b false d f h = h
+argument-instance : (f : ℕ → Tree) (ts : Trees) (i : ℕ) → argument (instance_all f ts) i ≡ option_map (instance f) (argument ts i)
+argument-instance f none i = refl
+argument-instance f (more t ts) zero = refl
+argument-instance f (more t ts) (suc i) = argument-instance f ts i
 
-constant-instance : (ks : List Called) (a : ℕ) (f : ℕ → Tree) (ts : Trees) → has_constant ks a ts ≡ true → has_constant ks a (instance_all f ts) ≡ true
-constant-instance ks a f none h = h
-constant-instance ks a f (more (var x) ts) h = absurd (false≢true h)
-constant-instance ks a f (more (int z) ts) h = ap (λ n. has_call ks (Integer a n z)) (count_trees-instance_all f (more (int z) ts)) ∙ h
-constant-instance ks a f (more (atom b) ts) h = ap (λ n. has_call ks (Atom a n b)) (count_trees-instance_all f (more (atom b) ts)) ∙ h
-constant-instance ks a f (more (node b us) ts) h = absurd (false≢true h)
+fits-instance : (k : Called) (f : ℕ → Tree) (o : Option Tree) → fits k o ≡ true → fits k (option_map (instance f) o) ≡ true
+fits-instance (Whole g n) f o h = refl
+fits-instance (Atom g n i a) f None h = h
+fits-instance (Atom g n i a) f (Some (var x)) h = absurd (false≢true h)
+fits-instance (Atom g n i a) f (Some (int z)) h = h
+fits-instance (Atom g n i a) f (Some (atom b)) h = h
+fits-instance (Atom g n i a) f (Some (node b ts)) h = absurd (false≢true h)
+fits-instance (Integer g n i a) f None h = h
+fits-instance (Integer g n i a) f (Some (var x)) h = absurd (false≢true h)
+fits-instance (Integer g n i a) f (Some (int z)) h = h
+fits-instance (Integer g n i a) f (Some (atom b)) h = h
+fits-instance (Integer g n i a) f (Some (node b ts)) h = absurd (false≢true h)
+
+fits_in-instance : (k : Called) (f : ℕ → Tree) (b : ℕ) (ts : Trees) → fits_in k (node b ts) ≡ true → fits_in k (node b (instance_all f ts)) ≡ true
+fits_in-instance (Whole g n) f b ts h = refl
+fits_in-instance (Atom g n i a) f b ts h = ap (fits (Atom g n i a)) (argument-instance f ts i) ∙ fits-instance (Atom g n i a) f (argument ts i) h
+fits_in-instance (Integer g n i a) f b ts h = ap (fits (Integer g n i a)) (argument-instance f ts i) ∙ fits-instance (Integer g n i a) f (argument ts i) h
+
+leads-instance : (k : Called) (f : ℕ → Tree) (t : Tree) → leads k t ≡ true → leads k (instance f t) ≡ true
+leads-instance k f (var x) h = absurd (false≢true (and_parts (fits_in k (var x)) false h).1)
+leads-instance k f (int z) h = h
+leads-instance k f (atom b) h = h
+leads-instance k f (node b ts) h =
+    let r = and_parts (fits_in k (node b ts)) (heads (key_of k) (node b ts)) h in
+    both (fits_in k (node b (instance_all f ts))) (heads (key_of k) (node b (instance_all f ts))) (fits_in-instance k f b ts r.0) (ap (λ n. is_key (b, n) (key_of k)) (count_trees-instance_all f ts) ∙ r.1)
+
+any-weaker : (p q : Called → Bool) → ((k : Called) → p k ≡ true → q k ≡ true) → (ks : List Called) → list_any p ks ≡ true → list_any q ks ≡ true
+any-weaker p q f [] h = h
+any-weaker p q f (k ∷ ks) h = go (p k) refl h (any-weaker p q f ks)
+  where
+    right : (a b : Bool) → b ≡ true → (a || b) ≡ true
+    right true b e = refl
+    right false b e = e
+
+    go : (b : Bool) → p k ≡ b → (b || list_any p ks) ≡ true → (list_any p ks ≡ true → list_any q ks ≡ true) → (q k || list_any q ks) ≡ true
+    go true e i ih = ap (λ b. b || list_any q ks) (f k e)
+    go false e i ih = right (q k) (list_any q ks) (ih i)
 
 instance-among : (w : Program) (ks : List Called) (f : ℕ → Tree) (t : Tree) → IsAmong w ks t → IsAmong w ks (instance f t)
-instance-among w ks f (var x) h = absurd (false≢true h)
-instance-among w ks f (int z) h = h
-instance-among w ks f (atom b) h = h
-instance-among w ks f (node b ts) h =
-    ap (λ n. has_call ks (Whole b n) || (not (is_open (b, n) w) && has_constant ks b (instance_all f ts))) (count_trees-instance_all f ts)
-    ∙ either (has_call ks (Whole b (count_trees ts))) (has_constant ks b ts) (not (is_open (b, count_trees ts) w)) (has_constant ks b (instance_all f ts)) (constant-instance ks b f ts) h
+instance-among w ks f t h =
+    any-weaker (λ k. answers_by w k t) (λ k. answers_by w k (instance f t))
+    (λ k a. let r = and_parts (is_closed w k) (leads k t) a in both (is_closed w k) (leads k (instance f t)) r.0 (leads-instance k f t r.1)) ks h
 
 instances-among : (w : Program) (ks : List Called) (f : ℕ → Tree) (ts : Trees) → AreAmong w ks ts → AreAmong w ks (instance_all f ts)
 instances-among w ks f none h = tt
@@ -258,125 +287,113 @@ one-key k l g e f = same_key k l (sym (heads-key l g k e) ∙ f)
 
 -- what is called for a constant is of its predicate
 leads-heads : (k : Called) (h : Tree) → leads k h ≡ true → heads (key_of k) h ≡ true
-leads-heads (Whole f n) h e = e
-leads-heads (Atom f n a) (node g (more (atom b) ts)) e =
-    let d = same_call (Atom g (count_trees (more (atom b) ts)) b) (Atom f n a) e in
-    ap (λ m. is_key (g, count_trees (more (atom b) ts)) (key_of m)) (sym d) ∙ own_key (g, count_trees (more (atom b) ts))
-leads-heads (Atom f n a) (node g (more (var x) ts)) e = absurd (false≢true e)
-leads-heads (Atom f n a) (node g (more (int z) ts)) e = absurd (false≢true e)
-leads-heads (Atom f n a) (node g (more (node b us) ts)) e = absurd (false≢true e)
-leads-heads (Atom f n a) (node g none) e = absurd (false≢true e)
-leads-heads (Atom f n a) (var x) e = absurd (false≢true e)
-leads-heads (Atom f n a) (int z) e = absurd (false≢true e)
-leads-heads (Atom f n a) (atom b) e = absurd (false≢true e)
-leads-heads (Integer f n z) (node g (more (int y) ts)) e =
-    let d = same_call (Integer g (count_trees (more (int y) ts)) y) (Integer f n z) e in
-    ap (λ m. is_key (g, count_trees (more (int y) ts)) (key_of m)) (sym d) ∙ own_key (g, count_trees (more (int y) ts))
-leads-heads (Integer f n a) (node g (more (var x) ts)) e = absurd (false≢true e)
-leads-heads (Integer f n a) (node g (more (atom z) ts)) e = absurd (false≢true e)
-leads-heads (Integer f n a) (node g (more (node b us) ts)) e = absurd (false≢true e)
-leads-heads (Integer f n a) (node g none) e = absurd (false≢true e)
-leads-heads (Integer f n a) (var x) e = absurd (false≢true e)
-leads-heads (Integer f n a) (int z) e = absurd (false≢true e)
-leads-heads (Integer f n a) (atom b) e = absurd (false≢true e)
+leads-heads k h e = (and_parts (fits_in k h) (heads (key_of k) h) e).1
 
 -- ---- a goal's clauses
 
 abbrev Unify : Tree → Tree → Type 0
 Unify g h = (f u : ℕ → Tree) → instance u g ≡ instance u (instance f h) → ⊥
 
-count-same : (f u : ℕ → Tree) (a c : ℕ) (ts us : Trees) → instance u (node a ts) ≡ instance u (instance f (node c us)) → count_trees ts ≡ count_trees us
-count-same f u a c ts us e =
-    let args : instance_all u ts ≡ instance_all u (instance_all f us) = cc in
-    sym (count_trees-instance_all u ts) ∙ ap count_trees args ∙ count_trees-instance_all u (instance_all f us) ∙ count_trees-instance_all f us
+named-instance : (f : ℕ → Tree) (t : Tree) → is_named t ≡ true → is_named (instance f t) ≡ true
+named-instance f (var x) h = absurd (false≢true h)
+named-instance f (int z) h = h
+named-instance f (atom a) h = h
+named-instance f (node a ts) h = h
 
--- a head of another predicate
-apart-whole : (k : Key) (g h : Tree) → is_named g ≡ true → is_named h ≡ true → heads k g ≡ true → heads k h ≡ false → Unify g h
-apart-whole k g h o n e d f u i = false≢true (sym d ∙ sym (same-heads k f u g h o n i) ∙ e)
+argument_of-instance : (f : ℕ → Tree) (t : Tree) (i : ℕ) → is_named t ≡ true → argument_of (instance f t) i ≡ option_map (instance f) (argument_of t i)
+argument_of-instance f (var x) i h = absurd (false≢true h)
+argument_of-instance f (int z) i h = refl
+argument_of-instance f (atom a) i h = refl
+argument_of-instance f (node a ts) i h = argument-instance f ts i
 
--- a head with another first argument
-apart-atom : (a b : ℕ) (ts : Trees) (h : Tree) → is_named h ≡ true → heads_open (a, count_trees (more (atom b) ts)) h ≡ false → leads (Atom a (count_trees (more (atom b) ts)) b) h ≡ false → Unify (node a (more (atom b) ts)) h
-apart-atom a b ts (var x) n o l f u e = false≢true n
-apart-atom a b ts (int z) n o l f u e = false≢true n
-apart-atom a b ts (atom c) n o l f u e = cc
-apart-atom a b ts (node c none) n o l f u e = cc
-apart-atom a b ts (node c (more (var x) us)) n o l f u e =
-    let k : Key = (a, count_trees (more (atom b) ts)) in
-    false≢true (sym o ∙ sym (same-heads k f u (node a (more (atom b) ts)) (node c (more (var x) us)) refl refl e) ∙ own_key k)
-apart-atom a b ts (node c (more (int z) us)) n o l f u e = cc
-apart-atom a b ts (node c (more (atom d) us)) n o l f u e =
-    let m = count_trees (more (atom b) ts) in
-    let x : c ≡ a = cc in
-    let y : d ≡ b = cc in
-    let z = count-same f u a c (more (atom b) ts) (more (atom d) us) e in
-    false≢true (sym l ∙ ap₂ (λ v w. is_called (Atom v w d) (Atom a m b)) x (sym z) ∙ ap (λ v. is_called (Atom a m v) (Atom a m b)) y ∙ own_call (Atom a m b))
-apart-atom a b ts (node c (more (node d vs) us)) n o l f u e = cc
+-- an argument that isn't a variable, beside that of a goal that unifies with its head
+fits-both : (k : Called) (u w : ℕ → Tree) (x y : Option Tree) → option_map (instance u) x ≡ option_map (instance u) (option_map (instance w) y) → fits k x ≡ true → is_variable y ≡ false → fits k y ≡ true
+fits-both (Whole f n) u w x y e h v = refl
+fits-both (Atom f n i a) u w (Some (atom b)) (Some (atom c)) e h v = let d : b ≡ c = cc in ap (λ z. z == a) (sym d) ∙ h
+fits-both (Atom f n i a) u w (Some (atom b)) (Some (var c)) e h v = absurd (false≢true (sym v))
+fits-both (Atom f n i a) u w (Some (atom b)) (Some (int c)) e h v = cc
+fits-both (Atom f n i a) u w (Some (atom b)) (Some (node c ts)) e h v = cc
+fits-both (Atom f n i a) u w (Some (atom b)) None e h v = cc
+fits-both (Atom f n i a) u w (Some (var b)) y e h v = absurd (false≢true h)
+fits-both (Atom f n i a) u w (Some (int b)) y e h v = absurd (false≢true h)
+fits-both (Atom f n i a) u w (Some (node b ts)) y e h v = absurd (false≢true h)
+fits-both (Atom f n i a) u w None y e h v = absurd (false≢true h)
+fits-both (Integer f n i a) u w (Some (int b)) (Some (int c)) e h v = let d : b ≡ c = cc in ap (λ z. int_eq z a) (sym d) ∙ h
+fits-both (Integer f n i a) u w (Some (int b)) (Some (var c)) e h v = absurd (false≢true (sym v))
+fits-both (Integer f n i a) u w (Some (int b)) (Some (atom c)) e h v = cc
+fits-both (Integer f n i a) u w (Some (int b)) (Some (node c ts)) e h v = cc
+fits-both (Integer f n i a) u w (Some (int b)) None e h v = cc
+fits-both (Integer f n i a) u w (Some (var b)) y e h v = absurd (false≢true h)
+fits-both (Integer f n i a) u w (Some (atom b)) y e h v = absurd (false≢true h)
+fits-both (Integer f n i a) u w (Some (node b ts)) y e h v = absurd (false≢true h)
+fits-both (Integer f n i a) u w None y e h v = absurd (false≢true h)
 
-apart-integer : (a : ℕ) (b : ℤ) (ts : Trees) (h : Tree) → is_named h ≡ true → heads_open (a, count_trees (more (int b) ts)) h ≡ false → leads (Integer a (count_trees (more (int b) ts)) b) h ≡ false → Unify (node a (more (int b) ts)) h
-apart-integer a b ts (var x) n o l f u e = false≢true n
-apart-integer a b ts (int z) n o l f u e = false≢true n
-apart-integer a b ts (atom c) n o l f u e = cc
-apart-integer a b ts (node c none) n o l f u e = cc
-apart-integer a b ts (node c (more (var x) us)) n o l f u e =
-    let k : Key = (a, count_trees (more (int b) ts)) in
-    false≢true (sym o ∙ sym (same-heads k f u (node a (more (int b) ts)) (node c (more (var x) us)) refl refl e) ∙ own_key k)
-apart-integer a b ts (node c (more (atom z) us)) n o l f u e = cc
-apart-integer a b ts (node c (more (int d) us)) n o l f u e =
-    let m = count_trees (more (int b) ts) in
-    let x : c ≡ a = cc in
-    let y : d ≡ b = cc in
-    let z = count-same f u a c (more (int b) ts) (more (int d) us) e in
-    false≢true (sym l ∙ ap₂ (λ v w. is_called (Integer v w d) (Integer a m b)) x (sym z) ∙ ap (λ v. is_called (Integer a m v) (Integer a m b)) y ∙ own_call (Integer a m b))
-apart-integer a b ts (node c (more (node d vs) us)) n o l f u e = cc
+-- a constant
+fits-constant : (k : Called) (i : ℕ) (o : Option Tree) → place_of k ≡ Some i → fits k o ≡ true → is_variable o ≡ false
+fits-constant (Whole f n) i o p h = cc
+fits-constant (Atom f n j a) i None p h = refl
+fits-constant (Atom f n j a) i (Some (var x)) p h = absurd (false≢true h)
+fits-constant (Atom f n j a) i (Some (int z)) p h = refl
+fits-constant (Atom f n j a) i (Some (atom b)) p h = refl
+fits-constant (Atom f n j a) i (Some (node b ts)) p h = refl
+fits-constant (Integer f n j a) i None p h = refl
+fits-constant (Integer f n j a) i (Some (var x)) p h = absurd (false≢true h)
+fits-constant (Integer f n j a) i (Some (int z)) p h = refl
+fits-constant (Integer f n j a) i (Some (atom b)) p h = refl
+fits-constant (Integer f n j a) i (Some (node b ts)) p h = refl
 
--- a head that leads to clauses for an atom, beside a goal with an atom or an integer
-first-atom : (a b : ℕ) (ts : Trees) (f n d : ℕ) (h : Tree) → leads (Atom f n d) h ≡ true → (d ≡ b → ⊥) → Unify (node a (more (atom b) ts)) h
-first-atom a b ts f n d (node c (more (atom d') us)) l other w u e =
-    let m = same_call (Atom c (count_trees (more (atom d') us)) d') (Atom f n d) l in
-    let x : d' ≡ d = cc in
-    let y : b ≡ d' = cc in
-    other (sym x ∙ sym y)
-first-atom a b ts f n d (node c (more (var x) us)) l other w u e = false≢true l
-first-atom a b ts f n d (node c (more (int z) us)) l other w u e = false≢true l
-first-atom a b ts f n d (node c (more (node z vs) us)) l other w u e = false≢true l
-first-atom a b ts f n d (node c none) l other w u e = false≢true l
-first-atom a b ts f n d (var x) l other w u e = false≢true l
-first-atom a b ts f n d (int z) l other w u e = false≢true l
-first-atom a b ts f n d (atom z) l other w u e = false≢true l
+-- an argument is one constant
+one-constant : (k l : Called) (i j : ℕ) (o : Option Tree) → key_of k ≡ key_of l → place_of k ≡ Some i → place_of l ≡ Some j → i ≡ j → fits k o ≡ true → fits l o ≡ true → is_called l k ≡ true
+one-constant (Whole f n) l i j o e p q s h m = cc
+one-constant (Atom f n x a) (Whole g y) i j o e p q s h m = cc
+one-constant (Integer f n x a) (Whole g y) i j o e p q s h m = cc
+one-constant (Atom f n x a) (Atom g y z b) i j (Some (atom c)) e p q s h m =
+    let ca : c ≡ a = (Decides-eqb c a).0 h in
+    let cb : c ≡ b = (Decides-eqb c b).0 m in
+    let fg : f ≡ g = ap (λ (v : Key). v.0) e in
+    let ny : n ≡ y = ap (λ (v : Key). v.1) e in
+    let xi : x ≡ i = cc in
+    let zj : z ≡ j = cc in
+    ap₂ (λ v w. is_called (Atom g y z b) (Atom v w x a)) fg ny ∙ ap₂ (λ v w. is_called (Atom g y z b) (Atom g y v w)) (xi ∙ s ∙ sym zj) (sym ca ∙ cb) ∙ own_call (Atom g y z b)
+one-constant (Integer f n x a) (Integer g y z b) i j (Some (int c)) e p q s h m =
+    let ca : c ≡ a = (Decides-int_eq c a).0 h in
+    let cb : c ≡ b = (Decides-int_eq c b).0 m in
+    let fg : f ≡ g = ap (λ (v : Key). v.0) e in
+    let ny : n ≡ y = ap (λ (v : Key). v.1) e in
+    let xi : x ≡ i = cc in
+    let zj : z ≡ j = cc in
+    ap₂ (λ v w. is_called (Integer g y z b) (Integer v w x a)) fg ny ∙ ap₂ (λ v w. is_called (Integer g y z b) (Integer g y v w)) (xi ∙ s ∙ sym zj) (sym ca ∙ cb) ∙ own_call (Integer g y z b)
+one-constant (Atom f n x a) (Integer g y z b) i j (Some (atom c)) e p q s h m = absurd (false≢true m)
+one-constant (Integer f n x a) (Atom g y z b) i j (Some (int c)) e p q s h m = absurd (false≢true m)
+one-constant (Atom f n x a) (Atom g y z b) i j None e p q s h m = absurd (false≢true h)
+one-constant (Atom f n x a) (Atom g y z b) i j (Some (var c)) e p q s h m = absurd (false≢true h)
+one-constant (Atom f n x a) (Atom g y z b) i j (Some (int c)) e p q s h m = absurd (false≢true h)
+one-constant (Atom f n x a) (Atom g y z b) i j (Some (node c ts)) e p q s h m = absurd (false≢true h)
+one-constant (Atom f n x a) (Integer g y z b) i j None e p q s h m = absurd (false≢true h)
+one-constant (Atom f n x a) (Integer g y z b) i j (Some (var c)) e p q s h m = absurd (false≢true h)
+one-constant (Atom f n x a) (Integer g y z b) i j (Some (int c)) e p q s h m = absurd (false≢true h)
+one-constant (Atom f n x a) (Integer g y z b) i j (Some (node c ts)) e p q s h m = absurd (false≢true h)
+one-constant (Integer f n x a) (Integer g y z b) i j None e p q s h m = absurd (false≢true h)
+one-constant (Integer f n x a) (Integer g y z b) i j (Some (var c)) e p q s h m = absurd (false≢true h)
+one-constant (Integer f n x a) (Integer g y z b) i j (Some (atom c)) e p q s h m = absurd (false≢true h)
+one-constant (Integer f n x a) (Integer g y z b) i j (Some (node c ts)) e p q s h m = absurd (false≢true h)
+one-constant (Integer f n x a) (Atom g y z b) i j None e p q s h m = absurd (false≢true h)
+one-constant (Integer f n x a) (Atom g y z b) i j (Some (var c)) e p q s h m = absurd (false≢true h)
+one-constant (Integer f n x a) (Atom g y z b) i j (Some (atom c)) e p q s h m = absurd (false≢true h)
+one-constant (Integer f n x a) (Atom g y z b) i j (Some (node c ts)) e p q s h m = absurd (false≢true h)
 
-first-integer : (a : ℕ) (b : ℤ) (ts : Trees) (f n : ℕ) (d : ℤ) (h : Tree) → leads (Integer f n d) h ≡ true → (d ≡ b → ⊥) → Unify (node a (more (int b) ts)) h
-first-integer a b ts f n d (node c (more (int d') us)) l other w u e =
-    let m = same_call (Integer c (count_trees (more (int d') us)) d') (Integer f n d) l in
-    let x : d' ≡ d = cc in
-    let y : b ≡ d' = cc in
-    other (sym x ∙ sym y)
-first-integer a b ts f n d (node c (more (var x) us)) l other w u e = false≢true l
-first-integer a b ts f n d (node c (more (atom z) us)) l other w u e = false≢true l
-first-integer a b ts f n d (node c (more (node z vs) us)) l other w u e = false≢true l
-first-integer a b ts f n d (node c none) l other w u e = false≢true l
-first-integer a b ts f n d (var x) l other w u e = false≢true l
-first-integer a b ts f n d (int z) l other w u e = false≢true l
-first-integer a b ts f n d (atom z) l other w u e = false≢true l
+-- a head's argument is what it is called for
+fits-place : (k : Called) (i : ℕ) (t : Tree) → place_of k ≡ Some i → fits_in k t ≡ fits k (argument_of t i)
+fits-place (Whole f n) i t e = refl
+fits-place (Atom f n j a) i t e = let d : j ≡ i = cc in ap (λ m. fits (Atom f n j a) (argument_of t m)) d
+fits-place (Integer f n j a) i t e = let d : j ≡ i = cc in ap (λ m. fits (Integer f n j a) (argument_of t m)) d
 
-mixed-integer : (a b : ℕ) (ts : Trees) (f n : ℕ) (d : ℤ) (h : Tree) → leads (Integer f n d) h ≡ true → Unify (node a (more (atom b) ts)) h
-mixed-integer a b ts f n d (node c (more (int d') us)) l w u e = cc
-mixed-integer a b ts f n d (node c (more (var x) us)) l w u e = false≢true l
-mixed-integer a b ts f n d (node c (more (atom z) us)) l w u e = false≢true l
-mixed-integer a b ts f n d (node c (more (node z vs) us)) l w u e = false≢true l
-mixed-integer a b ts f n d (node c none) l w u e = false≢true l
-mixed-integer a b ts f n d (var x) l w u e = false≢true l
-mixed-integer a b ts f n d (int z) l w u e = false≢true l
-mixed-integer a b ts f n d (atom z) l w u e = false≢true l
-
-mixed-atom : (a : ℕ) (b : ℤ) (ts : Trees) (f n d : ℕ) (h : Tree) → leads (Atom f n d) h ≡ true → Unify (node a (more (int b) ts)) h
-mixed-atom a b ts f n d (node c (more (atom d') us)) l w u e = cc
-mixed-atom a b ts f n d (node c (more (var x) us)) l w u e = false≢true l
-mixed-atom a b ts f n d (node c (more (int z) us)) l w u e = false≢true l
-mixed-atom a b ts f n d (node c (more (node z vs) us)) l w u e = false≢true l
-mixed-atom a b ts f n d (node c none) l w u e = false≢true l
-mixed-atom a b ts f n d (var x) l w u e = false≢true l
-mixed-atom a b ts f n d (int z) l w u e = false≢true l
-mixed-atom a b ts f n d (atom z) l w u e = false≢true l
+-- the argument of a head that unifies with a goal
+fits-head : (k : Called) (i : ℕ) (g h : Tree) (w u : ℕ → Tree) → place_of k ≡ Some i → is_named g ≡ true → is_named h ≡ true → instance u g ≡ instance u (instance w h)
+    → fits k (argument_of g i) ≡ true → is_variable (argument_of h i) ≡ false → fits k (argument_of h i) ≡ true
+fits-head k i g h w u p o m j e v =
+    fits-both k u w (argument_of g i) (argument_of h i)
+    (sym (argument_of-instance u g i o) ∙ ap (λ t. argument_of t i) j ∙ argument_of-instance u (instance w h) i (named-instance w h m) ∙ ap (option_map (instance u)) (argument_of-instance w h i m)) e v
 
 -- which of those that are called has a goal's clauses: all of them, and no other one has any of them
 record Chosen (p : Program) (ks : List Called) (g : Tree) : Type 0 where
@@ -389,98 +406,127 @@ record Chosen (p : Program) (ks : List Called) (g : Tree) : Type 0 where
 abbrev Named : Program → Type 0
 Named p = AllByRecursion (λ (c : Clause). is_named c.head ≡ true) p
 
-own-whole : (k : Key) (g : Tree) → is_named g ≡ true → heads k g ≡ true → (p : Program) → Named p → AllByRecursion (λ (c : Clause). leads (Whole k.0 k.1) c.head ≡ false → Unify g c.head) p
-own-whole k g o e [] good = tt
-own-whole k g o e (c ∷ p) good = (λ d. apart-whole k g c.head o good.0 e d, own-whole k g o e p good.1)
+-- a head that unifies with a goal and is led to is of the goal's predicate
+same-predicate : (k : Key) (l : Called) (g h : Tree) (f u : ℕ → Tree) → is_named g ≡ true → heads k g ≡ true → is_named h ≡ true → leads l h ≡ true → instance u g ≡ instance u (instance f h) → k ≡ key_of l
+same-predicate k l g h f u o e n d i = one-key k (key_of l) g e (same-heads (key_of l) f u g h o n i ∙ leads-heads l h d)
 
 none-left : (a b : Bool) → (a || b) ≡ false → (a ≡ false) × (b ≡ false)
 none-left true b e = absurd (false≢true (sym e))
 none-left false b e = (refl, e)
 
-own-atom : (a b : ℕ) (ts : Trees) (p : Program) → Named p → is_open (a, count_trees (more (atom b) ts)) p ≡ false
-    → AllByRecursion (λ (c : Clause). leads (Atom a (count_trees (more (atom b) ts)) b) c.head ≡ false → Unify (node a (more (atom b) ts)) c.head) p
-own-atom a b ts [] good o = tt
-own-atom a b ts (c ∷ p) good o =
-    let k : Key = (a, count_trees (more (atom b) ts)) in
-    let r = none-left (heads_open k c.head) (is_open k p) o in
-    (λ d. apart-atom a b ts c.head good.0 r.0 d, own-atom a b ts p good.1 r.1)
+not-both : (a b : Bool) → b ≡ true → (a && b) ≡ false → a ≡ false
+not-both true b e f = absurd (false≢true (sym f ∙ e))
+not-both false b e f = refl
 
-own-integer : (a : ℕ) (b : ℤ) (ts : Trees) (p : Program) → Named p → is_open (a, count_trees (more (int b) ts)) p ≡ false
-    → AllByRecursion (λ (c : Clause). leads (Integer a (count_trees (more (int b) ts)) b) c.head ≡ false → Unify (node a (more (int b) ts)) c.head) p
-own-integer a b ts [] good o = tt
-own-integer a b ts (c ∷ p) good o =
-    let k : Key = (a, count_trees (more (int b) ts)) in
-    let r = none-left (heads_open k c.head) (is_open k p) o in
-    (λ d. apart-integer a b ts c.head good.0 r.0 d, own-integer a b ts p good.1 r.1)
+-- ---- all of a predicate
 
--- a head that unifies with a goal and is led to is of the goal's predicate
-same-predicate : (k : Key) (l : Called) (g h : Tree) (f u : ℕ → Tree) → is_named g ≡ true → heads k g ≡ true → is_named h ≡ true → leads l h ≡ true → instance u g ≡ instance u (instance f h) → k ≡ key_of l
-same-predicate k l g h f u o e n d i = one-key k (key_of l) g e (same-heads (key_of l) f u g h o n i ∙ leads-heads l h d)
+own-whole : (k : Key) (g : Tree) → is_named g ≡ true → heads k g ≡ true → (p : Program) → Named p → AllByRecursion (λ (c : Clause). leads (Whole k.0 k.1) c.head ≡ false → Unify g c.head) p
+own-whole k g o e [] good = tt
+own-whole k g o e (c ∷ p) good = (λ d w u j. false≢true (sym d ∙ sym (same-heads k w u g c.head o good.0 j) ∙ e), own-whole k g o e p good.1)
 
 others-whole : (ks : List Called) (k : Key) (g : Tree) → is_named g ≡ true → heads k g ≡ true → has_call ks (Whole k.0 k.1) ≡ true
     → (l : Called) → has_call ks l ≡ true → is_called l (Whole k.0 k.1) ≡ false → is_beside ks l ≡ false → (h : Tree) → is_named h ≡ true → leads l h ≡ true → Unify g h
 others-whole ks k g o e t (Whole f n) i s b h nh d w u j =
     let m = same-predicate k (Whole f n) g h w u o e nh d j in
     false≢true (sym s ∙ ap (λ (q : Key). is_called (Whole f n) (Whole q.0 q.1)) m ∙ own_call (Whole f n))
-others-whole ks k g o e t (Atom f n a) i s b h nh d w u j =
-    let m = same-predicate k (Atom f n a) g h w u o e nh d j in
+others-whole ks k g o e t (Atom f n x a) i s b h nh d w u j =
+    let m = same-predicate k (Atom f n x a) g h w u o e nh d j in
     false≢true (sym b ∙ ap (λ (q : Key). has_call ks (Whole q.0 q.1)) (sym m) ∙ t)
-others-whole ks k g o e t (Integer f n z) i s b h nh d w u j =
-    let m = same-predicate k (Integer f n z) g h w u o e nh d j in
+others-whole ks k g o e t (Integer f n x z) i s b h nh d w u j =
+    let m = same-predicate k (Integer f n x z) g h w u o e nh d j in
     false≢true (sym b ∙ ap (λ (q : Key). has_call ks (Whole q.0 q.1)) (sym m) ∙ t)
-
-others-atom : (ks : List Called) (a b : ℕ) (ts : Trees) → has_call ks (Whole a (count_trees (more (atom b) ts))) ≡ false
-    → (l : Called) → has_call ks l ≡ true → is_called l (Atom a (count_trees (more (atom b) ts)) b) ≡ false → is_beside ks l ≡ false → (h : Tree) → is_named h ≡ true → leads l h ≡ true
-    → Unify (node a (more (atom b) ts)) h
-others-atom ks a b ts t (Whole f n) i s x h nh d w u j =
-    let k : Key = (a, count_trees (more (atom b) ts)) in
-    let m = same-predicate k (Whole f n) (node a (more (atom b) ts)) h w u refl (own_key k) nh d j in
-    false≢true (sym t ∙ ap (λ (q : Key). has_call ks (Whole q.0 q.1)) m ∙ i)
-others-atom ks a b ts t (Atom f n e) i s x h nh d w u j =
-    let k : Key = (a, count_trees (more (atom b) ts)) in
-    let m = same-predicate k (Atom f n e) (node a (more (atom b) ts)) h w u refl (own_key k) nh d j in
-    first-atom a b ts f n e h d
-    (λ y. false≢true (sym s ∙ ap (λ (q : Key). is_called (Atom f n e) (Atom q.0 q.1 b)) m ∙ ap (λ v. is_called (Atom f n e) (Atom f n v)) (sym y) ∙ own_call (Atom f n e))) w u j
-others-atom ks a b ts t (Integer f n e) i s x h nh d w u j = mixed-integer a b ts f n e h d w u j
-
-others-integer : (ks : List Called) (a : ℕ) (b : ℤ) (ts : Trees) → has_call ks (Whole a (count_trees (more (int b) ts))) ≡ false
-    → (l : Called) → has_call ks l ≡ true → is_called l (Integer a (count_trees (more (int b) ts)) b) ≡ false → is_beside ks l ≡ false → (h : Tree) → is_named h ≡ true → leads l h ≡ true
-    → Unify (node a (more (int b) ts)) h
-others-integer ks a b ts t (Whole f n) i s x h nh d w u j =
-    let k : Key = (a, count_trees (more (int b) ts)) in
-    let m = same-predicate k (Whole f n) (node a (more (int b) ts)) h w u refl (own_key k) nh d j in
-    false≢true (sym t ∙ ap (λ (q : Key). has_call ks (Whole q.0 q.1)) m ∙ i)
-others-integer ks a b ts t (Integer f n e) i s x h nh d w u j =
-    let k : Key = (a, count_trees (more (int b) ts)) in
-    let m = same-predicate k (Integer f n e) (node a (more (int b) ts)) h w u refl (own_key k) nh d j in
-    first-integer a b ts f n e h d
-    (λ y. false≢true (sym s ∙ ap (λ (q : Key). is_called (Integer f n e) (Integer q.0 q.1 b)) m ∙ ap (λ v. is_called (Integer f n e) (Integer f n v)) (sym y) ∙ own_call (Integer f n e))) w u j
-others-integer ks a b ts t (Atom f n e) i s x h nh d w u j = mixed-atom a b ts f n e h d w u j
 
 chosen-whole : (p : Program) (ks : List Called) (k : Key) (g : Tree) → Named p → is_named g ≡ true → heads k g ≡ true → has_call ks (Whole k.0 k.1) ≡ true → Chosen p ks g
 chosen-whole p ks k g good o e t = record { call = Whole k.0 k.1; there = t; alone = refl; own = own-whole k g o e p good; others = others-whole ks k g o e t }
 
--- for its first argument, where not all of its predicate are called
-chosen-first : (p : Program) (ks : List Called) (a : ℕ) (ts : Trees) → Named p → has_call ks (Whole a (count_trees ts)) ≡ false → is_open (a, count_trees ts) p ≡ false → has_constant ks a ts ≡ true → Chosen p ks (node a ts)
-chosen-first p ks a none good t o h = absurd (false≢true h)
-chosen-first p ks a (more (var x) ts) good t o h = absurd (false≢true h)
-chosen-first p ks a (more (node b us) ts) good t o h = absurd (false≢true h)
-chosen-first p ks a (more (atom b) ts) good t o h = record { call = Atom a (count_trees (more (atom b) ts)) b; there = h; alone = t; own = own-atom a b ts p good o; others = others-atom ks a b ts t }
-chosen-first p ks a (more (int b) ts) good t o h = record { call = Integer a (count_trees (more (int b) ts)) b; there = h; alone = t; own = own-integer a b ts p good o; others = others-integer ks a b ts t }
+-- ---- those for a constant, where not all of the predicate are called
 
-and-not : (a b : Bool) → (not a && b) ≡ true → (a ≡ false) × (b ≡ true)
-and-not true b e = absurd (false≢true e)
-and-not false b e = (refl, e)
+module _ (k : Called) (i : ℕ) (place : place_of k ≡ Some i) (g : Tree) (o : is_named g ≡ true) (e : heads (key_of k) g ≡ true) (fit : fits k (argument_of g i) ≡ true) where
+  own-constant : (p : Program) → Named p → is_open (key_of k, i) p ≡ false → AllByRecursion (λ (c : Clause). leads k c.head ≡ false → Unify g c.head) p
+  own-constant [] good v = tt
+  own-constant (c ∷ p) good v =
+      let r = none-left (heads_open (key_of k, i) c.head) (is_open (key_of k, i) p) v in (
+        λ d w u j.
+            let hd : heads (key_of k) c.head ≡ true = sym (same-heads (key_of k) w u g c.head o good.0 j) ∙ e in
+            let closed = not-both (is_variable (argument_of c.head i)) (heads (key_of k) c.head) hd r.0 in
+            let there = fits-place k i c.head place ∙ fits-head k i g c.head w u place o good.0 j fit closed in
+            false≢true (sym d ∙ both (fits_in k c.head) (heads (key_of k) c.head) there hd),
+        own-constant p good.1 r.1,
+      )
 
-chosen : (p : Program) (ks : List Called) (g : Tree) → Named p → IsAmong p ks g → Chosen p ks g
-chosen p ks (var x) good h = absurd (false≢true h)
-chosen p ks (int z) good h = absurd (false≢true h)
-chosen p ks (atom a) good h = chosen-whole p ks (a, 0) (atom a) good refl (own_key (a, 0)) h
-chosen p ks (node a ts) good h = go (has_call ks (Whole a (count_trees ts))) refl h
+  module _ (ks : List Called) (placed : ArePlaced ks) (there : has_call ks k ≡ true) (alone : has_call ks (Whole (key_of k).0 (key_of k).1) ≡ false) where
+    others-at : (l : Called) (x : ℕ) → place_of l ≡ Some x → has_call ks l ≡ true → is_called l k ≡ false → (h : Tree) → is_named h ≡ true → leads l h ≡ true → Unify g h
+    others-at l x at il s h nh d w u j =
+        let m = same-predicate (key_of k) l g h w u o e nh d j in
+        let ix = placed k l i x there il m place at in
+        let fl : fits l (argument_of h i) ≡ true = ap (λ y. fits l (argument_of h y)) ix ∙ sym (fits-place l x h at) ∙ (and_parts (fits_in l h) (heads (key_of l) h) d).0 in
+        let fk = fits-head k i g h w u place o nh j fit (fits-constant l x (argument_of h i) at fl) in
+        false≢true (sym s ∙ one-constant k l i x (argument_of h i) m place at ix fk fl)
+
+    others-constant : (l : Called) → has_call ks l ≡ true → is_called l k ≡ false → is_beside ks l ≡ false → (h : Tree) → is_named h ≡ true → leads l h ≡ true → Unify g h
+    others-constant (Whole f n) il s b h nh d w u j =
+        let m = same-predicate (key_of k) (Whole f n) g h w u o e nh d j in
+        false≢true (sym alone ∙ ap (λ (q : Key). has_call ks (Whole q.0 q.1)) m ∙ il)
+    others-constant (Atom f n x a) il s b h nh d w u j = others-at (Atom f n x a) x refl il s h nh d w u j
+    others-constant (Integer f n x a) il s b h nh d w u j = others-at (Integer f n x a) x refl il s h nh d w u j
+
+alone-constant : (ks : List Called) (k : Called) → has_call ks (Whole (key_of k).0 (key_of k).1) ≡ false → is_beside ks k ≡ false
+alone-constant ks (Whole f n) h = refl
+alone-constant ks (Atom f n i a) h = h
+alone-constant ks (Integer f n i a) h = h
+
+closed-not : (b : Bool) → not b ≡ true → b ≡ false
+closed-not true h = absurd (false≢true h)
+closed-not false h = refl
+
+heads-named : (k : Key) (g : Tree) → heads k g ≡ true → is_named g ≡ true
+heads-named k (var x) h = absurd (false≢true h)
+heads-named k (int z) h = absurd (false≢true h)
+heads-named k (atom a) h = refl
+heads-named k (node a ts) h = refl
+
+chosen-constant : (p : Program) (ks : List Called) (k : Called) (i : ℕ) (g : Tree) → Named p → ArePlaced ks → place_of k ≡ Some i → has_call ks k ≡ true → is_open (key_of k, i) p ≡ false → leads k g ≡ true
+    → has_call ks (Whole (key_of k).0 (key_of k).1) ≡ false → Chosen p ks g
+chosen-constant p ks k i g good placed at there v d t =
+    let r = and_parts (fits_in k g) (heads (key_of k) g) d in
+    let o = heads-named (key_of k) g r.1 in
+    let fit = sym (fits-place k i g at) ∙ r.0 in
+    record { call = k; there = there; alone = alone-constant ks k t; own = own-constant k i at g o r.1 fit p good v; others = others-constant k i at g o r.1 fit ks placed there t }
+
+by-call : (p : Program) (ks : List Called) (k : Called) (g : Tree) → Named p → ArePlaced ks → has_call ks k ≡ true → answers_by p k g ≡ true → has_call ks (Whole (key_of k).0 (key_of k).1) ≡ false → Chosen p ks g
+by-call p ks (Whole f n) g good placed there a t = absurd (false≢true (sym t ∙ there))
+by-call p ks (Atom f n i a) g good placed there h t =
+    let r = and_parts (not (is_open ((f, n), i) p)) (leads (Atom f n i a) g) h in
+    chosen-constant p ks (Atom f n i a) i g good placed refl there (closed-not (is_open ((f, n), i) p) r.0) r.1 t
+by-call p ks (Integer f n i a) g good placed there h t =
+    let r = and_parts (not (is_open ((f, n), i) p)) (leads (Integer f n i a) g) h in
+    chosen-constant p ks (Integer f n i a) i g good placed refl there (closed-not (is_open ((f, n), i) p) r.0) r.1 t
+
+record Found (P : Called → Bool) (ks : List Called) : Type 0 where
+  call : Called
+  there : has_call ks call ≡ true
+  holds : P call ≡ true
+
+some-call : (P : Called → Bool) (ks : List Called) → list_any P ks ≡ true → Found P ks
+some-call P [] h = absurd (false≢true h)
+some-call P (k ∷ ks) h = go (P k) refl h (some-call P ks)
   where
-    go : (b : Bool) → has_call ks (Whole a (count_trees ts)) ≡ b → (b || (not (is_open (a, count_trees ts) p) && has_constant ks a ts)) ≡ true → Chosen p ks (node a ts)
-    go true t i = chosen-whole p ks (a, count_trees ts) (node a ts) good refl (own_key (a, count_trees ts)) t
-    go false t i = let r = and-not (is_open (a, count_trees ts) p) (has_constant ks a ts) i in chosen-first p ks a ts good t r.0 r.1
+    behind : (a b : Bool) → b ≡ true → (a || b) ≡ true
+    behind true b e = refl
+    behind false b e = e
+
+    go : (b : Bool) → P k ≡ b → (b || list_any P ks) ≡ true → (list_any P ks ≡ true → Found P ks) → Found P (k ∷ ks)
+    go true e i ih = record { call = k; there = ap (λ b. b || has_call ks k) (own_call k); holds = e }
+    go false e i ih = let r = ih i in record { call = r.call; there = behind (is_called r.call k) (has_call ks r.call) r.there; holds = r.holds }
+
+chosen : (p : Program) (ks : List Called) (g : Tree) → Named p → ArePlaced ks → IsAmong p ks g → Chosen p ks g
+chosen p ks g good placed h =
+    let k = some-call (λ k. answers_by p k g) ks h in
+    go k.call k.there k.holds (leads-heads k.call g (and_parts (is_closed p k.call) (leads k.call g) k.holds).1) (has_call ks (Whole (key_of k.call).0 (key_of k.call).1)) refl
+  where
+    go : (k : Called) → has_call ks k ≡ true → answers_by p k g ≡ true → heads (key_of k) g ≡ true → (b : Bool) → has_call ks (Whole (key_of k).0 (key_of k).1) ≡ b → Chosen p ks g
+    go k there a e true t = chosen-whole p ks (key_of k) g good (heads-named (key_of k) g e) e t
+    go k there a e false t = by-call p ks k g good placed there a t
 
 -- ---- its ways on
 
@@ -574,7 +620,7 @@ module _ (p : Program) (q : Query) (r : Program) (good : IsProgram p) (part : Is
   joined-ways : AreSameFor p part.called (joined p q) (joined r q)
   joined-ways n g o =
       let good' = good-heads p (recursion_from_All IsClause p good) in
-      let k = chosen p part.called g good' o in
+      let k = chosen p part.called g good' part.placed o in
       flat_map-append (clause_way n g) r (q.question ∷ q.lifted)
       ∙ ap (λ ws. ws ++ flat_map (clause_way n g) (q.question ∷ q.lifted)) (ap (flat_map (clause_way n g)) part.clauses ∙ gathered-ways n g p part.called good' k part.called part.once (has-all part.called) k.there)
       ∙ sym (flat_map-append (clause_way n g) p (q.question ∷ q.lifted))

@@ -1,5 +1,5 @@
 -- What goals call, and a program's clauses for this.
-use Rattle.std.specs.Prelude.{◌≡◌, ℕ, Bool, true, false, not, ◌&&◌, ◌||◌, ◌==◌, if◌then◌else◌, List, [], ◌++◌, IsTrue}
+use Rattle.std.specs.Prelude.{◌≡◌, ℕ, zero, suc, nat_lt, Bool, true, false, not, ◌&&◌, ◌==◌, if◌then◌else◌, List, [], ◌++◌, Option, Some, None, IsTrue}
 use Rattle.std.specs.List.{All, IsDistinct, filter, flat_map, list_any}
 use Rattle.std.specs.Ordering.{int_eq}
 use Rattle.ap_term.specs.Tree.{Tree, Trees, var, int, atom, node, none, more, count_trees}
@@ -15,11 +15,30 @@ Key = ℕ × ℕ
 abbrev pub is_key : Key → Key → Bool
 is_key k l = (k.0 == l.0) && (k.1 == l.1)
 
+-- the predicate of an argument, and its place, counted from 0
+abbrev pub Place : Type 0
+Place = Key × ℕ
+
+abbrev pub is_place : Place → Place → Bool
+is_place k l = is_key k.0 l.0 && (k.1 == l.1)
+
 abbrev pub is_called : Called → Called → Bool
 is_called (Whole f n) (Whole g m) = (f == g) && (n == m)
-is_called (Atom f n a) (Atom g m b) = (f == g) && ((n == m) && (a == b))
-is_called (Integer f n a) (Integer g m b) = (f == g) && ((n == m) && int_eq a b)
+is_called (Atom f n i a) (Atom g m j b) = (f == g) && ((n == m) && ((i == j) && (a == b)))
+is_called (Integer f n i a) (Integer g m j b) = (f == g) && ((n == m) && ((i == j) && int_eq a b))
 is_called _ _ = false
+
+-- the predicate of what is called
+abbrev pub key_of : Called → Key
+key_of (Whole f n) = (f, n)
+key_of (Atom f n i a) = (f, n)
+key_of (Integer f n i z) = (f, n)
+
+-- the place of the constant, where clauses for one are called
+abbrev pub place_of : Called → Option ℕ
+place_of (Whole f n) = None
+place_of (Atom f n i a) = Some i
+place_of (Integer f n i z) = Some i
 
 abbrev pub has_call : List Called → Called → Bool
 has_call ks k = list_any (is_called k) ks
@@ -27,8 +46,12 @@ has_call ks k = list_any (is_called k) ks
 -- whether clauses for a constant are called beside all of their predicate
 abbrev pub is_beside : List Called → Called → Bool
 is_beside ks (Whole f n) = false
-is_beside ks (Atom f n a) = has_call ks (Whole f n)
-is_beside ks (Integer f n z) = has_call ks (Whole f n)
+is_beside ks (Atom f n i a) = has_call ks (Whole f n)
+is_beside ks (Integer f n i z) = has_call ks (Whole f n)
+
+-- constants of one predicate are at one place, so that no clause has two of them
+abbrev pub ArePlaced : List Called → Type 0
+ArePlaced ks = (k l : Called) (i j : ℕ) → has_call ks k ≡ true → has_call ks l ≡ true → key_of k ≡ key_of l → place_of k ≡ Some i → place_of l ≡ Some j → i ≡ j
 
 -- some were put behind others
 abbrev pub Extends : List Called → List Called → Type 0
@@ -42,25 +65,61 @@ heads k (atom a) = is_key (a, 0) k
 heads k (node a ts) = is_key (a, count_trees ts) k
 heads k _ = false
 
--- whether its first argument is a variable besides
-abbrev pub heads_open : Key → Tree → Bool
-heads_open k (node a (more (var x) ts)) = is_key (a, count_trees (more (var x) ts)) k
-heads_open k _ = false
+-- the argument at a place
+abbrev pub argument : Trees → ℕ → Option Tree
+argument none i = None
+argument (more t ts) zero = Some t
+argument (more t ts) (suc i) = argument ts i
 
--- whether a clause of the predicate has a variable as its first argument
-abbrev pub is_open : Key → Program → Bool
-is_open k p = list_any (λ c. heads_open k c.head) p
+abbrev pub argument_of : Tree → ℕ → Option Tree
+argument_of (node f ts) i = argument ts i
+argument_of _ i = None
 
--- whether clauses for a constant are called, and the head has it as its first argument
-abbrev pub leads_first : Called → Tree → Bool
-leads_first (Atom f n a) (node g (more (atom b) ts)) = is_called (Atom g (count_trees (more (atom b) ts)) b) (Atom f n a)
-leads_first (Integer f n z) (node g (more (int y) ts)) = is_called (Integer g (count_trees (more (int y) ts)) y) (Integer f n z)
-leads_first _ _ = false
+abbrev pub is_variable : Option Tree → Bool
+is_variable (Some (var x)) = true
+is_variable _ = false
+
+-- whether an argument is the constant, where clauses for one are called
+abbrev pub fits : Called → Option Tree → Bool
+fits (Whole f n) o = true
+fits (Atom f n i a) (Some (atom b)) = b == a
+fits (Integer f n i z) (Some (int y)) = int_eq y z
+fits _ _ = false
+
+abbrev pub fits_in : Called → Tree → Bool
+fits_in (Whole f n) t = true
+fits_in (Atom f n i a) t = fits (Atom f n i a) (argument_of t i)
+fits_in (Integer f n i z) t = fits (Integer f n i z) (argument_of t i)
 
 -- whether a clause with this head is called
 abbrev pub leads : Called → Tree → Bool
-leads (Whole f n) t = heads (f, n) t
-leads k t = leads_first k t
+leads k t = fits_in k t && heads (key_of k) t
+
+abbrev pub is_before : ℕ → Option ℕ → Bool
+is_before i None = false
+is_before i (Some j) = nat_lt j i
+
+-- whether it is called for a constant at a place before the i-th
+abbrev pub leads_before : ℕ → Called → Tree → Bool
+leads_before i k t = is_before i (place_of k) && leads k t
+
+-- whether clauses for this argument at the i-th place are called
+abbrev pub is_for : ℕ → ℕ → ℕ → Tree → Called → Bool
+is_for f n i (atom a) k = is_called (Atom f n i a) k
+is_for f n i (int z) k = is_called (Integer f n i z) k
+is_for f n i _ k = false
+
+-- whether a head of the predicate has a variable at the place
+abbrev pub heads_open : Place → Tree → Bool
+heads_open k t = is_variable (argument_of t k.1) && heads k.0 t
+
+-- the same, of places before the i-th
+abbrev pub is_open_before : ℕ → Place → Tree → Bool
+is_open_before i k t = nat_lt k.1 i && heads_open k t
+
+-- whether a clause of the predicate has a variable at the place
+abbrev pub is_open : Place → Program → Bool
+is_open k p = list_any (λ c. heads_open k c.head) p
 
 abbrev pub clauses_for : Called → Program → Program
 clauses_for k p = filter (λ c. leads k c.head) p
@@ -78,19 +137,19 @@ gathered ks ls p = flat_map (contribution ks p) ls
 
 -- ---- goals
 
--- whether clauses for the first of the arguments are called
-abbrev pub has_constant : List Called → ℕ → Trees → Bool
-has_constant ks f (more (atom a) ts) = has_call ks (Atom f (count_trees (more (atom a) ts)) a)
-has_constant ks f (more (int z) ts) = has_call ks (Integer f (count_trees (more (int z) ts)) z)
-has_constant ks f _ = false
+-- whether no clause is left out that has a variable in the place of the constant
+abbrev pub is_closed : Program → Called → Bool
+is_closed p (Whole f n) = true
+is_closed p (Atom f n i a) = not (is_open ((f, n), i) p)
+is_closed p (Integer f n i z) = not (is_open ((f, n), i) p)
 
--- whether all clauses are called that a goal, whatever its variables are, can unify with: those of its predicate, or those for its
--- first argument, where none has a variable there
+-- whether all clauses that a goal, whatever its variables are, can unify with are called by this: those of its predicate, or those
+-- for one of its arguments, where none has a variable there
+abbrev pub answers : Program → Called → Tree → Bool
+answers p k t = is_closed p k && leads k t
+
 abbrev pub is_among : Program → List Called → Tree → Bool
-is_among p ks (var x) = false
-is_among p ks (int z) = false
-is_among p ks (atom a) = has_call ks (Whole a 0)
-is_among p ks (node f ts) = has_call ks (Whole f (count_trees ts)) || (not (is_open (f, count_trees ts) p) && has_constant ks f ts)
+is_among p ks t = list_any (λ k. answers p k t) ks
 
 abbrev pub IsAmong : Program → List Called → Tree → Type 0
 IsAmong p ks t = is_among p ks t ≡ true
@@ -123,5 +182,6 @@ IsPartNamed p ks (group cs ts) = AreNamed p ks ts
 pub record IsReached (p : Program) (q : Query) (r : Program) : Type 0 where
   pub called : List Called
   pub once : IsDistinct is_called called
+  pub placed : ArePlaced called
   pub clauses : r ≡ gathered called called p
   pub among : CallsAmong p called (joined r q)

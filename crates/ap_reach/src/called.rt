@@ -1,46 +1,101 @@
 //! What goals call, each once, in the order in which it came up.
 
-ghost use Rattle.std.specs.Prelude.{◌≡◌, [], true, slice_get, OnOk};
+ghost use Rattle.std.specs.Prelude.{◌≡◌, ℕ, true, [], Some, slice_get, IfOk, OnOk};
 ghost use Rattle.std.specs.List.{IsDistinct};
-ghost use Rattle.ap_reach.specs.Reached.{is_called, has_call, is_beside, Extends};
+ghost use Rattle.indexmap.specs.IndexMap.{get};
+ghost use Rattle.ap_term.specs.Tree.{Tree};
+ghost use Rattle.ap_term.specs.Goals.{Program as Clauses};
+ghost use Rattle.ap_reach.specs.Reached.{Key, is_key, is_called, is_beside, key_of, place_of, answers, is_among, Extends, ArePlaced};
+ghost use Rattle.ap_reach.specs.Index.{IsPlacedIn};
 
 use ap_term::NoMemory;
-use indexmap::IndexSet;
+use indexmap::{IndexMap, IndexSet};
 use std::alloc::Global;
 use std::marker::Model;
 
-/// The clauses that a goal can call: by the name and arity of a predicate, all of them, or those for a constant as the first argument.
+/// The clauses that a goal can call: by the name and arity of a predicate, all of them, or those with a constant as the argument at a
+/// place, which is counted from 0.
 #[derive(Clone, Copy, Debug, PartialEq, Eq, Hash)]
 pub enum Called {
     All(u32, usize),
-    Atom(u32, usize, u32),
-    Integer(u32, usize, i64),
+    Atom(u32, usize, usize, u32),
+    Integer(u32, usize, usize, i64),
 }
 
 impl Called {
     ghost use Rattle.ap_reach.specs.declared.called.Called.TheVariants.{Integer};
 
     /// The clauses for an integer.
-    pub fn integer(name: u32, arity: usize, z: i64) -> Called
-        ensures { result ≡ Integer name arity z }
+    pub fn integer(name: u32, arity: usize, place: usize, z: i64) -> Called
+        ensures { result ≡ Integer name arity place z }
     {
-        Called::Integer(name, arity, z)
+        Called::Integer(name, arity, place, z)
     }
 }
 
-/// What is called, each at its number.
+/// The place of the constants for which clauses of a predicate are called.
+type Places = IndexMap<(u32, usize), usize>;
+
+/// What is called where clauses for a constant are asked for: these, or all of the predicate where others are called for a constant
+/// at another place, since some could be there twice.
+fn place_constant(
+    places: &mut Places,
+    name: u32,
+    arity: usize,
+    place: usize,
+    call: Called,
+) -> Result<Called, NoMemory>
+    requires key { key_of call ≡ (name, arity) }
+    requires place { place_of call ≡ Some place }
+    ensures kept { (k : Key) (i : ℕ) → get is_key places.old k ≡ Some i → get is_key places.new k ≡ Some i }
+    ensures placed { IfOk result (λ r. IsPlacedIn places.new r) }
+    ensures answers { IfOk result (λ r. (p : Clauses) (t : Tree) → answers p call t ≡ true → answers p r t ≡ true) }
+{
+    match places.get(&(name, arity)) {
+        Some(held) => {
+            if *held == place {
+                Ok(call)
+            } else {
+                Ok(Called::All(name, arity))
+            }
+        }
+        None => {
+            places.insert((name, arity), place)?;
+            Ok(call)
+        }
+    }
+}
+
+/// What is called for this, so that each predicate has constants at one place.
+fn place_call(places: &mut Places, call: Called) -> Result<Called, NoMemory>
+    ensures kept { (k : Key) (i : ℕ) → get is_key places.old k ≡ Some i → get is_key places.new k ≡ Some i }
+    ensures placed { IfOk result (λ r. IsPlacedIn places.new r) }
+    ensures answers { IfOk result (λ r. (p : Clauses) (t : Tree) → answers p call t ≡ true → answers p r t ≡ true) }
+{
+    match call {
+        Called::All(_, _) => Ok(call),
+        Called::Atom(name, arity, place, _) => place_constant(places, name, arity, place, call),
+        Called::Integer(name, arity, place, _) => place_constant(places, name, arity, place, call),
+    }
+}
+
+/// What is called, each at its number. All constants of a predicate are at one place.
 #[derive(Drop)]
 pub struct Calls {
     calls: IndexSet<Called>,
+    places: Places,
 }
 
 impl Model for Calls {
     ghost use Rattle.std.specs.Prelude.{List};
     ghost use Rattle.ap_reach.specs.declared.called.Called.{Called};
+    ghost use Rattle.ap_reach.specs.Index.{ArePlacedIn};
 
     ghost Value = { List Called };
 
     ghost view = { λ a. a.calls.keys };
+
+    ghost invariant = { λ a. ArePlacedIn a.places a.calls.keys };
 }
 
 impl Calls {
@@ -49,15 +104,17 @@ impl Calls {
     {
         Calls {
             calls: IndexSet::new(alloc),
+            places: IndexMap::new(alloc),
         }
     }
 
-    /// Adds what a goal calls, where it isn't there yet.
+    /// Adds what a goal calls, or all clauses of its predicate, where it isn't there yet.
     pub fn add(&mut self, call: Called) -> Result<(), NoMemory>
         ensures extends { OnOk result (Extends self.old self.new) }
-        ensures has { OnOk result (has_call self.new call ≡ true) }
+        ensures among { OnOk result ((p : Clauses) (t : Tree) → answers p call t ≡ true → is_among p self.new t ≡ true) }
     {
-        self.calls.insert_full(call)?;
+        let placed = place_call(&mut self.places, call)?;
+        self.calls.insert_full(placed)?;
         Ok(())
     }
 
@@ -72,6 +129,7 @@ impl Calls {
     pub fn as_slice(&self) -> &[Called]
         ensures same { result.now ≡ self.now }
         ensures once { IsDistinct is_called self.now }
+        ensures placed { ArePlaced self.now }
     {
         self.calls.as_slice()
     }
@@ -82,8 +140,8 @@ impl Calls {
     {
         match call {
             Called::All(_, _) => false,
-            Called::Atom(name, arity, _) => self.calls.contains(&Called::All(name, arity)),
-            Called::Integer(name, arity, _) => self.calls.contains(&Called::All(name, arity)),
+            Called::Atom(name, arity, _, _) => self.calls.contains(&Called::All(name, arity)),
+            Called::Integer(name, arity, _, _) => self.calls.contains(&Called::All(name, arity)),
         }
     }
 }

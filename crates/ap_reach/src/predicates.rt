@@ -1,11 +1,11 @@
-//! A program's clauses, found by the name and arity of their heads, and by constants that are first arguments.
+//! A program's clauses, found by the name and arity of their heads, and by constants that are arguments.
 
-ghost use Rattle.std.specs.Prelude.{◌≡◌, ℕ, true, ◌||◌, [], ◌∷◌, ◌++◌, List, if◌then◌else◌, map, IfOk, OnOk};
+ghost use Rattle.std.specs.Prelude.{◌≡◌, ◌||◌, ◌&&◌, Some, [], ◌∷◌, ◌++◌, length, if◌then◌else◌, map, IfOk, OnOk};
 ghost use Rattle.std.specs.List.{list_any};
 ghost use Rattle.ap_term.specs.Tree.{node};
-ghost use Rattle.ap_term.specs.TermView.{trees_of};
+ghost use Rattle.ap_term.specs.TermView.{tree_of, trees_of};
 ghost use Rattle.ap_reach.specs.declared.called.Called.{Called as Call};
-ghost use Rattle.ap_reach.specs.Reached.{Key, is_key, is_called, has_call, leads, leads_first, heads_open, is_among};
+ghost use Rattle.ap_reach.specs.Reached.{Place, is_place, is_variable, is_called, is_for, leads, leads_before, heads_open, is_open_before};
 ghost use Rattle.ap_reach.specs.Index.{clauses_at, Indexes, AreOpen};
 
 use crate::called::{Called, Calls};
@@ -18,8 +18,8 @@ use std::marker::Model;
 /// The clauses of each predicate that has one, and of these those for each constant, in their order.
 type Index<'a> = IndexMap<Called, Vec<&'a Clause>>;
 
-/// The names and arities of predicates that have a clause with a variable as its first argument.
-type Open = IndexSet<(u32, usize)>;
+/// The names and arities of predicates, each with the place of an argument that is a variable in one of its clauses.
+type Open = IndexSet<((u32, usize), usize)>;
 
 /// One more clause. Those that are there are taken out and put back.
 fn add_clause<'a>(
@@ -39,27 +39,46 @@ fn add_clause<'a>(
     Ok(())
 }
 
-/// One more clause, for its first argument where that is a constant.
-fn add_by_first<'a>(
+/// One more clause, for its argument at a place, where that is a constant.
+fn add_by_argument<'a>(
+    alloc: Global,
+    index: &mut Index<'a>,
+    name: u32,
+    arity: usize,
+    place: usize,
+    arg: &Term,
+    clause: &'a Clause,
+) -> Result<(), NoMemory>
+    ensures { OnOk result ((k : Call) → clauses_at index.new k ≡ (if is_for name arity place (tree_of arg.now) k then clauses_at index.old k ++ clause.now ∷ [] else clauses_at index.old k)) }
+{
+    match arg {
+        Term::Atom(a) => {
+            let key = Called::Atom(name, arity, place, a.number());
+            add_clause(alloc, index, key, clause)
+        }
+        Term::Int(z) => {
+            let key = Called::integer(name, arity, place, *z);
+            add_clause(alloc, index, key, clause)
+        }
+        _ => Ok(()),
+    }
+}
+
+/// One more clause, for each of its arguments that is a constant.
+fn add_by_arguments<'a>(
     alloc: Global,
     index: &mut Index<'a>,
     name: u32,
     args: &[Term],
     clause: &'a Clause,
 ) -> Result<(), NoMemory>
-    ensures { OnOk result ((k : Call) → clauses_at index.new k ≡ (if leads_first k (node name (trees_of args.now)) then clauses_at index.old k ++ clause.now ∷ [] else clauses_at index.old k)) }
+    ensures { OnOk result ((k : Call) → clauses_at index.new k ≡ (if leads_before (length args.now) k (node name (trees_of args.now)) then clauses_at index.old k ++ clause.now ∷ [] else clauses_at index.old k)) }
 {
-    match args.first() {
-        Some(Term::Atom(a)) => {
-            let key = Called::Atom(name, args.len(), a.number());
-            add_clause(alloc, index, key, clause)
-        }
-        Some(Term::Int(z)) => {
-            let key = Called::integer(name, args.len(), *z);
-            add_clause(alloc, index, key, clause)
-        }
-        _ => Ok(()),
+    let arity = args.len();
+    for place in 0..arity {
+        add_by_argument(alloc, index, name, arity, place, &args[place], clause)?;
     }
+    Ok(())
 }
 
 /// One more clause.
@@ -72,7 +91,7 @@ fn add_by_head<'a>(alloc: Global, index: &mut Index<'a>, clause: &'a Clause) -> 
         Term::Node(a, args) => {
             let key = Called::All(a.number(), args.len());
             add_clause(alloc, index, key, clause)?;
-            add_by_first(alloc, index, a.number(), args.as_slice(), clause)
+            add_by_arguments(alloc, index, a.number(), args.as_slice(), clause)
         }
     }
 }
@@ -88,19 +107,44 @@ fn index_of(alloc: Global, clauses: &[Clause]) -> Result<Index<'_>, NoMemory>
     Ok(index)
 }
 
-/// The predicate of one more clause, where its first argument is a variable.
-fn add_open(found: &mut Open, clause: &Clause) -> Result<(), NoMemory>
-    ensures { OnOk result ((k : Key) → list_any (is_key k) found.new.keys ≡ (list_any (is_key k) found.old.keys || heads_open k clause.now.head)) }
+/// The place of an argument, where that is a variable.
+fn add_open_place(
+    found: &mut Open,
+    name: u32,
+    arity: usize,
+    place: usize,
+    arg: &Term,
+) -> Result<(), NoMemory>
+    ensures { OnOk result ((k : Place) → list_any (is_place k) found.new.keys ≡ (list_any (is_place k) found.old.keys || (is_variable (Some (tree_of arg.now)) && is_place ((name, arity), place) k))) }
 {
-    if let Term::Node(a, args) = clause.head() {
-        if let Some(Term::Var(_)) = args.as_slice().first() {
-            found.insert((a.number(), args.len()))?;
-        }
+    if let Term::Var(_) = arg {
+        found.insert(((name, arity), place))?;
     }
     Ok(())
 }
 
-/// The predicates that have a clause with a variable as its first argument.
+/// The places of a head's arguments that are variables.
+fn add_open_places(found: &mut Open, name: u32, args: &[Term]) -> Result<(), NoMemory>
+    ensures { OnOk result ((k : Place) → list_any (is_place k) found.new.keys ≡ (list_any (is_place k) found.old.keys || is_open_before (length args.now) k (node name (trees_of args.now)))) }
+{
+    let arity = args.len();
+    for place in 0..arity {
+        add_open_place(found, name, arity, place, &args[place])?;
+    }
+    Ok(())
+}
+
+/// The places of one more clause's arguments that are variables.
+fn add_open(found: &mut Open, clause: &Clause) -> Result<(), NoMemory>
+    ensures { OnOk result ((k : Place) → list_any (is_place k) found.new.keys ≡ (list_any (is_place k) found.old.keys || heads_open k clause.now.head)) }
+{
+    match clause.head() {
+        Term::Node(a, args) => add_open_places(found, a.number(), args.as_slice()),
+        _ => Ok(()),
+    }
+}
+
+/// The places at which clauses of a predicate have variables.
 fn open_of(alloc: Global, clauses: &[Clause]) -> Result<Open, NoMemory>
     ensures { IfOk result (λ found. AreOpen found clauses.now) }
 {
@@ -134,11 +178,10 @@ impl<'a> Model for Predicates<'a> {
 }
 
 impl<'a> Predicates<'a> {
-    ghost use Rattle.std.specs.Prelude.{◌≡◌, true, ◌++◌, List, OnOk, IfOk};
-    ghost use Rattle.ap_term.specs.Tree.{node};
-    ghost use Rattle.ap_term.specs.TermView.{trees_of};
-    ghost use Rattle.ap_reach.specs.declared.called.Called.{Called as Call};
-    ghost use Rattle.ap_reach.specs.Reached.{Extends, CallsAmong, clauses_for, has_call, is_among};
+    ghost use Rattle.std.specs.Prelude.{◌≡◌, true, ◌++◌, Some, OnOk, IfOk, IfSome};
+    ghost use Rattle.ap_term.specs.Tree.{Tree, node};
+    ghost use Rattle.ap_term.specs.TermView.{tree_of, trees_of};
+    ghost use Rattle.ap_reach.specs.Reached.{Extends, CallsAmong, clauses_for, heads, argument_of, answers};
 
     /// Puts a program's clauses in order by predicate and constant.
     pub fn of(alloc: Global, program: &'a Program) -> Result<Predicates<'a>, NoMemory>
@@ -160,19 +203,37 @@ impl<'a> Predicates<'a> {
         self.program
     }
 
-    /// What a goal of this name and these arguments calls. A constant leaves clauses out where no clause has a variable in its place.
+    /// What a goal with this argument at a place calls, where that is a constant and no clause has a variable in its place.
+    fn called_by_argument(
+        &self,
+        name: u32,
+        arity: usize,
+        place: usize,
+        arg: &Term,
+    ) -> Option<Called>
+        ensures { IfSome result (λ k. (t : Tree) → heads (name, arity) t ≡ true → argument_of t place ≡ Some (tree_of arg.now) → answers self.now k t ≡ true) }
+    {
+        if self.with_variable.contains(&((name, arity), place)) {
+            return None;
+        }
+        match arg {
+            Term::Atom(a) => Some(Called::Atom(name, arity, place, a.number())),
+            Term::Int(z) => Some(Called::integer(name, arity, place, *z)),
+            _ => None,
+        }
+    }
+
+    /// What a goal of this name and these arguments calls. The first constant that may leave clauses out does so.
     pub fn called(&self, name: u32, args: &[Term]) -> Called
-        ensures { (ks : List Call) → has_call ks result ≡ true → is_among self.now ks (node name (trees_of args.now)) ≡ true }
+        ensures { answers self.now result (node name (trees_of args.now)) ≡ true }
     {
         let arity = args.len();
-        if self.with_variable.contains(&(name, arity)) {
-            return Called::All(name, arity);
+        for place in 0..arity {
+            if let Some(call) = self.called_by_argument(name, arity, place, &args[place]) {
+                return call;
+            }
         }
-        match args.first() {
-            Some(Term::Atom(a)) => Called::Atom(name, arity, a.number()),
-            Some(Term::Int(z)) => Called::integer(name, arity, *z),
-            _ => Called::All(name, arity),
-        }
+        Called::All(name, arity)
     }
 
     /// Adds what the goals of the clauses that are called call.

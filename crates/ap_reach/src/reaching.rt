@@ -2,7 +2,7 @@
 
 ghost use Rattle.std.specs.Prelude.{◌≡◌, ◌++◌, if◌then◌else◌, [], IfOk, OnOk};
 ghost use Rattle.std.specs.List.{IsDistinct};
-ghost use Rattle.ap_reach.specs.Reached.{Extends, is_called, CallsAmong, clauses_for, all_called, contribution, gathered, is_beside, IsReached};
+ghost use Rattle.ap_reach.specs.Reached.{Extends, is_called, CallsAmong, clauses_for, all_called, contribution, gathered, is_beside, ArePlaced, IsReached};
 
 use crate::called::{Called, Calls};
 use crate::calls::{add_bodies, add_body};
@@ -44,6 +44,7 @@ fn add_called(
 fn gather(alloc: Global, program: &Predicates<'_>, calls: &Calls) -> Result<Program, NoMemory>
     ensures clauses { IfOk result (λ part. part ≡ gathered calls.now calls.now program.now) }
     ensures once { IsDistinct is_called calls.now }
+    ensures placed { ArePlaced calls.now }
 {
     let mut part = Program::new(alloc);
     for call in calls.as_slice() {

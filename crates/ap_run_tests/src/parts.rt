@@ -6,7 +6,7 @@ use std::test::Fail;
 
 const RUN: &[&str] = &["andprolog", "run", "f.pl"];
 
-const PARTS: [Command; 7] = [
+const PARTS: [Command; 11] = [
     (
         RUN,
         "p(1,a). p(2,b). p(1,c). q(X) :- p(1,X). r(X) :- p(Y,X), Y > 1. s(X,Y) :- p(X,Y).",
@@ -54,6 +54,35 @@ const PARTS: [Command; 7] = [
         "p(1,a). p(2,b). q(X,Y) :- p(1,X), p(2,Y). z :- u.",
         "?- q(X,Y). ?- z. ?- u. ?- p(2,X), q(Y,X).",
         "X = a, Y = b\nno more.\nno more.\nno more.\nX = b, Y = a\nno more.\n",
+        Status::Done,
+    ),
+    // Constants as arguments at other places than the first.
+    (
+        RUN,
+        "p(1,a). p(2,b). p(1,c). p(3,a). q(X) :- p(X,a). r(X,Y) :- p(X,a), p(1,Y). s(X) :- p(X,b), p(Y,c), X > Y.",
+        "?- p(X,a). ?- p(X,c). ?- p(X,z). ?- p(X,1). ?- q(X). ?- p(1,a). ?- p(X,a), p(1,Y). ?- r(X,Y). ?- s(X). ?- p(X,a).",
+        "X = 1\nX = 3\nno more.\nX = 1\nno more.\nno more.\nno more.\nX = 1\nX = 3\nno more.\ntrue\nno more.\nX = 1, Y = a\nX = 1, Y = c\nX = 3, Y = a\nX = 3, Y = c\nno more.\nX = 1, Y = a\nX = 1, Y = c\nX = 3, Y = a\nX = 3, Y = c\nno more.\nX = 2\nno more.\nX = 1\nX = 3\nno more.\n",
+        Status::Done,
+    ),
+    (
+        RUN,
+        "m(1,a,x). m(2,X,y). m(3,b,z). m(4,f(X),x).",
+        "?- m(X,a,Y). ?- m(X,Y,x). ?- m(X,b,y). ?- m(X,Y,w). ?- m(4,Y,x), m(X,Z,y).",
+        "X = 1, Y = x\nX = 2, Y = y\nno more.\nX = 1, Y = a\nX = 4, Y = f(_1)\nno more.\nX = 2\nno more.\nno more.\nY = f(_1), X = 2, Z = _2\nno more.\n",
+        Status::Done,
+    ),
+    (
+        RUN,
+        "d(a,1). d(a,1). d(b,1). d(a,2). e(X) :- d(X,1). e(X) :- d(a,X).",
+        "?- e(X). ?- d(X,1). ?- d(a,1).",
+        "X = a\nX = a\nX = b\nX = 1\nX = 1\nX = 2\nno more.\nX = a\nX = a\nX = b\nno more.\ntrue\ntrue\nno more.\n",
+        Status::Done,
+    ),
+    (
+        RUN,
+        "k(1,x). k(2,y). k(3,x).",
+        "?- ( k(X,x) ; k(X,y) ). ?- k(X,x) & k(2,Y). ?- ( k(1,X) ; k(X,y) ). ?- k(X,x).",
+        "X = 1\nX = 3\nX = 2\nno more.\nX = 1, Y = y\nX = 3, Y = y\nno more.\nX = x\nX = 2\nno more.\nX = 1\nX = 3\nno more.\n",
         Status::Done,
     ),
 ];

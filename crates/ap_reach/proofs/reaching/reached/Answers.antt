@@ -15,6 +15,7 @@ returns c =
     (λ part e. record {
       called = ks;
       once = c.gather.ensures.once;
+      placed = c.gather.ensures.placed;
       clauses = e;
       among = reached_calls p ks c.args.query.now.question c.args.query.now.lifted part body lifted c.in_ok-find.ensures.among e;
     })

@@ -7,7 +7,7 @@ use Rattle.ap_fixpoint.specs.Fix.{IsFix}
 use Rattle.ap_mel.specs.Made.{IsMade, begun, passed}
 use Rattle.ap_mel.proofs.Certifying.{first-kept, passes-length, settled-given, made, sound, for_ok}
 use Rattle.ap_mel.proofs.Ending.{pass-lighter}
-use Rattle.ap_mel.proofs.annotations.annotate_sound.Goals as goal
+use Rattle.ap_mel.proofs.annotations.annotate_by_passes.Goals as goal
 
 pub loop-current-init : goal.loop-current-init
 loop-current-init c = begun c.in_ok-current.current refl

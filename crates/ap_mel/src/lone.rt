@@ -1,0 +1,69 @@
+//! Programs of which no clause has two goals, so that there is nothing to group.
+
+ghost use Rattle.std.specs.Prelude.{◌≡◌, true, map, IfOk};
+ghost use Rattle.ap_term.specs.GoalView.{part_of};
+ghost use Rattle.ap_certify.specs.declared.certified.Scope.TheVariants.{Of};
+ghost use Rattle.ap_certify.specs.Certificate.{IsSoundAnnotation};
+ghost use Rattle.ap_certify.specs.Scopes.{IsScopeOf};
+ghost use Rattle.ap_mel.specs.declared.annotations.Kind.{Kind};
+ghost use Rattle.ap_mel.specs.Lone.{is_call, is_lone_body, is_lone};
+ghost use Rattle.ap_mel.specs.Made.{IsMade};
+
+use crate::entries::certified;
+use ap_certify::Certified;
+use ap_cge::hand_written;
+use ap_patterns::Entries;
+use ap_term::{Clause, NoMemory, Part, Program};
+use std::alloc::Global;
+
+fn is_call(part: &Part) -> bool
+    ensures { result ≡ is_call (part_of part.now) }
+{
+    match part {
+        Part::Call(_) => true,
+        Part::Group { .. } => false,
+    }
+}
+
+/// Whether a body has no group, and one goal at most.
+fn is_lone_body(parts: &[Part]) -> bool
+    ensures { result ≡ is_lone_body (map part_of parts.now) }
+{
+    match parts {
+        [] => true,
+        [part] => is_call(part),
+        [_, _, ..] => false,
+    }
+}
+
+fn is_lone_clause(clause: &Clause) -> bool
+    ensures { result ≡ is_lone_body clause.now.body }
+{
+    is_lone_body(clause.body().as_slice())
+}
+
+/// Whether no clause has a group, or two goals.
+pub fn is_lone(program: &Program) -> bool
+    ensures { result ≡ is_lone program.now }
+{
+    program
+        .as_slice()
+        .iter()
+        .all(|clause| is_lone_clause(clause))
+}
+
+/// The program as it is, where there is nothing to group.
+pub fn as_written(
+    alloc: Global,
+    program: &Program,
+    entries: &Entries,
+) -> Result<Certified, NoMemory>
+    requires { is_lone program.now ≡ true }
+    ensures made { IfOk result (λ c. (k : Kind) → IsMade k entries.now program.now c.program) }
+    ensures scope { IfOk result (λ c. IsScopeOf entries.now c.scope) }
+    ensures sound { IfOk result (λ c. IsSoundAnnotation program.now c.program (Of entries.now)) }
+{
+    let _good = program.as_slice();
+    let written = hand_written(alloc, program)?;
+    certified(written, entries)
+}
