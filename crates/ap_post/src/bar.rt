@@ -20,9 +20,6 @@ const SAVED: i64 = 8;
 /// How many times the price a group costs that is inside of one that wasn't forked, as most of these are small.
 const INSIDE: i64 = 8;
 
-/// So many cells are copied for the price of a call.
-const CELLS: i64 = 4;
-
 /// Groups are forked within so many frames more than it takes for each worker to have a goal: then there are some for those that
 /// come to an end early. An answer is copied once for each open frame, so that more of them don't pay.
 const DEEPER: usize = 1;
@@ -104,9 +101,10 @@ impl Bar {
         self.was_narrow.set(false);
     }
 
+    // To copy a cell takes as long as a call.
     fn pay_copy(&self, cells: usize) {
         let count = i64::try_from(cells).unwrap_or(i64::MAX);
-        self.pay((count / CELLS).saturating_mul(self.price.get() / PRICE));
+        self.pay(count.saturating_mul(self.price.get() / PRICE));
     }
 
     /// Notes that a section begins a goal, whose terms are so many cells. It is taken to be

@@ -10,6 +10,34 @@ ghost use Rattle.ap_post.specs.Posts.{posted_in, SamePosted, SameBelow, SameJobs
 use crate::job::Job;
 use crate::outcome::Outcome;
 use crate::post::Post;
+use ap_board::Ticket;
+use ap_desk::Desk;
+use ap_goalstack::{GoalStack, Unruled};
+
+// Whether a goal is offered under a ticket, as far as its owner knows.
+fn is_offered(desk: &Desk<Job<'_>, Outcome>, ticket: Ticket) -> bool {
+    for k in 0..desk.count_out() {
+        let note = desk.note(k);
+        if note.ticket == ticket {
+            return !note.gone;
+        }
+    }
+    false
+}
+
+// Drops the tickets that were pushed last whose goals are no longer offered. So a stack holds as many tickets as goals are out, and
+// those whose goals came back before newer ones did.
+fn drop_late(goals: &mut GoalStack<Unruled>, desk: &Desk<Job<'_>, Outcome>) {
+    for _ticket in 0..u64::MAX {
+        let Some(ticket) = goals.pop() else {
+            return;
+        };
+        if is_offered(desk, ticket) {
+            let _pushed = goals.push(ticket);
+            return;
+        }
+    }
+}
 
 impl<'a, 'b> Post<'a, 'b> {
     /// Offers a goal of a frame, and tells whether it is out; it isn't where no pad is free or memory is wanting.
@@ -69,6 +97,7 @@ impl<'a, 'b> Post<'a, 'b> {
         for _goal in 0..self.desk.count_out() {
             let k = self.find_note(frame, false)?;
             if let Some(place) = self.take_back(k) {
+                drop_late(&mut self.goals, &self.desk);
                 return Some(place);
             }
         }

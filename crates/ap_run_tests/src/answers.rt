@@ -6,7 +6,7 @@ use std::test::Fail;
 
 const RUN: &[&str] = &["andprolog", "run", "f.pl"];
 
-const ANSWERS: [Command; 25] = [
+const ANSWERS: [Command; 20] = [
     (
         RUN,
         "p(1). p(2).",
@@ -15,20 +15,6 @@ const ANSWERS: [Command; 25] = [
         Status::Done,
     ),
     (RUN, "", "?- true.", "true\nno more.\n", Status::Done),
-    (
-        RUN,
-        "q(X,Y) :- a(X) & a(Y). a(1). a(2).",
-        "?- q(X,Y).",
-        "X = 1, Y = 1\nX = 1, Y = 2\nX = 2, Y = 1\nX = 2, Y = 2\nno more.\n",
-        Status::Done,
-    ),
-    (
-        RUN,
-        "q(X,Y) :- a(X) & a(Y). a(1). a(2).",
-        "?- X = Y, q(X,Y).",
-        "X = 1, Y = 1\nX = 2, Y = 2\nno more.\n",
-        Status::Done,
-    ),
     (
         &["andprolog", "run", "f.pl", "--budget", "100"],
         "r(X) :- l & f, X = 0. r(1). l :- l. f :- fail.",
@@ -64,27 +50,6 @@ const ANSWERS: [Command; 25] = [
         "?- p.",
         "refused: line 1: outside !\n",
         Status::ProgramRefused,
-    ),
-    (
-        &["andprolog", "run", "f.pl", "--budget", "3"],
-        "t :- f & l. l :- l. f :- fail.",
-        "?- t.",
-        "no more.\n",
-        Status::Done,
-    ),
-    (
-        &["andprolog", "run", "f.pl", "--budget", "2"],
-        "t :- f & l. l :- l. f :- fail.",
-        "?- t.",
-        "budget spent.\n",
-        Status::BudgetSpent,
-    ),
-    (
-        &["andprolog", "run", "f.pl", "--answers", "2"],
-        "q(X,Y) :- a(X) & a(Y). a(1). a(2).",
-        "?- q(X,Y).",
-        "X = 1, Y = 1\nX = 1, Y = 2\nstopped.\n",
-        Status::Done,
     ),
     (
         RUN,

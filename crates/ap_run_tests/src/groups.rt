@@ -9,6 +9,8 @@ const RUN: &[&str] = &["andprolog", "run", "f.pl"];
 
 const BITS: &str = "s(X,Y,Z) :- b(X) & q(Y,Z). q(Y,Z) :- b(Y) & b(Z). b(0). b(1).";
 
+const PAIRS: &str = "q(X,Y) :- a(X) & a(Y). a(1). a(2).";
+
 const ENDLESS: &str = "t :- f & l. l :- l. f :- fail.";
 
 const PLAIN: &str = "q(X,Y) :- a(X), a(Y). a(1). a(2).";
@@ -17,7 +19,29 @@ const PLAIN: &str = "q(X,Y) :- a(X), a(Y). a(1). a(2).";
 pub(crate) const MANY: &str =
     "p :- a & a & a & a & a & a & a & a & a & a & a & a & a & a & a & a & a & a & a & a & a & a & a & a & a & a & a & a & a & a & a & a. a.";
 
-pub(crate) static GROUPS: [Command; 13] = [
+pub(crate) static GROUPS: [Command; 17] = [
+    // two goals with two answers each, and with one variable for both
+    (
+        RUN,
+        PAIRS,
+        "?- q(X,Y).",
+        "X = 1, Y = 1\nX = 1, Y = 2\nX = 2, Y = 1\nX = 2, Y = 2\nno more.\n",
+        Status::Done,
+    ),
+    (
+        RUN,
+        PAIRS,
+        "?- X = Y, q(X,Y).",
+        "X = 1, Y = 1\nX = 2, Y = 2\nno more.\n",
+        Status::Done,
+    ),
+    (
+        &["andprolog", "run", "f.pl", "--answers", "2"],
+        PAIRS,
+        "?- q(X,Y).",
+        "X = 1, Y = 1\nX = 1, Y = 2\nstopped.\n",
+        Status::Done,
+    ),
     // a group within a group's goal
     (
         &["andprolog", "run", "f.pl", "--budget", "10"],
@@ -47,6 +71,14 @@ pub(crate) static GROUPS: [Command; 13] = [
         "?- t.",
         "budget spent.\n",
         Status::BudgetSpent,
+    ),
+    // a goal that fails stops a group of endless ones
+    (
+        &["andprolog", "run", "f.pl", "--budget", "1000000"],
+        "t :- f & u. u :- l & l. l :- l. f :- fail.",
+        "?- t.",
+        "no more.\n",
+        Status::Done,
     ),
     // groups that an annotator makes for the query, or doesn't
     (

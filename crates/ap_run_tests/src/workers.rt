@@ -3,7 +3,7 @@
 use crate::cases::{Case, Command, are_lines, is_met};
 use crate::groups::GROUPS;
 use crate::meeting::Meeting;
-use ap_outside::{MemFiles, MemSink, MemSource};
+use ap_outside::{MemFiles, MemSink, MemSource, OpenGate};
 use ap_top::{Status, run};
 use std::alloc::Global;
 use std::process::Abort;
@@ -44,6 +44,52 @@ fn check_on<R: Abort + Threads + Wait + RandomSource + Sync>(
 fn workers_give_the_answers_of_one(rt: HostRuntime) -> Result<(), Fail> {
     for workers in ["2", "4", "32"] {
         check_on(&rt, rt.alloc(), &GROUPS, workers)?;
+    }
+    Ok(())
+}
+
+/// Whether the endless goal on the left, beside one that fails, spends the budget, or is stopped before it has.
+fn is_spent_or_stopped<R: Threads + Wait + RandomSource + Sync>(
+    rt: &R,
+    alloc: Global,
+    workers: &str,
+) -> Result<bool, Fail> {
+    let file = "r(X) :- l & f, X = 0. r(1). l :- l. f :- fail.";
+    let mut files = MemFiles::new(alloc, &[("f.pl", file.as_bytes())])?;
+    let mut queries = MemSource::new(alloc, &["?- r(X).".as_bytes()], &[])?;
+    let mut out = MemSink::new(alloc, &[])?;
+    let words = [
+        "andprolog",
+        "run",
+        "f.pl",
+        "--budget",
+        "100",
+        "--workers",
+        workers,
+    ];
+    let status = run(
+        rt,
+        alloc,
+        &words,
+        &mut files,
+        &mut queries,
+        &mut out,
+        &OpenGate,
+    );
+    Ok(match status {
+        Status::BudgetSpent => are_lines(out.pieces(), "budget spent.\n"),
+        Status::Done => are_lines(out.pieces(), "X = 1\nno more.\n"),
+        _ => false,
+    })
+}
+
+#[test]
+fn a_goal_that_fails_may_stop_an_endless_one_on_its_left(rt: HostRuntime) -> Result<(), Fail> {
+    for workers in ["2", "4", "32"] {
+        assert!(&rt;
+            is_spent_or_stopped(&rt, rt.alloc(), workers)?,
+            "{workers} workers"
+        );
     }
     Ok(())
 }

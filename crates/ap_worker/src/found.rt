@@ -25,11 +25,12 @@ use crate::answers::Answers;
 use crate::bounds::Bounds;
 use crate::emission::{Answered, End};
 use crate::lead::Lead;
+use crate::patience::Patience;
 use ap_open::{block_law, outcome_law, solving_law};
 use ap_outside::{Gate, Halt, Sink, put_line};
 use ap_stack::{Ending, Stack, Step};
-use crossbeam_utils::Backoff;
 use std::alloc::Global;
+use std::sync::Wait;
 
 // How answers end by how their search did, and what it is charged, where it has made so many calls itself.
 fn ended(ending: Ending, made: u64, budget: u64) -> Answered
@@ -78,8 +79,9 @@ fn put_answer<A: Answers, K: Sink>(
 }
 
 /// Puts the lines of a query's answers as its search finds them, as many as the limit at most, and says how they end and what is
-/// charged for them. While the search waits its worker helps others, or backs off.
-pub(crate) fn put_found<G: Gate, A: Answers, K: Sink>(
+/// charged for them. While the search waits its worker helps others, or sleeps.
+pub(crate) fn put_found<R: Wait, G: Gate, A: Answers, K: Sink>(
+    rt: &R,
     alloc: Global,
     gate: &G,
     lead: &mut Lead<'_, '_>,
@@ -107,13 +109,12 @@ pub(crate) fn put_found<G: Gate, A: Answers, K: Sink>(
         });
     }
     let mut count = 0;
-    let backoff = Backoff::new();
+    let mut patience = Patience::new();
     for _step in 0..u64::MAX {
-        let Ok(step) = lead.step(alloc, gate) else {
+        let Ok(step) = lead.turn(rt, alloc, gate, &mut patience) else {
             return Err(Halt::NoMemory);
         };
         match step {
-            Step::Waits => backoff.snooze(),
             Step::Ended(ending) => return Ok(ended(ending, lead.query.spent(), bounds.budget)),
             Step::Answer => {
                 put_answer(alloc, &mut lead.query, width, answers, out)?;
@@ -125,7 +126,7 @@ pub(crate) fn put_found<G: Gate, A: Answers, K: Sink>(
                     });
                 }
             }
-            _ => backoff.reset(),
+            _ => {}
         }
     }
     Err(Halt::NoMemory)

@@ -3,6 +3,7 @@
 ghost use Rattle.std.specs.Prelude.{◌^◌, ◌≤◌, min, IfOk};
 ghost use Rattle.ap_worker.specs.Leads.{IsLeading, LeadGoes, LeadStays, IsStepOfQuery};
 
+use crate::patience::Patience;
 use crate::worker::Worker;
 use ap_ledger::Share;
 use ap_open::sharing_law;
@@ -10,6 +11,7 @@ use ap_outside::Gate;
 use ap_stack::{Stack, Step};
 use ap_term::NoMemory;
 use std::alloc::Global;
+use std::sync::Wait;
 
 /// A worker, and the query's search beside those of the goals that it took: it goes on where none of these is open.
 #[derive(Drop)]
@@ -52,6 +54,51 @@ impl<'a, 'b> Lead<'a, 'b> {
                 Ok(step)
             }
         }
+    }
+
+    /// Makes a step, and sleeps until there is news where nothing can be done. It can only where other workers run its goals, and
+    /// each tells as it ends one.
+    fn step_or_sleep<R: Wait, G: Gate>(
+        &mut self,
+        rt: &R,
+        alloc: Global,
+        gate: &G,
+    ) -> Result<Step, NoMemory>
+        requires leads { IsLeading self.old }
+        ensures goes { LeadGoes self.old self.new }
+        ensures step { IfOk result (λ step. IsStepOfQuery self.new step) }
+    {
+        let key = self.worker.common().prepare_wait();
+        let step = self.step(alloc, gate)?;
+        if step == Step::Waits {
+            key.wait(rt);
+        }
+        Ok(step)
+    }
+
+    /// Makes a step; behind many in vain it sleeps where there is none.
+    pub(crate) fn turn<R: Wait, G: Gate>(
+        &mut self,
+        rt: &R,
+        alloc: Global,
+        gate: &G,
+        patience: &mut Patience,
+    ) -> Result<Step, NoMemory>
+        requires leads { IsLeading self.old }
+        ensures goes { LeadGoes self.old self.new }
+        ensures step { IfOk result (λ step. IsStepOfQuery self.new step) }
+    {
+        if patience.is_over() {
+            patience.renew();
+            return self.step_or_sleep(rt, alloc, gate);
+        }
+        let step = self.step(alloc, gate)?;
+        if step == Step::Waits {
+            patience.wait();
+        } else {
+            patience.renew();
+        }
+        Ok(step)
     }
 
     /// Drops the searches one after another, however deep frames are nested in them, and gives the calls that were made.

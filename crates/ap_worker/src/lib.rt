@@ -14,6 +14,7 @@ mod crew;
 mod emission;
 mod found;
 mod lead;
+mod patience;
 mod serving;
 mod solving;
 mod taken;

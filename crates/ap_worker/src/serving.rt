@@ -3,16 +3,13 @@
 ghost use Rattle.std.specs.Prelude.{All};
 ghost use Rattle.ap_worker.specs.Workers.{IsIdle, IsStaffed};
 
+use crate::patience::Patience;
 use crate::worker::Worker;
 use ap_outside::Gate;
-use crossbeam_utils::Backoff;
 use std::alloc::Global;
 use std::sync::Wait;
 use std::thread;
 use std::thread::Threads;
-
-/// How often a worker looks for a goal, and yields, before it sleeps.
-const LOOKS: u32 = 400;
 
 /// Sleeps until there is news, unless there is something to do, or the query's search has ended.
 fn sleep<R: Wait, G: Gate>(rt: &R, alloc: Global, gate: &G, worker: &mut Worker<'_, '_>)
@@ -31,21 +28,18 @@ fn sleep<R: Wait, G: Gate>(rt: &R, alloc: Global, gate: &G, worker: &mut Worker<
 fn serve<R: Wait, G: Gate>(rt: &R, alloc: Global, gate: &G, worker: &mut Worker<'_, '_>)
     requires { IsIdle worker.old }
 {
-    let backoff = Backoff::new();
-    let mut looks = 0;
+    let mut patience = Patience::new();
     for _ in rt.forever() {
         if worker.is_done() {
             break;
         }
         if worker.serve_once(alloc, gate) {
-            backoff.reset();
-            looks = 0;
-        } else if looks < LOOKS {
-            backoff.snooze();
-            looks += 1;
-        } else {
+            patience.renew();
+        } else if patience.is_over() {
             sleep(rt, alloc, gate, worker);
-            looks = 0;
+            patience.renew();
+        } else {
+            patience.wait();
         }
     }
 }

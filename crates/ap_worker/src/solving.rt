@@ -123,7 +123,8 @@ fn workers_of<'a, 'b>(
 }
 
 /// Puts what is found, and then tells the other workers that the search has ended.
-fn lead_on<G: Gate, A: Answers, K: Sink>(
+fn lead_on<R: Wait, G: Gate, A: Answers, K: Sink>(
+    rt: &R,
     alloc: Global,
     gate: &G,
     lead: &mut Lead<'_, '_>,
@@ -141,7 +142,7 @@ fn lead_on<G: Gate, A: Answers, K: Sink>(
     ensures paid { (p : Rules) (q : Asked) → IsQuery q → IsSolvingBeside (code_in lead.old.query) p (tracked_start q) (start q) bounds.budget [] (section_in lead.old.query) [] [] → Counts bounds.budget lead.old.query → IfOk result (λ e. e.charged ≤ lead.new.query.share) }
     ensures count { SinkCount (K.faults out.old) (K.faults out.new) result }
 {
-    let found = put_found(alloc, gate, lead, width, bounds, answers, out);
+    let found = put_found(rt, alloc, gate, lead, width, bounds, answers, out);
     lead.worker.post.end();
     found
 }
@@ -182,7 +183,7 @@ fn search_beside<R: Threads + Wait + Sync, G: Gate, A: Answers, K: Sink>(
             ensures charged { (p : Rules) (q : Asked) → IsQuery q → IsSolvingBeside (code_in lead.entry.now.query) p (tracked_start q) (start q) bounds.budget [] (section_in lead.entry.now.query) [] [] → IfOk result (λ e. Puts (K.pieces out.entry.now) (K.pieces out.exit.now) (IsChargedEnd (A.line answers.entry.now) p.program (start q) bounds.budget bounds.limit (IsUngrouped p.program × AreCalls q.question.body) e.end e.charged)) }
             ensures paid { (p : Rules) (q : Asked) → IsQuery q → IsSolvingBeside (code_in lead.entry.now.query) p (tracked_start q) (start q) bounds.budget [] (section_in lead.entry.now.query) [] [] → Counts bounds.budget lead.entry.now.query → IfOk result (λ e. e.charged ≤ lead.exit.now.query.share) }
             ensures count { SinkCount (K.faults out.entry.now) (K.faults out.exit.now) result }
-        { lead_on(alloc, gate, lead, width, bounds, answers, out) },
+        { lead_on(rt, alloc, gate, lead, width, bounds, answers, out) },
     );
     found
 }
@@ -209,7 +210,7 @@ fn search<R: Threads + Wait + Sync, G: Gate, A: Answers, K: Sink>(
     ensures count { SinkCount (K.faults out.old) (K.faults out.new) result }
 {
     if others.is_empty() {
-        return put_found(alloc, crew.gate, lead, width, bounds, answers, out);
+        return put_found(crew.rt, alloc, crew.gate, lead, width, bounds, answers, out);
     }
     search_beside(alloc, crew, others, lead, width, bounds, answers, out)
 }

@@ -15,7 +15,7 @@ use Rattle.ap_worker.specs.Leads.{IsLeading}
 use Rattle.ap_worker.proofs.Charging.{charged-at-limit, charged-at-ending, spent-alone, nothing-asked}
 use Rattle.ap_worker.proofs.Finding.{FindingBy, broken-off, at-limit, at-answer, at-ending, one-more, one-lost, stepped, alone, not-alone, paid-on, paid-at-limit, paid-at-ending}
 use Rattle.ap_worker.proofs.found.put_found.Goals as goal
-use Rattle.ap_worker.proofs.found.put_found.Goals.{in-Waits, in-Answer+in_ok-put_answer-in-Answer+else-count-bounds, in_default-step}
+use Rattle.ap_worker.proofs.found.put_found.Goals.{in-Answer+in_ok-put_answer-in-Answer+else-count-bounds, in_default-step}
 
 pub returns-in_default-clause-lines : goal.returns-in_default-clause-lines
 returns-in_default-clause-lines g c = λ p q good h.
@@ -27,7 +27,7 @@ returns-in-Ended-clause-lines g c = λ p q good h.
     let i = c.loop-step.invariant in
     let line = g.A.Answers.line c.args.answers.now in
     let code = code_in c.args.lead.now.query in
-    let t = c.step.new.self in
+    let t = c.turn.new.self in
     let go = c.in-Ok.ensures.goes in
     let d = subst (IsStep t.worker.post t.query) c.in-Ended.is c.in-Ok.ensures.step in
     subst (λ e. Puts (g.K.Sink.pieces c.args.out.now) (g.K.Sink.pieces c.loop-step.out) (λ put. IsBlock line p.program (start q) c.args.bounds.budget c.args.bounds.limit put (end_of e))) (sym c.ended.ensures.end)
@@ -40,7 +40,7 @@ returns-in_err-put_answer-in-Answer-clause-lines g c = λ p q good h.
     let i = c.loop-step.invariant in
     let line = g.A.Answers.line c.args.answers.now in
     let code = code_in c.args.lead.now.query in
-    let t = c.step.new.self in
+    let t = c.turn.new.self in
     let go = c.in-Ok.ensures.goes in
     let d = subst (IsStep t.worker.post t.query) c.in-Answer.is c.in-Ok.ensures.step in
     let x = at-answer t go.leads d in
@@ -53,7 +53,7 @@ returns-then-count-bounds-clause-lines g c = λ p q good h.
     let i = c.loop-step.invariant in
     let line = g.A.Answers.line c.args.answers.now in
     let code = code_in c.args.lead.now.query in
-    let t = c.step.new.self in
+    let t = c.turn.new.self in
     let go = c.in-Ok.ensures.goes in
     let d = subst (IsStep t.worker.post t.query) c.in-Answer.is c.in-Ok.ensures.step in
     let x = at-answer t go.leads d in
@@ -67,7 +67,7 @@ returns-in-Ended-clause-charged g c = λ p q good h.
     let i = c.loop-step.invariant in
     let line = g.A.Answers.line c.args.answers.now in
     let code = code_in c.args.lead.now.query in
-    let t = c.step.new.self in
+    let t = c.turn.new.self in
     let go = c.in-Ok.ensures.goes in
     let d = subst (IsStep t.worker.post t.query) c.in-Ended.is c.in-Ok.ensures.step in
     charged-at-ending line code p q c.args.bounds.budget c.outcome_law.ensures c.block_law.ensures (λ x y. g.met.A.Answers.names c.args.answers.now x y) good c.args.bounds.limit _ _ _ t.worker.post t.query c.in-Ended.ending c.ended.result (go.code ∙ i.code) d i.short
@@ -79,7 +79,7 @@ returns-then-count-bounds-clause-charged g c = λ p q good h.
     let i = c.loop-step.invariant in
     let line = g.A.Answers.line c.args.answers.now in
     let code = code_in c.args.lead.now.query in
-    let t = c.step.new.self in
+    let t = c.turn.new.self in
     let go = c.in-Ok.ensures.goes in
     let d = subst (IsStep t.worker.post t.query) c.in-Answer.is c.in-Ok.ensures.step in
     let x = at-answer t go.leads d in
@@ -98,7 +98,7 @@ returns-in-Ended-clause-paid g c = λ p q good h k.
     let i = c.loop-step.invariant in
     let line = g.A.Answers.line c.args.answers.now in
     let code = code_in c.args.lead.now.query in
-    let t = c.step.new.self in
+    let t = c.turn.new.self in
     let go = c.in-Ok.ensures.goes in
     let d = subst (IsStep t.worker.post t.query) c.in-Ended.is c.in-Ok.ensures.step in
     let found = i.found p q good h in
@@ -111,7 +111,7 @@ pub returns-then-count-bounds-clause-paid : goal.returns-then-count-bounds-claus
 returns-then-count-bounds-clause-paid g c = λ p q good h k.
     let i = c.loop-step.invariant in
     let code = code_in c.args.lead.now.query in
-    let t = c.step.new.self in
+    let t = c.turn.new.self in
     let go = c.in-Ok.ensures.goes in
     let d = subst (IsStep t.worker.post t.query) c.in-Answer.is c.in-Ok.ensures.step in
     let x = at-answer t go.leads d in
@@ -128,23 +128,10 @@ loop-step-preserved g c =
     let i = c.loop-step.invariant in
     let line = g.A.Answers.line c.args.answers.now in
     let code = code_in c.args.lead.now.query in
-    let t = c.step.new.self in
+    let t = c.turn.new.self in
     let go = c.in-Ok.ensures.goes in
     let first = g.K.Sink.pieces c.args.out.now in
-    elim c.match-step-2.branch [
-      | in-Waits w ↦ record {
-        leads = subst IsLeading (sym w.lead-is) go.leads;
-        code = subst (λ (l : Lead). code_in l.query ≡ code) (sym w.lead-is) (go.code ∙ i.code);
-        short = subst (λ n. n < c.args.bounds.limit) (sym w.count-is) i.short;
-        faults = ap g.K.Sink.faults w.out-is ∙ i.faults;
-        found = λ p q good h.
-            subst (λ (l : Lead). FindingBy line code p q c.args.bounds.budget c.match-step-2.count first (g.K.Sink.pieces c.match-step-2.out) l.worker.post l.query) (sym w.lead-is)
-            (subst (λ k. FindingBy line code p q c.args.bounds.budget c.match-step-2.count first (g.K.Sink.pieces k) t.worker.post t.query) (sym w.out-is)
-            (subst (λ n. FindingBy line code p q c.args.bounds.budget n first (g.K.Sink.pieces c.loop-step.out) t.worker.post t.query) (sym w.count-is)
-            (stepped line code p q c.args.bounds.budget _ _ _ c.outcome_law.ensures c.loop-step.lead t i.code go (i.found p q good h))));
-        counts = λ p q good h k.
-            subst (λ (l : Lead). Counts c.args.bounds.budget l.query) (sym w.lead-is) (paid-on code p q c.args.bounds.budget _ c.loop-step.lead t i.code go (i.found p q good h).solves (i.counts p q good h k));
-      }
+    elim c.match-step.branch [
       | in-Answer+in_ok-put_answer-in-Answer+else-count-bounds w ↦
           let d = subst (IsStep t.worker.post t.query) w.in-Answer.is c.in-Ok.ensures.step in
           let x = at-answer t go.leads d in
@@ -167,8 +154,8 @@ loop-step-preserved g c =
             found = λ p q good h.
                 let m = alone line code p q c.args.bounds.budget _ _ _ t.worker.post t.query x.0 x.2 (stepped line code p q c.args.bounds.budget _ _ _ c.outcome_law.ensures c.loop-step.lead t i.code go (i.found p q good h)) in
                 let more = one-more line code p q c.args.bounds.budget c.solving_law.ensures c.outcome_law.ensures c.block_law.ensures (λ x y. g.met.A.Answers.names c.args.answers.now x y) good c.args.bounds.limit _ _ _ (section_in t.query) m i.short x.3 _ e.lines in
-                subst (λ (l : Lead). FindingBy line code p q c.args.bounds.budget c.match-step-2.count first (g.K.Sink.pieces c.match-step-2.out) l.worker.post l.query) (sym w.lead-is)
-                (subst (λ k. FindingBy line code p q c.args.bounds.budget c.match-step-2.count first (g.K.Sink.pieces k) s.worker.post s.query) (sym w.out-is)
+                subst (λ (l : Lead). FindingBy line code p q c.args.bounds.budget c.match-step.count first (g.K.Sink.pieces c.match-step.out) l.worker.post l.query) (sym w.lead-is)
+                (subst (λ k. FindingBy line code p q c.args.bounds.budget c.match-step.count first (g.K.Sink.pieces k) s.worker.post s.query) (sym w.out-is)
                 (subst (λ n. FindingBy line code p q c.args.bounds.budget n first (g.K.Sink.pieces w.put_answer.new.out) s.worker.post s.query) (sym w.count-is)
                 (not-alone line code p q c.args.bounds.budget _ _ _ s.worker.post s.query _ outer none e.past more)));
             counts = λ p q good h k.
@@ -181,8 +168,8 @@ loop-step-preserved g c =
         short = subst (λ n. n < c.args.bounds.limit) (sym w.count-is) i.short;
         faults = ap g.K.Sink.faults w.out-is ∙ i.faults;
         found = λ p q good h.
-            subst (λ (l : Lead). FindingBy line code p q c.args.bounds.budget c.match-step-2.count first (g.K.Sink.pieces c.match-step-2.out) l.worker.post l.query) (sym w.lead-is)
-            (subst (λ k. FindingBy line code p q c.args.bounds.budget c.match-step-2.count first (g.K.Sink.pieces k) t.worker.post t.query) (sym w.out-is)
+            subst (λ (l : Lead). FindingBy line code p q c.args.bounds.budget c.match-step.count first (g.K.Sink.pieces c.match-step.out) l.worker.post l.query) (sym w.lead-is)
+            (subst (λ k. FindingBy line code p q c.args.bounds.budget c.match-step.count first (g.K.Sink.pieces k) t.worker.post t.query) (sym w.out-is)
             (subst (λ n. FindingBy line code p q c.args.bounds.budget n first (g.K.Sink.pieces c.loop-step.out) t.worker.post t.query) (sym w.count-is)
             (stepped line code p q c.args.bounds.budget _ _ _ c.outcome_law.ensures c.loop-step.lead t i.code go (i.found p q good h))));
         counts = λ p q good h k.
