@@ -6,6 +6,7 @@ pub mod Calling
 pub mod Solving
 pub mod Harmless
 pub mod Ungrouped
+pub mod Unforked
 pub mod Blocks
 pub mod Stripping
 pub mod Tracing

@@ -286,6 +286,10 @@ module _ (p : Rules) (q : State) (plain : IsUngrouped p.program) (calls : AreCal
       let n : spent_by c.root ≡ l.spent + 0 = (let k : spent_by c.root ≡ l.spent = ap spent_by l.root in omega arith) in
       ap (λ i. meets p.program i (q ∷ [])) n ∙ l.same 0
 
+  -- its root has states alone
+  pub only_states : (r s : ℕ) × (left : List State) × (c.root ≡ task r s (states left exhausted))
+  only_states = let l = leads p q plain events (beginning p q rest) c (begins p q plain rest calls) led in (l.rest, l.spent, l.left, l.root)
+
   -- with as many calls as the root has made sequential search finds what was emitted
   pub finds_all : IsPrefix c.emitted (search p.program (spent_by c.root) (q ∷ [])).answers
   finds_all =

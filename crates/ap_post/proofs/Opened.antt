@@ -20,7 +20,7 @@ use Rattle.ap_post.proofs.Noted.{V}
 
 -- a seat of this table that nothing was done with
 abbrev pub IsSat : {Z : Type 0} → Z → Z × View Job Outcome → Type 0
-IsSat z s = (s.0 ≡ z) × IsNewSeat 64 s.1.number s.1
+IsSat z s = (s.0 ≡ z) × (pads : ℕ) × IsNewSeat pads s.1.number s.1
 
 pub no_goal : (pads n : ℕ) (v : V) → IsNewSeat pads n v → (p r : ℕ) (x : Job) (b : Bool) → role v p ≡ has r x b → ⊥
 no_goal pads n v new p r x b e = dite (ℕ_discrete (p / pads) n)

@@ -1,6 +1,6 @@
 //! The posts of all workers.
 
-ghost use Rattle.std.specs.Prelude.{◌≡◌, ◌<◌, All, length, IfOk};
+ghost use Rattle.std.specs.Prelude.{◌≡◌, ◌<◌, ℕ, All, length, IfOk};
 ghost use Rattle.ap_board.specs.Seats.{IsNewSeat};
 ghost use Rattle.ap_post.specs.Posts.{IsNew};
 
@@ -61,7 +61,7 @@ pub fn open_posts<'a, 'b>(
     common: &'b Common,
 ) -> Result<Vec<Post<'a, 'b>>, NoMemory>
     requires table { All (λ s. s.0 ≡ board.now.table.shared.table_id) seats.items }
-    requires new { All (λ s. IsNewSeat 64 s.1.number s.1) seats.items }
+    requires new { All (λ s. (pads : ℕ) × IsNewSeat pads s.1.number s.1) seats.items }
     ensures new { IfOk result (λ posts. All IsNew posts.items) }
     ensures count { IfOk result (λ posts. length posts.items ≡ length seats.entry.items) }
 {

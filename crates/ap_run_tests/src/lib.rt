@@ -9,6 +9,8 @@ mod answers;
 #[cfg(test)]
 mod cases;
 #[cfg(test)]
+mod charges;
+#[cfg(test)]
 mod choices;
 #[cfg(test)]
 mod failing;

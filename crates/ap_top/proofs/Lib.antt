@@ -16,3 +16,4 @@ pub mod Grouped
 pub mod Grown
 pub mod Weaker
 pub mod Parts
+pub mod FirstQuery

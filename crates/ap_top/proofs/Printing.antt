@@ -5,17 +5,15 @@ use Rattle.ap_outside.specs.Halting.{Finishes, Prints}
 use Rattle.ap_outside.specs.declared.halting.Halt.{Halt}
 use Rattle.ap_outside.proofs.Puts.{adds_nothing, puts_then}
 use Rattle.ap_outside.proofs.Halts.{passes_on}
-use Rattle.ap_term.specs.Goals.{Program, Query, joined}
-use Rattle.ap_term.specs.Search.{start}
-use Rattle.ap_term.specs.Blocks.{IsBlock}
+use Rattle.ap_term.specs.Goals.{Program, Query}
 use Rattle.ap_worker.specs.declared.emission.Ended.{Ended}
 use Rattle.ap_worker.specs.Ends.{end_of}
-use Rattle.ap_top.specs.Output.{line_of, end_line, is_spent, IsQueryBlock}
+use Rattle.ap_top.specs.Output.{end_line, is_spent, AreAnswers, IsQueryBlock}
 
 module _ (budget limit : ℕ) (program : Program) (table : List (List ℕ)) (query : Query) where
   -- the answers' lines that go with an end
   abbrev pub Solved : Ended → List (List ℕ) → Type 0
-  Solved e put = IsBlock (line_of table query) (joined program query) (start query) budget limit put (end_of e.end)
+  Solved = AreAnswers budget limit program table query
 
   whole : (ended : Ended) (ps qs : List (List ℕ)) (line : List ℕ) (spent : Bool) → line ≡ end_line (end_of ended.end) → spent ≡ is_spent (end_of ended.end) → Solved ended ps → qs ≡ line ∷ []
       → IsQueryBlock budget limit program table query spent (ps ++ qs)

@@ -3,6 +3,7 @@ pub mod Counts
 pub mod Words
 pub mod Refusals
 pub mod Output
+pub mod Single
 pub mod Lines
 pub mod Patterns
 pub mod Shows

@@ -12,6 +12,8 @@ use Rattle.ap_term.specs.Search.{start}
 use Rattle.ap_term.specs.Blocks.{End, no_more, budget_spent, stopped, error, IsBlock}
 use Rattle.ap_clause.specs.Reads.{AcceptsQuery, RefusesQuery}
 use Rattle.ap_clause.specs.declared.refusal.Refusal.{Refusal}
+use Rattle.ap_worker.specs.declared.emission.Ended.{Ended}
+use Rattle.ap_worker.specs.Ends.{end_of}
 use Rattle.ap_writer.specs.Line.{answer_line}
 use Rattle.ap_top.specs.Refusals.{refusal_line}
 use Rattle.ap_top.specs.Status.{tally, both}
@@ -38,6 +40,10 @@ is_spent no_more = false
 is_spent budget_spent = true
 is_spent stopped = false
 is_spent (error e) = false
+
+-- the lines of a query's answers that go with how they end
+abbrev pub AreAnswers : ℕ → ℕ → Program → List (List ℕ) → Query → Ended → List (List ℕ) → Type 0
+AreAnswers budget limit program table query e put = IsBlock (line_of table query) (joined program query) (start query) budget limit put (end_of e.end)
 
 -- A block of a query, by a budget of calls and a limit of answers: answer lines that are a block of its search, then
 -- the line that ends it. `spent` tells whether that says so of the budget.

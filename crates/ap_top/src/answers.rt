@@ -6,7 +6,7 @@ ghost use Rattle.ap_term.specs.Tree.{Trees};
 ghost use Rattle.ap_machine.specs.Lent.{terms_of};
 ghost use Rattle.ap_worker.specs.Ends.{end_of};
 ghost use Rattle.ap_worker.specs.Sought.{MayBeAsked};
-ghost use Rattle.ap_top.specs.Output.{line_of, fault_line, end_line, is_spent, IsQueryBlock};
+ghost use Rattle.ap_top.specs.Output.{line_of, fault_line, end_line, is_spent, AreAnswers, IsQueryBlock};
 ghost use Rattle.ap_top.specs.Lines.{line_same};
 
 use ap_grouping::group_query;
@@ -16,7 +16,7 @@ use ap_mel::Kind;
 use ap_outside::{Gate, Halt, Sink, put_line};
 use ap_reach::{Predicates, reached};
 use ap_term::{Atoms, Fault, NoMemory, Query};
-use ap_worker::{Answers, Crew, End, solve};
+use ap_worker::{Answers, Crew, End, Ended, solve};
 use std::alloc::Global;
 use std::sync::Wait;
 use std::thread::Threads;
@@ -101,9 +101,9 @@ impl Answers for Lines<'_> {
     ghost names = { λ a t u h. line_same a.atoms.now a.query.now t u h };
 }
 
-/// Prints the block of a query, each answer as it is found. Whether its budget was spent. What is annotated, compiled and searched is
-/// the part of the program that the query can call.
-pub fn print_query<R: Threads + Wait + Sync, G: Gate, K: Sink>(
+/// Puts the lines of a query's answers as they are found, and gives how they end, what was charged for them and which calls were made. What is annotated, compiled and searched is the part of the program that the query can
+/// call.
+pub fn put_answers<R: Threads + Wait + Sync, G: Gate, K: Sink>(
     alloc: Global,
     crew: &Crew<R, G>,
     program: &Predicates<'_>,
@@ -111,9 +111,10 @@ pub fn print_query<R: Threads + Wait + Sync, G: Gate, K: Sink>(
     bounds: Bounds,
     atoms: &Atoms,
     out: &mut K,
-) -> Result<bool, Halt>
+) -> Result<Ended, Halt>
     requires asked { MayBeAsked program.now query.now }
-    ensures lines { Finishes (K.pieces out.old) (K.pieces out.new) (IsQueryBlock bounds.budget bounds.answers program.now atoms.now query.now) result }
+    ensures lines { Finishes (K.pieces out.old) (K.pieces out.new) (AreAnswers bounds.budget bounds.answers program.now atoms.now query.now) result }
+    ensures total { IfOk result (λ e. e.charged ≤ e.total.sum) }
     ensures count { SinkCount (K.faults out.old) (K.faults out.new) result }
 {
     let lines = Lines { query, atoms };
@@ -131,7 +132,7 @@ pub fn print_query<R: Threads + Wait + Sync, G: Gate, K: Sink>(
     let _whole = program.program().as_slice();
     let _good = part.as_slice();
     let _asked = query.question();
-    let ended = solve(
+    solve(
         alloc,
         crew,
         &grouped.program,
@@ -140,7 +141,24 @@ pub fn print_query<R: Threads + Wait + Sync, G: Gate, K: Sink>(
         answers,
         &lines,
         out,
-    )?;
+    )
+}
+
+/// Prints the block of a query, each answer as it is found. Whether its budget was spent.
+pub fn print_query<R: Threads + Wait + Sync, G: Gate, K: Sink>(
+    alloc: Global,
+    crew: &Crew<R, G>,
+    program: &Predicates<'_>,
+    query: &Query,
+    bounds: Bounds,
+    atoms: &Atoms,
+    out: &mut K,
+) -> Result<bool, Halt>
+    requires asked { MayBeAsked program.now query.now }
+    ensures lines { Finishes (K.pieces out.old) (K.pieces out.new) (IsQueryBlock bounds.budget bounds.answers program.now atoms.now query.now) result }
+    ensures count { SinkCount (K.faults out.old) (K.faults out.new) result }
+{
+    let ended = put_answers(alloc, crew, program, query, bounds, atoms, out)?;
     put_line(end_line(ended.end), out)?;
     Ok(is_spent(ended.end))
 }

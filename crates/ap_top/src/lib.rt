@@ -14,12 +14,15 @@ mod patterns;
 mod queries;
 mod refusals;
 mod show;
+mod single;
 mod source;
 mod status;
 mod text_lines;
 mod texts;
 
 pub use answers::{BOUNDS, Bounds};
+pub use ap_worker::{Crew, End, Ended};
 pub use command::run;
+pub use single::answer;
 pub use source::LIMIT;
 pub use status::Status;

@@ -23,4 +23,4 @@ mod worker;
 pub use answers::Answers;
 pub use crew::Crew;
 pub use emission::{End, Ended};
-pub use solving::solve;
+pub use solving::{PADS, solve, solve_with_pads};

@@ -1,6 +1,6 @@
 //! From a query to the lines of its answers, by workers that run its goals side by side.
 
-ghost use Rattle.std.specs.Prelude.{◌≡◌, ◌+◌, ◌-◌, ◌^◌, ◌≤◌, ℕ, min, [], All, length, IfOk};
+ghost use Rattle.std.specs.Prelude.{◌≡◌, ◌+◌, ◌-◌, ◌^◌, ◌<◌, ◌≤◌, ℕ, min, [], All, length, IfOk};
 ghost use Rattle.ap_outside.specs.Halting.{Finishes, SinkCount};
 ghost use Rattle.ap_outside.specs.Pieces.{Puts};
 ghost use Rattle.ap_term.specs.Goals as goals;
@@ -53,8 +53,8 @@ use std::alloc::Global;
 use std::sync::Wait;
 use std::thread::{Threads, join_mut};
 
-/// How many goals a worker may have out at a time.
-const PADS: u32 = 64;
+/// How many pads a worker has, and so how many of its goals may be out at a time, where that isn't told.
+pub const PADS: u32 = 64;
 
 /// Sound code for a program beside a query, with its groups.
 fn sound_code(alloc: Global, program: &Program, query: &Query) -> Result<Sound, NoMemory>
@@ -111,7 +111,7 @@ fn workers_of<'a, 'b>(
     common: &'b Common,
 ) -> Result<Vec<Worker<'a, 'b>>, NoMemory>
     requires table { All (λ s. s.0 ≡ board.now.table.shared.table_id) seats.items }
-    requires new { All (λ s. IsNewSeat 64 s.1.number s.1) seats.items }
+    requires new { All (λ s. (pads : ℕ) × IsNewSeat pads s.1.number s.1) seats.items }
     ensures idle { IfOk result (λ workers. All IsIdle workers.items) }
 {
     let posts = open_posts(alloc, board, seats, common)?;
@@ -228,9 +228,9 @@ fn gathered(alloc: Global, lead: Lead<'_, '_>, others: Vec<Worker<'_, '_>>) -> T
 
 /// Searches a query beside a program by code, with its groups, and puts the lines of its answers as they are found, as many as
 /// the limit at most. They are a block of any query and program that these are without their groups, however many workers there are
-/// and however they take turns. With fewer calls than were charged for them sequential search hasn't ended, and all calls that were
+/// however many goals each may have out (1 to 1,024, its pads), and however they take turns. With fewer calls than were charged for them sequential search hasn't ended, and all calls that were
 /// charged were made.
-pub fn solve<R: Threads + Wait + Sync, G: Gate, A: Answers, K: Sink>(
+pub fn solve_with_pads<R: Threads + Wait + Sync, G: Gate, A: Answers, K: Sink>(
     alloc: Global,
     crew: &Crew<R, G>,
     program: &Program,
@@ -239,7 +239,9 @@ pub fn solve<R: Threads + Wait + Sync, G: Gate, A: Answers, K: Sink>(
     limit: u64,
     answers: &A,
     out: &mut K,
+    pads: u32,
 ) -> Result<Ended, Halt>
+    requires pads { (0 < pads) × (pads ≤ 1024) }
     requires width { A.width answers.now ≡ length query.now.names }
     requires asked { MayBeAsked program.now query.now }
     requires safe { IsSafeQuery program.now query.now }
@@ -256,7 +258,7 @@ pub fn solve<R: Threads + Wait + Sync, G: Gate, A: Answers, K: Sink>(
     let _good = program.as_slice();
     let _asked = query.question();
     let common = Common::new(crew.workers);
-    let Ok((board, seats)) = open_board(alloc, crew.workers, PADS) else {
+    let Ok((board, seats)) = open_board(alloc, crew.workers, pads) else {
         return Err(Halt::NoMemory);
     };
     let Ok(mut workers) = workers_of(alloc, &board, seats, &common) else {
@@ -284,4 +286,28 @@ pub fn solve<R: Threads + Wait + Sync, G: Gate, A: Answers, K: Sink>(
         out,
     );
     with_total(found, gathered(alloc, lead, workers))
+}
+
+/// The same, where each worker has 64 pads.
+pub fn solve<R: Threads + Wait + Sync, G: Gate, A: Answers, K: Sink>(
+    alloc: Global,
+    crew: &Crew<R, G>,
+    program: &Program,
+    query: &Query,
+    budget: u64,
+    limit: u64,
+    answers: &A,
+    out: &mut K,
+) -> Result<Ended, Halt>
+    requires width { A.width answers.now ≡ length query.now.names }
+    requires asked { MayBeAsked program.now query.now }
+    requires safe { IsSafeQuery program.now query.now }
+    ensures lines { (p : goals.Program) (q : Asked) → IsProgram p → IsQuery q → AreRead p q program.now query.now → Finishes (K.pieces out.old) (K.pieces out.new) (λ e put. IsBlock (A.line answers.now) (joined p q) (start q) budget limit put (end_of e.end)) result }
+    ensures charged { (p : goals.Program) (q : Asked) → IsProgram p → IsQuery q → AreRead p q program.now query.now → IfOk result (λ e. Puts (K.pieces out.old) (K.pieces out.new) (IsChargedBlock (A.line answers.now) (joined p q) (start q) budget limit (IsUngrouped (joined program.now query.now)) e)) }
+    ensures total { IfOk result (λ e. e.charged ≤ e.total.sum) }
+    ensures count { SinkCount (K.faults out.old) (K.faults out.new) result }
+{
+    solve_with_pads(
+        alloc, crew, program, query, budget, limit, answers, out, PADS,
+    )
 }

@@ -9,7 +9,7 @@ loop-seat-init c = let z = c.args.board.now.table.shared.table_id in let gives :
   posts = subst (All IsNew) (sym c.new-posts.ensures.items) (All-nil IsNew);
   count = ap length c.new-posts.ensures.items;
   all = gives;
-  left = subst (All (IsSat z)) (sym gives) (λ k d lt. (c.requires.table k d lt, c.requires.new k d lt));
+  left = subst (All (IsSat z)) (sym gives) (λ k d lt. let new = c.requires.new k d lt in (c.requires.table k d lt, new.0, new.1));
 }
 
 pub invariant_of-push : goal.invariant_of-push
@@ -27,4 +27,4 @@ loop-seat-preserved c = let z = c.args.board.now.table.shared.table_id in let it
 }
 
 pub new-requires : goal.new-requires
-new-requires c = let z = c.args.board.now.table.shared.table_id in let sat = All-head (IsSat z) c.in-Some.seat c.next.new.self.rest.items (subst (All (IsSat z)) c.in-Some.ensures.steps.0 c.loop-seat.invariant.left) in no_goal 64 c.in-Some.seat.1.number c.in-Some.seat.1 sat.1
+new-requires c = let z = c.args.board.now.table.shared.table_id in let sat = All-head (IsSat z) c.in-Some.seat c.next.new.self.rest.items (subst (All (IsSat z)) c.in-Some.ensures.steps.0 c.loop-seat.invariant.left) in no_goal sat.1 c.in-Some.seat.1.number c.in-Some.seat.1 sat.2

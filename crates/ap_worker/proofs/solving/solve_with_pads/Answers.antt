@@ -13,7 +13,7 @@ use Rattle.ap_open.specs.Reading.{rules_beside}
 use Rattle.ap_section.specs.Views.{view_of}
 use Rattle.ap_worker.proofs.Asks.{is-asked, is-searched, leads-solving, read-finishes, read-charged, total-counts, total-paid}
 use Rattle.ap_worker.proofs.Idle.{last-idle}
-use Rattle.ap_worker.proofs.solving.solve.Goals as goal
+use Rattle.ap_worker.proofs.solving.solve_with_pads.Goals as goal
 
 pub returns-clause-lines : goal.returns-clause-lines
 returns-clause-lines g c = λ p q fine asks read.
@@ -72,3 +72,6 @@ leading-requires-clause-idle g c = (last-idle c.in-Ok-workers_of.workers.items c
 
 pub search-found-requires-clause-idle : goal.search-found-requires-clause-idle
 search-found-requires-clause-idle g c κs within = (last-idle c.in-Ok-workers_of.workers.items c.pop.new.self.items c.in-Some.first c.in-Some.ensures.items c.in-Ok-workers_of.ensures.idle).0
+
+pub workers_of-requires-clause-new : goal.workers_of-requires-clause-new
+workers_of-requires-clause-new g c = λ k d lt. (c.args.pads, c.in-Ok-open_board.ensures.roles k d lt)
