@@ -128,14 +128,16 @@ static CHARGES: [Charge; 9] = [
     },
 ];
 
-/// Whether a query comes to what is said with so many workers.
+/// Whether a query comes to what is said with so many workers, each with so many pads.
 fn is_charged<R: Abort + Threads + Wait + RandomSource + Sync>(
     rt: &R,
     alloc: Global,
     charge: &Charge,
     workers: u32,
+    pads: u32,
 ) -> Result<bool, Fail>
     requires workers { (0 < workers) × (workers ≤ 32) }
+    requires pads { (0 < pads) × (pads ≤ 1024) }
 {
     let crew = Crew {
         rt,
@@ -155,6 +157,7 @@ fn is_charged<R: Abort + Threads + Wait + RandomSource + Sync>(
         charge.query.as_bytes(),
         bounds,
         &mut out,
+        pads,
     );
     let Ok(Some(ended)) = answered else {
         return Ok(false);
@@ -172,13 +175,15 @@ fn check_on<R: Abort + Threads + Wait + RandomSource + Sync>(
     rt: &R,
     alloc: Global,
     workers: u32,
+    pads: u32,
 ) -> Result<(), Fail>
     requires workers { (0 < workers) × (workers ≤ 32) }
+    requires pads { (0 < pads) × (pads ≤ 1024) }
 {
     for charge in &CHARGES {
         assert!(rt;
-            is_charged(rt, alloc, charge, workers)?,
-            "{workers} workers: {}",
+            is_charged(rt, alloc, charge, workers, pads)?,
+            "{workers} workers, {pads} pads: {}",
             charge.program
         );
     }
@@ -187,8 +192,17 @@ fn check_on<R: Abort + Threads + Wait + RandomSource + Sync>(
 
 #[test]
 fn a_search_is_charged_what_its_goals_cost(rt: HostRuntime) -> Result<(), Fail> {
-    check_on(&rt, rt.alloc(), 1)?;
-    check_on(&rt, rt.alloc(), 2)?;
-    check_on(&rt, rt.alloc(), 4)?;
-    check_on(&rt, rt.alloc(), 32)
+    check_on(&rt, rt.alloc(), 1, 64)?;
+    check_on(&rt, rt.alloc(), 2, 64)?;
+    check_on(&rt, rt.alloc(), 4, 64)?;
+    check_on(&rt, rt.alloc(), 32, 64)
+}
+
+#[test]
+fn a_search_with_few_pads_is_charged_the_same(rt: HostRuntime) -> Result<(), Fail> {
+    check_on(&rt, rt.alloc(), 1, 1)?;
+    check_on(&rt, rt.alloc(), 2, 1)?;
+    check_on(&rt, rt.alloc(), 2, 2)?;
+    check_on(&rt, rt.alloc(), 32, 1)?;
+    check_on(&rt, rt.alloc(), 32, 2)
 }

@@ -1,6 +1,6 @@
 //! Printing the block of a query. Each line is one put.
 
-ghost use Rattle.std.specs.Prelude.{◌≡◌, ℕ, List, ◌≤◌, ◌^◌, length, IfOk};
+ghost use Rattle.std.specs.Prelude.{◌≡◌, ℕ, List, ◌<◌, ◌≤◌, ◌^◌, length, IfOk};
 ghost use Rattle.ap_outside.specs.Halting.{Finishes, SinkCount};
 ghost use Rattle.ap_term.specs.Tree.{Trees};
 ghost use Rattle.ap_machine.specs.Lent.{terms_of};
@@ -16,7 +16,7 @@ use ap_mel::Kind;
 use ap_outside::{Gate, Halt, Sink, put_line};
 use ap_reach::{Predicates, reached};
 use ap_term::{Atoms, Fault, NoMemory, Query};
-use ap_worker::{Answers, Crew, End, Ended, solve};
+use ap_worker::{Answers, Crew, End, Ended, PADS, solve_with_pads};
 use std::alloc::Global;
 use std::sync::Wait;
 use std::thread::Threads;
@@ -111,8 +111,10 @@ pub fn put_answers<R: Threads + Wait + Sync, G: Gate, K: Sink>(
     bounds: Bounds,
     atoms: &Atoms,
     out: &mut K,
+    pads: u32,
 ) -> Result<Ended, Halt>
     requires asked { MayBeAsked program.now query.now }
+    requires pads { (0 < pads) × (pads ≤ 1024) }
     ensures lines { Finishes (K.pieces out.old) (K.pieces out.new) (AreAnswers bounds.budget bounds.answers program.now atoms.now query.now) result }
     ensures total { IfOk result (λ e. e.charged ≤ e.total.sum) }
     ensures count { SinkCount (K.faults out.old) (K.faults out.new) result }
@@ -132,7 +134,7 @@ pub fn put_answers<R: Threads + Wait + Sync, G: Gate, K: Sink>(
     let _whole = program.program().as_slice();
     let _good = part.as_slice();
     let _asked = query.question();
-    solve(
+    solve_with_pads(
         alloc,
         crew,
         &grouped.program,
@@ -141,6 +143,7 @@ pub fn put_answers<R: Threads + Wait + Sync, G: Gate, K: Sink>(
         answers,
         &lines,
         out,
+        pads,
     )
 }
 
@@ -158,7 +161,7 @@ pub fn print_query<R: Threads + Wait + Sync, G: Gate, K: Sink>(
     ensures lines { Finishes (K.pieces out.old) (K.pieces out.new) (IsQueryBlock bounds.budget bounds.answers program.now atoms.now query.now) result }
     ensures count { SinkCount (K.faults out.old) (K.faults out.new) result }
 {
-    let ended = put_answers(alloc, crew, program, query, bounds, atoms, out)?;
+    let ended = put_answers(alloc, crew, program, query, bounds, atoms, out, PADS)?;
     put_line(end_line(ended.end), out)?;
     Ok(is_spent(ended.end))
 }

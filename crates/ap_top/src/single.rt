@@ -1,6 +1,6 @@
 //! One query of a text, with what its search was charged and which calls were made for it.
 
-ghost use Rattle.std.specs.Prelude.{◌≤◌, IfOk, IfSome};
+ghost use Rattle.std.specs.Prelude.{◌<◌, ◌≤◌, IfOk, IfSome};
 ghost use Rattle.ap_outside.specs.Halting.{Finishes, SinkCount};
 ghost use Rattle.ap_top.specs.Single.{FirstEnds, SingleEnds};
 ghost use Rattle.ap_top.specs.Unasked.{LeavesQuery};
@@ -25,7 +25,9 @@ fn answer_first<R: Threads + Wait + Sync, G: Gate, K: Sink>(
     bounds: Bounds,
     atoms: &mut Atoms,
     out: &mut K,
+    pads: u32,
 ) -> Result<Option<Ended>, Halt>
+    requires pads { (0 < pads) × (pads ≤ 1024) }
     requires query { LeavesQuery program.now atoms.old }
     ensures lines { Finishes (K.pieces out.old) (K.pieces out.new) (FirstEnds bounds.budget bounds.answers program.now atoms.old text.now) result }
     ensures total { IfOk result (λ r. IfSome r (λ e. e.charged ≤ e.total.sum)) }
@@ -43,7 +45,7 @@ fn answer_first<R: Threads + Wait + Sync, G: Gate, K: Sink>(
     let whole = predicates.program();
     match query(alloc, text, piece, whole, atoms) {
         Ok(query) => {
-            let ended = put_answers(alloc, crew, &predicates, &query, bounds, atoms, out)?;
+            let ended = put_answers(alloc, crew, &predicates, &query, bounds, atoms, out, pads)?;
             Ok(Some(ended))
         }
         Err(Refusal::NoMemory) => Err(Halt::NoMemory),
@@ -51,8 +53,8 @@ fn answer_first<R: Threads + Wait + Sync, G: Gate, K: Sink>(
     }
 }
 
-/// Reads a program and the first query of another text, and puts the lines of the query's answers as `run` puts them. Gives
-/// how they end, what was charged for them, and which calls were made. None, and nothing put, where the program or the query is refused
+/// Reads a program and the first query of another text, and puts the lines of the query's answers as `run` puts them, by workers
+/// that have so many pads each. Gives how they end, what was charged for them, and which calls were made. None, and nothing put, where the program or the query is refused
 /// or there is no query.
 pub fn answer<R: Threads + Wait + Sync, G: Gate, K: Sink>(
     alloc: Global,
@@ -61,7 +63,9 @@ pub fn answer<R: Threads + Wait + Sync, G: Gate, K: Sink>(
     queries: &[u8],
     bounds: Bounds,
     out: &mut K,
+    pads: u32,
 ) -> Result<Option<Ended>, Halt>
+    requires pads { (0 < pads) × (pads ≤ 1024) }
     ensures lines { Finishes (K.pieces out.old) (K.pieces out.new) (SingleEnds bounds.budget bounds.answers text.now queries.now) result }
     ensures total { IfOk result (λ r. IfSome r (λ e. e.charged ≤ e.total.sum)) }
     ensures count { SinkCount (K.faults out.old) (K.faults out.new) result }
@@ -70,7 +74,9 @@ pub fn answer<R: Threads + Wait + Sync, G: Gate, K: Sink>(
         return Err(Halt::NoMemory);
     };
     match program(alloc, text, &mut atoms) {
-        Ok(program) => answer_first(alloc, crew, queries, &program, bounds, &mut atoms, out),
+        Ok(program) => answer_first(
+            alloc, crew, queries, &program, bounds, &mut atoms, out, pads,
+        ),
         Err(Refusal::NoMemory) => Err(Halt::NoMemory),
         Err(_refusal) => Ok(None),
     }

@@ -4,15 +4,15 @@ use Rattle.ap_top.proofs.Grouped.{grouped-read, grouped-asked, grouped-safe}
 use Rattle.ap_top.proofs.Parts.{part-asked, part-finishes}
 use Rattle.ap_top.proofs.answers.put_answers.Goals as goal
 
-pub solve-requires-clause-asked : goal.solve-requires-clause-asked
-solve-requires-clause-asked g c κs within =
+pub solve_with_pads-requires-clause-asked : goal.solve_with_pads-requires-clause-asked
+solve_with_pads-requires-clause-asked g c κs within =
     let p = c.args.program.now in
     let q = c.args.query.now in
     let r = c.in-Ok.part in
     grouped-asked _ r q c.in-Ok-group_query.grouped.program c.in-Ok-group_query.grouped.query c.in-Ok-group_query.ensures (part-asked p q r c.in-Ok.ensures c.requires.asked)
 
-pub solve-requires-clause-safe : goal.solve-requires-clause-safe
-solve-requires-clause-safe g c κs within = grouped-safe _ c.in-Ok.part c.args.query.now c.in-Ok-group_query.grouped.program c.in-Ok-group_query.grouped.query c.in-Ok-group_query.ensures
+pub solve_with_pads-requires-clause-safe : goal.solve_with_pads-requires-clause-safe
+solve_with_pads-requires-clause-safe g c κs within = grouped-safe _ c.in-Ok.part c.args.query.now c.in-Ok-group_query.grouped.program c.in-Ok-group_query.grouped.query c.in-Ok-group_query.ensures
 
 pub returns-clause-lines : goal.returns-clause-lines
 returns-clause-lines g c =
@@ -20,5 +20,5 @@ returns-clause-lines g c =
     let q = c.args.query.now in
     let r = c.in-Ok.part in
     let good : IsProgram p = subst IsProgram c.program.ensures c.as_slice-whole.ensures.kept in
-    part-finishes c.args.bounds.budget c.args.bounds.answers p c.args.atoms.now q r good c.in-Ok.ensures _ _ c.solve.result
-    (c.solve.ensures.lines r q c.as_slice-good.ensures.kept c.question-asked.ensures.kept (grouped-read _ r q c.in-Ok-group_query.grouped.program c.in-Ok-group_query.grouped.query c.in-Ok-group_query.ensures))
+    part-finishes c.args.bounds.budget c.args.bounds.answers p c.args.atoms.now q r good c.in-Ok.ensures _ _ c.solve_with_pads.result
+    (c.solve_with_pads.ensures.lines r q c.as_slice-good.ensures.kept c.question-asked.ensures.kept (grouped-read _ r q c.in-Ok-group_query.grouped.program c.in-Ok-group_query.grouped.query c.in-Ok-group_query.ensures))
