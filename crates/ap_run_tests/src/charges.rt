@@ -30,7 +30,7 @@ const BITS: &str = "s(X,Y,Z) :- b(X) & q(Y,Z). q(Y,Z) :- b(Y) & b(Z). b(0). b(1)
 const SIX: &str =
     "X = 0, Y = 0, Z = 0\nX = 0, Y = 0, Z = 1\nX = 0, Y = 1, Z = 0\nX = 0, Y = 1, Z = 1\nX = 1, Y = 0, Z = 0\nX = 1, Y = 0, Z = 1\n";
 
-static CHARGES: [Charge; 9] = [
+static CHARGES: [Charge; 10] = [
     // s, b(X), q, b(Y), b(Z); then b(Z), and q, b(Y), b(Z), b(Z) again
     Charge {
         program: BITS,
@@ -68,6 +68,17 @@ static CHARGES: [Charge; 9] = [
         program: "t :- f & l. l :- l. f :- fail.",
         query: "?- t.",
         budget: 3,
+        answers: 100,
+        put: "",
+        end: End::NoMore,
+        charged: 3,
+        wasteful: true,
+    },
+    // t, f, fail; a group of endless goals is thrown away
+    Charge {
+        program: "t :- f & u. u :- l & l. l :- l. f :- fail.",
+        query: "?- t.",
+        budget: 1000000,
         answers: 100,
         put: "",
         end: End::NoMore,
