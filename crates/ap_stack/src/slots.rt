@@ -11,6 +11,8 @@ ghost use Rattle.ap_section.specs.Views.{spent_in, budget_in};
 ghost use Rattle.ap_section.specs.Slots.{IsFirstReady, IsPlaceIn, told_of, round_in, slots_in, held_spent, is_held};
 ghost use Rattle.ap_post.specs.Posts.{posted_in};
 ghost use Rattle.ap_stack.specs.Stacks.{IsGood, Goes, IsStep, code_in, section_in};
+ghost use Rattle.ap_stack.specs.declared.stack.Ending.TheVariants.{Failed, Spent};
+ghost use Rattle.ap_stack.specs.declared.stack.Step.TheVariants.{Answer, Ended};
 
 use crate::stack::{Ending, Stack, Step};
 use ap_codecheck::Sound;
@@ -87,6 +89,7 @@ impl<'a> Stack<'a> {
         requires answering { IsAnswering (section_in self.old) }
         ensures goes { Goes post.now self.old post.now self.new }
         ensures step { IsStep post.now self.new result }
+        ensures lone { self.old.outer.items ≡ [] → (self.new ≡ self.old) × (result ≡ Answer) }
     {
         sharing_law();
         let has_more = self.newest.has_more();
@@ -126,6 +129,7 @@ impl<'a> Stack<'a> {
         requires done { IsDone (section_in self.old) }
         ensures goes { Goes post.now self.old post.now self.new }
         ensures step { IsStep post.now self.new result }
+        ensures lone { self.old.outer.items ≡ [] → (self.new ≡ self.old) × (result ≡ Ended Failed) }
     {
         sharing_law();
         let Some(done) = self.pop() else {
@@ -144,6 +148,7 @@ impl<'a> Stack<'a> {
         requires spent { IsSpent (code_in self.old) (section_in self.old) }
         ensures goes { Goes post.now self.old post.now self.new }
         ensures step { IsStep post.now self.new result }
+        ensures lone { self.old.outer.items ≡ [] → (self.new ≡ self.old) × (result ≡ Ended Spent) }
     {
         sharing_law();
         let Some(done) = self.pop() else {

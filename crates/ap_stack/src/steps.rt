@@ -2,6 +2,7 @@
 
 ghost use Rattle.std.specs.Prelude.{◌≡◌, true, false, [], IfOk};
 ghost use Rattle.ap_post.specs.Posts.{posted_in};
+ghost use Rattle.ap_stack.specs.Counts.{IsLone, StaysLone};
 ghost use Rattle.ap_stack.specs.Stacks.{IsGood, Goes, IsStep};
 
 use crate::stack::{Stack, Step};
@@ -122,6 +123,7 @@ impl<'a> Stack<'a> {
         requires runs { self.old.tends ≡ false }
         ensures goes { Goes post.old self.old post.new self.new }
         ensures step { IfOk result (λ step. IsStep post.new self.new step) }
+        ensures lone { StaysLone self.old self.new result }
     {
         sharing_law();
         let mut wish = Wish::new(post.may_fork(self.depth()));
@@ -148,10 +150,11 @@ impl<'a> Stack<'a> {
     fn offer_wanted(&mut self, post: &mut Post<'a, '_>) -> Result<(), NoMemory>
         requires good { IsGood post.old self.old }
         ensures goes { Goes post.old self.old post.new self.new }
+        ensures lone { IsLone self.old → IsLone self.new }
     {
         sharing_law();
         self.turns = self.turns.wrapping_add(1);
-        if post.wants() {
+        if !self.outer.is_empty() && post.wants() {
             return self.offer_old(post);
         }
         Ok(())
@@ -163,6 +166,7 @@ impl<'a> Stack<'a> {
         requires good { IsGood post.old self.old }
         ensures goes { Goes post.old self.old post.new self.new }
         ensures step { IfOk result (λ step. IsStep post.new self.new step) }
+        ensures lone { StaysLone self.old self.new result }
     {
         self.offer_wanted(post)?;
         if self.tends {
