@@ -68,7 +68,13 @@ impl Asked {
         if tuple.roots.len() != self.query.names().len() {
             return Err(Fail::new("no answer"));
         }
-        let line = ap_lines::answer_line(alloc, &self.query, tuple.cells, tuple.roots, &self.atoms)?;
+        let line = ap_lines::answer_line(
+            alloc,
+            &self.query,
+            tuple.cells,
+            tuple.roots,
+            &self.atoms,
+        )?;
         lines.extend_from_slice(line.as_slice())?;
         lines.extend_from_slice(b";")?;
         Ok(())

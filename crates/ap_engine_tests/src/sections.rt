@@ -59,12 +59,7 @@ fn go_on(sound: &Sound, section: &mut Section) -> Result<Turn, NoMemory>
 }
 
 /// Begins the goal of a slot, by a section of its own.
-fn begun(
-    alloc: Global,
-    sound: &Sound,
-    section: &mut Section,
-    i: usize,
-) -> Result<Next, NoMemory>
+fn begun(alloc: Global, sound: &Sound, section: &mut Section, i: usize) -> Result<Next, NoMemory>
     requires ready { IsReady sound.now section.old }
     requires at { IsAtFrame (view_of section.old) }
     requires first { IsFirstReady i (view_of section.old) }
@@ -152,12 +147,7 @@ fn put(sound: &Sound, section: &mut Section, i: usize, inner: Section, since: u6
 }
 
 /// Goes on to the next answer, or to where the search ends. Frames may be nested so deep.
-fn driven(
-    alloc: Global,
-    sound: &Sound,
-    section: &mut Section,
-    depth: u32,
-) -> Result<Turn, NoMemory>
+fn driven(alloc: Global, sound: &Sound, section: &mut Section, depth: u32) -> Result<Turn, NoMemory>
     requires { IsReady sound.now section.old }
     ensures ready { IsReady sound.now section.new }
     ensures answer { result ≡ Ok Turn.Answer → AreClosed (stack_in (view_of section.new)) }
@@ -197,13 +187,18 @@ fn started(alloc: Global, sound: &Sound, rest: u64) -> Result<Section, Fail>
     }
 }
 
-/// How a query's search ends, the calls that it makes, and the lines of its answers.
-fn run(alloc: Global, asked: &Asked, rest: u64) -> Result<(Turn, u64, Vec<u8>), Fail> {
-    let sound = asked.compiled(alloc)?;
-    let mut section = started(alloc, &sound, rest)?;
+/// How the search of a section ends, the calls that were charged to it, and the lines of its answers.
+fn answers_of(
+    alloc: Global,
+    asked: &Asked,
+    sound: &Sound,
+    mut section: Section,
+) -> Result<(Turn, u64, Vec<u8>), Fail>
+    requires { IsReady sound.now section }
+{
     let mut lines = Vec::new(alloc);
     'answers: for _answer in 0..50 {
-        let end = driven(alloc, &sound, &mut section, 40)?;
+        let end = driven(alloc, sound, &mut section, 40)?;
         if end != Turn::Answer {
             return Ok((end, section.spent(), lines));
         }
@@ -211,6 +206,13 @@ fn run(alloc: Global, asked: &Asked, rest: u64) -> Result<(Turn, u64, Vec<u8>), 
         section.redo();
     }
     Err(Fail::new("more answers"))
+}
+
+/// What a query's search comes to.
+fn run(alloc: Global, asked: &Asked, rest: u64) -> Result<(Turn, u64, Vec<u8>), Fail> {
+    let sound = asked.compiled(alloc)?;
+    let section = started(alloc, &sound, rest)?;
+    answers_of(alloc, asked, &sound, section)
 }
 
 /// A program, a query, the calls that it may make, the lines of its answers, how it ends, and the calls that are charged to it: those of
@@ -316,11 +318,13 @@ fn is_row(alloc: Global, row: &Row) -> Result<bool, Fail> {
     let asked = Asked::read(alloc, row.0, row.1)?;
     let (end, spent, lines) = run(alloc, &asked, row.2)?;
     let (ended, wanted) = asked.searched(alloc, row.2)?;
-    Ok(end == row.4
-        && spent == row.5
-        && ended == (end == Turn::Failed)
-        && lines.as_slice() == row.3.as_bytes()
-        && wanted.as_slice() == row.3.as_bytes())
+    Ok(
+        end == row.4
+            && spent == row.5
+            && ended == (end == Turn::Failed)
+            && lines.as_slice() == row.3.as_bytes()
+            && wanted.as_slice() == row.3.as_bytes(),
+    )
 }
 
 #[test]

@@ -9,3 +9,6 @@ start-requires c =
 
 pub returns-clause-next : goal.returns-clause-next
 returns-clause-next c = (c.start_slot.ensures.at_frame, c.start_slot.ensures.place, c.start_slot.ensures.runs, c.in_ok-inner.ensures.ready)
+
+pub returns-clause-ready : goal.returns-clause-ready
+returns-clause-ready c = c.start_slot.ensures.ready c.args.sound.now c.requires.ready
