@@ -1,5 +1,5 @@
 -- What a section that is driven by hand comes to.
-use Rattle.std.proofs.Common.{◌≡◌, ℕ, ◌+◌, ◌-◌, ◌<◌, ◌^◌, true, slice_get, Some, Ok, IfOk, sym, ◌∙◌, subst}
+use Rattle.std.proofs.Common.{◌≡◌, ℕ, ◌+◌, ◌-◌, ◌<◌, ◌^◌, true, Some, Ok, IfOk, sym, subst}
 use Rattle.std.specs.Prelude.{Result}
 use Rattle.ap_term.specs.declared.memory.NoMemory.{NoMemory}
 use Rattle.ap_instr.specs.Code.{Compiled}

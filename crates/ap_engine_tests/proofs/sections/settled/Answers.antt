@@ -1,9 +1,7 @@
-use Rattle.std.proofs.Common.{◌≡◌, Some, sym, subst, ◌∙◌}
-use Rattle.ap_tie.specs.Sections as seen
+use Rattle.std.proofs.Common.{subst}
 use Rattle.ap_section.specs.Views.{view_of}
-use Rattle.ap_section.specs.Slots.{IsAtFrame}
 use Rattle.ap_section.specs.Settles.{IsSettled}
-use Rattle.ap_engine_tests.proofs.Driven.{Redoes, redoes}
+use Rattle.ap_engine_tests.proofs.Driven.{redoes}
 use Rattle.ap_engine_tests.proofs.sections.settled.Goals as goal
 
 pub take_section-inner-requires-clause-at : goal.take_section-inner-requires-clause-at
