@@ -1,1 +1,2 @@
 mod At
+mod Driven
