@@ -3,7 +3,9 @@ mod Begun
 mod Charging
 mod Crosses
 mod Emitted
+mod Exact
 mod Finding
+mod Grouping
 mod Helping
 mod Idle
 mod Leading

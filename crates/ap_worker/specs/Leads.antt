@@ -1,11 +1,15 @@
 -- The worker that searches the query.
-use Rattle.std.specs.Prelude.{◌≡◌, ◌≢◌, ℕ, ◌<◌, false, List, [], ◌∷◌}
+use Rattle.std.specs.Prelude.{◌≡◌, ◌≢◌, ℕ, ◌<◌, ◌≤◌, false, List, [], ◌∷◌, Result, Ok}
+use Rattle.ap_term.specs.declared.memory.NoMemory.{NoMemory}
 use Rattle.ap_term.specs.Tree.{Trees}
 use Rattle.ap_tied.specs.Settling.{IsAnswerIn}
+use Rattle.ap_tied.specs.Ties.{stack_in}
 use Rattle.ap_tie.specs.Sections as seen
+use Rattle.ap_tie.specs.Sections.{bottom}
 use Rattle.ap_open.specs.Away.{Carries}
 use Rattle.ap_stack.specs.declared.stack.Step.{Step}
-use Rattle.ap_stack.specs.declared.stack.Step.TheVariants.{Answer, Ended}
+use Rattle.ap_stack.specs.declared.stack.Step.TheVariants.{Answer, Ended, Waits}
+use Rattle.ap_stack.specs.Counts.{IsLone}
 use Rattle.ap_stack.specs.declared.stack.Ending.{Ending}
 use Rattle.ap_stack.specs.declared.stack.Ending.TheVariants.{Failed, Spent}
 use Rattle.ap_stack.specs.Stacks.{code_in, levels_in, section_in, away_in, IsGood, Pays, IsStep}
@@ -38,6 +42,21 @@ pub record LeadStays (l m : Lead) : Type 0 where
 
 abbrev pub IsStepOfQuery : Lead → Step → Type 0
 IsStepOfQuery l step = IsStep l.worker.post l.query step
+
+-- ---- without groups
+
+-- the query's search is one section without a frame, and no goal was taken
+pub record IsAlone (l : Lead) : Type 0 where
+  pub query : IsLone l.query
+  pub taken : l.worker.taken.items ≡ []
+
+-- where that section has no frame then, it is so still, and there was something to do
+abbrev pub StaysAlone : Lead → Lead → Result Step NoMemory → Type 0
+StaysAlone l m result = IsAlone l → stack_in (section_in m.query) ≡ bottom → IsAlone m × (result ≡ Ok Waits → ⊥)
+
+-- it made no more calls than so many
+abbrev pub MadeNoMore : Lead → ℕ → Type 0
+MadeNoMore l n = (l.query.share ≤ n) × (l.worker.taken.items ≡ [])
 
 -- ---- what is put
 

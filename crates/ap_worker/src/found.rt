@@ -19,7 +19,7 @@ ghost use Rattle.ap_stack.specs.Counts.{Counts};
 ghost use Rattle.ap_stack.specs.Stacks.{code_in, section_in, IsGood, IsStep};
 ghost use Rattle.ap_worker.specs.Charged.{IsChargedEnd, charge_after};
 ghost use Rattle.ap_worker.specs.Ends.{end_of};
-ghost use Rattle.ap_worker.specs.Leads.{IsLeading, IsLineAt, end_after};
+ghost use Rattle.ap_worker.specs.Leads.{IsAlone, IsLeading, IsLineAt, MadeNoMore, end_after};
 
 use crate::answers::Answers;
 use crate::bounds::Bounds;
@@ -97,6 +97,7 @@ pub(crate) fn put_found<R: Wait, G: Gate, A: Answers, K: Sink>(
     ensures lines { (p : Rules) (q : Query) → IsQuery q → IsSolvingBeside (code_in lead.old.query) p (tracked_start q) (start q) bounds.budget [] (section_in lead.old.query) [] [] → Finishes (K.pieces out.old) (K.pieces out.new) (λ e put. IsBlock (A.line answers.now) p.program (start q) bounds.budget bounds.limit put (end_of e.end)) result }
     ensures charged { (p : Rules) (q : Query) → IsQuery q → IsSolvingBeside (code_in lead.old.query) p (tracked_start q) (start q) bounds.budget [] (section_in lead.old.query) [] [] → IfOk result (λ e. Puts (K.pieces out.old) (K.pieces out.new) (IsChargedEnd (A.line answers.now) p.program (start q) bounds.budget bounds.limit (IsUngrouped p.program × AreCalls q.question.body) e.end e.charged)) }
     ensures paid { (p : Rules) (q : Query) → IsQuery q → IsSolvingBeside (code_in lead.old.query) p (tracked_start q) (start q) bounds.budget [] (section_in lead.old.query) [] [] → Counts bounds.budget lead.old.query → IfOk result (λ e. e.charged ≤ lead.new.query.share) }
+    ensures exact { (p : Rules) (q : Query) → IsQuery q → IsSolvingBeside (code_in lead.old.query) p (tracked_start q) (start q) bounds.budget [] (section_in lead.old.query) [] [] → IsUngrouped p.program → AreCalls q.question.body → IsAlone lead.old → lead.old.query.share ≡ 0 → IfOk result (λ e. MadeNoMore lead.new e.charged) }
     ensures count { SinkCount (K.faults out.old) (K.faults out.new) result }
 {
     solving_law();

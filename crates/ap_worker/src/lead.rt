@@ -1,7 +1,8 @@
 //! The worker that searches the query.
 
-ghost use Rattle.std.specs.Prelude.{◌^◌, ◌≤◌, min, IfOk};
-ghost use Rattle.ap_worker.specs.Leads.{IsLeading, LeadGoes, LeadStays, IsStepOfQuery};
+ghost use Rattle.std.specs.Prelude.{◌≡◌, ◌^◌, ◌≤◌, [], min, IfOk};
+ghost use Rattle.ap_ledger.specs.Counts.{capped};
+ghost use Rattle.ap_worker.specs.Leads.{IsLeading, LeadGoes, LeadStays, StaysAlone, IsStepOfQuery};
 
 use crate::patience::Patience;
 use crate::worker::Worker;
@@ -39,6 +40,7 @@ impl<'a, 'b> Lead<'a, 'b> {
         requires leads { IsLeading self.old }
         ensures goes { LeadGoes self.old self.new }
         ensures step { IfOk result (λ step. IsStepOfQuery self.new step) }
+        ensures alone { StaysAlone self.old self.new result }
     {
         sharing_law();
         if !self.worker.is_free() {
@@ -67,6 +69,7 @@ impl<'a, 'b> Lead<'a, 'b> {
         requires leads { IsLeading self.old }
         ensures goes { LeadGoes self.old self.new }
         ensures step { IfOk result (λ step. IsStepOfQuery self.new step) }
+        ensures alone { StaysAlone self.old self.new result }
     {
         let key = self.worker.common().prepare_wait();
         let step = self.step(alloc, gate)?;
@@ -87,6 +90,7 @@ impl<'a, 'b> Lead<'a, 'b> {
         requires leads { IsLeading self.old }
         ensures goes { LeadGoes self.old self.new }
         ensures step { IfOk result (λ step. IsStepOfQuery self.new step) }
+        ensures alone { StaysAlone self.old self.new result }
     {
         if patience.is_over() {
             patience.renew();
@@ -103,7 +107,8 @@ impl<'a, 'b> Lead<'a, 'b> {
 
     /// Drops the searches one after another, however deep frames are nested in them, and gives the calls that were made.
     pub(crate) fn release(self, alloc: Global) -> Share
-        ensures { min self.entry.query.share (2 ^ 64) ≤ result }
+        ensures least { min self.entry.query.share (2 ^ 64) ≤ result }
+        ensures alone { self.entry.worker.taken.items ≡ [] → result ≡ capped self.entry.query.share }
     {
         let Lead { worker, query } = self;
         let mut share = query.release(alloc);

@@ -13,6 +13,7 @@ mod bounds;
 mod crew;
 mod emission;
 mod found;
+mod groups;
 mod lead;
 mod patience;
 mod serving;

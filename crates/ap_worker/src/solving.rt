@@ -1,6 +1,7 @@
 //! From a query to the lines of its answers, by workers that run its goals side by side.
 
-ghost use Rattle.std.specs.Prelude.{◌≡◌, ◌+◌, ◌-◌, ◌^◌, ◌<◌, ◌≤◌, ℕ, min, [], All, length, IfOk};
+ghost use Rattle.std.specs.Prelude.{◌≡◌, ◌+◌, ◌-◌, ◌^◌, ◌<◌, ◌≤◌, ℕ, true, min, [], All, length, IfOk};
+ghost use Rattle.std.specs.List.{list_any};
 ghost use Rattle.ap_outside.specs.Halting.{Finishes, SinkCount};
 ghost use Rattle.ap_outside.specs.Pieces.{Puts};
 ghost use Rattle.ap_term.specs.Goals as goals;
@@ -16,7 +17,7 @@ ghost use Rattle.ap_tied.specs.Ties.{IsSearched};
 ghost use Rattle.ap_board.specs.Seats.{IsNewSeat};
 ghost use Rattle.ap_open.specs.Away.{IsSolvingBeside};
 ghost use Rattle.ap_open.specs.Opened.{IsSolving};
-ghost use Rattle.ap_section.specs.Views.{view_of};
+ghost use Rattle.ap_section.specs.Views.{spent_in, view_of};
 ghost use Rattle.ap_section.specs.Ready.{IsReady};
 ghost use Rattle.ap_open.specs.Reading.{AreRead, IsSafeQuery, rules_beside};
 ghost use Rattle.ap_open.specs.Ungrouped.{AreCalls, IsUngrouped};
@@ -25,7 +26,8 @@ ghost use Rattle.ap_stack.specs.Counts.{Counts};
 ghost use Rattle.ap_stack.specs.Stacks.{code_in, section_in};
 ghost use Rattle.ap_worker.specs.Charged.{IsChargedBlock, IsChargedEnd};
 ghost use Rattle.ap_worker.specs.Ends.{end_of};
-ghost use Rattle.ap_worker.specs.Leads.{IsLeading};
+ghost use Rattle.ap_worker.specs.Grouped.{is_grouped};
+ghost use Rattle.ap_worker.specs.Leads.{IsAlone, IsLeading, MadeNoMore};
 ghost use Rattle.ap_worker.specs.Totals.{IsFresh};
 ghost use Rattle.ap_worker.specs.Workers.{IsStaffed, IsIdle};
 ghost use Rattle.ap_worker.specs.Sought.{MayBeAsked};
@@ -35,6 +37,7 @@ use crate::bounds::Bounds;
 use crate::crew::Crew;
 use crate::emission::{Answered, Ended, with_total};
 use crate::found::put_found;
+use crate::groups::has_groups;
 use crate::lead::Lead;
 use crate::serving::serve_all;
 use crate::worker::Worker;
@@ -97,10 +100,26 @@ fn leading<'a, 'b>(
     ensures alone { IfOk result (λ lead. (lead.query.outer.items ≡ []) × (posted_in lead.worker.post lead.query.frame ≡ [])) }
     ensures share { IfOk result (λ lead. lead.query.share ≡ 0) }
     ensures query { IfOk result (λ lead. (code_in lead.query ≡ sound.now) × (section_in lead.query ≡ view_of section)) }
+    ensures lone { IfOk result (λ lead. spent_in (view_of section) ≡ 0 → IsAlone lead) }
 {
     let frame = worker.post.number()?;
     let query = Stack::new(alloc, sound, section, frame, 0);
     Ok(Lead { worker, query })
+}
+
+/// How many workers run a query: one where it and its program have no group, since it offers no goal.
+#[tactic(auto, using(crate::proofs::Grouping::rules_of_workers))]
+fn workers_for(workers: u32, program: &Program, query: &Query) -> u32
+    requires some { 0 < workers }
+    ensures some { (0 < result) × (result ≤ workers) }
+    ensures one { IsUngrouped (joined program.now query.now) → result ≡ 1 }
+    ensures all { list_any is_grouped (joined program.now query.now) ≡ true → result ≡ workers }
+{
+    if has_groups(program, query) {
+        workers
+    } else {
+        1
+    }
 }
 
 /// Workers for all seats of a new board.
@@ -113,6 +132,7 @@ fn workers_of<'a, 'b>(
     requires table { All (λ s. s.0 ≡ board.now.table.shared.table_id) seats.items }
     requires new { All (λ s. (pads : ℕ) × IsNewSeat pads s.1.number s.1) seats.items }
     ensures idle { IfOk result (λ workers. All IsIdle workers.items) }
+    ensures count { IfOk result (λ workers. length workers.items ≡ length seats.entry.items) }
 {
     let posts = open_posts(alloc, board, seats, common)?;
     let mut workers = Vec::new(alloc);
@@ -207,6 +227,8 @@ fn search<R: Threads + Wait + Sync, G: Gate, A: Answers, K: Sink>(
     ensures lines { (p : Rules) (q : Asked) → IsQuery q → IsSolvingBeside (code_in lead.old.query) p (tracked_start q) (start q) bounds.budget [] (section_in lead.old.query) [] [] → Finishes (K.pieces out.old) (K.pieces out.new) (λ e put. IsBlock (A.line answers.now) p.program (start q) bounds.budget bounds.limit put (end_of e.end)) result }
     ensures charged { (p : Rules) (q : Asked) → IsQuery q → IsSolvingBeside (code_in lead.old.query) p (tracked_start q) (start q) bounds.budget [] (section_in lead.old.query) [] [] → IfOk result (λ e. Puts (K.pieces out.old) (K.pieces out.new) (IsChargedEnd (A.line answers.now) p.program (start q) bounds.budget bounds.limit (IsUngrouped p.program × AreCalls q.question.body) e.end e.charged)) }
     ensures paid { (p : Rules) (q : Asked) → IsQuery q → IsSolvingBeside (code_in lead.old.query) p (tracked_start q) (start q) bounds.budget [] (section_in lead.old.query) [] [] → Counts bounds.budget lead.old.query → IfOk result (λ e. e.charged ≤ lead.new.query.share) }
+    ensures exact { (p : Rules) (q : Asked) → IsQuery q → IsSolvingBeside (code_in lead.old.query) p (tracked_start q) (start q) bounds.budget [] (section_in lead.old.query) [] [] → IsUngrouped p.program → AreCalls q.question.body → IsAlone lead.old → lead.old.query.share ≡ 0 → others.old.items ≡ [] → IfOk result (λ e. MadeNoMore lead.new e.charged) }
+    ensures none { others.old.items ≡ [] → others.new.items ≡ [] }
     ensures count { SinkCount (K.faults out.old) (K.faults out.new) result }
 {
     if others.is_empty() {
@@ -217,7 +239,8 @@ fn search<R: Threads + Wait + Sync, G: Gate, A: Answers, K: Sink>(
 
 /// Gathers the calls that all workers made, those of the search that leads among them.
 fn gathered(alloc: Global, lead: Lead<'_, '_>, others: Vec<Worker<'_, '_>>) -> Total
-    ensures { min lead.entry.query.share (2 ^ 64 - 1) ≤ result.sum }
+    ensures least { min lead.entry.query.share (2 ^ 64 - 1) ≤ result.sum }
+    ensures alone { others.entry.items ≡ [] → lead.entry.worker.taken.items ≡ [] → result.sum ≤ lead.entry.query.share }
 {
     let mut share = lead.release(alloc);
     for worker in others {
@@ -229,7 +252,7 @@ fn gathered(alloc: Global, lead: Lead<'_, '_>, others: Vec<Worker<'_, '_>>) -> T
 /// Searches a query beside a program by code, with its groups, and puts the lines of its answers as they are found, as many as
 /// the limit at most. They are a block of any query and program that these are without their groups, however many workers there are
 /// however many goals each may have out (1 to 1,024, its pads), and however they take turns. With fewer calls than were charged for them sequential search hasn't ended, and all calls that were
-/// charged were made.
+/// charged were made, and no other ones where neither has a group.
 pub fn solve_with_pads<R: Threads + Wait + Sync, G: Gate, A: Answers, K: Sink>(
     alloc: Global,
     crew: &Crew<R, G>,
@@ -248,6 +271,7 @@ pub fn solve_with_pads<R: Threads + Wait + Sync, G: Gate, A: Answers, K: Sink>(
     ensures lines { (p : goals.Program) (q : Asked) → IsProgram p → IsQuery q → AreRead p q program.now query.now → Finishes (K.pieces out.old) (K.pieces out.new) (λ e put. IsBlock (A.line answers.now) (joined p q) (start q) budget limit put (end_of e.end)) result }
     ensures charged { (p : goals.Program) (q : Asked) → IsProgram p → IsQuery q → AreRead p q program.now query.now → IfOk result (λ e. Puts (K.pieces out.old) (K.pieces out.new) (IsChargedBlock (A.line answers.now) (joined p q) (start q) budget limit (IsUngrouped (joined program.now query.now)) e)) }
     ensures total { IfOk result (λ e. e.charged ≤ e.total.sum) }
+    ensures exact { IsUngrouped (joined program.now query.now) → IfOk result (λ e. e.total.sum ≡ e.charged) }
     ensures count { SinkCount (K.faults out.old) (K.faults out.new) result }
 {
     reading_law();
@@ -257,8 +281,9 @@ pub fn solve_with_pads<R: Threads + Wait + Sync, G: Gate, A: Answers, K: Sink>(
     };
     let _good = program.as_slice();
     let _asked = query.question();
-    let common = Common::new(crew.workers);
-    let Ok((board, seats)) = open_board(alloc, crew.workers, pads) else {
+    let count = workers_for(crew.workers, program, query);
+    let common = Common::new(count);
+    let Ok((board, seats)) = open_board(alloc, count, pads) else {
         return Err(Halt::NoMemory);
     };
     let Ok(mut workers) = workers_of(alloc, &board, seats, &common) else {
@@ -305,6 +330,7 @@ pub fn solve<R: Threads + Wait + Sync, G: Gate, A: Answers, K: Sink>(
     ensures lines { (p : goals.Program) (q : Asked) → IsProgram p → IsQuery q → AreRead p q program.now query.now → Finishes (K.pieces out.old) (K.pieces out.new) (λ e put. IsBlock (A.line answers.now) (joined p q) (start q) budget limit put (end_of e.end)) result }
     ensures charged { (p : goals.Program) (q : Asked) → IsProgram p → IsQuery q → AreRead p q program.now query.now → IfOk result (λ e. Puts (K.pieces out.old) (K.pieces out.new) (IsChargedBlock (A.line answers.now) (joined p q) (start q) budget limit (IsUngrouped (joined program.now query.now)) e)) }
     ensures total { IfOk result (λ e. e.charged ≤ e.total.sum) }
+    ensures exact { IsUngrouped (joined program.now query.now) → IfOk result (λ e. e.total.sum ≡ e.charged) }
     ensures count { SinkCount (K.faults out.old) (K.faults out.new) result }
 {
     solve_with_pads(

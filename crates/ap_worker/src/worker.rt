@@ -44,10 +44,13 @@ impl<'a, 'b> Worker<'a, 'b> {
     }
 
     /// Drops the searches of others' goals, and gives the calls that were made for them.
-    pub(crate) fn release(self, alloc: Global) -> Share {
+    pub(crate) fn release(self, alloc: Global) -> Share
+        ensures none { self.entry.taken.items ≡ [] → result ≡ 0 }
+    {
         let Worker { taken, .. } = self;
         let mut share = Share::new();
-        for Taken { stack, .. } in taken {
+        for taken_goal in taken {
+            let Taken { stack, .. } = taken_goal;
             share.merge(stack.release(alloc));
         }
         share

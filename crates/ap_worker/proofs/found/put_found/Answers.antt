@@ -1,4 +1,4 @@
-use Rattle.std.proofs.Common.{◌≡◌, ◌+◌, ◌<◌, [], Err, refl, ap, sym, ◌∙◌, subst, arith, rules}
+use Rattle.std.proofs.Common.{◌≡◌, ◌+◌, ◌<◌, ◌≤◌, [], Err, refl, ap, sym, ◌∙◌, subst, arith, rules}
 use Rattle.ap_outside.specs.Pieces.{Puts}
 use Rattle.ap_term.specs.Search.{start}
 use Rattle.ap_term.specs.Blocks.{IsBlock}
@@ -11,9 +11,10 @@ use Rattle.ap_stack.specs.Stacks.{code_in, section_in, IsStep}
 use Rattle.ap_worker.specs.declared.lead.Lead.{Lead}
 use Rattle.ap_worker.specs.Charged.{charge_after}
 use Rattle.ap_worker.specs.Ends.{end_of}
-use Rattle.ap_worker.specs.Leads.{IsLeading}
+use Rattle.ap_worker.specs.Leads.{IsAlone, IsLeading}
 use Rattle.ap_worker.proofs.Charging.{charged-at-limit, charged-at-ending, spent-alone, nothing-asked}
 use Rattle.ap_worker.proofs.Finding.{FindingBy, broken-off, at-limit, at-answer, at-ending, one-more, one-lost, stepped, alone, not-alone, paid-on, paid-at-limit, paid-at-ending}
+use Rattle.ap_worker.proofs.Exact.{frameless, past-lone, no-more, charge-least}
 use Rattle.ap_worker.proofs.found.put_found.Goals as goal
 use Rattle.ap_worker.proofs.found.put_found.Goals.{in-Answer+in_ok-put_answer-in-Answer+else-count-bounds, in_default-step}
 
@@ -123,6 +124,32 @@ returns-then-count-bounds-clause-paid g c = λ p q good h k.
     paid-at-limit t.worker.post u c.args.bounds.budget c.spent-then-count-bounds.result (omega arith) (c.spent-then-count-bounds.ensures t.worker.post)
     (past-counts c.args.bounds.budget t.query u (outer ∙ sym before) e.past c.put_answer.ensures.share (paid-on code p q c.args.bounds.budget _ c.loop-step.lead t i.code go (i.found p q good h).solves (i.counts p q good h k)))
 
+pub returns-in-Ended-clause-exact : goal.returns-in-Ended-clause-exact
+returns-in-Ended-clause-exact g c = λ p q good h plain calls k none.
+    let i = c.loop-step.invariant in
+    let line = g.A.Answers.line c.args.answers.now in
+    let code = code_in c.args.lead.now.query in
+    let t = c.turn.new.self in
+    let go = c.in-Ok.ensures.goes in
+    let then = stepped line code p q c.args.bounds.budget _ _ _ c.outcome_law.ensures c.loop-step.lead t i.code go (i.found p q good h) in
+    let lone = (c.in-Ok.ensures.alone (i.alone p q good h plain calls k) (frameless code p q c.args.bounds.budget t.worker.post t.query then.given plain calls then.solves)).0 in
+    (no-more t.worker.post t.query c.spent.result c.ended.result.charged (c.spent.ensures t.worker.post) (subst (λ n. c.spent.result ≤ n) (sym c.ended.ensures.charged) (charge-least c.in-Ended.ending c.spent.result c.args.bounds.budget)) lone.query, lone.taken)
+
+pub returns-then-count-bounds-clause-exact : goal.returns-then-count-bounds-clause-exact
+returns-then-count-bounds-clause-exact g c = λ p q good h plain calls k none.
+    let i = c.loop-step.invariant in
+    let line = g.A.Answers.line c.args.answers.now in
+    let code = code_in c.args.lead.now.query in
+    let t = c.turn.new.self in
+    let go = c.in-Ok.ensures.goes in
+    let then = stepped line code p q c.args.bounds.budget _ _ _ c.outcome_law.ensures c.loop-step.lead t i.code go (i.found p q good h) in
+    let lone = (c.in-Ok.ensures.alone (i.alone p q good h plain calls k) (frameless code p q c.args.bounds.budget t.worker.post t.query then.given plain calls then.solves)).0 in
+    let e = c.in_ok-put_answer-in-Answer.ensures in
+    let u = c.put_answer.new.query in
+    let kept = e.same.1 in
+    let outer : u.outer.items ≡ t.query.outer.items = cc in
+    (no-more t.worker.post u c.spent-then-count-bounds.result c.spent-then-count-bounds.result (c.spent-then-count-bounds.ensures t.worker.post) (omega arith) (past-lone t.query u outer e.same.4 c.put_answer.ensures.share e.past lone.query), lone.taken)
+
 pub loop-step-preserved : goal.loop-step-preserved
 loop-step-preserved g c =
     let i = c.loop-step.invariant in
@@ -161,6 +188,10 @@ loop-step-preserved g c =
             counts = λ p q good h k.
                 subst (λ (l : Lead). Counts c.args.bounds.budget l.query) (sym w.lead-is)
                 (past-counts c.args.bounds.budget t.query s.query (outer ∙ sym before) e.past w.put_answer.ensures.share (paid-on code p q c.args.bounds.budget _ c.loop-step.lead t i.code go (i.found p q good h).solves (i.counts p q good h k)));
+            alone = λ p q good h plain calls k.
+                let then = stepped line code p q c.args.bounds.budget _ _ _ c.outcome_law.ensures c.loop-step.lead t i.code go (i.found p q good h) in
+                let lone = (c.in-Ok.ensures.alone (i.alone p q good h plain calls k) (frameless code p q c.args.bounds.budget t.worker.post t.query then.given plain calls then.solves)).0 in
+                subst IsAlone (sym w.lead-is) (record { query = past-lone t.query s.query (outer ∙ sym before) e.same.4 w.put_answer.ensures.share e.past lone.query; taken = lone.taken });
           }
       | in_default-step w ↦ record {
         leads = subst IsLeading (sym w.lead-is) go.leads;
@@ -174,6 +205,9 @@ loop-step-preserved g c =
             (stepped line code p q c.args.bounds.budget _ _ _ c.outcome_law.ensures c.loop-step.lead t i.code go (i.found p q good h))));
         counts = λ p q good h k.
             subst (λ (l : Lead). Counts c.args.bounds.budget l.query) (sym w.lead-is) (paid-on code p q c.args.bounds.budget _ c.loop-step.lead t i.code go (i.found p q good h).solves (i.counts p q good h k));
+        alone = λ p q good h plain calls k.
+            let then = stepped line code p q c.args.bounds.budget _ _ _ c.outcome_law.ensures c.loop-step.lead t i.code go (i.found p q good h) in
+            subst IsAlone (sym w.lead-is) (c.in-Ok.ensures.alone (i.alone p q good h plain calls k) (frameless code p q c.args.bounds.budget t.worker.post t.query then.given plain calls then.solves)).0;
       }
     ]
 

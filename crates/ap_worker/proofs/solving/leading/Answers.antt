@@ -1,7 +1,8 @@
 use Rattle.std.proofs.Common.{◌≡◌, [], sym, ap, ◌∙◌, subst, arith}
-use Rattle.ap_section.specs.Views.{view_of}
+use Rattle.ap_section.specs.Views.{spent_in, view_of}
 use Rattle.ap_post.specs.Posts.{posted_in}
 use Rattle.ap_worker.specs.declared.lead.Lead.{Lead}
+use Rattle.ap_worker.proofs.Exact.{begun-lone}
 use Rattle.ap_worker.proofs.Idle.{idle-leads}
 use Rattle.ap_worker.proofs.solving.leading.Goals as goal
 
@@ -25,3 +26,10 @@ returns-clause-alone c =
 
 pub returns-clause-query : goal.returns-clause-query
 returns-clause-query c = (c.new-query.ensures.sound, ap view_of c.new-query.ensures.newest)
+
+pub returns-clause-lone : goal.returns-clause-lone
+returns-clause-lone c = λ none.
+    let made = c.new-query.ensures in record {
+      query = begun-lone c.new-query.result made.alone made.number.2 made.share (ap (λ s. spent_in (view_of s)) made.newest ∙ none);
+      taken = c.requires.idle.taken;
+    }

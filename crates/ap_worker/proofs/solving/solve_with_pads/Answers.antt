@@ -1,4 +1,4 @@
-use Rattle.std.proofs.Common.{◌≤◌, IfOk, sym, subst}
+use Rattle.std.proofs.Common.{◌≡◌, ◌≤◌, IfOk, length, sym, ap, ◌∙◌, subst}
 use Rattle.ap_outside.specs.Halting.{Finishes, SinkCount}
 use Rattle.ap_outside.specs.Pieces.{Puts}
 use Rattle.ap_term.specs.Goals.{joined}
@@ -13,6 +13,7 @@ use Rattle.ap_open.specs.Reading.{rules_beside}
 use Rattle.ap_section.specs.Views.{view_of}
 use Rattle.ap_worker.proofs.Asks.{is-asked, is-searched, leads-solving, read-finishes, read-charged, total-counts, total-paid}
 use Rattle.ap_worker.proofs.Idle.{last-idle}
+use Rattle.ap_worker.proofs.Exact.{total-exact, none-left, fresh-spent, seats-count}
 use Rattle.ap_worker.proofs.solving.solve_with_pads.Goals as goal
 
 pub returns-clause-lines : goal.returns-clause-lines
@@ -60,7 +61,27 @@ returns-clause-total g c =
     let fresh = subst (IsFresh c.args.budget) (sym same.1) c.in-Ok-begun.ensures.fresh in
     let counts = fresh-counts c.args.budget lead.query c.in-Ok-leading.ensures.alone.0 fresh.given fresh.owes in
     subst (λ r. IfOk r (λ e. e.charged ≤ e.total.sum)) (sym c.with_total.ensures.with)
-    (total-paid c.gathered.result c.search-found.result c.search-found.new.lead.query.share c.gathered.ensures c.with_total.ensures.small (c.search-found.ensures.paid (rules_beside a b) b is beside counts))
+    (total-paid c.gathered.result c.search-found.result c.search-found.new.lead.query.share c.gathered.ensures.least c.with_total.ensures.small (c.search-found.ensures.paid (rules_beside a b) b is beside counts))
+
+pub returns-clause-exact : goal.returns-clause-exact
+returns-clause-exact g c = λ plain.
+    let a = c.args.program.now in
+    let b = c.args.query.now in
+    let code = c.in-Ok.sound in
+    let is = c.question-asked.ensures.kept in
+    let solves = c.in-Ok-begun.ensures.solves a (is-asked code a b is c.in-Ok.ensures c.requires.asked)
+    (is-searched c.reading_law.ensures code a b c.as_slice-good.ensures.kept is c.requires.asked c.in-Ok.ensures c.requires.safe) in
+    let lead = c.in-Ok-leading.lead in
+    let same = c.in-Ok-leading.ensures.query in
+    let beside = leads-solving c.outcome_law.ensures code (rules_beside a b) b c.args.budget lead.query (view_of c.in-Ok-begun.section) same.0 same.1 solves in
+    let bare = c.reading_law.ensures.ungrouped a b plain in
+    let fresh = c.in-Ok-begun.ensures.fresh in
+    let lone = c.in-Ok-leading.ensures.lone (fresh-spent (view_of c.in-Ok-begun.section) fresh.owes) in
+    let one : length c.in-Ok-workers_of.workers.items ≡ 1 = c.in-Ok-workers_of.ensures.count ∙ ap length c.in-Ok-open_board.ensures.seats ∙ seats-count _ _ _ _ _ _ ∙ c.workers_for-count.ensures.one plain in
+    let none = none-left c.in-Ok-workers_of.workers.items c.pop.new.self.items c.in-Some.first c.in-Some.ensures.items one in
+    let found = c.search-found.ensures.exact (rules_beside a b) b is beside bare.0 bare.1 lone c.in-Ok-leading.ensures.share none in
+    subst (λ r. IfOk r (λ e. e.total.sum ≡ e.charged)) (sym c.with_total.ensures.with)
+    (total-exact c.gathered.result c.search-found.result c.search-found.new.lead found (c.gathered.ensures.alone (c.search-found.ensures.none none)) (subst (λ r. IfOk r (λ e. e.charged ≤ e.total.sum)) c.with_total.ensures.with (returns-clause-total g c)))
 
 pub returns-clause-count : goal.returns-clause-count
 returns-clause-count g c =
