@@ -5,8 +5,8 @@ use Rattle.ap_instr.specs.Code.{Compiled}
 use Rattle.ap_tie.specs.Sections as seen
 use Rattle.ap_section.specs.Ready.{IsReady}
 use Rattle.ap_section.specs.Slots.{IsAtFrame, IsPlaceIn, told_of}
-use Rattle.ap_engine_tests.specs.declared.sections.Next.{Next}
-use Rattle.ap_engine_tests.specs.declared.sections.Next.TheVariants.{Run}
+use Rattle.ap_engine_tests.specs.declared.next.Next.{Next}
+use Rattle.ap_engine_tests.specs.declared.next.Next.TheVariants.{Run}
 
 -- the slot that is run is noted to run, and its section is ready
 abbrev pub IsNext : Compiled → seen.Section → Next → Type 0

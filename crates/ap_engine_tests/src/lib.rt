@@ -11,6 +11,7 @@ mod clauses;
 mod environments;
 #[cfg(test)]
 mod groups;
+mod next;
 #[cfg(test)]
 mod openings;
 #[cfg(test)]
@@ -21,3 +22,5 @@ mod searches;
 mod sections;
 #[cfg(test)]
 mod verdicts;
+
+pub use next::Next;

@@ -10,6 +10,7 @@ ghost use Rattle.ap_section.specs.Ready.{IsReady};
 ghost use Rattle.ap_section.specs.Slots.{IsAtFrame, IsPlaceIn, IsFirstReady, told_of};
 ghost use Rattle.ap_engine_tests.specs.Driven.{IsNext};
 
+use crate::next::Next;
 use crate::reading::Asked;
 use ap_codecheck::Sound;
 use ap_copy::new_variables;
@@ -35,17 +36,6 @@ impl Hook for Never {
     fn wants(&self) -> bool {
         self.0
     }
-}
-
-/// What is done at a frame.
-#[derive(Drop)]
-enum Next {
-    /// The goal of a slot is run, by this section.
-    Run(usize, Section),
-    /// The frame was settled.
-    Went,
-    /// The budget is spent.
-    Spent,
 }
 
 /// Goes on up to where it comes to rest.
