@@ -1,6 +1,8 @@
 //! What the search of a query is charged, and how many calls are made for it, found by hand: a join costs the sum of its goals, a redone
 //! goal what it makes anew, and where a goal fails the calls of those right of it cost nothing.
 
+ghost use Rattle.std.specs.Prelude.{◌<◌, ◌≤◌};
+
 use crate::cases::are_lines;
 use ap_outside::{OpenGate, SteadySink};
 use ap_top::{BOUNDS, Bounds, Crew, End, answer};
