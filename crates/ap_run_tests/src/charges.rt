@@ -214,6 +214,7 @@ fn a_search_is_charged_what_its_goals_cost(rt: HostRuntime) -> Result<(), Fail> 
 #[test]
 fn a_search_with_few_pads_is_charged_the_same(rt: HostRuntime) -> Result<(), Fail> {
     check_on(&rt, rt.alloc(), 1, 1)?;
+    check_on(&rt, rt.alloc(), 1, 2)?;
     check_on(&rt, rt.alloc(), 2, 1)?;
     check_on(&rt, rt.alloc(), 2, 2)?;
     check_on(&rt, rt.alloc(), 32, 1)?;
