@@ -27,7 +27,7 @@ pub is-fault : (r : Result ℤ Fault) (e : Fault) → result_err r ≡ Some e �
 is-fault (Ok x) e h = cc
 is-fault (Err i) e h = cc
 
-abbrev two : ℕ → Tree → Tree → Tree
+abbrev pub two : ℕ → Tree → Tree → Tree
 two a t u = node a (more t (more u none))
 
 operands : (a : ℕ) (o : Operation) (t u : Tree) (r q : Result ℤ Fault) → operation_named a ≡ Some o → evaluated t ≡ r → evaluated u ≡ q → evaluated (two a t u) ≡ value_of (Some o) r q

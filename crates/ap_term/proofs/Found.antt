@@ -17,6 +17,16 @@ has-last (z ∷ xs) y x h = go (nat_eq z x) h (has-last xs y x)
     go true h rec = inl refl
     go false h rec = rec h
 
+pub has-push : (xs : List ℕ) (x : ℕ) → has (xs ++ x ∷ []) x ≡ true
+has-push [] x = or_left (nat_eq x x) false (same_test x x refl)
+has-push (y ∷ xs) x = or_right (nat_eq y x) (has (xs ++ x ∷ []) x) (has-push xs x)
+
+pub has-added : (xs : List ℕ) (x : ℕ) → has (add_vars (var x) xs) x ≡ true
+has-added xs x = has-add_vars x (var x) xs (or_right (has xs x) (nat_eq x x) (same_test x x refl))
+
+pub has-kept : (t : Tree) (xs : List ℕ) (x : ℕ) → has xs x ≡ true → has (add_vars t xs) x ≡ true
+has-kept t xs x h = has-add_vars x t xs (or_left (has xs x) (occurs x t) h)
+
 -- a test of two numbers, the other way round
 turned : (x y : ℕ) → nat_eq y x ≡ true → nat_eq x y ≡ true
 turned x y h = eq-eqb x y (sym (eqb-true y x h))

@@ -8,6 +8,9 @@ AllZip-append R (x ∷ xs) us (y ∷ ys) vs h k = (h.0, AllZip-append R xs us ys
 AllZip-append R [] us (_ ∷ _) vs h k = absurd h
 AllZip-append R (_ ∷ _) us [] vs h k = absurd h
 
+pub AllZip-push : {A B : Type 0} (R : A → B → Type 0) (xs : List A) (ys : List B) (x : A) (y : B) → AllZip R xs ys → R x y → AllZip R (xs ++ x ∷ []) (ys ++ y ∷ [])
+AllZip-push R xs ys x y h r = AllZip-append R xs (x ∷ []) ys (y ∷ []) h (r, tt)
+
 pub AllZip-map : {A B C D : Type 0} (R : A → B → Type 0) (S : C → D → Type 0) (f : A → C) (g : B → D) → ((x : A) (y : B) → R x y → S (f x) (g y)) → (xs : List A) (ys : List B)
     → AllZip R xs ys → AllZip S (map f xs) (map g ys)
 AllZip-map R S f g e [] [] h = tt

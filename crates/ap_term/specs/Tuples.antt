@@ -9,6 +9,11 @@ arguments (int z) = none
 arguments (atom a) = none
 arguments (node a ts) = ts
 
+-- a name on its arguments; an atom, where there are none
+abbrev pub applied : ℕ → Trees → Tree
+applied a none = atom a
+applied a (more t ts) = node a (more t ts)
+
 abbrev pub tuple_under : (ℕ → Tree) → List ℕ → Trees
 tuple_under k [] = none
 tuple_under k (r ∷ rs) = more (k r) (tuple_under k rs)
