@@ -6,6 +6,7 @@ use Rattle.ap_cells.specs.declared.terms.Frame.{Frame}
 use Rattle.ap_cells.specs.Walks.{weight_all}
 use Rattle.ap_cells.specs.Built.{framed, with_argument, closed, weight_frames}
 use Rattle.ap_cells.proofs.Walks.{span-first}
+use Rattle.ap_term.proofs.TreeLists.{append_trees-none}
 
 pub closed-push : (ts : List Tree) (fs : List Frame) (f : Frame) (t : Tree) → closed ts (fs ++ f ∷ []) t ≡ closed ts fs (with_argument ts f t)
 closed-push ts [] f t = refl
@@ -15,17 +16,13 @@ pub weight_frames-push : (ts : List Tree) (fs : List Frame) (f : Frame) → weig
 weight_frames-push ts [] f = omega arith
 weight_frames-push ts (g ∷ fs) f = omega (arith, weight_frames-push ts fs f)
 
-pub join-none : (us : Trees) → append_trees us none ≡ us
-join-none none = refl
-join-none (more u us) = ap (more u) (join-none us)
-
 pub join-more : (us : Trees) (t : Tree) (vs : Trees) → append_trees us (more t vs) ≡ append_trees (push_tree us t) vs
 join-more none t vs = refl
 join-more (more u us) t vs = ap (more u) (join-more us t vs)
 
 -- a frame whose arguments are all there
 pub framed-whole : (ts : List Tree) (f : Frame) → f.left ≡ 0 → node f.name f.args ≡ framed ts f
-framed-whole ts f z = ap (node f.name) (sym (join-none f.args)) ∙ ap (λ n. node f.name (append_trees f.args (span ts f.next n))) (sym z)
+framed-whole ts f z = ap (node f.name) (sym (append_trees-none f.args)) ∙ ap (λ n. node f.name (append_trees f.args (span ts f.next n))) (sym z)
 
 -- the next argument comes from the next place
 pub framed-next : (ts : List Tree) (f : Frame) → 0 < f.left

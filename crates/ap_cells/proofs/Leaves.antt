@@ -4,19 +4,11 @@ use Rattle.std.proofs.Math.Bool.{or-false, or_assoc}
 use Rattle.std.proofs.lemmas.Bool.{false≢true, or_cases, or_left, or_right}
 use Rattle.ap_term.specs.Tree.{Tree, Trees, var, int, atom, node, none, more}
 use Rattle.ap_term.specs.Vars.{has, add_vars, add_all_vars, occurs, occurs_all}
-use Rattle.ap_term.proofs.Solutions.{same_var, same_test}
+use Rattle.std.proofs.lemmas.Cmp.{nat_eq_equiv}
 
 has-append : (xs ys : List ℕ) (x : ℕ) → has (xs ++ ys) x ≡ (has xs x || has ys x)
 has-append [] ys x = refl
 has-append (z ∷ xs) ys x = ap (λ b. nat_eq z x || b) (has-append xs ys x) ∙ sym (or_assoc (nat_eq z x) (has xs x) (has ys x))
-
-eq-sym : (x y : ℕ) → nat_eq x y ≡ nat_eq y x
-eq-sym x y = go (nat_eq x y) (nat_eq y x) refl refl
-  where
-    go : (a b : Bool) → nat_eq x y ≡ a → nat_eq y x ≡ b → nat_eq x y ≡ nat_eq y x
-    go true b e f = e ∙ sym (same_test y x (sym (same_var x y e)))
-    go false true e f = absurd (false≢true (sym e ∙ same_test x y (sym (same_var y x f))))
-    go false false e f = e ∙ sym f
 
 mutual
   -- a variable that is found was there, or stands in the tree
@@ -27,7 +19,7 @@ mutual
       go true k = inl k
       go false k = elim (or_cases (has xs y) (has (x ∷ []) y) (sym (has-append xs (x ∷ []) y) ∙ k)) [
         | inl p ↦ inl p
-        | inr p ↦ inr (eq-sym y x ∙ sym (or-false (nat_eq x y)) ∙ p)
+        | inr p ↦ inr (nat_eq_equiv.symm y x ∙ sym (or-false (nat_eq x y)) ∙ p)
       ]
   found-add_vars y (int z) xs h = inl h
   found-add_vars y (atom a) xs h = inl h

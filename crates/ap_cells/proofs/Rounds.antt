@@ -13,7 +13,8 @@ use Rattle.ap_term.proofs.Solvable.{occurs_check}
 use Rattle.ap_cells.specs.declared.cells.Raw.{Raw}
 use Rattle.ap_cells.specs.declared.cells.Raw.TheVariants.{Free, Same, Int, Atom, Node}
 use Rattle.ap_cells.specs.Trees.{tree_at, span, step, Within, Stand, flat, put_in, rounds, trees}
-use Rattle.ap_cells.proofs.Stands.{one-self, one-other}
+use Rattle.ap_cells.proofs.Stands.{one-other}
+use Rattle.ap_term.proofs.Solutions.{one_here}
 
 -- some rounds made
 record Round (cs : List Raw) (ts us : List Tree) (k : ℕ) : Type 0 where
@@ -115,7 +116,7 @@ next cs ts us k h r = record {
     gone : (i j : ℕ) (d : Raw) → i < length cs → j < suc k → From f j (λ y. occurs y (tree_at us i)) → get_or cs j d ≡ Free
     gone i j d l m q = elim (cases_eq k q.0) [
       | inl e ↦
-          let o : occurs j t ≡ true = subst (λ v. occurs j v ≡ true) (sym (ap f e) ∙ one-self k t) q.2 in
+          let o : occurs j t ≡ true = subst (λ v. occurs j v ≡ true) (sym (ap f e) ∙ one_here k t) q.2 in
           elim (cases_lt j k) [ inl b ↦ r.gone k j d h b o | inr g ↦ let p : j ≡ k = omega arith in rw p (own d (rw p at o)) ]
       | inr n ↦
           let o : occurs j (var q.0) ≡ true = subst (λ v. occurs j v ≡ true) (one-other k t q.0 n) q.2 in
@@ -126,7 +127,7 @@ next cs ts us k h r = record {
     down : (i x : ℕ) (d : Raw) → i < length cs → (u : Tree) → tree_at us i ≡ u → instance f u ≡ var x → (x ≤ i) × (x ≡ i → get_or cs i d ≡ Free)
     down i x d l (var y) e v = elim (cases_eq k y) [
       | inl p ↦
-          let w : t ≡ var x = sym (one-self k t) ∙ ap f p ∙ v in
+          let w : t ≡ var x = sym (one_here k t) ∙ ap f p ∙ v in
           let a = r.down k x d h w in
           let b = r.down i y d l e in
           (omega arith, λ q. b.1 (omega arith))

@@ -5,11 +5,12 @@ use Rattle.std.proofs.lemmas.Bool.{cases_lt, cases_eq}
 use Rattle.ap_term.specs.Tree.{Tree, var, node, more}
 use Rattle.ap_term.specs.Substitution.{instance, instance_all, value, one}
 use Rattle.ap_term.specs.Vars.{occurs}
-use Rattle.ap_term.proofs.Solutions.{same_var, same_test, one_absent}
+use Rattle.ap_term.proofs.Solutions.{same_var, one_absent}
 use Rattle.ap_cells.specs.declared.cells.Raw.{Raw}
 use Rattle.ap_cells.specs.declared.cells.Raw.TheVariants.{Free, Same, Int, Atom, Node}
 use Rattle.ap_cells.specs.Trees.{tree_at, span, step, Within, Stand}
 use Rattle.ap_cells.specs.Store.{Closed}
+use Rattle.ap_term.proofs.Solutions.{one_here}
 
 pub span-map : (f : ℕ → Tree) (ts : List Tree) (p n : ℕ) → p + n ≤ length ts → span (map (instance f) ts) p n ≡ instance_all f (span ts p n)
 span-map f ts p zero h = refl
@@ -95,9 +96,6 @@ Stand-cut cs ts n s h k = record {
     within : (i : ℕ) (d : Raw) → i < n → Within n i (get_or (take n cs) i d)
     within i d l = rw (get_or-take n cs i d l) (k i d l)
 
-pub one-self : (x : ℕ) (t : Tree) → value (one x t) x ≡ t
-one-self x t = rw (same_test x x refl) refl
-
 pub one-other : (x : ℕ) (t : Tree) (y : ℕ) → (x ≡ y → ⊥) → value (one x t) y ≡ var y
 one-other x t y n = go (x == y) refl
   where
@@ -126,7 +124,7 @@ Stand-bind cs ts x c s h free w bound o = record {
     each : (i : ℕ) (d : Raw) → i < length cs → tree_at (map (instance f) ts) i ≡ step (map (instance f) ts) i (get_or (set cs x c) i d)
     each i d l = elim (cases_eq i x) [
       | inl e ↦ rw (e, get_or-set_same cs x c d h)
-          (at x h ∙ ap (instance f) (s.each x d h ∙ ap (step ts x) (free d)) ∙ one-self x t ∙ sym (one_absent x t t o)
+          (at x h ∙ ap (instance f) (s.each x d h ∙ ap (step ts x) (free d)) ∙ one_here x t ∙ sym (one_absent x t t o)
           ∙ sym (step-map f ts x c (subst (λ n. Within n x c) (sym s.len) w) (omega (arith, s.len)) (λ e. absurd (bound e))))
       | inr n ↦ rw (get_or-set_other cs x i c d n)
           (at i l ∙ ap (instance f) (s.each i d l)

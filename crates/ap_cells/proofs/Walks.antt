@@ -1,6 +1,6 @@
 -- Lists of places that are still to be walked over.
 use Rattle.std.proofs.Common.{◌≡◌, ℕ, zero, suc, ◌+◌, ◌-◌, ◌*◌, ◌<◌, ◌≤◌, Bool, true, false, nat_eq, List, [], ◌∷◌, ◌++◌, refl, sym, ap, arith}
-use Rattle.ap_term.specs.Tree.{Tree, var, int, atom, node, more}
+use Rattle.ap_term.specs.Tree.{Tree, var, int, atom, node, more, count_trees}
 use Rattle.ap_term.specs.Vars.{occurs}
 use Rattle.ap_term.proofs.Solutions.{same_var}
 use Rattle.ap_cells.specs.Trees.{tree_at, span}
@@ -24,6 +24,10 @@ weight-some (var x) = omega arith
 weight-some (int z) = omega arith
 weight-some (atom a) = omega arith
 weight-some (node a ts) = omega arith
+
+pub count-span : (ts : List Tree) (p n : ℕ) → count_trees (span ts p n) ≡ n
+count-span ts p zero = refl
+count-span ts p (suc n) = let k = count-span ts (p + 1) n in omega arith
 
 -- the first of some places, and the others
 pub span-first : (ts : List Tree) (p n : ℕ) → 0 < n → span ts p n ≡ more (tree_at ts p) (span ts (p + 1) (n - 1))

@@ -23,8 +23,8 @@ use Rattle.ap_laws.proofs.Renamed.{Renamed-weaken, Renamed-mgu}
 use Rattle.ap_laws.proofs.Local.{Local-mgu}
 use Rattle.ap_laws.proofs.Builtins.{Renamed-builtin, Local-builtin, Renamed-fault_of}
 use Rattle.ap_laws.proofs.Ways.{IsOneToOne-Linked, Linked-more, Renamed-both, Local-head}
-use Rattle.ap_laws.proofs.Plain.{LocalAll-arguments}
-use Rattle.ap_laws.proofs.Graft.{LocalAll-at, lifted-old, lifted-new, lowered-new, below_or_not, Renamed-lifted, instance-lifted, instance-fitted, fitted-value, LocalAll-IsOwn_below}
+use Rattle.ap_term.proofs.TreeLists.{LocalAll-arguments}
+use Rattle.ap_laws.proofs.Graft.{LocalAll-at, lifted-old, lifted-new, lowered-new, Renamed-lifted, instance-lifted, instance-fitted, fitted-value, LocalAll-IsOwn_below}
 use Rattle.ap_tracked.specs.Tracked.{Goal, call, fork, moved, placed, renamed, calls as goal_calls, opened, Tracked, IsOneOf, child_if, clause_children, call_children, faulted_child, children_unless, children_by, children}
 use Rattle.ap_tracked.specs.Forks.{alone}
 use Rattle.ap_tracked.specs.Marks.{opening}
@@ -34,6 +34,7 @@ use Rattle.ap_graft.specs.Variables.{LocalGoals, NoneBehind, IsTrackedBelow, IsO
 use Rattle.ap_graft.specs.Grafts.{behind, put, put_first, tracked_graft}
 use Rattle.ap_graft.specs.Laws.{TrackedGraftLaw}
 use Rattle.ap_graft.proofs.Variables.{renamed-over, over-all_weaken, over-opened, below_from, of_from}
+use Rattle.std.proofs.lemmas.Bool.{cases_lt}
 
 abbrev built : Option Fault → List Goal → Trees → ℕ → ℕ → Tracked
 built e G T n k = record { goals = G; tuple = T; next = n; steps = k; fault = e }
@@ -190,7 +191,7 @@ module _ (g : Tree) (K : List Goal) (s : Tracked) (b : ℕ) (bn : b ≤ s.next) 
   own_bound u o t h = Local-instance (IsOwn g b u.next) (λ x. x < s.next → occurs_all x (arguments g) ≡ true) (lifted_var b s.next) at t h
     where
       at : (x : ℕ) → IsOwn g b u.next x → lifted b s.next x < s.next → occurs_all (lifted b s.next x) (arguments g) ≡ true
-      at x p l = go (below_or_not x b)
+      at x p l = go (cases_lt x b)
         where
           go : (x < b) ⊎ (b ≤ x) → occurs_all (lifted b s.next x) (arguments g) ≡ true
           go (inl h) = subst (λ z. occurs_all z (arguments g) ≡ true) (sym (lifted-old b s.next x h)) (p.1 h)

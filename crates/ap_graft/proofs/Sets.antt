@@ -12,7 +12,7 @@ use Rattle.ap_term.specs.Vars.{Local, LocalAll}
 use Rattle.ap_term.proofs.Locals.{LocalAll-weaken}
 use Rattle.ap_laws.specs.Plain.{state}
 use Rattle.ap_laws.specs.Graft.{lifted, fitted, IsOf}
-use Rattle.ap_laws.proofs.Plain.{LocalAll-arguments}
+use Rattle.ap_term.proofs.TreeLists.{LocalAll-arguments}
 use Rattle.ap_tracked.specs.Tracked.{Goal, call, moved, opened, Tracked}
 use Rattle.ap_tracked.specs.Kept.{IsKept}
 use Rattle.ap_tracked.specs.Marks.{marked}

@@ -25,13 +25,13 @@ GoalOther a (fork cs ts own now) = AreOthers a ts
 abbrev Others : ℕ → List Goal → Type 0
 Others a gs = AllByRecursion (GoalOther a) gs
 
-instance-other : (a : ℕ) (f : ℕ → Tree) (t : Tree) → IsOther a t → IsOther a (instance f t)
+pub instance-other : (a : ℕ) (f : ℕ → Tree) (t : Tree) → IsOther a t → IsOther a (instance f t)
 instance-other a f (var x) h = absurd h
 instance-other a f (int z) h = h
 instance-other a f (atom b) h = h
 instance-other a f (node b ts) h = h
 
-apart : (a : ℕ) (f u : ℕ → Tree) (g h : Tree) → IsOther a g → HasName a h → instance u g ≡ instance u (instance f h) → ⊥
+pub apart : (a : ℕ) (f u : ℕ → Tree) (g h : Tree) → IsOther a g → HasName a h → instance u g ≡ instance u (instance f h) → ⊥
 apart a f u (var x) h o n e = o
 apart a f u g (var x) o n e = n
 apart a f u g (int z) o n e = n
@@ -42,7 +42,7 @@ apart a f u (atom c) (node b ts) o n e = cc
 apart a f u (node c us) (atom b) o n e = cc
 apart a f u (node c us) (node b ts) o n e = o (let d : c ≡ b = cc in d ∙ n)
 
-no-unifier : (a : ℕ) (f : ℕ → Tree) (g h : Tree) → IsOther a g → HasName a h → mgu g (instance f h) ≡ None
+pub no-unifier : (a : ℕ) (f : ℕ → Tree) (g h : Tree) → IsOther a g → HasName a h → mgu g (instance f h) ≡ None
 no-unifier a f g h o n = go (mgu g (instance f h)) refl (mgu-general g (instance f h))
   where
     go : (m : Option Subst) → mgu g (instance f h) ≡ m → IsMostGeneral g (instance f h) m → mgu g (instance f h) ≡ None

@@ -26,12 +26,13 @@ use Rattle.ap_laws.specs.Graft.{IsOwn, IsOf}
 use Rattle.ap_laws.proofs.Local.{Local-value, Local-mgu}
 use Rattle.ap_laws.proofs.Builtins.{Local-builtin}
 use Rattle.ap_laws.proofs.Ways.{Local-head}
-use Rattle.ap_laws.proofs.Plain.{Local-arguments_self, LocalAll-arguments}
+use Rattle.ap_laws.proofs.Plain.{Local-arguments_self}
 use Rattle.ap_tracked.specs.Tracked.{Goal, call, fork, moved, placed, renamed, calls as goal_calls, opened, Tracked, untracked, untracked_goal, IsOneOf, child_if, clause_children, call_children, children_unless, children_by, children}
 use Rattle.ap_tracked.specs.Forks.{alone}
 use Rattle.ap_tracked.specs.Kept.{SameText, IsFrom, itself, calls, opens, reads}
 use Rattle.ap_graft.specs.Variables.{LocalGoal, LocalGoals, NoneBehind, IsLocal, Below, IsTrackedBelow, IsOwnOf}
 use Rattle.ap_graft.specs.Laws.{VariablesLaw}
+use Rattle.ap_term.proofs.TreeLists.{LocalAll-arguments}
 
 any : (t : Tree) → Local (λ x. Unit {0}) t
 any t = Local-each (λ x. Unit {0}) t (λ x o. tt)

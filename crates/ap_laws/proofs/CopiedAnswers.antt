@@ -14,7 +14,8 @@ use Rattle.ap_laws.specs.Graft.{fit_all, lifted, lifted_var, lowered, fitted, Is
 use Rattle.ap_laws.specs.Laws.{CopiedAnswerLaw}
 use Rattle.ap_laws.proofs.Ways.{IsOneToOne-Linked, Renamed-both, RenamedAll-both, RenamedParts-both}
 use Rattle.ap_laws.proofs.Names.{RenamedAll-is, LocalAll-RenamedAll}
-use Rattle.ap_laws.proofs.Graft.{value-fit_all, LocalAll-at, lifted-old, lifted-new, below_or_not, Linked-lifted, fitted-value}
+use Rattle.ap_laws.proofs.Graft.{value-fit_all, LocalAll-at, lifted-old, lifted-new, Linked-lifted, fitted-value}
+use Rattle.std.proofs.lemmas.Bool.{cases_lt}
 
 mutual
   -- what a variable becomes stands in the instance
@@ -66,7 +67,7 @@ module _ (g : Tree) (b n m j n' : ℕ) (U V : Trees) (f h : ℕ → ℕ) (bn : b
   old_of_goal = LocalAll-instance_all (IsOwn g b m) (λ x. x < n → occurs_all x (arguments g) ≡ true) (lifted_var b n) each U o.3
     where
       each : (z : ℕ) → IsOwn g b m z → lifted b n z < n → occurs_all (lifted b n z) (arguments g) ≡ true
-      each z p l = go (below_or_not z b)
+      each z p l = go (cases_lt z b)
         where
           go : (z < b) ⊎ (b ≤ z) → occurs_all (lifted b n z) (arguments g) ≡ true
           go (inl k) = subst (λ v. occurs_all v (arguments g) ≡ true) (sym (lifted-old b n z k)) (p.1 k)

@@ -10,13 +10,14 @@ use Rattle.ap_term.proofs.Locals.{LocalAll-occurs_all, LocalAll-instance_all, Lo
 use Rattle.ap_laws.specs.Plain.{Plain, state, faulted, Ways, next_of, Renames, Locals, IsPlainBelow}
 use Rattle.ap_laws.specs.Graft.{alone, lifted, lifted_var, fitted, graft, grafts, IsOwn, IsOf, AreOf}
 use Rattle.ap_term.proofs.Zips.{AllByRecursion-append}
-use Rattle.ap_laws.proofs.Plain.{LocalAll-arguments}
+use Rattle.ap_term.proofs.TreeLists.{LocalAll-arguments}
 use Rattle.ap_laws.specs.Gives.{Gives, Rejoins}
 use Rattle.ap_laws.specs.Tasks.{Round, first, later, closed, Task, task, Alternatives, exhausted, plain, frame, Slots, no_slot, fresh, stored, busy, held, redone, again, drained, joined_if, flat_task, flat_alternatives, flat_slots, left, edge_alternatives, edge_slots, slot_goals}
 use Rattle.ap_laws.proofs.Invariant.{base, base_alternatives, base_slots, cost, cost_alternatives, cost_slots, HasGiven, Strong, Pivot, Weak, TaskInvariant, AlternativesInvariant}
-use Rattle.ap_laws.proofs.Graft.{lifted-old, lifted-new, below_or_not, Linked-lifted, LocalAll-IsOwn_below, IsOf-alone, graft-alone}
+use Rattle.ap_laws.proofs.Graft.{lifted-old, lifted-new, Linked-lifted, LocalAll-IsOwn_below, IsOf-alone, graft-alone}
 use Rattle.ap_laws.proofs.Dead.{Local-fitted}
 use Rattle.ap_laws.proofs.Gives.{Gives-then, Gives-beside, Gives-none, Gives-less, Gives-graft, graft-answer}
+use Rattle.std.proofs.lemmas.Bool.{cases_lt}
 
 pub IsPlainBelow-IsOf : (g : Tree) (b : ℕ) (s : Plain) → IsOf g b s → IsPlainBelow s
 IsPlainBelow-IsOf g b (faulted e j) o = tt
@@ -34,7 +35,7 @@ IsOf-graft h c g K T b n k bn o (state G U m j) q = (
 )
   where
     moved : (x : ℕ) → IsOwn g b m x → IsOwn h c (n + (m - b)) (lifted b n x)
-    moved x p = ((Linked-lifted b n m (n + (m - b)) bn q.4 refl x p.0).3, go (below_or_not x b))
+    moved x p = ((Linked-lifted b n m (n + (m - b)) bn q.4 refl x p.0).3, go (cases_lt x b))
       where
         go : (x < b) ⊎ (b ≤ x) → lifted b n x < c → occurs_all (lifted b n x) (arguments h) ≡ true
         go (inl z) l = subst (λ v. occurs_all v (arguments h) ≡ true) (sym (lifted-old b n x z)) ((LocalAll-occurs_all (IsOwn h c n) (arguments g) (LocalAll-arguments (IsOwn h c n) g o.2.0) x (p.1 z)).1 (subst (λ v. v < c) (lifted-old b n x z) l))

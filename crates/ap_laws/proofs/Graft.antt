@@ -1,7 +1,7 @@
 -- A search under a graft is the graft of the search.
-use Rattle.std.proofs.Common.{◌≡◌, ℕ, zero, suc, ◌+◌, ◌-◌, ◌<◌, ◌≤◌, ◌⊎◌, inl, inr, Bool, true, false, cond, ltb, ◌==◌, ◌||◌, List, [], ◌∷◌, ◌++◌, refl, ap, ap₂, sym, ◌∙◌, subst, arith, append-nil, append_assoc}
+use Rattle.std.proofs.Common.{◌≡◌, ℕ, zero, suc, ◌+◌, ◌-◌, ◌<◌, ◌≤◌, ◌⊎◌, inl, inr, Bool, true, false, cond, ◌==◌, ◌||◌, List, [], ◌∷◌, ◌++◌, refl, ap, ap₂, sym, ◌∙◌, subst, arith, append-nil, append_assoc}
 use Rattle.std.specs.List.{flat_map}
-use Rattle.std.proofs.lemmas.Bool.{false≢true, lt-ltb, le-ltb, ltb-true, ltb-false}
+use Rattle.std.proofs.lemmas.Bool.{false≢true, lt-ltb, le-ltb}
 use Rattle.ap_term.specs.Tuples.{arguments}
 use Rattle.ap_term.specs.declared.faults.Fault.{Fault}
 use Rattle.ap_term.specs.Tree.{Tree, Trees, var, int, atom, node, none, more, append_trees}
@@ -19,7 +19,9 @@ use Rattle.ap_laws.proofs.Renamed.{Renamed-value}
 use Rattle.ap_laws.proofs.Local.{Local-value, value-other}
 use Rattle.ap_laws.proofs.Ways.{IsOneToOne-Linked, Renamed-both}
 use Rattle.ap_laws.proofs.Names.{Renamed-is, RenamedAll-is, Local-Renamed, LocalAll-RenamedAll}
-use Rattle.ap_laws.proofs.Plain.{Local-arguments_self, LocalAll-arguments}
+use Rattle.ap_laws.proofs.Plain.{Local-arguments_self}
+use Rattle.ap_term.proofs.TreeLists.{LocalAll-arguments}
+use Rattle.std.proofs.lemmas.Bool.{cases_lt}
 
 pub state-eq : {G G' T T' : Trees} {n n' k k' : ℕ} → G ≡ G' → T ≡ T' → n ≡ n' → k ≡ k' → state G T n k ≡ state G' T' n' k'
 state-eq a b c d = cc
@@ -90,15 +92,8 @@ lowered-old b n x h = ap (λ c. cond c x ((x - n) + b)) (lt-ltb x b h)
 pub lowered-new : (b n x : ℕ) → b ≤ x → lowered b n x ≡ (x - n) + b
 lowered-new b n x h = ap (λ c. cond c x ((x - n) + b)) (le-ltb x b h)
 
-pub below_or_not : (x b : ℕ) → (x < b) ⊎ (b ≤ x)
-below_or_not x b = go (ltb x b) refl
-  where
-    go : (c : Bool) → ltb x b ≡ c → (x < b) ⊎ (b ≤ x)
-    go true e = inl (ltb-true x b e)
-    go false e = inr (ltb-false x b e)
-
 pub Linked-lifted : (b n m N : ℕ) → b ≤ n → b ≤ m → N ≡ n + (m - b) → (x : ℕ) → x < m → Linked (lifted b n) (lowered b n) m N x (lifted b n x)
-Linked-lifted b n m N bn bm e x l = go (below_or_not x b)
+Linked-lifted b n m N bn bm e x l = go (cases_lt x b)
   where
     go : (x < b) ⊎ (b ≤ x) → Linked (lifted b n) (lowered b n) m N x (lifted b n x)
     go (inl h) = (refl, ap (lowered b n) (lifted-old b n x h) ∙ lowered-old b n x h, l, subst (λ z. z < N) (sym (lifted-old b n x h)) (omega arith))
@@ -258,7 +253,7 @@ module _ (A : Ways) (renames : Renames A) (locals : Locals A) where
       far x l l' h = omega arith
 
       moved : (x : ℕ) → IsOwn g b m x → lifted b n x < n → occurs_all (lifted b n x) (arguments g) ≡ true
-      moved x p l = go (below_or_not x b)
+      moved x p l = go (cases_lt x b)
         where
           go : (x < b) ⊎ (b ≤ x) → occurs_all (lifted b n x) (arguments g) ≡ true
           go (inl h) = subst (λ z. occurs_all z (arguments g) ≡ true) (sym (lifted-old b n x h)) (p.1 h)

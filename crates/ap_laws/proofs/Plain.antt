@@ -30,12 +30,6 @@ Local-arguments_self (int z) = tt
 Local-arguments_self (atom a) = tt
 Local-arguments_self (node a ts) = LocalAll-each (λ x. occurs_all x ts ≡ true) ts (λ x o. o)
 
-pub LocalAll-arguments : (P : ℕ → Type 0) (g : Tree) → Local P g → LocalAll P (arguments g)
-LocalAll-arguments P (var x) h = (h, tt)
-LocalAll-arguments P (int z) h = tt
-LocalAll-arguments P (atom a) h = tt
-LocalAll-arguments P (node a ts) h = h
-
 -- ---- the ways of a program
 
 pub RenamedAll-plain_goals : (R : ℕ → ℕ → Type 0) (ps qs : List Part) → RenamedParts R ps qs → RenamedAll R (plain_goals ps) (plain_goals qs)

@@ -23,6 +23,7 @@ use Rattle.ap_laws.specs.Graft.{alone}
 use Rattle.ap_laws.specs.SearchLaws.{QuietLaw}
 use Rattle.ap_laws.proofs.Traces.{AllAnswers-flat_map}
 use Rattle.ap_term.proofs.Zips.{AllByRecursion-append, AllByRecursion-map}
+use Rattle.ap_term.proofs.WellFormed.{callable-instance}
 
 abbrev EachGoal : (Tree → Type 0) → Trees → Type 0
 EachGoal P none = Unit {0}
@@ -51,12 +52,6 @@ predicate_of-instance f (var x) h = absurd (false≢true h)
 predicate_of-instance f (int z) h = absurd (false≢true h)
 predicate_of-instance f (atom a) h = refl
 predicate_of-instance f (node a ts) h = ap (λ n. Some (a, n)) (count_trees-instance_all f ts)
-
-callable-instance : (f : ℕ → Tree) (t : Tree) → callable t ≡ true → callable (instance f t) ≡ true
-callable-instance f (var x) h = absurd (false≢true h)
-callable-instance f (int z) h = absurd (false≢true h)
-callable-instance f (atom a) h = refl
-callable-instance f (node a ts) h = ap (λ n. nat_le 1 n && nat_le n 255) (count_trees-instance_all f ts) ∙ h
 
 is_arithmetic-instance : (f : ℕ → Tree) (t : Tree) → callable t ≡ true → is_arithmetic (instance f t) ≡ is_arithmetic t
 is_arithmetic-instance f (var x) h = absurd (false≢true h)

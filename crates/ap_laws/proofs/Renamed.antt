@@ -53,7 +53,7 @@ RenamedPart-weaken R S e _ _ h = absurd h
 pub RenamedParts-weaken : (R S : ℕ → ℕ → Type 0) → ((x y : ℕ) → R x y → S x y) → (ps qs : List Part) → RenamedParts R ps qs → RenamedParts S ps qs
 RenamedParts-weaken R S e ps qs h = AllZip-weaken (RenamedPart R) (RenamedPart S) (RenamedPart-weaken R S e) ps qs h
 
-RenamedAll-calls : (R : ℕ → ℕ → Type 0) (ts us : Trees) → RenamedAll R ts us → RenamedParts R (calls ts) (calls us)
+pub RenamedAll-calls : (R : ℕ → ℕ → Type 0) (ts us : Trees) → RenamedAll R ts us → RenamedParts R (calls ts) (calls us)
 RenamedAll-calls R none none h = tt
 RenamedAll-calls R (more t ts) (more u us) h = (h.0, RenamedAll-calls R ts us h.1)
 RenamedAll-calls R _ _ h = absurd h

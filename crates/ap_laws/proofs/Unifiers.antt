@@ -12,6 +12,7 @@ use Rattle.ap_laws.specs.Laws.{Inverse, UniqueUnifierLaw, ChildByUnifierLaw}
 use Rattle.ap_laws.proofs.Local.{Local-value}
 use Rattle.ap_laws.proofs.Renamed.{Renamed-weaken}
 use Rattle.ap_laws.proofs.Ways.{IsOneToOne-Linked, Renamed-both, RenamedAll-both, RenamedParts-both}
+use Rattle.ap_term.proofs.TreeLists.{number_of, numbered_var}
 
 mutual
   -- maps that give one instance agree on the variables that occur
@@ -29,19 +30,6 @@ mutual
       go true d p h k = h d
       go false d p h k = k p
 
--- the number of a variable
-abbrev name_of : Tree → ℕ
-name_of (var x) = x
-name_of (int z) = 0
-name_of (atom a) = 0
-name_of (node a ts) = 0
-
-named : (f : ℕ → Tree) (t : Tree) (y : ℕ) → instance f t ≡ var y → t ≡ var (name_of t)
-named f (var x) y e = refl
-named f (int z) y e = cc
-named f (atom a) y e = cc
-named f (node a ts) y e = cc
-
 module _ (s r : Subst) (one : (x : ℕ) → instance (value r) (value s x) ≡ value r x) (two : (x : ℕ) → instance (value s) (value r x) ≡ value s x) where
   -- what stands there comes back
   back : (x y : ℕ) → occurs y (value s x) ≡ true → instance (value s) (value r y) ≡ var y
@@ -49,14 +37,14 @@ module _ (s r : Subst) (one : (x : ℕ) → instance (value r) (value s x) ≡ v
       instance-at (λ z. instance (value s) (value r z)) (λ z. var z) (value s x)
       (sym (instance_twice (value r) (value s) (value s x)) ∙ ap (instance (value s)) (one x) ∙ two x ∙ sym (instance_var (value s x))) y o
 
-  variable : (x y : ℕ) → occurs y (value s x) ≡ true → value r y ≡ var (name_of (value r y))
-  variable x y o = named (value s) (value r y) y (back x y o)
+  variable : (x y : ℕ) → occurs y (value s x) ≡ true → value r y ≡ var (number_of (value r y))
+  variable x y o = numbered_var (value s) (value r y) y (back x y o)
 
-  renamed_is : (x : ℕ) → value r x ≡ instance (λ y. var (name_of (value r y))) (value s x)
-  renamed_is x = sym (one x) ∙ instance_agree (value r) (λ y. var (name_of (value r y))) (value s x) (variable x)
+  renamed_is : (x : ℕ) → value r x ≡ instance (λ y. var (number_of (value r y))) (value s x)
+  renamed_is x = sym (one x) ∙ instance_agree (value r) (λ y. var (number_of (value r y))) (value s x) (variable x)
 
-  inverse : (x y : ℕ) → occurs y (value s x) ≡ true → name_of (value s (name_of (value r y))) ≡ y
-  inverse x y o = ap name_of (ap (instance (value s)) (sym (variable x y o)) ∙ back x y o)
+  inverse : (x y : ℕ) → occurs y (value s x) ≡ true → number_of (value s (number_of (value r y))) ≡ y
+  inverse x y o = ap number_of (ap (instance (value s)) (sym (variable x y o)) ∙ back x y o)
 
 pub unique : UniqueUnifierLaw
 unique a b s r h k =
@@ -69,10 +57,10 @@ unique a b s r h k =
     two = k.1 (value s) h.0
 
     f : ℕ → ℕ
-    f y = name_of (value r y)
+    f y = number_of (value r y)
 
     g : ℕ → ℕ
-    g y = name_of (value s y)
+    g y = number_of (value s y)
 
     related : (x : ℕ) → Renamed (Inverse f g) (value s x) (value r x)
     related x =

@@ -3,8 +3,8 @@ use Rattle.std.proofs.Common.{◌≡◌, ℕ, zero, suc, ◌<◌, inl, inr, List
 use Rattle.std.specs.Prelude.{length, slice_get}
 use Rattle.std.specs.List.{AllByRecursion}
 use Rattle.ap_term.specs.Tuples.{tuple_under, arguments}
-use Rattle.ap_laws.proofs.Plain.{LocalAll-arguments}
-use Rattle.ap_instr.proofs.Applied.{arguments-applied}
+use Rattle.ap_term.proofs.TreeLists.{LocalAll-arguments}
+use Rattle.ap_term.proofs.TreeLists.{arguments-applied}
 use Rattle.ap_term.specs.declared.clauses.Check.{Check}
 use Rattle.ap_term.specs.Tree.{Tree, Trees, var, int, atom, node, none, more, append_trees}
 use Rattle.ap_term.specs.Substitution.{instance, instance_all}

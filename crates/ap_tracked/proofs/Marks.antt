@@ -50,18 +50,18 @@ place u f [] = refl
 place u f (goals.call t ∷ ps) = ap₂ more (sym (instance_twice f u t)) (place u f ps)
 place u f (goals.group cs ts ∷ ps) = ap (group_of (λ x. instance u (f x)) cs ts) (place u f ps) ∙ sym (group-instance u f cs ts (marked (map (placed f) ps)))
 
-marked-calls : (own : ℕ → Tree) (ts : Trees) (gs : List Goal) → marked (calls own ts ++ gs) ≡ append_trees (instance_all own ts) (marked gs)
+pub marked-calls : (own : ℕ → Tree) (ts : Trees) (gs : List Goal) → marked (calls own ts ++ gs) ≡ append_trees (instance_all own ts) (marked gs)
 marked-calls own none gs = refl
 marked-calls own (more t ts) gs = ap (more (instance own t)) (marked-calls own ts gs)
 
-past : (own : ℕ → Tree) (cs : List Check) (n : ℕ) (us : Trees) → Unmarked (check_marks own cs (more (group_mark n) us)) us
-past own [] n us = past_group n
-past own (Ground x ∷ cs) n us = past_ground (past own cs n us)
-past own (Indep x y ∷ cs) n us = past_apart (past own cs n us)
+pub past-checks : (own : ℕ → Tree) (cs : List Check) (n : ℕ) (us : Trees) → Unmarked (check_marks own cs (more (group_mark n) us)) us
+past-checks own [] n us = past_group n
+past-checks own (Ground x ∷ cs) n us = past_ground (past-checks own cs n us)
+past-checks own (Indep x y ∷ cs) n us = past_apart (past-checks own cs n us)
 
 open_first : (cs now : List Check) (t : Tree) (ts : Trees) (own : ℕ → Tree) (gs : List Goal) → Unmarked (marked (fork cs (more t ts) own now ∷ gs)) (marked (opened (fork cs (more t ts) own now ∷ gs)))
 open_first cs now t ts own gs =
-    subst (Unmarked (marked (fork cs (more t ts) own now ∷ gs))) (sym (ap (more (instance own t)) (marked-calls own ts gs))) (past own cs (count_trees (more t ts)) (append_trees (instance_all own (more t ts)) (marked gs)))
+    subst (Unmarked (marked (fork cs (more t ts) own now ∷ gs))) (sym (ap (more (instance own t)) (marked-calls own ts gs))) (past-checks own cs (count_trees (more t ts)) (append_trees (instance_all own (more t ts)) (marked gs)))
 
 pub marks : MarksLaw
 marks = record { append = appends; moves = move; places = place; opens = open_first }

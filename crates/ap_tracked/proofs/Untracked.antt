@@ -22,10 +22,7 @@ use Rattle.ap_term.specs.declared.faults.Fault.{Fault}
 use Rattle.ap_term.specs.Faults.{fault_of}
 use Rattle.ap_tracked.specs.Tracked.{Goal, call, fork, untracked_goal, moved, renamed, placed, calls, opened, Tracked, untracked, child_if, clause_children, call_children, children_unless, children_by}
 use Rattle.ap_tracked.specs.Laws.{TrackedLaw}
-
-map_both : {A B : Type 0} (g : A → B) (xs ys : List A) → map g (xs ++ ys) ≡ map g xs ++ map g ys
-map_both g [] ys = refl
-map_both g (x ∷ xs) ys = ap (λ l. g x ∷ l) (map_both g xs ys)
+use Rattle.std.proofs.lemmas.List.{map-append}
 
 -- ---- variables of what is numbered
 
@@ -53,7 +50,7 @@ untracked_opened [] = refl
 untracked_opened (call t ∷ gs) = refl
 untracked_opened (fork cs none f now ∷ gs) = untracked_opened gs
 untracked_opened (fork cs (more t ts) f now ∷ gs) =
-    ap (λ l. goals.call (instance f t) ∷ l) (map_both untracked_goal (calls f ts) gs ∙ ap (λ l. l ++ map untracked_goal gs) (untracked_calls f ts))
+    ap (λ l. goals.call (instance f t) ∷ l) (map-append untracked_goal (calls f ts) gs ∙ ap (λ l. l ++ map untracked_goal gs) (untracked_calls f ts))
 
 untracked_moved : (u : ℕ → Tree) (g : Goal) → untracked_goal (moved u g) ≡ instance_part u (untracked_goal g)
 untracked_moved u (call t) = refl
@@ -104,18 +101,18 @@ same_child : (s : Tracked) (rest : List Goal) (o : Option Subst) (body : List Go
 same_child s rest None body parts takes e = refl
 same_child s rest (Some b) body parts takes e =
     ap (λ l. record { goals = l; tuple = instance_all (value b) s.tuple; next = s.next + takes; steps = s.steps + 1; fault = None } ∷ [])
-    (all_moved (value b) (body ++ rest) ∙ ap (map (instance_part (value b))) (map_both untracked_goal body rest ∙ ap (λ l. l ++ map untracked_goal rest) e))
+    (all_moved (value b) (body ++ rest) ∙ ap (map (instance_part (value b))) (map-append untracked_goal body rest ∙ ap (λ l. l ++ map untracked_goal rest) e))
 
 by_clauses : (s : Tracked) (g : Tree) (rest : List Goal) (p : Program) → IsProgram p
     → map untracked (flat_map (clause_children s g rest) p) ≡ map (search.child (untracked s) (map untracked_goal rest)) (flat_map (search.clause_way s.next g) p)
 by_clauses s g rest [] w = refl
 by_clauses s g rest (c ∷ cs) w =
-    map_both untracked (clause_children s g rest c) (flat_map (clause_children s g rest) cs)
+    map-append untracked (clause_children s g rest c) (flat_map (clause_children s g rest) cs)
     ∙ ap₂ (λ a b. a ++ b)
     (same_child s rest (mgu g (instance (shift s.next) c.head)) (map (placed (renamed c.vars s.next)) c.body) (map (instance_part (shift s.next)) c.body) (c.vars + 1)
     (body_up c.vars s.next c.body (All-head IsClause c cs w).body))
     (by_clauses s g rest cs (All-tail IsClause c cs w))
-    ∙ sym (map_both (search.child (untracked s) (map untracked_goal rest)) (search.clause_way s.next g c) (flat_map (search.clause_way s.next g) cs))
+    ∙ sym (map-append (search.child (untracked s) (map untracked_goal rest)) (search.clause_way s.next g c) (flat_map (search.clause_way s.next g) cs))
 
 by_call : (p : Program) (s : Tracked) (g : Tree) (rest : List Goal) (o : Option (Option Subst)) → IsProgram p
     → map untracked (call_children p s g rest o) ≡ map (search.child (untracked s) (map untracked_goal rest)) (search.ways_by p s.next g o)

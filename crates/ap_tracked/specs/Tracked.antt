@@ -1,6 +1,7 @@
 -- States of the search that keep beside each group its clause's text and the instances of its clause's variables. Without
 -- these it is a state of the search.
-use Rattle.std.specs.Prelude.{◌≡◌, ℕ, ◌+◌, ◌⊎◌, List, [], ◌∷◌, ◌++◌, map, if◌then◌else◌, Option, Some, None}
+pub use Rattle.ap_term.specs.Lists.{IsOneOf}
+use Rattle.std.specs.Prelude.{ℕ, ◌+◌, List, [], ◌∷◌, ◌++◌, map, if◌then◌else◌, Option, Some, None}
 use Rattle.std.specs.List.{flat_map}
 use Rattle.ap_term.specs.declared.clauses.Check.{Check}
 use Rattle.ap_term.specs.Tree.{Tree, Trees, var, atom, none, more}
@@ -94,8 +95,3 @@ children_by p s (fork cs ts f now ∷ rest) = []
 -- the states that the first goal's call leads to; groups that come first are read as conjunctions
 abbrev pub children : Program → Tracked → List Tracked
 children p s = children_by p s (opened s.goals)
-
--- one of a list
-abbrev pub IsOneOf : {A : Type 0} → A → List A → Type 0
-IsOneOf x [] = ⊥
-IsOneOf x (y ∷ ys) = (x ≡ y) ⊎ IsOneOf x ys

@@ -7,13 +7,14 @@ use Rattle.ap_term.specs.Tree.{Tree, Trees, var, int, atom, node, none, more}
 use Rattle.std.proofs.lemmas.Bool.{false≢true}
 use Rattle.ap_term.specs.Substitution.{instance, instance_all, value, one}
 use Rattle.ap_cells.specs.Trees.{tree_at, span}
-use Rattle.ap_cells.proofs.Stands.{span-map, one-self, one-other}
+use Rattle.ap_cells.proofs.Stands.{span-map, one-other}
 use Rattle.ap_cells.specs.declared.pairs.Pairs.{Pairs}
 use Rattle.ap_cells.specs.Walks.{Each, weight, weight_all}
 use Rattle.ap_cells.proofs.Walks.{weight-some, span-first}
 use Rattle.ap_unify.specs.Works.{weight_run, weight_runs, turns, IsBound}
 use Rattle.ap_cells.specs.Assumed.{ArePairs}
 use Rattle.ap_unify.proofs.Works.{weight_runs-push}
+use Rattle.ap_term.proofs.Solutions.{one_here}
 
 mutual
   weight-instance : (f : ℕ → Tree) (m : ℕ) → 0 < m → ((y : ℕ) → weight (f y) ≤ m) → (t : Tree) → weight (instance f t) ≤ weight t * m
@@ -29,7 +30,7 @@ mutual
 
 one-weight : (x : ℕ) (t : Tree) (y : ℕ) → weight (value (one x t) y) ≤ weight t
 one-weight x t y = elim (cases_eq x y) [
-  | inl e ↦ let k : value (one x t) y ≡ t = subst (λ z. value (one x t) z ≡ t) e (one-self x t) in let w = ap weight k in omega arith
+  | inl e ↦ let k : value (one x t) y ≡ t = subst (λ z. value (one x t) z ≡ t) e (one_here x t) in let w = ap weight k in omega arith
   | inr n ↦ let w = ap weight (one-other x t y n) in let l = weight-some t in omega arith
 ]
 

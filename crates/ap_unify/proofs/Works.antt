@@ -11,11 +11,12 @@ use Rattle.ap_cells.specs.declared.cells.Raw.{Raw}
 use Rattle.ap_cells.specs.declared.cells.Raw.TheVariants.{Free, Same, Int, Atom, Node}
 use Rattle.ap_cells.specs.Trees.{tree_at, span, step}
 use Rattle.ap_unify.specs.Sides.{IsTerm}
-use Rattle.ap_cells.proofs.Stands.{span-map, one-self}
+use Rattle.ap_cells.proofs.Stands.{span-map}
 use Rattle.ap_cells.specs.Assumed.{ArePairs}
 use Rattle.ap_cells.specs.declared.pairs.Pairs.{Pairs}
 use Rattle.ap_cells.specs.Walks.{Each}
 use Rattle.ap_unify.specs.Works.{SolvesRuns, weight_run, weight_runs, Step, Stepped, IsBound, goes_on, outcome_of, with_args}
+use Rattle.ap_term.proofs.Solutions.{one_here}
 
 pub weight_runs-push : (ts : List Tree) (rs : List Pairs) (r : Pairs) → weight_runs ts (rs ++ r ∷ []) ≡ weight_runs ts rs + weight_run ts r
 weight_runs-push ts [] r = omega arith
@@ -71,7 +72,7 @@ turn_bind ts us rs p q x t i e f o u = record {
   solves = λ h s. (
     runs_twice (value (one x t)) h ts rs i (subst (λ vs. SolvesRuns h vs rs) u s),
     let w = λ (v : Tree). sym (instance_twice (value (one x t)) h v) in
-        ap (instance (λ y. instance h (value (one x t) y))) e ∙ w (var x) ∙ ap (instance h) (one-self x t ∙ sym (one_absent x t t o)) ∙ sym (w t) ∙ sym (ap (instance (λ y. instance h (value (one x t) y))) f),
+        ap (instance (λ y. instance h (value (one x t) y))) e ∙ w (var x) ∙ ap (instance h) (one_here x t ∙ sym (one_absent x t t o)) ∙ sym (w t) ∙ sym (ap (instance (λ y. instance h (value (one x t) y))) f),
   );
 }
 
