@@ -1,6 +1,6 @@
 -- The value that waiting operations will come to.
 use Rattle.std.proofs.Common.{◌≡◌, ℕ, zero, suc, ◌+◌, ◌==◌, if◌then◌else◌, List, [], ◌∷◌, ◌++◌, ℤ, refl, ap, ◌∙◌, arith}
-use Rattle.std.specs.Prelude.{Result, Ok, Err, OnOk}
+use Rattle.std.specs.Prelude.{Result, Err}
 use Rattle.ap_term.specs.declared.faults.Fault.{Fault}
 use Rattle.ap_term.specs.declared.faults.Fault.TheVariants.{WrongType}
 use Rattle.ap_term.specs.Tree.{Tree, node}
@@ -41,8 +41,3 @@ evaluated-other ts a p zero h k = refl
 evaluated-other ts a p (suc zero) h k = absurd (h refl)
 evaluated-other ts a p (suc (suc zero)) h k = absurd (k refl)
 evaluated-other ts a p (suc (suc (suc n))) h k = refl
-
--- what follows from a fact of success
-pub on_ok : {A E : Type 0} (r : Result A E) (P Q : Type 0) → (P → Q) → OnOk r P → OnOk r Q
-on_ok (Ok x) P Q f h = f h
-on_ok (Err e) P Q f h = tt

@@ -10,7 +10,8 @@ use Rattle.ap_term.specs.TermView.{tree_of, trees_of}
 use Rattle.ap_term.specs.GoalView.{part_of}
 use Rattle.ap_term.specs.Goals as goals
 use Rattle.ap_term.specs.Blocks.{IsPrefix}
-use Rattle.ap_writer.proofs.Numbering.{prefix-refl, prefix-trans, add_vars-prefix}
+use Rattle.ap_term.proofs.Lists.{prefix-refl, prefix-trans}
+use Rattle.ap_writer.proofs.Numbering.{add_vars-prefix}
 use Rattle.ap_cge.specs.declared.pieces.Piece as source
 use Rattle.ap_cge.specs.PieceView.{piece_of}
 use Rattle.ap_cge.specs.Printed.{Piece, word, term, add_piece_vars, add_pieces_vars, piece_text, pieces_text, behind, parted, list_of, part_pieces, body_pieces, clause_pieces, line_of}

@@ -1,15 +1,12 @@
 -- Runs of places that are compared.
-use Rattle.std.proofs.Common.{◌≡◌, ◌↔◌, ℕ, zero, suc, ◌+◌, ◌-◌, ◌*◌, ◌<◌, ◌≤◌, List, [], ◌∷◌, ◌++◌, refl, sym, ap, ◌∙◌, subst, arith}
+use Rattle.std.proofs.Common.{◌≡◌, ◌↔◌, ℕ, ◌+◌, ◌-◌, ◌*◌, ◌<◌, ◌≤◌, List, [], ◌∷◌, ◌++◌, sym, ap, ◌∙◌, subst, arith}
 use Rattle.ap_term.specs.Tree.{Tree, node, count_trees}
 use Rattle.ap_cells.specs.Trees.{tree_at, span}
-use Rattle.ap_cells.specs.Tops.{topped}
 use Rattle.ap_cells.specs.Walks.{weight, weight_all}
-use Rattle.ap_cells.proofs.Walks.{Each-push, Each-pop, span-first}
+use Rattle.ap_cells.proofs.Walks.{Each-push, Each-pop, span-first, count-span}
 use Rattle.ap_cells.proofs.Assumed.{more_head}
-use Rattle.ap_cells.specs.declared.top.Top.{Top}
 use Rattle.ap_cells.specs.declared.pairs.Pairs.{Pairs}
-use Rattle.ap_checks.specs.declared.identity.Answer.TheVariants.{Arguments}
-use Rattle.ap_checks.specs.Pairs.{AreSame, AllSame, Says, weight_pairs}
+use Rattle.ap_checks.specs.Pairs.{AreSame, AllSame, weight_pairs}
 
 pub weight_pairs-push : (ts : List Tree) (rs : List Pairs) (r : Pairs) → weight_pairs ts (rs ++ r ∷ []) ≡ weight_pairs ts rs + (2 * weight_all (span ts r.left r.count) + 1)
 weight_pairs-push ts [] r = omega arith
@@ -18,10 +15,6 @@ weight_pairs-push ts (q ∷ rs) r = omega (arith, weight_pairs-push ts rs r)
 -- a run put behind others
 pub AllSame-push : (ts : List Tree) (rs : List Pairs) (r : Pairs) → AllSame ts (rs ++ r ∷ []) ↔ (AllSame ts rs × AreSame ts r)
 AllSame-push ts rs r = (λ s. Each-pop (AreSame ts) rs r s, λ s. Each-push (AreSame ts) rs r s.0 s.1)
-
-count-span : (ts : List Tree) (p n : ℕ) → count_trees (span ts p n) ≡ n
-count-span ts p zero = refl
-count-span ts p (suc n) = let k = count-span ts (p + 1) n in omega arith
 
 -- terms with another number of arguments
 pub apart_by_count : (ts : List Tree) (a b p q m n : ℕ) → (m ≡ n → ⊥) → node a (span ts p m) ≡ node b (span ts q n) → ⊥
@@ -40,10 +33,3 @@ weight_turn ts old popped rest new r h e f g =
     let w = ap (weight_pairs ts) e ∙ weight_pairs-push ts popped r in
     let v = ap weight_all (span-first ts r.left r.count h) in
     omega arith
-
-pub weight_empty : (ts : List Tree) (old popped : List Pairs) (r : Pairs) → old ≡ popped ++ r ∷ [] → weight_pairs ts popped < weight_pairs ts old
-weight_empty ts old popped r e = let w = ap (weight_pairs ts) e ∙ weight_pairs-push ts popped r in omega arith
-
--- the arguments in the place of their terms
-pub weight_arguments : (ts : List Tree) (t u : Top) (p q n left : ℕ) → tree_at ts left ≡ topped ts t → Says t u (Arguments p q n) → 2 * weight_all (span ts p n) + 1 < 2 * weight (tree_at ts left)
-weight_arguments ts t u p q n left e s = let v = ap weight (e ∙ ap (topped ts) s.1.0) in omega arith

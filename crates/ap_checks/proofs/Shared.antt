@@ -1,12 +1,12 @@
 -- A comparison, turn by turn, with pairs that are assumed to be equal.
-use Rattle.std.proofs.Common.{◌≡◌, ℕ, zero, suc, ◌+◌, ◌-◌, ◌<◌, List, [], ◌∷◌, ◌++◌, Option, Some, Result, Ok, Err, IfOk, sym, ap, ◌∙◌, subst, arith, get_or}
+use Rattle.std.proofs.Common.{◌≡◌, ℕ, zero, suc, ◌+◌, ◌-◌, ◌<◌, List, [], ◌∷◌, ◌++◌, Option, Some, sym, ap, ◌∙◌, subst, arith, get_or}
 use Rattle.ap_term.specs.Tree.{Tree, node}
 use Rattle.ap_cells.specs.Trees.{tree_at, span}
 use Rattle.ap_cells.specs.Walks.{weight_all}
 use Rattle.ap_cells.specs.Assumed.{below, IsBelow, AreBelow}
 use Rattle.ap_cells.specs.declared.pairs.Pairs.{Pairs}
 use Rattle.ap_cells.proofs.Walks.{Each-push, Each-pop, span-first}
-use Rattle.ap_cells.proofs.Assumed.{below-none, span-below, Look-same, Look-joined, Look-opened, IsBelow-first, more_head, more_tail}
+use Rattle.ap_cells.proofs.Assumed.{below-none, span-below, Look-opened, IsBelow-first, more_head, more_tail}
 use Rattle.ap_marks.specs.Classes.{Links, Agrees, no_links}
 use Rattle.ap_checks.specs.Pairs.{AreSame, AllSame}
 use Rattle.ap_checks.specs.Shared.{known, Compared, Going}
@@ -22,22 +22,6 @@ Compared-opened ts v u p q a l r n e f older more_links rs = record {
   where
     args_of : node a (span ts l n) ≡ node a (span ts r n) → span ts l n ≡ span ts r n
     args_of k = cc
-
--- a pair that is assumed already
-pub Compared-joined : (ts : List Tree) (v u : Links) (p q : ℕ) → u ≡ v → ((f : ℕ → Option Tree) → Agrees f u → f p ≡ f q) → (rs : List Pairs) → Compared ts rs rs v u p q
-Compared-joined ts v u p q e j rs = subst (λ w. Compared ts rs rs v w p q) (sym e) (record {
-  sound = λ s g h. (s, g);
-  look = Look-joined ts rs v p q (λ f g. j f (subst (Agrees f) (sym e) g));
-})
-
--- a pair that is one tree
-pub Compared-same : (ts : List Tree) (v : Links) (p q : ℕ) → tree_at ts p ≡ tree_at ts q → (rs : List Pairs) → Compared ts rs rs v v p q
-Compared-same ts v p q e rs = record { sound = λ s g h. (s, g); look = Look-same ts rs v p q e }
-
--- what follows from a result
-pub IfOk-map : {X Y : Type 0} {P Q : X → Type 0} (r : Result X Y) → ((x : X) → P x → Q x) → IfOk r P → IfOk r Q
-IfOk-map (Ok x) f p = f x p
-IfOk-map (Err e) f p = p
 
 pub Going-start : (ts : List Tree) (rs : List Pairs) (v : Links) → v ≡ no_links → Going ts rs rs v
 Going-start ts rs v e = record {

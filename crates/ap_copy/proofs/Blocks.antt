@@ -2,7 +2,7 @@
 use Rattle.std.proofs.Common.{◌≡◌, ℕ, zero, suc, ◌+◌, ◌-◌, ◌<◌, ◌≤◌, List, [], ◌∷◌, ◌++◌, length, map, get_or, refl, sym, ap, ◌∙◌, subst, arith, inl, inr, append_assoc, append-nil, length-append}
 use Rattle.std.proofs.lemmas.List.{get_or_append_left, get_or-append_right, length_push, length-map}
 use Rattle.std.proofs.lemmas.Bool.{cases_lt}
-use Rattle.ap_term.specs.Tree.{Tree, var, more}
+use Rattle.ap_term.specs.Tree.{Tree, var, more, to_trees}
 use Rattle.ap_term.specs.Substitution.{instance, instance_all}
 use Rattle.ap_cells.specs.declared.cells.Raw.{Raw}
 use Rattle.ap_cells.specs.declared.cells.Raw.TheVariants.{Free, Same, Int, Atom, Node}
@@ -10,7 +10,7 @@ use Rattle.ap_cells.specs.Trees.{tree_at, span, step, Within, Stand, trees}
 use Rattle.ap_cells.specs.Walks.{Each}
 use Rattle.ap_cells.proofs.Stands.{step-same, Stand-push}
 use Rattle.ap_cells.proofs.Rounds.{trees_are}
-use Rattle.ap_copy.specs.Copies.{to_trees, numbered, IsBound, AreCopies, IsBelow, IsBlock, IsNames, Grown}
+use Rattle.ap_copy.specs.Copies.{numbered, IsBound, AreCopies, IsBelow, IsBlock, IsNames, Grown}
 
 -- what a cell stands for depends on the places that it leads to
 pub step-bound : (n i : ℕ) (c : Raw) (ts us : List Tree) → ((j : ℕ) → j < n → tree_at ts j ≡ tree_at us j) → IsBound n c → step ts 0 c ≡ step us i c

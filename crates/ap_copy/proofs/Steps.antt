@@ -1,7 +1,7 @@
 -- One step of a copy.
 use Rattle.std.proofs.Common.{◌≡◌, ℕ, zero, suc, ◌+◌, ◌-◌, ◌*◌, ◌<◌, ◌≤◌, true, List, [], ◌∷◌, ◌++◌, length, take, drop, refl, sym, ap, ◌∙◌, subst, arith, append_assoc, append-nil, length-append}
 use Rattle.std.proofs.Math.Seq.{take-append_seam, drop-append_seam}
-use Rattle.ap_term.specs.Tree.{Tree, node, more}
+use Rattle.ap_term.specs.Tree.{Tree, node, more, to_trees}
 use Rattle.ap_term.specs.Vars.{occurs, occurs_all}
 use Rattle.ap_term.specs.Substitution.{instance_all}
 use Rattle.ap_term.proofs.Solutions.{or_left, or_right}
@@ -9,7 +9,7 @@ use Rattle.ap_cells.specs.declared.cells.Raw.{Raw}
 use Rattle.ap_cells.specs.declared.cells.Raw.TheVariants.{Node}
 use Rattle.ap_cells.specs.Trees.{tree_at, span, trees}
 use Rattle.ap_cells.specs.Walks.{weight_all}
-use Rattle.ap_copy.specs.Copies.{to_trees, numbered, IsCopy, AreCopies, IsBlock, Grown}
+use Rattle.ap_copy.specs.Copies.{numbered, IsCopy, AreCopies, IsBlock, Grown}
 use Rattle.ap_copy.specs.declared.copying.Frame.{Frame}
 use Rattle.ap_copy.specs.declared.copying.Turn.{Turn}
 use Rattle.ap_copy.specs.declared.copying.Turn.TheVariants.{Open, Close}

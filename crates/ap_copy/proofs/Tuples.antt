@@ -3,12 +3,12 @@ use Rattle.std.proofs.Common.{◌≡◌, ℕ, zero, suc, ◌+◌, ◌<◌, true,
 use Rattle.std.proofs.lemmas.Bool.{or_cases}
 use Rattle.std.specs.List.{list_any}
 use Rattle.std.proofs.lemmas.List.{take_more, map-append}
-use Rattle.ap_term.specs.Tree.{Tree, more, count_trees}
+use Rattle.ap_term.specs.Tree.{Tree, more, to_trees}
 use Rattle.ap_term.specs.Vars.{occurs, occurs_all}
 use Rattle.ap_term.proofs.Solutions.{or_left, or_right}
-use Rattle.ap_cells.specs.Trees.{tree_at, span}
+use Rattle.ap_cells.specs.Trees.{tree_at}
 use Rattle.ap_cells.specs.declared.cells.Raw.{Raw}
-use Rattle.ap_copy.specs.Copies.{tuple_at, to_trees, Known, KnownAll, AreCopies}
+use Rattle.ap_copy.specs.Copies.{tuple_at, Known, KnownAll, AreCopies}
 use Rattle.ap_copy.specs.Copying.{Copied}
 use Rattle.ap_copy.proofs.Blocks.{AreCopies-append, AreCopies-grown}
 
@@ -49,7 +49,3 @@ copies-more ks ts roots i old new before after h a c =
   where
     same : map (tree_at ts) (take (i + 1) roots) ≡ map (tree_at ts) (take i roots) ++ tree_at ts (get_or roots i 0) ∷ []
     same = ap (map (tree_at ts)) (take_more roots i 0 h) ∙ map-append (tree_at ts) (take i roots) (get_or roots i 0 ∷ [])
-
-pub count-span : (ts : List Tree) (p n : ℕ) → count_trees (span ts p n) ≡ n
-count-span ts p zero = refl
-count-span ts p (suc n) = let k = count-span ts (p + 1) n in omega arith

@@ -13,10 +13,6 @@ abbrev pub tuple_at : List Tree → List ℕ → Trees
 tuple_at ts [] = none
 tuple_at ts (r ∷ rs) = more (tree_at ts r) (tuple_at ts rs)
 
-abbrev pub to_trees : List Tree → Trees
-to_trees [] = none
-to_trees (t ∷ ts) = more t (to_trees ts)
-
 -- the variables are among those that have numbers
 abbrev pub Known : List ℕ → Tree → Type 0
 Known ks t = (x : ℕ) → occurs x t ≡ true → list_any (nat_eq x) ks ≡ true

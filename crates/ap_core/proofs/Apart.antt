@@ -1,13 +1,14 @@
 -- Goals that the test finds apart share no variable.
-use Rattle.std.proofs.Common.{◌≡◌, ℕ, ◌⊎◌, inl, inr, Bool, true, false, not, ◌||◌, ◌&&◌, nat_eq, List, [], ◌∷◌, ◌++◌, refl, sym, ◌∙◌}
+use Rattle.std.proofs.Common.{◌≡◌, ℕ, Bool, true, false, not, ◌||◌, nat_eq, List, [], ◌∷◌, refl, sym, ◌∙◌}
 use Rattle.std.specs.List.{list_all}
-use Rattle.std.proofs.lemmas.Bool.{false≢true, not-true, eqb-true, and_parts, or_cases, or_left}
+use Rattle.std.proofs.lemmas.Bool.{false≢true, not-true, eqb-true, and_parts}
 use Rattle.std.proofs.Math.Bool.{or-true}
 use Rattle.ap_term.specs.Tree.{Tree, Trees, none, more}
 use Rattle.ap_term.specs.Vars.{has, vars, add_vars, occurs}
-use Rattle.ap_term.specs.Independence.{SharesNoVariable, IsApart, AreApart}
+use Rattle.ap_term.specs.Independence.{IsApart, AreApart}
 use Rattle.ap_term.proofs.Solvable.{has-add_vars}
 use Rattle.ap_core.specs.Conditions.{are_apart_from, are_apart}
+use Rattle.ap_term.proofs.Found.{has-kept}
 
 -- what is tested of each number of a list is so of one that it has
 passes : (f : ℕ → Bool) (xs : List ℕ) (x : ℕ) → list_all f xs ≡ true → has xs x ≡ true → f x ≡ true
@@ -24,13 +25,10 @@ passes f (y ∷ xs) x h k = go (nat_eq y x) refl k (λ l. passes f xs x (and_par
 has_own : (t : Tree) (seen : List ℕ) (x : ℕ) → occurs x t ≡ true → has (add_vars t seen) x ≡ true
 has_own t seen x h = has-add_vars x t seen (rw h (or-true (has seen x)))
 
-has_seen : (t : Tree) (seen : List ℕ) (x : ℕ) → has seen x ≡ true → has (add_vars t seen) x ≡ true
-has_seen t seen x h = has-add_vars x t seen (or_left (has seen x) (occurs x t) h)
-
 -- no variable seen stands in the goals
 unseen : (ts : Trees) (seen : List ℕ) (t : Tree) → ((x : ℕ) → occurs x t ≡ true → has seen x ≡ true) → are_apart_from seen ts ≡ true → IsApart t ts
 unseen none seen t s h = tt
-unseen (more u ts) seen t s h = (λ x o. go x o (occurs x u) refl, unseen ts (add_vars u seen) t (λ x o. has_seen u seen x (s x o)) q.1)
+unseen (more u ts) seen t s h = (λ x o. go x o (occurs x u) refl, unseen ts (add_vars u seen) t (λ x o. has-kept u seen x (s x o)) q.1)
   where
     q : (list_all (λ x. not (has seen x)) (vars u) ≡ true) × (are_apart_from (add_vars u seen) ts ≡ true)
     q = and_parts (list_all (λ x. not (has seen x)) (vars u)) (are_apart_from (add_vars u seen) ts) h

@@ -18,7 +18,7 @@ use Rattle.ap_core.specs.Heeding.{Heeds}
 use Rattle.ap_core.proofs.Fine.{IsGiven, Where, past, beyond, undrained, next_to, Fine, FineHeldTask, FineOpen, FineBegun}
 use Rattle.ap_core.proofs.Erasing.{erased-given, IsGiven-given, Fine-given, left-FineHeldTask, stands_somehow, HasFailedSafely-settled}
 
-place_behind-positive : (o : Option ℕ) (b : Bool) (i : ℕ) → place_behind o b ≡ Some i → 0 < i
+pub place_behind-positive : (o : Option ℕ) (b : Bool) (i : ℕ) → place_behind o b ≡ Some i → 0 < i
 place_behind-positive (Some j) b i h = let e : j + 1 ≡ i = cc in omega arith
 place_behind-positive None true i h = let e : 1 ≡ i = cc in omega arith
 place_behind-positive None false i h = absurd (none-some _ h)

@@ -14,10 +14,10 @@ use Rattle.ap_core.specs.declared.tasks.Alternative.TheVariants as code
 use Rattle.ap_core.specs.declared.tasks.Alternative.TheVariants.{rolls-State, rolls-Frame}
 use Rattle.ap_core.specs.declared.tasks.Progress.{fold-roll-Progress}
 use Rattle.ap_core.specs.declared.tasks.Progress.TheVariants as progress
-use Rattle.ap_core.specs.declared.tasks.Progress.TheVariants.{rolls-Begun, rolls-Redone, rolls-Drained}
+use Rattle.ap_core.specs.declared.tasks.Progress.TheVariants.{rolls-Drained}
 use Rattle.ap_core.specs.declared.tasks.Alternative.TheOpen.{Alternative-F, Progress-F}
 use Rattle.ap_core.specs.Tasks as tasks
-use Rattle.ap_core.specs.Tasks.{state, frame, busy, redone, drained}
+use Rattle.ap_core.specs.Tasks.{state, frame, drained}
 use Rattle.ap_core.specs.TaskView.{Place, answer_of, alternative_level, progress_level, slot_level, task_level, alternative_view, progress_view, slots_view, task_view}
 
 pub view_state : (s : State) → alternative_view (code.State s) ≡ state (state_of s)
@@ -28,14 +28,6 @@ pub view_frame : (s : State) (r : Round) (w : Vec Slot Global) → alternative_v
 view_frame s r w =
     ap alternative_view (sym (rolls-Frame s r w)) ∙ fold-roll-Alternative tasks.Alternative tasks.Progress Place tasks.Task alternative_level progress_level slot_level task_level (Alternative-F.Frame s r w)
 
-pub view_redone : (m : Vec Answer Global) (b : Busy) (t : Box Task Global) (i : ℕ) → progress_view (progress.Redone m b t i) ≡ redone (map answer_of m.items) b (task_view t.value) i
-view_redone m b t i =
-    ap progress_view (sym (rolls-Redone m b t i)) ∙ fold-roll-Progress tasks.Alternative tasks.Progress Place tasks.Task alternative_level progress_level slot_level task_level (Progress-F.Redone m b t i)
-
 pub view_drained : (m : Vec Answer Global) (b : Busy) (t : Box Task Global) (i e : ℕ) → progress_view (progress.Drained m b t i e) ≡ drained (map answer_of m.items) b (task_view t.value) i e
 view_drained m b t i e =
     ap progress_view (sym (rolls-Drained m b t i e)) ∙ fold-roll-Progress tasks.Alternative tasks.Progress Place tasks.Task alternative_level progress_level slot_level task_level (Progress-F.Drained m b t i e)
-
-pub view_begun : (b : Busy) (t : Box Task Global) → progress_view (progress.Begun b t) ≡ busy b (task_view t.value)
-view_begun b t =
-    ap progress_view (sym (rolls-Begun b t)) ∙ fold-roll-Progress tasks.Alternative tasks.Progress Place tasks.Task alternative_level progress_level slot_level task_level (Progress-F.Begun b t)

@@ -1,13 +1,11 @@
 -- Loops over the slots of a frame, each of which is changed by its place.
-use Rattle.std.proofs.Common.{◌≡◌, ℕ, zero, suc, ◌+◌, ◌<◌, ◌≤◌, Bool, true, false, ◌||◌, drop_of_length-le, if◌then◌else◌, List, [], ◌∷◌, ◌++◌, map, length, drop, get_or, set, refl, ap, ap₂, sym, ◌∙◌, subst, arith, nat_lt, ◌==◌}
-use Rattle.std.proofs.lemmas.Bool.{false≢true, lt-ltb, le-ltb, eq-eqb, ne_eqb}
+use Rattle.std.proofs.Common.{◌≡◌, ℕ, zero, suc, ◌+◌, ◌<◌, ◌≤◌, Bool, true, false, ◌||◌, drop_of_length-le, if◌then◌else◌, List, [], ◌∷◌, ◌++◌, map, length, drop, get_or, set, refl, ap, ap₂, sym, ◌∙◌, subst, arith}
+use Rattle.std.proofs.lemmas.Bool.{false≢true}
 use Rattle.std.specs.Ordering.{nat_cmp}
-use Rattle.std.specs.declared.cmp.Ordering.TheVariants.{Less, Equal, Greater}
 use Rattle.std.proofs.Common.{Option, Some, None}
 use Rattle.ap_core.specs.declared.events.Kind.{Kind}
 use Rattle.ap_core.specs.Outcome.{in_place, below_slot, at_place, at_progress}
 use Rattle.ap_core.specs.declared.tasks.Slot.{Slot}
-use Rattle.ap_core.specs.declared.tasks.Idle.TheVariants.{Waiting}
 use Rattle.ap_term.specs.Tree.{Tree}
 use Rattle.ap_core.specs.Tasks.{Answer, Task, Slots, no_slot, slot, Progress, idle, stored, busy, held, redone, again, drained}
 use Rattle.ap_core.specs.declared.tasks.Answer.{Answer as CodeAnswer}
@@ -18,6 +16,7 @@ use Rattle.ap_core.specs.declared.events.Kind.TheVariants as kinds
 use Rattle.ap_core.specs.Relation.{Rules, Recorded, given, mapped, in_task, in_slots, in_slot, put_away, all_put_away, redo_from, restarted_with, kept, readied, each_slot}
 use Rattle.ap_core.proofs.Views.{slots_view-drop_more}
 use Rattle.ap_core.specs.Rounds.{changed_place, settled_place, place_to_redo, settled_at, answered_by}
+use Rattle.ap_term.proofs.Facts.{cmp_less, cmp_equal, cmp_greater}
 
 -- what runs on
 pub restarted-answered_by : (r : ℕ) (b : Bool) (m : List Answer) (a : Answer) (t : Task) (c : ℕ) → restarted_with r (answered_by b m a t c) ≡ redone (m ++ a ∷ []) Running (given r t) (spent_by t)
@@ -82,17 +81,6 @@ pub mixed_readied_all : (j : ℕ) (xs ys : List Slot) → map slot_view ys ≡ m
 mixed_readied_all j xs ys h k =
     let n : length xs ≡ length ys = sym (length-map xs) ∙ sym (length-mixed (λ i. changed_place readied) 0 j (map slot_view xs)) ∙ ap length (sym h) ∙ length-map ys in
     ap slots_of h ∙ mixed-readied 0 j (map slot_view xs) (omega (arith, length-map xs))
-
-cmp_less : (a b : ℕ) → a < b → nat_cmp a b ≡ Less
-cmp_less a b h = rw (lt-ltb a b h) refl
-
-cmp_equal : (a b : ℕ) → a ≡ b → nat_cmp a b ≡ Equal
-cmp_equal a b h = let l : nat_lt a b ≡ false = le-ltb a b (omega arith) in rw (l, eq-eqb a b h) refl
-
-cmp_greater : (a b : ℕ) → b < a → nat_cmp a b ≡ Greater
-cmp_greater a b h =
-    let l : nat_lt a b ≡ false = le-ltb a b (omega arith) in
-    let n : (a == b) ≡ false = ne_eqb a b (λ e. absurd (omega arith)) in rw (l, n) refl
 
 abbrev pub by_side : ℕ → ℕ → Place → Place
 by_side i j = settled_place (nat_cmp j i)

@@ -28,7 +28,7 @@ use Rattle.ap_term.specs.Tuples.{arguments}
 
 -- ---- an answer put in, without groups
 
-abbrev built : List goals.Part → Trees → ℕ → ℕ → State
+abbrev pub built : List goals.Part → Trees → ℕ → ℕ → State
 built G T n k = record { goals = G; tuple = T; next = n; steps = k; fault = None }
 
 plain_answer : (u : Tracked) → u.goals ≡ [] → u.fault ≡ None → plain_of (untracked u) ≡ state none u.tuple u.next u.steps

@@ -52,10 +52,6 @@ all-met k f none (_ ∷ _) e h = absurd h
 all-met k f (more g gs) [] e h = absurd h
 all-met k f (more g gs) (u ∷ us) e h = ((h.0.0, sym e.0 ∙ h.0.1), all-met k f gs us e.1 h.1)
 
-agree-turned : (k f : ℕ → Tree) (gs : Trees) → AgreeOn k f gs → AgreeOn f k gs
-agree-turned k f none e = tt
-agree-turned k f (more g gs) e = (sym e.0, agree-turned k f gs e.1)
-
 agree-forth : (g : Tree) (b n : ℕ) (U : Trees) (s : ℕ → Tree) → U ≡ instance_all s (arguments g) → (k : ℕ → Tree) (gs : Trees) → IsApart g gs → AgreeOn k (λ x. instance k (fitted g b n U x)) gs
 agree-forth g b n U s e k none a = tt
 agree-forth g b n U s e k (more h gs) a =

@@ -11,7 +11,7 @@ use Rattle.ap_term.specs.Builtins.{builtin}
 use Rattle.ap_term.specs.WellFormed.{IsQuery}
 use Rattle.ap_term.specs.Goals as goals
 use Rattle.ap_term.specs.Goals.{Clause, Program, Query, joined, instance_check, instance_part}
-use Rattle.ap_term.specs.Search.{State, start, variables}
+use Rattle.ap_term.specs.Search.{start, variables}
 use Rattle.ap_term.proofs.Copies.{instance_var, parts_var}
 use Rattle.ap_laws.proofs.Conjunctions.{query}
 use Rattle.ap_tracked.specs.Tracked.{Goal, call, fork, moved, placed, renamed, opened, Tracked, untracked, IsOneOf, child_if, clause_children, call_children, children_unless, children_by, children}
@@ -28,6 +28,7 @@ use Rattle.ap_graft.proofs.Uncalled.{others-placed, same-forks, middle}
 use Rattle.ap_tracked.proofs.Untracked.{body_up}
 use Rattle.ap_graft.proofs.Variables.{over-placed}
 use Rattle.ap_graft.proofs.Grafts.{tracked-eq}
+use Rattle.ap_graft.proofs.Joins.{built}
 
 -- ---- members
 
@@ -119,9 +120,6 @@ start_safe p q is safe d f k = safe (d + 1) f (below (first_child q) (omega arit
     texts = subst (λ l. AllZip SameText (map (moved (value [])) l) body) (sym (append-nil body)) (same-back (value []) instance_var body)
 
 -- ---- the state is the query's
-
-abbrev built : List goals.Part → Trees → ℕ → ℕ → State
-built G T n k = record { goals = G; tuple = T; next = n; steps = k; fault = None }
 
 start_is : (q : Query) → IsQuery q → untracked (tracked_start q) ≡ start q
 start_is q is = ap (λ l. built l (variables q.question.vars) (q.question.vars + 1) 0) (body_up q.question.vars 0 q.question.body is.question.body ∙ ap (λ f. map (instance_part f) q.question.body) (λ i. λ x. var (plus_zero x i)) ∙ parts_var q.question.body)

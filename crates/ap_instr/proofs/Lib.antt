@@ -1,4 +1,4 @@
 pub mod Example
 pub mod Steps
 pub mod Ungrouped
-pub mod Applied
+pub mod Registers

@@ -1,4 +1,5 @@
 -- What a clause's code means, without stores, cells or substitutions: which goals it asks for, over all instances.
+pub use Rattle.ap_term.specs.Tuples.{applied}
 use Rattle.std.specs.Prelude.{◌≡◌, ℕ, zero, suc, ◌+◌, ◌==◌, if◌then◌else◌, List, [], ◌∷◌, map}
 use Rattle.ap_term.specs.Tree.{Tree, Trees, atom, node, none, more, count_trees}
 use Rattle.ap_term.specs.Substitution.{instance_all}
@@ -31,11 +32,6 @@ set_y (Y n) t y = set y n t
 abbrev pub spread : (ℕ → Tree) → ℕ → ℕ → Trees
 spread k p zero = none
 spread k p (suc n) = more (k p) (spread k (p + 1) n)
-
--- a name on its arguments; an atom, where there are none
-abbrev pub applied : ℕ → Trees → Tree
-applied a none = atom a
-applied a (more t ts) = node a (more t ts)
 
 abbrev pub arguments : Tree → Trees
 arguments (node a ts) = ts

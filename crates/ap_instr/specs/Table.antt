@@ -1,5 +1,6 @@
 -- Which predicates the table of code for a program has, and where their instructions are.
-use Rattle.std.specs.Prelude.{◌≡◌, ℕ, ◌≤◌, Bool, not, is_none, ◌&&◌, ◌==◌, if◌then◌else◌, List, [], ◌∷◌, map, length, Option, Some, None}
+pub use Rattle.ap_term.specs.Lists.{Key, is_key}
+use Rattle.std.specs.Prelude.{◌≡◌, ℕ, ◌≤◌, not, is_none, if◌then◌else◌, List, [], ◌∷◌, map, length, Option, Some, None}
 use Rattle.std.specs.List.{IsDistinct, filter}
 use Rattle.ap_term.specs.Tree.{Tree, atom, node, count_trees}
 use Rattle.ap_term.specs.Builtins.{builtin}
@@ -7,13 +8,6 @@ use Rattle.ap_term.specs.Goals.{Program}
 use Rattle.ap_tracked.specs.Tracked.{IsOneOf}
 use Rattle.ap_instr.specs.declared.compiled.Predicate.{Predicate}
 use Rattle.ap_instr.specs.Code.{Compiled}
-
--- a name with an arity
-abbrev pub Key : Type 0
-Key = ℕ × ℕ
-
-abbrev pub is_key : Key → Key → Bool
-is_key k l = (k.0 == l.0) && (k.1 == l.1)
 
 abbrev pub key_of : Predicate → Key
 key_of q = (q.name, q.arity)

@@ -29,7 +29,7 @@ values-same out before xs o e q =
 pub next-lifted_rule : (names : ℕ → ℕ) (r : Rule) (n : ℕ) → (lifted_rule names r n).next ≡ n + predicates_if r.body
 next-lifted_rule names r n = (measures_if names r.vars r.line r.body n).predicates
 
-predicates_in-push : (rs : List Rule) (r : Rule) → predicates_in (rs ++ r ∷ []) ≡ predicates_in rs + predicates_if r.body
+pub predicates_in-push : (rs : List Rule) (r : Rule) → predicates_in (rs ++ r ∷ []) ≡ predicates_in rs + predicates_if r.body
 predicates_in-push [] r = omega arith
 predicates_in-push (q ∷ rs) r = omega (arith, predicates_in-push rs r)
 

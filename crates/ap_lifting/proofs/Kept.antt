@@ -4,7 +4,9 @@ use Rattle.std.specs.Prelude.{IsTrue, ◌↔◌}
 use Rattle.std.specs.List.{list_all}
 use Rattle.std.proofs.lemmas.Bool.Decides.{nat_tests}
 use Rattle.std.proofs.lemmas.Bool.{and_from, and_parts}
-use Rattle.ap_term.proofs.TreeLists.{count_trees-instance_all, count_trees-push, count_trees-variables, append_trees-assoc}
+use Rattle.ap_term.proofs.TreeLists.{count_trees-instance_all, count_trees-push, count_trees-variables, append_trees-assoc, applied-push}
+use Rattle.ap_term.proofs.WellFormed.{numbered_all-variables, all_callable-append}
+use Rattle.ap_term.proofs.Lists.{list_all-append}
 use Rattle.ap_term.specs.declared.clauses.Check.{Check}
 use Rattle.ap_term.specs.Tree.{Tree, Trees, var, node, none, more, push_tree, count_trees, append_trees}
 use Rattle.ap_term.specs.Substitution.{instance_all}
@@ -20,24 +22,9 @@ use Rattle.ap_lifting.specs.Lifted.{Lifted, applied, stays, number_inside, check
 
 -- ---- the call of a lifted predicate
 
-applied-push : (a : ℕ) (ts : Trees) (t : Tree) → applied a (push_tree ts t) ≡ node a (push_tree ts t)
-applied-push a none t = refl
-applied-push a (more u ts) t = refl
-
 pub applied-variables : (a n : ℕ) → 0 < n → applied a (variables n) ≡ node a (variables n)
 applied-variables a zero h = absurd (omega arith)
 applied-variables a (suc n) h = applied-push a (variables n) (var (suc n))
-
-numbered_all-push : (n : ℕ) (ts : Trees) (t : Tree) → numbered_all n ts ≡ true → numbered n t ≡ true → numbered_all n (push_tree ts t) ≡ true
-numbered_all-push n none t h k = and_from (numbered n t) true k refl
-numbered_all-push n (more u ts) t h k =
-    and_from (numbered n u) (numbered_all n (push_tree ts t)) (and_parts (numbered n u) (numbered_all n ts) h).0
-    (numbered_all-push n ts t (and_parts (numbered n u) (numbered_all n ts) h).1 k)
-
-pub numbered_all-variables : (n m : ℕ) → m ≤ n → numbered_all n (variables m) ≡ true
-numbered_all-variables n zero h = refl
-numbered_all-variables n (suc m) h =
-    numbered_all-push n (variables m) (var (suc m)) (numbered_all-variables n m (omega arith)) (grind (arith, nat_tests))
 
 callable-applied : (a : ℕ) (ts : Trees) → count_trees ts ≤ 255 → callable (applied a ts) ≡ true
 callable-applied a none h = refl
@@ -48,17 +35,6 @@ numbered-applied n a none h = refl
 numbered-applied n a (more t ts) h = h
 
 -- ---- parts
-
-list_all-append : {A : Type 0} (p : A → Bool) (xs ys : List A) → list_all p xs ≡ true → list_all p ys ≡ true → list_all p (xs ++ ys) ≡ true
-list_all-append p [] ys h k = k
-list_all-append p (x ∷ xs) ys h k =
-    and_from (p x) (list_all p (xs ++ ys)) (and_parts (p x) (list_all p xs) h).0 (list_all-append p xs ys (and_parts (p x) (list_all p xs) h).1 k)
-
-all_callable-append : (ts us : Trees) → all_callable ts ≡ true → all_callable us ≡ true → all_callable (append_trees ts us) ≡ true
-all_callable-append none us h k = k
-all_callable-append (more t ts) us h k =
-    and_from (callable t) (all_callable (append_trees ts us)) (and_parts (callable t) (all_callable ts) h).0
-    (all_callable-append ts us (and_parts (callable t) (all_callable ts) h).1 k)
 
 numbered_all-append : (n : ℕ) (ts us : Trees) → numbered_all n ts ≡ true → numbered_all n us ≡ true → numbered_all n (append_trees ts us) ≡ true
 numbered_all-append n none us h k = k

@@ -1,5 +1,5 @@
 -- The call of a lifted predicate.
-use Rattle.std.proofs.Common.{◌≡◌, ℕ, ◌+◌, ◌<◌, ◌≤◌, Bool, true, false, ◌==◌, ◌&&◌, if◌then◌else◌, nat_eq, nat_le, length, option_and_then, List, [], ◌∷◌, ◌++◌, map, Option, Some, None, refl, ap, sym, ◌∙◌, subst, arith}
+use Rattle.std.proofs.Common.{◌≡◌, ℕ, ◌+◌, ◌<◌, ◌≤◌, Bool, true, false, ◌==◌, if◌then◌else◌, nat_eq, length, option_and_then, List, [], ◌∷◌, ◌++◌, map, Option, Some, None, refl, ap, sym, ◌∙◌, subst, arith}
 use Rattle.std.specs.List.{AllZip, AllByRecursion, flat_map}
 use Rattle.std.proofs.lemmas.List.{map-append}
 use Rattle.std.proofs.lemmas.Bool.{false≢true, and_parts}
@@ -18,11 +18,12 @@ use Rattle.ap_term.proofs.Solvable.{mgu-general}
 use Rattle.ap_term.proofs.Solutions.{same_var, same_test}
 use Rattle.ap_term.specs.Vars.{occurs, add_vars, Local, LocalAll}
 use Rattle.ap_term.proofs.Locals.{Local-instance, LocalAll-weaken, Local-weaken}
-use Rattle.ap_term.proofs.TreeLists.{instance_all-append_trees, count_trees-instance_all}
+use Rattle.ap_term.proofs.TreeLists.{instance_all-append_trees}
 use Rattle.ap_term.proofs.GoalLists.{plain_goals-append, plain_goals-instance, plain_goals-calls}
 use Rattle.ap_laws.specs.Renaming.{OptionAll, SameState, LocalSubst, LocalPart, LocalParts}
 use Rattle.ap_laws.specs.Plain.{state, PlainWay, way, plain_of, as_state, plain_way, plain_child, plain_children_by, IsPlainBelow, SamePlain}
 use Rattle.ap_term.proofs.Zips.{AllByRecursion-append, AllZip-append}
+use Rattle.ap_term.proofs.WellFormed.{callable-instance}
 use Rattle.ap_laws.proofs.Local.{Local-mgu, LocalParts-instance_part, LocalAll-calls}
 use Rattle.ap_laws.proofs.Ways.{LocalParts-body}
 use Rattle.ap_laws.proofs.Graft.{state-eq, Local-at}
@@ -116,12 +117,6 @@ no_unifier a (node b ts) (atom d) h k c = refl
 no_unifier a (atom b) (atom d) h k c = ap (λ v. option_and_then (solve (length (add_vars (atom d) (add_vars (atom b) [])))) (if v then Some [] else None)) (differ a b d h k)
 no_unifier a (node b ts) (node d us) h k c =
     ap (λ v. option_and_then (solve (length (add_vars (node d us) (add_vars (node b ts) [])))) (if v then apart_all ts us else None)) (differ a b d h k)
-
-pub callable-instance : (s : ℕ → Tree) (t : Tree) → callable t ≡ true → callable (instance s t) ≡ true
-callable-instance s (var x) h = absurd (false≢true h)
-callable-instance s (int z) h = absurd (false≢true h)
-callable-instance s (atom a) h = refl
-callable-instance s (node a ts) h = subst (λ m. (nat_le 1 m && nat_le m 255) ≡ true) (sym (count_trees-instance_all s ts)) h
 
 -- the ways by a program's clauses are those by the clauses that have the goal's name
 pub selected : (n a : ℕ) (t : Tree) → is_named a t ≡ true → (p : Program) → IsProgram p → flat_map (clause_way n t) p ≡ flat_map (clause_way n t) (clauses_named a p)

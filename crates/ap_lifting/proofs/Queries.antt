@@ -13,6 +13,7 @@ use Rattle.ap_laws.specs.Laws.{SameOutcome, SameFound}
 use Rattle.ap_laws.specs.Plain.{Plain, state, faulted, outcome, plain_by, plain_of, plain_ways, SamePlain, HasFullGroups}
 use Rattle.ap_laws.specs.Trace.{Action, called, cut, answered, trace, trace_to, answers_in, found_upto, SameAction}
 use Rattle.ap_term.proofs.Zips.{AllByRecursion-weaken}
+use Rattle.ap_term.proofs.WellFormed.{numbered_all-variables}
 use Rattle.ap_laws.proofs.Names.{SameUpToNames-SameTuple}
 use Rattle.ap_laws.proofs.Views.{AreGroups-well_formed, plain_by-None, trace_to-plain_of, answers_to_depth-trace, search-trace}
 use Rattle.ap_lifting.specs.Rule.{Rule, IsRule}
@@ -21,7 +22,7 @@ use Rattle.ap_lifting.specs.LiftingLaws.{is_named, clauses_named, AreFresh, supp
 use Rattle.ap_lifting.specs.Shown.{ShowsIf}
 use Rattle.ap_lifting.specs.Sizes.{predicates_if, predicates_in}
 use Rattle.ap_lifting.specs.WrittenSearch.{written_trace, written_start}
-use Rattle.ap_lifting.proofs.Kept.{goals_called, numbered_all-variables}
+use Rattle.ap_lifting.proofs.Kept.{goals_called}
 use Rattle.ap_lifting.proofs.Binds.{InRange, LocalAll-numbered}
 use Rattle.ap_lifting.proofs.Filled.{one_more, next-lifted_rule}
 use Rattle.ap_lifting.proofs.LiftedPrograms.{clauses_named-append, none_named, another_name, InNumbers, has_second, shows_if}

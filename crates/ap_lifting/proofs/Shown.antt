@@ -6,11 +6,12 @@ use Rattle.ap_term.specs.Substitution.{instance, instance_all}
 use Rattle.ap_term.specs.Goals.{Program, plain_goals}
 use Rattle.ap_term.proofs.Copies.{instance_twice, instance_all_twice}
 use Rattle.ap_term.proofs.TreeLists.{instance_all-append_trees}
+use Rattle.ap_term.proofs.WellFormed.{callable-instance}
 use Rattle.ap_lifting.specs.Body.{Body, goal, conjunction, disjunction, parallel, conditional}
 use Rattle.ap_lifting.specs.Lifted.{stays, lifted_goal}
 use Rattle.ap_lifting.specs.WrittenSearch.{Item, calling, choosing, entering, operand_items, items, instance_body, instance_item, items_if}
 use Rattle.ap_lifting.specs.Shown.{IsOrdinary, IsEntry, IsChoice, Alone, InTurn, Operand, Shows, ShowsItem, ShowsAll, ShowsIf}
-use Rattle.ap_lifting.proofs.LiftedCalls.{named_callable, callable-instance}
+use Rattle.ap_lifting.proofs.LiftedCalls.{named_callable}
 
 -- ---- bodies
 

@@ -6,13 +6,13 @@ use Rattle.ap_term.specs.Tree.{Tree, Trees, var, int, atom, node, none, more, ap
 use Rattle.ap_term.specs.Substitution.{instance, instance_all, Subst, value, shift}
 use Rattle.ap_term.specs.Unification.{mgu}
 use Rattle.ap_term.specs.Builtins.{builtin}
-use Rattle.ap_term.specs.Goals.{Part, Clause, Program, calls, instance_part, plain_goals}
+use Rattle.ap_term.specs.Goals.{Part, Clause, Program, instance_part, plain_goals}
 use Rattle.ap_term.specs.WellFormed.{IsClause, IsProgram}
 use Rattle.ap_term.specs.Search.{way_if, clause_way, ways_by, children}
 use Rattle.ap_term.specs.Vars.{Local, LocalAll}
 use Rattle.ap_term.proofs.Locals.{LocalAll-instance_all, LocalAll-append_trees}
 use Rattle.ap_term.proofs.GoalLists.{plain_goals-instance}
-use Rattle.ap_laws.specs.Renaming.{Renamed, RenamedAll, RenamedParts, Linked, SameState}
+use Rattle.ap_laws.specs.Renaming.{Renamed, RenamedAll, Linked, SameState}
 use Rattle.ap_laws.specs.Plain.{Plain, state, PlainWay, plain_of, as_state, plain_way, plain_ways, plain_child, plain_children_by, plain_children, IsPlainBelow, SamePlain}
 use Rattle.ap_laws.specs.Plain as forms
 use Rattle.ap_laws.specs.Trace.{trace, SameAction}
@@ -22,6 +22,7 @@ use Rattle.ap_laws.proofs.Graft.{state-eq, LocalAll-below, Local-at}
 use Rattle.ap_laws.proofs.SameStates.{SameState-sym, SameState-trans}
 use Rattle.ap_laws.proofs.Views.{plain_children-plain_of, plain_of-as_state}
 use Rattle.ap_laws.proofs.TraceNames.{trace_renaming}
+use Rattle.ap_laws.proofs.Renamed.{RenamedAll-calls}
 use Rattle.ap_lifting.specs.Rule.{Rule}
 use Rattle.ap_lifting.specs.Lifted.{lifted_goal, lifted_clause}
 use Rattle.ap_lifting.specs.LiftingLaws.{entered}
@@ -34,14 +35,8 @@ use Rattle.ap_lifting.proofs.Shown.{ShowsAll-append, items_show, all_kept, items
 
 -- ---- equality up to names, of plain states
 
-RenamedParts-calls : (R : ℕ → ℕ → Type 0) (ts us : Trees) → RenamedAll R ts us → RenamedParts R (calls ts) (calls us)
-RenamedParts-calls R none none h = tt
-RenamedParts-calls R (more t ts) (more u us) h = (h.0, RenamedParts-calls R ts us h.1)
-RenamedParts-calls R none (more _ _) h = absurd h
-RenamedParts-calls R (more _ _) none h = absurd h
-
 as_states : (s t : Plain) → SamePlain s t → SameState (as_state s) (as_state t)
-as_states (state G T n k) (state H U m j) h = (h.0, h.1, (RenamedParts-calls (Linked h.0 h.1 n m) G H h.2.0, h.2.1, h.2.2, refl))
+as_states (state G T n k) (state H U m j) h = (h.0, h.1, (RenamedAll-calls (Linked h.0 h.1 n m) G H h.2.0, h.2.1, h.2.2, refl))
 as_states (forms.faulted e k) (forms.faulted i j) h = (h.0, h.1, (tt, tt, h.2.1, ap Some h.2.0))
 as_states (state G T n k) (forms.faulted i j) h = absurd h.2
 as_states (forms.faulted e k) (state H U m j) h = absurd h.2

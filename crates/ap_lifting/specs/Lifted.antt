@@ -1,9 +1,10 @@
 -- Lifting: the parts of a body, and the clauses of the predicates that stand in the place of what no part can be.
+pub use Rattle.ap_term.specs.Tuples.{applied}
 use Rattle.std.specs.Prelude.{ℕ, ◌+◌, Bool, true, false, if◌then◌else◌, min, max, List, [], ◌∷◌, ◌++◌, Option, Some, None}
 use Rattle.std.specs.List.{flat_map}
 use Rattle.ap_term.specs.declared.clauses.Check.{Check}
 use Rattle.ap_term.specs.declared.clauses.Check.TheVariants.{Ground as IsGround, Indep as AreIndep}
-use Rattle.ap_term.specs.Tree.{Tree, Trees, atom, node, none, more, append_trees}
+use Rattle.ap_term.specs.Tree.{Tree, append_trees}
 use Rattle.ap_term.specs.Goals.{Part, call, group, Clause, Program, plain_goals}
 use Rattle.ap_term.specs.Search.{variables}
 use Rattle.ap_lifting.specs.declared.bodies.Condition.{Condition}
@@ -25,11 +26,6 @@ pub record Lifted : Type 0 where
   pub parts : List Part
   pub next : ℕ
   pub clauses : List Clause
-
--- an atom, where there are no arguments
-abbrev pub applied : ℕ → Trees → Tree
-applied a none = atom a
-applied a (more t ts) = node a (more t ts)
 
 -- an operand of & that is one goal of the group: a goal, or a disjunction, which becomes one
 abbrev pub is_one_goal : Body → Bool

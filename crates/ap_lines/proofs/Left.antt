@@ -3,8 +3,9 @@ use Rattle.std.proofs.Common.{◌≡◌, ℕ, ◌+◌, List, [], ◌∷◌, ◌+
 use Rattle.std.proofs.lemmas.List.{append-nil}
 use Rattle.ap_term.specs.Tree.{Tree}
 use Rattle.ap_term.specs.Blocks.{IsPrefix}
+use Rattle.ap_term.proofs.Lists.{prefix-refl, prefix-trans}
 use Rattle.ap_cells.specs.Trees.{tree_at, span}
-use Rattle.ap_writer.proofs.Numbering.{prefix-refl, prefix-trans, add_vars-prefix, add_all_vars-prefix}
+use Rattle.ap_writer.proofs.Numbering.{add_vars-prefix, add_all_vars-prefix}
 use Rattle.ap_lines.specs.declared.text.Work.{Work}
 use Rattle.ap_lines.specs.declared.text.Work.TheVariants.{Own, Tail, Rest, CloseList}
 use Rattle.ap_lines.specs.Work.{left, left_of, vars_left, vars_of, weight, weight_of}

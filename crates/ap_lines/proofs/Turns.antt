@@ -1,7 +1,6 @@
 -- One turn of a loop over a query's variables.
-use Rattle.std.proofs.Common.{◌≡◌, ℕ, ◌+◌, ◌<◌, Bool, true, false, if◌then◌else◌, List, [], ◌∷◌, ◌++◌, length, get_or, drop, refl, ap, sym, ◌∙◌, append_assoc}
-use Rattle.std.proofs.lemmas.List.{drop_more}
-use Rattle.ap_term.specs.Tree.{Tree, Trees, none, more}
+use Rattle.std.proofs.Common.{◌≡◌, ℕ, ◌+◌, Bool, true, false, if◌then◌else◌, List, ◌∷◌, ◌++◌, ap, sym, ◌∙◌, append_assoc}
+use Rattle.ap_term.specs.Tree.{Tree, Trees, more}
 use Rattle.ap_term.specs.Vars.{add_vars, add_all_vars}
 use Rattle.ap_term.specs.Substitution.{instance, instance_all}
 use Rattle.ap_term.specs.Blocks.{IsPrefix}
@@ -9,28 +8,13 @@ use Rattle.ap_writer.specs.Text.{numbered_by}
 use Rattle.ap_writer.specs.Line.{is_hidden, printed, printed_names, equation}
 use Rattle.ap_writer.specs.SoFar.{rest_of_line}
 use Rattle.ap_writer.proofs.Numbering.{add_all_vars-prefix}
-use Rattle.ap_writer.proofs.Turns.{lead}
+use Rattle.ap_writer.proofs.Turns.{lead, behind, printed-hidden, rest_of_line-shown}
 use Rattle.ap_lines.specs.SoFar.{all_found, IsSoFar}
-
-pub at_place : (names : List (List ℕ)) (i : ℕ) (name : List ℕ) → i < length names → name ≡ get_or names i name → drop i names ≡ name ∷ drop (i + 1) names
-at_place names i name lt e = drop_more names i name lt ∙ ap (λ n. n ∷ drop (i + 1) names) (sym e)
 
 -- ---- a name that isn't printed
 
 printed_names-hidden : (name : List ℕ) (names : List (List ℕ)) → is_hidden name ≡ true → printed_names (name ∷ names) ≡ printed_names names
 printed_names-hidden name names h = ap (λ b. if b then printed_names names else name ∷ printed_names names) h
-
-abbrev pub behind : Trees → Trees
-behind none = none
-behind (more t ts) = ts
-
-printed-none : (names : List (List ℕ)) → printed names none ≡ none
-printed-none [] = refl
-printed-none (name ∷ names) = refl
-
-printed-hidden : (name : List ℕ) (names : List (List ℕ)) (ts : Trees) → is_hidden name ≡ true → printed (name ∷ names) ts ≡ printed names (behind ts)
-printed-hidden name names none h = sym (printed-none names)
-printed-hidden name names (more t ts) h = ap (λ b. if b then printed names ts else more t (printed names ts)) h
 
 -- ---- a name that is printed
 
@@ -39,11 +23,6 @@ printed_names-shown name names h = ap (λ b. if b then printed_names names else 
 
 printed-shown : (name : List ℕ) (names : List (List ℕ)) (t : Tree) (ts : Trees) → is_hidden name ≡ false → printed (name ∷ names) (more t ts) ≡ more t (printed names ts)
 printed-shown name names t ts h = ap (λ b. if b then printed names ts else more t (printed names ts)) h
-
-rest_of_line-shown : (atoms : List (List ℕ)) (is_first : Bool) (name : List ℕ) (names : List (List ℕ)) (t : Tree) (ts : Trees)
-    → rest_of_line atoms is_first (name ∷ names) (more t ts) ≡ lead is_first ++ (equation atoms name t ++ rest_of_line atoms false names ts)
-rest_of_line-shown atoms true name names t ts = refl
-rest_of_line-shown atoms false name names t ts = refl
 
 module _ (atoms names : List (List ℕ)) (ts : Trees) where
   pub turn-hidden : (left : List (List ℕ)) (us : Trees) (is_first : Bool) (found out name : List ℕ) → IsSoFar atoms names ts (name ∷ left) us is_first found out

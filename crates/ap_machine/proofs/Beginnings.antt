@@ -3,7 +3,7 @@ use Rattle.std.proofs.Common.{◌≡◌, ℕ, zero, suc, ◌+◌, ◌-◌, ◌<�
 use Rattle.ap_tracked.specs.Sets.{SameSet}
 use Rattle.ap_term.proofs.UpToNames.{instance-same}
 use Rattle.ap_term.specs.Tuples.{tuple_under}
-use Rattle.ap_instr.proofs.Applied.{instance-applied}
+use Rattle.ap_term.proofs.TreeLists.{instance-applied}
 use Rattle.ap_term.specs.declared.fixed.TheConstants.{QUERY}
 use Rattle.ap_term.specs.Tree.{Tree, Trees, var, atom, none, more, count_trees, append_trees}
 use Rattle.ap_term.specs.Substitution.{instance, instance_all, shift}

@@ -19,7 +19,7 @@ use Rattle.ap_steps.specs.Moves.{held, HoldPlaces}
 use Rattle.ap_standing.specs.Machine.{Now, calling, inside}
 use Rattle.ap_instr.specs.declared.instruction.Instr.TheVariants.{Builtin as BuiltinGoal}
 use Rattle.ap_instr.specs.StandsFor.{IsOfBuiltin, ReadsAt, alternatives, clause_places}
-use Rattle.ap_needs.proofs.Places.{drop-here}
+use Rattle.ap_term.proofs.Lists.{drop-here}
 use Rattle.ap_standing.specs.Holds.{IsApart, Holds}
 use Rattle.ap_standing.proofs.Turns.{of-clauses}
 use Rattle.ap_standing.specs.Laws.{machine}
@@ -27,7 +27,7 @@ use Rattle.ap_machine.specs.declared.state.Now.{Now as Kind}
 use Rattle.ap_machine.specs.Sane.{HasBottom, Sane}
 use Rattle.ap_machine.specs.View.{now_of, point_of, segment_of, machine_of, IsFor, paused_of}
 use Rattle.ap_machine.specs.Started.{called, IsAtCall, IsAsked, IsQuestion, IsFirst, Started}
-use Rattle.ap_copy.proofs.Tuples.{count-span}
+use Rattle.ap_cells.proofs.Walks.{count-span}
 use Rattle.ap_machine.proofs.Sanity.{held-zeros}
 use Rattle.ap_machine.proofs.Beginnings.{holds-call, holds-goal, holds-question}
 use Rattle.ap_machine.proofs.Questions.{question, question-reads}

@@ -15,7 +15,7 @@ use Rattle.ap_term.specs.Blocks.{IsPrefix}
 use Rattle.ap_term.specs.Goals.{Clause}
 use Rattle.ap_writer.specs.Text as text
 use Rattle.ap_writer.specs.Text.{numbered_by}
-use Rattle.ap_writer.proofs.Numbering.{prefix-refl}
+use Rattle.ap_term.proofs.Lists.{prefix-refl}
 use Rattle.ap_reader.specs.declared.written.TheConstants.{MAX_OPEN}
 use Rattle.ap_reader.specs.declared.depth.TheConstants.{MAX_DEPTH}
 use Rattle.ap_reader.specs.Bracket.{most_open}

@@ -13,7 +13,8 @@ use Rattle.ap_term.specs.Blocks.{IsPrefix}
 use Rattle.ap_term.specs.WellFormed.{callable}
 use Rattle.ap_writer.specs.Text as text
 use Rattle.ap_writer.specs.Writable.{IsWritable}
-use Rattle.ap_writer.proofs.Numbering.{prefix-refl, prefix-trans, add_vars-prefix}
+use Rattle.ap_term.proofs.Lists.{prefix-refl, prefix-trans}
+use Rattle.ap_writer.proofs.Numbering.{add_vars-prefix}
 use Rattle.ap_reader.specs.declared.word.Word.{Word}
 use Rattle.ap_reader.specs.declared.word.Word.TheVariants as w
 use Rattle.ap_reader.specs.Operator.{Row, table, priority_of, priority_in, same, is_prefix, left_max, right_max}

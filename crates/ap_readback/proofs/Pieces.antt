@@ -19,7 +19,8 @@ use Rattle.ap_term.specs.WellFormed.{callable, all_callable, numbered, numbered_
 use Rattle.ap_term.proofs.NameTable.{table-long}
 use Rattle.ap_writer.specs.Text.{name_at, numbered_by, or_empty, shown_node, all_shown}
 use Rattle.ap_writer.specs.Writable.{IsWritable}
-use Rattle.ap_writer.proofs.Numbering.{prefix-refl, prefix-trans, add_vars-prefix}
+use Rattle.ap_term.proofs.Lists.{prefix-refl, prefix-trans}
+use Rattle.ap_writer.proofs.Numbering.{add_vars-prefix}
 use Rattle.ap_clause.proofs.CanBe.{fixed_at}
 use Rattle.ap_cge.specs.Printed.{Piece, word, term as a_term, is_enclosed, goal_pieces, check_pieces, parted, condition_pieces, list_of, part_pieces, body_pieces, add_piece_vars, add_pieces_vars, piece_text, pieces_text, line_of}
 use Rattle.ap_readback.specs.Printable.{is_functor, has_functors}

@@ -18,7 +18,8 @@ use Rattle.ap_term.specs.UpToNames.{place}
 use Rattle.ap_term.specs.Blocks.{IsPrefix}
 use Rattle.ap_writer.specs.Text as text
 use Rattle.ap_writer.specs.Writable.{IsWritable, AreWritable}
-use Rattle.ap_writer.proofs.Numbering.{prefix-trans, add_all_vars-prefix}
+use Rattle.ap_term.proofs.Lists.{prefix-trans}
+use Rattle.ap_writer.proofs.Numbering.{add_all_vars-prefix}
 use Rattle.ap_reader.specs.declared.word.Word.TheVariants as w
 use Rattle.ap_reader.specs.Operator.{priority_of}
 use Rattle.ap_reader.specs.Grammar.{Single, Positive, Negative, Empty}

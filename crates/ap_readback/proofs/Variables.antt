@@ -12,7 +12,8 @@ use Rattle.ap_term.specs.Vars.{has, add_vars, add_all_vars}
 use Rattle.ap_term.specs.UpToNames.{place}
 use Rattle.ap_term.specs.Blocks.{IsPrefix}
 use Rattle.ap_writer.specs.Writable.{IsWritable, AreWritable}
-use Rattle.ap_writer.proofs.Numbering.{place-prefix, has-added}
+use Rattle.ap_term.proofs.Found.{has-added}
+use Rattle.ap_writer.proofs.Numbering.{place-prefix}
 use Rattle.ap_reader.specs.Written.{Variable, place_in, known, seen_after, number_after, seen_by, leaf_by}
 use Rattle.ap_cge.proofs.Tokens.{numeral}
 use Rattle.ap_readback.specs.Printable.{variable_name}

@@ -1,7 +1,7 @@
 -- Goals and tuples of which each is an instance of the other are the same up to names.
 use Rattle.std.proofs.Common.{◌≡◌, ℕ, true, [], refl, ap, sym, ◌∙◌, subst}
 use Rattle.ap_laws.proofs.Names.{AllByRecursion-has}
-use Rattle.ap_term.specs.Tree.{Tree, Trees, var, int, atom, node}
+use Rattle.ap_term.specs.Tree.{Tree, Trees, var}
 use Rattle.ap_term.specs.Vars.{has, add_all_vars, occurs, occurs_all}
 use Rattle.ap_term.specs.Substitution.{instance, instance_all}
 use Rattle.ap_term.specs.UpToNames.{SameUpToNames, renumbered}
@@ -10,6 +10,7 @@ use Rattle.ap_term.proofs.Copies.{instance_var, instance_all_var, instance_all_t
 use Rattle.ap_term.proofs.Solutions.{instance_agree, instance_all_agree}
 use Rattle.ap_term.proofs.Renamings.{renumbered-renamed}
 use Rattle.ap_term.proofs.Locals.{Local-each, LocalAll-each}
+use Rattle.ap_term.proofs.TreeLists.{number_of, numbered_var}
 use Rattle.ap_laws.specs.Renaming.{Renamed}
 use Rattle.ap_laws.specs.Laws.{Inverse}
 use Rattle.ap_laws.proofs.Local.{AllByRecursion-add_all_vars}
@@ -19,22 +20,9 @@ use Rattle.ap_tracked.specs.Marks.{marked}
 use Rattle.ap_tracked.specs.Instances.{Inst}
 use Rattle.ap_resolution.specs.Laws.{InstanceLaw, TupleLaw}
 
--- the number of a variable
-abbrev pub number_of : Tree → ℕ
-number_of (var x) = x
-number_of (int z) = 0
-number_of (atom a) = 0
-number_of (node a ts) = 0
-
 -- the numbers of the variables that a map gives
 abbrev pub numbers : (ℕ → Tree) → ℕ → ℕ
 numbers f x = number_of (f x)
-
-is_variable : (f : ℕ → Tree) (t : Tree) (y : ℕ) → instance f t ≡ var y → t ≡ var (number_of t)
-is_variable f (var x) y e = refl
-is_variable f (int z) y e = cc
-is_variable f (atom a) y e = cc
-is_variable f (node a ts) y e = cc
 
 module _ (f g : ℕ → Tree) (ts us : Trees) (there : us ≡ instance_all f ts) (back : ts ≡ instance_all g us) where
   comes_back : (x : ℕ) → occurs_all x ts ≡ true → instance g (f x) ≡ var x
@@ -43,7 +31,7 @@ module _ (f g : ℕ → Tree) (ts us : Trees) (there : us ≡ instance_all f ts)
       (sym (instance_all_twice f g ts) ∙ ap (instance_all g) (sym there) ∙ sym back ∙ sym (instance_all_var ts)) x o
 
   renames : (x : ℕ) → occurs_all x ts ≡ true → f x ≡ var (numbers f x)
-  renames x o = is_variable g (f x) x (comes_back x o)
+  renames x o = numbered_var g (f x) x (comes_back x o)
 
   inverse : (x : ℕ) → occurs_all x ts ≡ true → numbers g (numbers f x) ≡ x
   inverse x o = ap number_of (ap (instance g) (sym (renames x o)) ∙ comes_back x o)

@@ -1,7 +1,7 @@
 -- Taking equations apart.
-use Rattle.std.proofs.Common.{◌≡◌, ◌≢◌, ◌≤◌, ◌==◌, true, if◌then◌else◌, arith, ap₂, ℕ, List, [], ◌∷◌, ◌∙◌, length, append_assoc, append-nil, Option, Some, None, refl, ap, sym, suc}
+use Rattle.std.proofs.Common.{◌≡◌, ◌≢◌, ◌==◌, true, if◌then◌else◌, ap₂, ℕ, List, [], ◌∷◌, ◌∙◌, length, append_assoc, append-nil, Option, Some, None, refl, ap, sym, suc}
 use Rattle.ap_term.specs.declared.terms.Term.{Term}
-use Rattle.ap_term.specs.Tree.{Tree, Trees, node, none, more, push_tree, size, size_all}
+use Rattle.ap_term.specs.Tree.{Tree, Trees, node, none, more, push_tree}
 use Rattle.ap_term.specs.TermView.{tree_of, trees_of}
 use Rattle.ap_term.specs.Substitution.{instance}
 use Rattle.ap_term.specs.Unification.{Equations, both, apart, apart_all, replaced_by}
@@ -57,9 +57,6 @@ pub apart-last : (out out' : Equations) (all : Option Equations) (a b : ℕ) (ts
 apart-last out out' all a b ts us front back t u same left right step h =
     ap (λ o. both o (apart t u)) step ∙ both_assoc (Some out) (apart_all front back) (apart t u)
     ∙ ap (both (Some out)) (sym (apart_all-push front back t u) ∙ ap₂ apart_all (sym left) (sym right) ∙ ap (λ c. if c then apart_all ts us else None) (sym same)) ∙ h
-
-pub last-smaller : (a n : ℕ) (ts front : Trees) (t : Tree) → ts ≡ push_tree front t → size (node a ts) ≤ n → size t ≤ n
-last-smaller a n ts front t e h = let k : size_all ts ≡ size_all (push_tree front t) = ap size_all e in omega (arith, size_all-push front t)
 
 -- one equation is replaced, the others come after it
 pub replaced_by-turn : (f : ℕ → Tree) (e : ℕ × Tree) (es : Equations) (next new : Equations) (all : Option Equations)

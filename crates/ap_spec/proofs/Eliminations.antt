@@ -35,14 +35,6 @@ solve-halves (suc n) (e ∷ es) = go (occurs e.0 e.1) (solve-halves_turn n e (re
 
 -- ---- the loops
 
--- a failed occurs check
-pub eliminated-occurs : (n : ℕ) (e : ℕ × Tree) (es : Equations) → occurs e.0 e.1 ≡ true → eliminated n (e ∷ es) ≡ None
-eliminated-occurs zero e es h = refl
-eliminated-occurs (suc n) e es h = ap (λ b. if b then None else option_and_then (λ ds. option_map (λ bs. e ∷ bs) (eliminated n ds)) (replaced_by (value (one e.0 e.1)) es)) h
-
-pub eliminated-none : (e : ℕ × Tree) (es : Equations) → eliminated 0 (e ∷ es) ≡ None
-eliminated-none e es = refl
-
 pub eliminated-done : (n : ℕ) → eliminated n [] ≡ Some []
 eliminated-done zero = refl
 eliminated-done (suc n) = refl
@@ -63,9 +55,6 @@ behind-push : (bound : Equations) (e : ℕ × Tree) (o : Option Equations) → b
 behind-push bound e None = refl
 behind-push bound e (Some bs) = ap Some (sym (append_assoc bound (e ∷ []) bs))
 
-pub behind-none : (bound : Equations) (o all : Option Equations) → o ≡ None → behind bound o ≡ all → None ≡ all
-behind-none bound o all e h = ap (behind bound) (sym e) ∙ h
-
 pub behind-done : (bound : Equations) (n : ℕ) (all : Option Equations) → behind bound (eliminated n []) ≡ all → Some bound ≡ all
 behind-done bound n all h = ap Some (sym (append-nil bound)) ∙ ap (behind bound) (sym (eliminated-done n)) ∙ h
 
@@ -75,12 +64,6 @@ pub behind-turn : (bound : Equations) (n : ℕ) (e : ℕ × Tree) (es : Equation
 behind-turn bound n e es next all lt h r k =
     sym (behind-push bound e (eliminated (n - 1) next))
     ∙ ap (λ o. behind bound (option_and_then (λ ds. option_map (λ bs. e ∷ bs) (eliminated (n - 1) ds)) o)) r
-    ∙ ap (behind bound) (sym (eliminated-turn n e es lt h)) ∙ k
-
-pub behind-clash : (bound : Equations) (n : ℕ) (e : ℕ × Tree) (es : Equations) (all : Option Equations) → 0 < n → occurs e.0 e.1 ≡ false
-    → None ≡ replaced_by (value (one e.0 e.1)) es → behind bound (eliminated n (e ∷ es)) ≡ all → None ≡ all
-behind-clash bound n e es all lt h r k =
-    ap (λ o. behind bound (option_and_then (λ ds. option_map (λ bs. e ∷ bs) (eliminated (n - 1) ds)) o)) r
     ∙ ap (behind bound) (sym (eliminated-turn n e es lt h)) ∙ k
 
 -- the last equation is resolved first

@@ -1,8 +1,8 @@
 -- Identical terms, argument by argument.
-use Rattle.std.proofs.Common.{◌≡◌, ◌≢◌, ◌==◌, ℕ, Bool, true, false, ◌&&◌, List, [], ◌∷◌, length, refl, ap, ap₂, sym, ◌∙◌, suc}
+use Rattle.std.proofs.Common.{◌≡◌, ◌≢◌, false, ◌&&◌, List, [], ◌∷◌, length, refl, ap, sym, ◌∙◌, suc}
 use Rattle.std.proofs.Math.Bool.{and-false, and-true, and_assoc}
 use Rattle.ap_term.specs.declared.terms.Term.{Term}
-use Rattle.ap_term.specs.Tree.{Tree, Trees, node, none, more, push_tree}
+use Rattle.ap_term.specs.Tree.{Tree, Trees, none, more, push_tree}
 use Rattle.ap_term.specs.TermView.{tree_of, trees_of}
 use Rattle.ap_term.specs.Identical.{identical, identical_all}
 use Rattle.ap_term.proofs.TermLists.{size_all-push, item_smaller}
@@ -28,12 +28,5 @@ identical_all-push none (more v us) t u = ap (λ b. identical t v && b) (identic
 identical_all-push (more w ts) none t u = ap (λ b. identical w u && b) (identical-push_none ts t) ∙ and-false (identical w u)
 identical_all-push (more w ts) (more v us) t u =
     ap (λ b. identical w v && b) (identical_all-push ts us t u) ∙ sym (and_assoc (identical w v) (identical_all ts us) (identical t u))
-
--- two compounds of one name, by their last arguments
-pub identical-last : (a b : ℕ) (ts us front back : Trees) (t u : Tree) (whole : Bool) → (a == b) ≡ true → ts ≡ push_tree front t → us ≡ push_tree back u
-    → true ≡ identical_all front back → identical (node a ts) (node b us) ≡ whole → identical t u ≡ whole
-identical-last a b ts us front back t u whole same left right fronts h =
-    ap (λ c. c && identical t u) fronts ∙ sym (identical_all-push front back t u) ∙ ap₂ identical_all (sym left) (sym right)
-    ∙ ap (λ c. c && identical_all ts us) (sym same) ∙ h
 
 pub ruleset rules_of_identical = (identical_all-push, identical_all-lengths, identical-push_none, identical-none_push, size_all-push, item_smaller)

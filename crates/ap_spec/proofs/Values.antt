@@ -1,5 +1,5 @@
 -- Values of 64 bits.
-use Rattle.std.proofs.Common.{◌≡◌, ◌≤◌, List, [], ◌∷◌, length, ℕ, ◌^◌, ◌<◌, Bool, true, false, if◌then◌else◌, Option, Some, None, ℤ, pos, negsuc, w64, refl, ap, ap₂, get_or, sym, ◌∙◌, arith, rules}
+use Rattle.std.proofs.Common.{◌≡◌, ◌≤◌, List, [], ◌∷◌, length, ℕ, ◌^◌, ◌<◌, Bool, true, false, if◌then◌else◌, Option, Some, None, ℤ, pos, negsuc, w64, refl, ap, sym, ◌∙◌, arith, rules}
 use Rattle.std.specs.Option.{SomeIff}
 use Rattle.std.specs.Prelude.{Ok, Err, ok_or, FitsSigned, int_rem, int_lt, ◌+ℤ◌}
 use Rattle.std.proofs.lemmas.Bool.Decides.{nat_tests}
@@ -12,8 +12,9 @@ use Rattle.ap_term.specs.Arithmetic.{fits, kept, divided, same_sign, moved, modu
 use Rattle.ap_term.specs.declared.faults.Fault.TheVariants.{WrongType, ZeroDivisor, Overflow}
 use Rattle.ap_term.specs.declared.terms.Term.{Term}
 use Rattle.ap_term.specs.Builtins.{builtin}
-use Rattle.ap_term.specs.Tree.{node, more, none}
-use Rattle.ap_term.specs.TermView.{tree_of, trees_of}
+use Rattle.ap_term.specs.Tree.{node}
+use Rattle.ap_term.specs.TermView.{trees_of}
+use Rattle.ap_term.proofs.TermLists.{trees_of-two}
 
 pub fits-signed : (z : ℤ) → FitsSigned w64 z → fits z ≡ true
 fits-signed (pos n) h = grind (arith, nat_tests)
@@ -88,11 +89,5 @@ builtin_other a [] h = refl
 builtin_other a (t ∷ []) h = refl
 builtin_other a (t ∷ (u ∷ [])) h = absurd (h refl)
 builtin_other a (t ∷ (u ∷ (v ∷ ts))) h = refl
-
-pub trees_of-two : (ts : List Term) (t u : Term) → length ts ≡ 2 → t ≡ get_or ts 0 t → u ≡ get_or ts 1 u → trees_of ts ≡ more (tree_of t) (more (tree_of u) none)
-trees_of-two [] t u h e k = absurd (omega arith)
-trees_of-two (x ∷ []) t u h e k = absurd (omega arith)
-trees_of-two (x ∷ (y ∷ [])) t u h e k = ap₂ (λ v w. more (tree_of v) (more (tree_of w) none)) (sym e) (sym k)
-trees_of-two (x ∷ (y ∷ (z ∷ ts))) t u h e k = absurd (omega arith)
 
 pub ruleset rules_of_pairs = (builtin_other, trees_of-two)

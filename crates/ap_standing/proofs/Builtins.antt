@@ -2,7 +2,7 @@
 use Rattle.std.proofs.Common.{◌≡◌, ℕ, ℤ, zero, suc, ◌+◌, ◌<◌, Bool, true, false, List, [], ◌∷◌, ◌++◌, length, Option, Some, None, refl, ap, ap₂, sym, ◌∙◌, subst}
 use Rattle.std.specs.List.{AllByRecursion}
 use Rattle.ap_tracked.specs.Sets.{SameSet, IsSetOf, IsGeneralGoal, Behind, Equated, Valued}
-use Rattle.ap_instr.proofs.Applied.{instance-applied}
+use Rattle.ap_term.proofs.TreeLists.{instance-applied}
 use Rattle.ap_term.specs.declared.builtins.Relation.{Relation}
 use Rattle.ap_term.specs.declared.builtins.Relation.TheVariants.{Unify, NotUnify, Same, NotSame, Is, Compare}
 use Rattle.ap_term.specs.declared.fixed.TheConstants.{TRUE, FAIL, UNIFY, IS}

@@ -12,7 +12,7 @@ use Rattle.ap_instr.specs.Step.{step_of}
 use Rattle.ap_instr.specs.Steps.{steps_from, skipped}
 use Rattle.ap_instr.proofs.Steps.{steps_law}
 use Rattle.ap_needs.specs.Needs.{is_control, is_transfer, is_value, has_value, cells_of, room, HasTargets, AllHaveTargets}
-use Rattle.ap_needs.proofs.Places.{drop-here}
+use Rattle.ap_term.proofs.Lists.{drop-here}
 use Rattle.ap_steps.specs.Ways.{NoneOfControl}
 
 -- an instruction that leads to the next one

@@ -3,7 +3,7 @@ use Rattle.std.proofs.Common.{◌≡◌, ℕ, ◌<◌, Bool, true, false, List, 
 use Rattle.std.specs.Prelude.{length, slice_get}
 use Rattle.std.specs.List.{AllByRecursion}
 use Rattle.ap_term.specs.Tuples.{tuple_under, arguments}
-use Rattle.ap_instr.proofs.Applied.{arguments-applied}
+use Rattle.ap_term.proofs.TreeLists.{arguments-applied}
 use Rattle.ap_match.proofs.Tuples.{tuple_under-agree}
 use Rattle.ap_term.proofs.TreeLists.{first-same, rest-same}
 use Rattle.ap_term.specs.declared.clauses.Check.{Check}

@@ -12,6 +12,7 @@ use Rattle.ap_term.proofs.Copies.{instance_var, instance_twice, instance_all_twi
 use Rattle.ap_term.proofs.Solutions.{same_var, instance_agree, instance_all_agree}
 use Rattle.ap_term.proofs.Solvable.{mgu-general}
 use Rattle.ap_term.proofs.Renamings.{renumbered-renamed}
+use Rattle.ap_term.proofs.TreeLists.{number_of, numbered_var}
 use Rattle.ap_cells.proofs.Rounds.{occurs_all-instance}
 use Rattle.ap_cells.proofs.Leaves.{stands}
 use Rattle.ap_unify.specs.Laws.{SameSubstitution, IsSolution, SolutionLaw}
@@ -32,19 +33,6 @@ mutual
       go true d p h k = h d
       go false d p h k = k p
 
--- the number of a variable
-abbrev name_of : Tree → ℕ
-name_of (var x) = x
-name_of (int z) = 0
-name_of (atom a) = 0
-name_of (node a ts) = 0
-
-named : (f : ℕ → Tree) (t : Tree) (y : ℕ) → instance f t ≡ var y → t ≡ var (name_of t)
-named f (var x) y e = refl
-named f (int z) y e = cc
-named f (atom a) y e = cc
-named f (node a ts) y e = cc
-
 -- each of the two gives what the other gives, as a finer instance
 module _ (s r : ℕ → Tree) (one : (x : ℕ) → instance r (s x) ≡ r x) (two : (x : ℕ) → instance s (r x) ≡ s x) where
   back : (x y : ℕ) → occurs y (s x) ≡ true → instance s (r y) ≡ var y
@@ -52,35 +40,35 @@ module _ (s r : ℕ → Tree) (one : (x : ℕ) → instance r (s x) ≡ r x) (tw
       instance-at (λ z. instance s (r z)) (λ z. var z) (s x)
       (sym (instance_twice r s (s x)) ∙ ap (instance s) (one x) ∙ two x ∙ sym (instance_var (s x))) y o
 
-  variable : (x y : ℕ) → occurs y (s x) ≡ true → r y ≡ var (name_of (r y))
-  variable x y o = named s (r y) y (back x y o)
+  variable : (x y : ℕ) → occurs y (s x) ≡ true → r y ≡ var (number_of (r y))
+  variable x y o = numbered_var s (r y) y (back x y o)
 
-  renamed_is : (x : ℕ) → r x ≡ instance (λ y. var (name_of (r y))) (s x)
-  renamed_is x = sym (one x) ∙ instance_agree r (λ y. var (name_of (r y))) (s x) (variable x)
+  renamed_is : (x : ℕ) → r x ≡ instance (λ y. var (number_of (r y))) (s x)
+  renamed_is x = sym (one x) ∙ instance_agree r (λ y. var (number_of (r y))) (s x) (variable x)
 
-  inverse : (x y : ℕ) → occurs y (s x) ≡ true → name_of (s (name_of (r y))) ≡ y
-  inverse x y o = ap name_of (ap (instance s) (sym (variable x y o)) ∙ back x y o)
+  inverse : (x y : ℕ) → occurs y (s x) ≡ true → number_of (s (number_of (r y))) ≡ y
+  inverse x y o = ap number_of (ap (instance s) (sym (variable x y o)) ∙ back x y o)
 
-  inverse_all : (ts : Trees) (y : ℕ) → occurs_all y (instance_all s ts) ≡ true → name_of (s (name_of (r y))) ≡ y
+  inverse_all : (ts : Trees) (y : ℕ) → occurs_all y (instance_all s ts) ≡ true → number_of (s (number_of (r y))) ≡ y
   inverse_all ts y o = let q = occurs_all-instance s y ts o in inverse q.0 y q.2
 
   tuples : (ts : Trees) → SameUpToNames (instance_all s ts) (instance_all r ts)
   tuples ts =
-      sym (renumbered-renamed (λ y. name_of (r y)) (instance_all s ts) apart)
-      ∙ ap renumbered (instance_all_twice s (λ y. var (name_of (r y))) ts ∙ instance_all_agree (λ x. instance (λ y. var (name_of (r y))) (s x)) r ts (λ x o. sym (renamed_is x)))
+      sym (renumbered-renamed (λ y. number_of (r y)) (instance_all s ts) apart)
+      ∙ ap renumbered (instance_all_twice s (λ y. var (number_of (r y))) ts ∙ instance_all_agree (λ x. instance (λ y. var (number_of (r y))) (s x)) r ts (λ x o. sym (renamed_is x)))
     where
-      apart : KeepsApart (λ y. name_of (r y)) (add_all_vars (instance_all s ts) [])
-      apart x y h k e = sym (inverse_all ts x (stands x (instance_all s ts) h)) ∙ ap (λ z. name_of (s z)) e ∙ inverse_all ts y (stands y (instance_all s ts) k)
+      apart : KeepsApart (λ y. number_of (r y)) (add_all_vars (instance_all s ts) [])
+      apart x y h k e = sym (inverse_all ts x (stands x (instance_all s ts) h)) ∙ ap (λ z. number_of (s z)) e ∙ inverse_all ts y (stands y (instance_all s ts) k)
 
   same_by : SameSubstitution s r
   same_by = record {
-    there = (λ y. name_of (r y), renamed_is);
-    back = (λ y. name_of (s y), λ x. sym (two x) ∙ instance_agree s (λ y. var (name_of (s y))) (r x) (other x));
+    there = (λ y. number_of (r y), renamed_is);
+    back = (λ y. number_of (s y), λ x. sym (two x) ∙ instance_agree s (λ y. var (number_of (s y))) (r x) (other x));
     tuples = tuples;
   }
     where
-      other : (x y : ℕ) → occurs y (r x) ≡ true → s y ≡ var (name_of (s y))
-      other x y o = named r (s y) y (instance-at (λ z. instance r (s z)) (λ z. var z) (r x) (sym (instance_twice s r (r x)) ∙ ap (instance r) (two x) ∙ one x ∙ sym (instance_var (r x))) y o)
+      other : (x y : ℕ) → occurs y (r x) ≡ true → s y ≡ var (number_of (s y))
+      other x y o = numbered_var r (s y) y (instance-at (λ z. instance r (s z)) (λ z. var z) (r x) (sym (instance_twice s r (r x)) ∙ ap (instance r) (two x) ∙ one x ∙ sym (instance_var (r x))) y o)
 
 pub solutions : SolutionLaw
 solutions = record {

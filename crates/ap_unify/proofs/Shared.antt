@@ -1,5 +1,5 @@
 -- Unification, turn by turn, with pairs that are assumed to be equal.
-use Rattle.std.proofs.Common.{◌≡◌, ℕ, zero, suc, ◌+◌, ◌-◌, ◌<◌, ◌≤◌, Bool, true, false, List, [], ◌∷◌, ◌++◌, Option, Some, Result, Ok, Err, IfOk, refl, sym, ap, ◌∙◌, subst, arith, inl, inr, length, map, get_or}
+use Rattle.std.proofs.Common.{◌≡◌, ℕ, zero, suc, ◌+◌, ◌-◌, ◌<◌, ◌≤◌, Bool, true, false, List, [], ◌∷◌, ◌++◌, Option, Some, refl, sym, ap, ◌∙◌, subst, arith, inl, inr, length, map, get_or}
 use Rattle.std.proofs.lemmas.Bool.{cases_lt}
 use Rattle.std.proofs.lemmas.List.{get_or-map, get_or_past, length-map}
 use Rattle.ap_term.specs.Tree.{Tree, var, node, none, more}
@@ -19,11 +19,6 @@ use Rattle.ap_unify.specs.declared.unification.Outcome.{Outcome}
 use Rattle.ap_unify.specs.Works.{SolvesRun, SolvesRuns, Unified, Step, Stepped, goes_on, outcome_of, with_args}
 use Rattle.ap_unify.specs.Shared.{known, Turn, Turned, Going}
 use Rattle.ap_unify.proofs.Works.{map_same}
-
--- what follows from a result
-pub IfOk-map : {X Y : Type 0} {P Q : X → Type 0} (r : Result X Y) → ((x : X) → P x → Q x) → IfOk r P → IfOk r Q
-IfOk-map (Ok x) f p = f x p
-IfOk-map (Err e) f p = p
 
 -- a pair that is assumed already is passed over
 pub turn_joined : (ts : List Tree) (rs : List Pairs) (v : Links) (p q : ℕ) → ((f : ℕ → Option Tree) → Agrees f v → f p ≡ f q) → Turn ts ts rs rs v v p q

@@ -1,10 +1,10 @@
 -- The first mark of a text: what marks spell tells which marks they are.
-use Rattle.std.proofs.Common.{◌≡◌, ℕ, ℤ, pos, negsuc, zero, suc, ◌+◌, ◌%◌, ◌<◌, ◌^◌, ◌==◌, ◌&&◌, ◌||◌, not, nat_lt, Bool, true, false, if◌then◌else◌, List, [], ◌∷◌, ◌++◌, codes, flat_map, bytes_eq, refl, ap, sym, subst, ◌∙◌, append_assoc, arith}
+use Rattle.std.proofs.Common.{◌≡◌, ℕ, ℤ, pos, negsuc, zero, suc, ◌+◌, ◌%◌, ◌<◌, ◌^◌, ◌==◌, ◌&&◌, ◌||◌, not, Bool, true, false, if◌then◌else◌, List, [], ◌∷◌, ◌++◌, codes, flat_map, bytes_eq, refl, ap, sym, subst, ◌∙◌, append_assoc, arith}
 use Rattle.std.specs.Char.{is_ascii_digit, is_ascii_lowercase}
 use Rattle.std.specs.List.{list_all}
 use Rattle.std.specs.Fmt.{decimal, signed_decimal}
 use Rattle.std.specs.Str.Parse.{digits_value}
-use Rattle.std.proofs.lemmas.Bool.{false≢true, and_parts}
+use Rattle.std.proofs.lemmas.Bool.{false≢true, and_parts, ltb-true}
 use Rattle.std.proofs.lemmas.Bool.Decides.{nat_tests, Decides-eqb}
 use Rattle.std.proofs.lemmas.Fmt.{decimal_is_IsNumeral, decimal_by_steps}
 use Rattle.std.proofs.lemmas.List.{append_cancel_left}
@@ -29,7 +29,7 @@ abbrev run : (ℕ → Bool) → List ℕ → Cut
 run p [] = record { taken = []; rest = [] }
 run p (b ∷ bs) = if p b then longer b (run p bs) else record { taken = []; rest = b ∷ bs }
 
-abbrev stops : (ℕ → Bool) → List ℕ → Bool
+abbrev pub stops : (ℕ → Bool) → List ℕ → Bool
 stops p [] = true
 stops p (b ∷ bs) = not (p b)
 
@@ -330,15 +330,12 @@ begins-digits : (ds rest : List ℕ) → are_digits ds ≡ true → begins_digit
 begins-digits [] rest h = absurd (false≢true h)
 begins-digits (d ∷ ds) rest h = (and_parts (is_ascii_digit d) (list_all is_ascii_digit (d ∷ ds)) h).0
 
-fits-below : (n : ℕ) → nat_lt n (2 ^ 63) ≡ true → n < 2 ^ 63
-fits-below n h = grind (arith, nat_tests)
-
 integer-is : (z : ℤ) (rest : List ℕ) → fits z ≡ true → parts rest ≡ true → front (signed_decimal z ++ rest) ≡ Integer z
 integer-is (pos n) rest h p =
-    let small : n < 2 ^ 64 = (let k = fits-below n h in omega arith) in
+    let small : n < 2 ^ 64 = (let k = ltb-true n (2 ^ 63) h in omega arith) in
     digits-is (decimal n) rest (digits-decimal n small) ∙ ap (λ k. Integer (pos k)) (number-front n rest small p)
 integer-is (negsuc n) rest h p =
-    let small : suc n < 2 ^ 64 = (let k = fits-below n h in omega arith) in
+    let small : suc n < 2 ^ 64 = (let k = ltb-true n (2 ^ 63) h in omega arith) in
     minus-is (decimal (suc n) ++ rest) (begins-digits (decimal (suc n)) rest (digits-decimal (suc n) small)) ∙ ap (λ k. Integer (negative k)) (number-front (suc n) rest small p)
 
 -- no bracket is closed where an element begins

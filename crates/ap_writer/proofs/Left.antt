@@ -5,10 +5,11 @@ use Rattle.ap_term.specs.declared.terms.Term.{Term}
 use Rattle.ap_term.specs.Tree.{node}
 use Rattle.ap_term.specs.TermView.{tree_of, trees_of}
 use Rattle.ap_term.specs.Blocks.{IsPrefix}
+use Rattle.ap_term.proofs.Lists.{prefix-refl, prefix-trans}
 use Rattle.ap_writer.specs.declared.text.Work.{Work}
 use Rattle.ap_writer.specs.declared.text.Work.TheVariants.{Own, Tail, Rest, CloseList}
 use Rattle.ap_writer.specs.Work.{is_cell, left, left_of, vars_left, vars_of, weight, weight_of}
-use Rattle.ap_writer.proofs.Numbering.{prefix-refl, prefix-trans, add_vars-prefix, add_all_vars-prefix}
+use Rattle.ap_writer.proofs.Numbering.{add_vars-prefix, add_all_vars-prefix}
 
 pub left-push : (names : List (List ℕ)) (found : List ℕ) (xs : List Work) (x : Work) → left names found (xs ++ x ∷ []) ≡ left_of names found x ++ left names found xs
 left-push names found [] x = sym (append-nil (left_of names found x))

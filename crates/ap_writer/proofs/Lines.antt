@@ -6,6 +6,7 @@ use Rattle.ap_term.specs.Vars.{vars, add_all_vars}
 use Rattle.ap_term.specs.Substitution.{instance, instance_all}
 use Rattle.ap_term.specs.UpToNames.{place, renumbered, SameUpToNames}
 use Rattle.ap_term.specs.AtomTable.{IsWithoutRepeats}
+use Rattle.ap_term.proofs.TreeLists.{count_trees-instance_all}
 use Rattle.ap_writer.specs.Text.{text, term_text, numbered_by}
 use Rattle.ap_writer.specs.Line.{is_hidden, printed, printed_names, equation, equations, behind_first, answer_line}
 use Rattle.ap_writer.specs.Writable.{IsWritable, AreWritable, IsWritableTuple}
@@ -14,7 +15,7 @@ use Rattle.ap_writer.proofs.Parted.{same_text}
 
 -- ---- numbered variables
 
-place-le : (found : List ℕ) (x : ℕ) → place found x ≤ length found + 1
+pub place-le : (found : List ℕ) (x : ℕ) → place found x ≤ length found + 1
 place-le [] x = omega arith
 place-le (y ∷ ys) x = go (nat_eq y x) (place-le ys x)
   where
@@ -90,10 +91,6 @@ same-equations atoms (name ∷ names) (more t ts) (more u us) d h k p q e =
 
 -- ---- lines
 
-count-instance : (f : ℕ → Tree) (ts : Trees) → count_trees (instance_all f ts) ≡ count_trees ts
-count-instance f none = refl
-count-instance f (more t ts) = ap (λ n. n + 1) (count-instance f ts)
-
 printed-count : (names : List (List ℕ)) (ts : Trees) → count_trees ts ≡ length names → count_trees (printed names ts) ≡ length (printed_names names)
 printed-count [] ts h = refl
 printed-count (name ∷ names) none h = absurd (omega arith)
@@ -109,7 +106,7 @@ shown-tuple : (atoms names : List (List ℕ)) (ts : Trees) → IsWritableTuple a
 shown-tuple atoms names ts h =
     let found : List ℕ = add_all_vars (printed names ts) [] in (
       writable-instance_all atoms (λ x. var (place found x)) (printed names ts) (λ x. numbers-below found x h.few) h.writable,
-      count-instance (λ x. var (place found x)) (printed names ts) ∙ printed-count names ts h.as_long,
+      count_trees-instance_all (λ x. var (place found x)) (printed names ts) ∙ printed-count names ts h.as_long,
     )
 
 pub same_line : (atoms names : List (List ℕ)) (ts us : Trees) → IsWithoutRepeats atoms → IsWritableTuple atoms names ts → IsWritableTuple atoms names us

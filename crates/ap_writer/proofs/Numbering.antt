@@ -1,21 +1,17 @@
 -- The numbers of variables as more of them are found.
-use Rattle.std.proofs.Common.{◌≡◌, ℕ, ◌+◌, Bool, true, false, not, cond, ◌||◌, if◌then◌else◌, List, [], ◌∷◌, ◌++◌, nat_eq, refl, ap, sym, ◌∙◌, append_assoc, arith}
+use Rattle.std.proofs.Common.{◌≡◌, ℕ, ◌+◌, Bool, true, false, not, cond, ◌||◌, if◌then◌else◌, List, [], ◌∷◌, ◌++◌, nat_eq, refl, ap, sym, ◌∙◌, arith}
 use Rattle.std.specs.List.{list_any, position_or_len}
 use Rattle.std.proofs.lemmas.Bool.{false≢true}
-use Rattle.std.proofs.lemmas.List.{append-nil}
-use Rattle.std.proofs.lemmas.Bool.Decides.{nat_tests}
+use Rattle.std.proofs.lemmas.Cmp.{nat_eq_equiv}
 use Rattle.ap_term.specs.Tree.{Tree, Trees, var, int, atom, node, none, more}
 use Rattle.ap_term.specs.Vars.{has, add_vars, add_all_vars}
 use Rattle.ap_term.specs.Blocks.{IsPrefix}
 use Rattle.ap_term.specs.UpToNames.{place}
+use Rattle.ap_term.proofs.Lists.{prefix-refl, prefix-trans}
+use Rattle.ap_term.proofs.Found.{has-added}
+use Rattle.ap_term.proofs.Solutions.{same_test}
 
 -- ---- what was found stays in front
-
-pub prefix-refl : (xs : List ℕ) → IsPrefix xs xs
-prefix-refl xs = ([], append-nil xs)
-
-pub prefix-trans : (xs ys zs : List ℕ) → IsPrefix xs ys → IsPrefix ys zs → IsPrefix xs zs
-prefix-trans xs ys zs p q = (p.0 ++ q.0, sym (append_assoc xs p.0 q.0) ∙ ap (λ l. l ++ q.0) p.1 ∙ q.1)
 
 mutual
   pub add_vars-prefix : (t : Tree) (found : List ℕ) → IsPrefix found (add_vars t found)
@@ -47,39 +43,18 @@ place-append (y ∷ ys) ms x h = go (nat_eq y x) h (place-append ys ms x)
 pub place-prefix : (found later : List ℕ) (x : ℕ) → has found x ≡ true → IsPrefix found later → place later x ≡ place found x
 place-prefix found later x h p = ap (λ l. place l x) (sym p.1) ∙ place-append found p.0 x h
 
-nat_eq-self : (x : ℕ) → nat_eq x x ≡ true
-nat_eq-self x = grind (arith, nat_tests)
-
-nat_eq-sym : (x y : ℕ) → nat_eq x y ≡ nat_eq y x
-nat_eq-sym x y = grind (arith, nat_tests)
-
-has-push : (found : List ℕ) (x : ℕ) → has (found ++ x ∷ []) x ≡ true
-has-push [] x = ap (λ b. b || false) (nat_eq-self x)
-has-push (y ∷ ys) x = ap (λ b. nat_eq y x || b) (has-push ys x) ∙ go (nat_eq y x)
-  where
-    go : (b : Bool) → (b || true) ≡ true
-    go true = refl
-    go false = refl
-
-pub has-added : (found : List ℕ) (x : ℕ) → has (add_vars (var x) found) x ≡ true
-has-added found x = go (has found x) refl
-  where
-    go : (b : Bool) → has found x ≡ b → has (if b then found else found ++ x ∷ []) x ≡ true
-    go true h = h
-    go false h = has-push found x
-
 -- ---- the set's own words
 
 pub any-has : (found : List ℕ) (x : ℕ) → list_any (nat_eq x) found ≡ has found x
 any-has [] x = refl
-any-has (y ∷ ys) x = ap (λ b. b || list_any (nat_eq x) ys) (nat_eq-sym x y) ∙ ap (λ b. nat_eq y x || b) (any-has ys x)
+any-has (y ∷ ys) x = ap (λ b. b || list_any (nat_eq x) ys) (nat_eq_equiv.symm x y) ∙ ap (λ b. nat_eq y x || b) (any-has ys x)
 
 pub inserted-added : (found new : List ℕ) (x : ℕ) → new ≡ (if list_any (nat_eq x) found then found else found ++ x ∷ []) → new ≡ add_vars (var x) found
 inserted-added found new x h = h ∙ ap (λ b. if b then found else found ++ x ∷ []) (any-has found x)
 
 place-push : (found : List ℕ) (x : ℕ) → place (found ++ x ∷ []) x ≡ position_or_len (nat_eq x) found + 1
-place-push [] x = ap (λ b. if b then 1 else 2) (nat_eq-self x)
-place-push (y ∷ ys) x = ap (λ b. if b then 1 else place (ys ++ x ∷ []) x + 1) (nat_eq-sym y x) ∙ go (nat_eq x y) (place-push ys x)
+place-push [] x = ap (λ b. if b then 1 else 2) (same_test x x refl)
+place-push (y ∷ ys) x = ap (λ b. if b then 1 else place (ys ++ x ∷ []) x + 1) (nat_eq_equiv.symm y x) ∙ go (nat_eq x y) (place-push ys x)
   where
     go : (b : Bool) → place (ys ++ x ∷ []) x ≡ position_or_len (nat_eq x) ys + 1
         → (if b then 1 else place (ys ++ x ∷ []) x + 1) ≡ cond (not b) (1 + position_or_len (nat_eq x) ys) 0 + 1

@@ -1,21 +1,17 @@
 -- What is printed of a tuple is numbered the same under other names of its variables.
 use Rattle.std.proofs.Common.{◌≡◌, ℕ, ◌+◌, Bool, true, false, ◌||◌, nat_eq, if◌then◌else◌, List, [], ◌∷◌, ◌++◌, map, refl, ap, sym, ◌∙◌, arith}
 use Rattle.std.proofs.Math.Bool.{or-false, or_assoc}
-use Rattle.std.proofs.lemmas.Bool.{false≢true, or_left, or_right}
-use Rattle.std.proofs.lemmas.Bool.Decides.{Decides-eqb}
+use Rattle.std.proofs.lemmas.Bool.{false≢true, or_left, or_right, eqb-true, eq-eqb}
+use Rattle.std.proofs.lemmas.Cmp.{nat_eq_equiv}
 use Rattle.ap_term.specs.Tree.{Tree, Trees, var, int, atom, node, none, more}
 use Rattle.ap_term.specs.Vars.{has, add_vars, add_all_vars, occurs, occurs_all}
 use Rattle.ap_term.specs.Substitution.{instance, instance_all}
 use Rattle.ap_term.specs.UpToNames.{place, renumbered, SameUpToNames}
+use Rattle.ap_term.specs.Laws.{KeepsApart}
 use Rattle.ap_term.proofs.Copies.{instance_all_twice}
+use Rattle.ap_term.proofs.Solutions.{instance_all_agree}
 use Rattle.ap_writer.specs.Text.{text, term_text}
 use Rattle.ap_writer.specs.Line.{is_hidden, printed, printed_names, equations, answer_line}
-
-same_number : (x y : ℕ) → nat_eq x y ≡ true → x ≡ y
-same_number x y h = (Decides-eqb x y).0 h
-
-number_test : (x y : ℕ) → x ≡ y → nat_eq x y ≡ true
-number_test x y h = (Decides-eqb x y).1 h
 
 -- ---- the variables found are those that occur
 
@@ -23,21 +19,13 @@ has-push : (xs : List ℕ) (y x : ℕ) → has (xs ++ y ∷ []) x ≡ (has xs x 
 has-push [] y x = or-false (nat_eq y x)
 has-push (z ∷ xs) y x = ap (λ b. nat_eq z x || b) (has-push xs y x) ∙ sym (or_assoc (nat_eq z x) (has xs x) (nat_eq y x))
 
-symmetric : (x y : ℕ) → nat_eq y x ≡ nat_eq x y
-symmetric x y = go (nat_eq y x) (nat_eq x y) refl refl
-  where
-    go : (a b : Bool) → nat_eq y x ≡ a → nat_eq x y ≡ b → nat_eq y x ≡ nat_eq x y
-    go true b e f = e ∙ sym (number_test x y (sym (same_number y x e)))
-    go false true e f = absurd (false≢true (sym e ∙ number_test y x (sym (same_number x y f))))
-    go false false e f = e ∙ sym f
-
 has-var : (y : ℕ) (xs : List ℕ) (x : ℕ) → has (add_vars (var y) xs) x ≡ (has xs x || nat_eq x y)
 has-var y xs x = go (has xs y) (nat_eq x y) refl refl
   where
     go : (b c : Bool) → has xs y ≡ b → nat_eq x y ≡ c → has (if b then xs else xs ++ y ∷ []) x ≡ (has xs x || nat_eq x y)
-    go true true e f = let found : has xs x ≡ true = ap (has xs) (same_number x y f) ∙ e in found ∙ sym (or_left (has xs x) (nat_eq x y) found)
+    go true true e f = let found : has xs x ≡ true = ap (has xs) (eqb-true x y f) ∙ e in found ∙ sym (or_left (has xs x) (nat_eq x y) found)
     go true false e f = sym (ap (λ c. has xs x || c) f ∙ or-false (has xs x))
-    go false c e f = has-push xs y x ∙ ap (λ d. has xs x || d) (symmetric x y)
+    go false c e f = has-push xs y x ∙ ap (λ d. has xs x || d) (nat_eq_equiv.symm y x)
 
 mutual
   has-add_vars : (t : Tree) (xs : List ℕ) (x : ℕ) → has (add_vars t xs) x ≡ (has xs x || occurs x t)
@@ -51,26 +39,7 @@ mutual
   has-add_all_vars (more t ts) xs x =
       has-add_all_vars ts (add_vars t xs) x ∙ ap (λ b. b || occurs_all x ts) (has-add_vars t xs x) ∙ or_assoc (has xs x) (occurs x t) (occurs_all x ts)
 
--- ---- an instance turns on the variables that occur
-
-mutual
-  instance_agree : (f g : ℕ → Tree) (t : Tree) → ((x : ℕ) → occurs x t ≡ true → f x ≡ g x) → instance f t ≡ instance g t
-  instance_agree f g (var x) h = h x (number_test x x refl)
-  instance_agree f g (int z) h = refl
-  instance_agree f g (atom a) h = refl
-  instance_agree f g (node a ts) h = ap (node a) (instance_all_agree f g ts h)
-
-  instance_all_agree : (f g : ℕ → Tree) (ts : Trees) → ((x : ℕ) → occurs_all x ts ≡ true → f x ≡ g x) → instance_all f ts ≡ instance_all g ts
-  instance_all_agree f g none h = refl
-  instance_all_agree f g (more t ts) h =
-      ap (λ u. more u (instance_all f ts)) (instance_agree f g t (λ x o. h x (or_left (occurs x t) (occurs_all x ts) o)))
-      ∙ ap (more (instance g t)) (instance_all_agree f g ts (λ x o. h x (or_right (occurs x t) (occurs_all x ts) o)))
-
 -- ---- a renaming that keeps variables apart
-
--- whether each variable of a list keeps apart from the others under r
-abbrev pub KeepsApart : (ℕ → ℕ) → List ℕ → Type 0
-KeepsApart r vs = (x y : ℕ) → has vs x ≡ true → has vs y ≡ true → r x ≡ r y → x ≡ y
 
 module _ (r : ℕ → ℕ) (vs : List ℕ) (apart : KeepsApart r vs) where
   abbrev pub renamed : ℕ → Tree
@@ -83,14 +52,14 @@ module _ (r : ℕ → ℕ) (vs : List ℕ) (apart : KeepsApart r vs) where
   test_kept x y h k = go (nat_eq x y) (nat_eq (r x) (r y)) refl refl
     where
       go : (a b : Bool) → nat_eq x y ≡ a → nat_eq (r x) (r y) ≡ b → nat_eq (r x) (r y) ≡ nat_eq x y
-      go true b e f = number_test (r x) (r y) (ap r (same_number x y e)) ∙ sym e
-      go false true e f = absurd (false≢true (sym e ∙ number_test x y (apart x y h k (same_number (r x) (r y) f))))
+      go true b e f = eq-eqb (r x) (r y) (ap r (eqb-true x y e)) ∙ sym e
+      go false true e f = absurd (false≢true (sym e ∙ eq-eqb x y (apart x y h k (eqb-true (r x) (r y) f))))
       go false false e f = f ∙ sym e
 
   has_kept : (xs : List ℕ) (x : ℕ) → Inside xs → has vs x ≡ true → has (map r xs) (r x) ≡ has xs x
   has_kept [] x i h = refl
   has_kept (y ∷ xs) x i h =
-      ap (λ b. b || has (map r xs) (r x)) (test_kept y x (i y (or_left (nat_eq y y) (has xs y) (number_test y y refl))) h)
+      ap (λ b. b || has (map r xs) (r x)) (test_kept y x (i y (or_left (nat_eq y y) (has xs y) (eq-eqb y y refl))) h)
       ∙ ap (λ b. nat_eq y x || b) (has_kept xs x (λ z o. i z (or_right (nat_eq y z) (has xs z) o)) h)
 
   map_push : (xs : List ℕ) (x : ℕ) → map r (xs ++ x ∷ []) ≡ map r xs ++ r x ∷ []
@@ -100,7 +69,7 @@ module _ (r : ℕ → ℕ) (vs : List ℕ) (apart : KeepsApart r vs) where
   mutual
     pub add_vars_kept : (t : Tree) (xs : List ℕ) → Inside (add_vars t xs) → add_vars (instance renamed t) (map r xs) ≡ map r (add_vars t xs)
     add_vars_kept (var x) xs i =
-        ap (λ b. if b then map r xs else map r xs ++ r x ∷ []) (has_kept xs x (λ y o. i y (has-var x xs y ∙ or_left (has xs y) (nat_eq y x) o)) (i x (has-var x xs x ∙ or_right (has xs x) (nat_eq x x) (number_test x x refl))))
+        ap (λ b. if b then map r xs else map r xs ++ r x ∷ []) (has_kept xs x (λ y o. i y (has-var x xs y ∙ or_left (has xs y) (nat_eq y x) o)) (i x (has-var x xs x ∙ or_right (has xs x) (nat_eq x x) (eq-eqb x x refl))))
         ∙ go (has xs x)
       where
         go : (b : Bool) → (if b then map r xs else map r xs ++ r x ∷ []) ≡ map r (if b then xs else xs ++ x ∷ [])
@@ -119,7 +88,7 @@ module _ (r : ℕ → ℕ) (vs : List ℕ) (apart : KeepsApart r vs) where
   pub place_kept : (xs : List ℕ) (x : ℕ) → Inside xs → has vs x ≡ true → place (map r xs) (r x) ≡ place xs x
   place_kept [] x i h = refl
   place_kept (y ∷ xs) x i h =
-      ap (λ b. if b then 1 else place (map r xs) (r x) + 1) (test_kept y x (i y (or_left (nat_eq y y) (has xs y) (number_test y y refl))) h)
+      ap (λ b. if b then 1 else place (map r xs) (r x) + 1) (test_kept y x (i y (or_left (nat_eq y y) (has xs y) (eq-eqb y y refl))) h)
       ∙ ap (λ n. if nat_eq y x then 1 else n + 1) (place_kept xs x (λ z o. i z (or_right (nat_eq y z) (has xs z) o)) h)
 
   renumbered-renamed : (ts : Trees) → ((x : ℕ) → occurs_all x ts ≡ true → has vs x ≡ true) → renumbered (instance_all renamed ts) ≡ renumbered ts
@@ -147,7 +116,7 @@ place_apart (v ∷ vs) x y h k e = go (nat_eq v x) (nat_eq v y) refl refl h k e 
     go : (a b : Bool) → nat_eq v x ≡ a → nat_eq v y ≡ b → (a || has vs x) ≡ true → (b || has vs y) ≡ true
         → (if a then 1 else place vs x + 1) ≡ (if b then 1 else place vs y + 1)
         → (has vs x ≡ true → has vs y ≡ true → place vs x ≡ place vs y → x ≡ y) → x ≡ y
-    go true true p q h k e ih = sym (same_number v x p) ∙ same_number v y q
+    go true true p q h k e ih = sym (eqb-true v x p) ∙ eqb-true v y q
     go true false p q h k e ih = absurd (place_above vs y (omega arith))
     go false true p q h k e ih = absurd (place_above vs x (omega arith))
     go false false p q h k e ih = ih h k (omega arith)

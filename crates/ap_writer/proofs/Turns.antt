@@ -1,6 +1,6 @@
 -- One turn of the loop over a query's variables.
 use Rattle.std.proofs.Common.{◌≡◌, ℕ, ◌+◌, ◌<◌, Bool, true, false, if◌then◌else◌, List, [], ◌∷◌, ◌++◌, length, get_or, drop, codes, refl, ap, sym, ◌∙◌, append_assoc}
-use Rattle.std.proofs.lemmas.List.{drop_more, drop-drop}
+use Rattle.std.proofs.lemmas.List.{drop-drop}
 use Rattle.ap_term.specs.declared.terms.Term.{Term}
 use Rattle.ap_term.specs.Tree.{Tree, Trees, none, more}
 use Rattle.ap_term.specs.TermView.{tree_of, trees_of}
@@ -8,6 +8,7 @@ use Rattle.ap_term.specs.Vars.{add_vars, add_all_vars}
 use Rattle.ap_term.specs.Substitution.{instance, instance_all}
 use Rattle.ap_term.specs.Blocks.{IsPrefix}
 use Rattle.ap_term.proofs.TermLists.{trees_of-drop_more}
+use Rattle.ap_term.proofs.Lists.{drop-read}
 use Rattle.ap_writer.specs.Text.{numbered_by}
 use Rattle.ap_writer.specs.Line.{is_hidden, printed, printed_names, equation, answer_line}
 use Rattle.ap_writer.specs.SoFar.{rest_of_line, printed_from, all_found, IsSoFar}
@@ -15,29 +16,24 @@ use Rattle.ap_writer.proofs.Numbering.{add_all_vars-prefix}
 
 -- ---- a name that isn't printed
 
-behind : Trees → Trees
+abbrev pub behind : Trees → Trees
 behind none = none
 behind (more t ts) = ts
 
 behind-all : (ts : List Term) → behind (trees_of ts) ≡ trees_of (drop 1 ts)
-unfolding behind
 behind-all [] = refl
 behind-all (t ∷ ts) = refl
 
 behind-drop : (ts : List Term) (i : ℕ) → behind (trees_of (drop i ts)) ≡ trees_of (drop (i + 1) ts)
 behind-drop ts i = behind-all (drop i ts) ∙ ap trees_of (drop-drop 1 i ts)
 
-printed-none : (names : List (List ℕ)) → printed names none ≡ none
+pub printed-none : (names : List (List ℕ)) → printed names none ≡ none
 printed-none [] = refl
 printed-none (name ∷ names) = refl
 
-printed-hidden : (name : List ℕ) (names : List (List ℕ)) (ts : Trees) → is_hidden name ≡ true → printed (name ∷ names) ts ≡ printed names (behind ts)
-unfolding behind
+pub printed-hidden : (name : List ℕ) (names : List (List ℕ)) (ts : Trees) → is_hidden name ≡ true → printed (name ∷ names) ts ≡ printed names (behind ts)
 printed-hidden name names none h = sym (printed-none names)
 printed-hidden name names (more t ts) h = ap (λ b. if b then printed names ts else more t (printed names ts)) h
-
-at_place : (names : List (List ℕ)) (i : ℕ) (name : List ℕ) → i < length names → name ≡ get_or names i name → drop i names ≡ name ∷ drop (i + 1) names
-at_place names i name lt e = drop_more names i name lt ∙ ap (λ n. n ∷ drop (i + 1) names) (sym e)
 
 printed_from-hidden : (names : List (List ℕ)) (tuple : List Term) (i : ℕ) (name : List ℕ) → drop i names ≡ name ∷ drop (i + 1) names → is_hidden name ≡ true
     → printed_from names tuple i ≡ printed_from names tuple (i + 1)
@@ -70,7 +66,7 @@ abbrev pub lead : Bool → List ℕ
 lead true = []
 lead false = codes ", "
 
-rest_of_line-shown : (atoms : List (List ℕ)) (is_first : Bool) (name : List ℕ) (names : List (List ℕ)) (t : Tree) (ts : Trees)
+pub rest_of_line-shown : (atoms : List (List ℕ)) (is_first : Bool) (name : List ℕ) (names : List (List ℕ)) (t : Tree) (ts : Trees)
     → rest_of_line atoms is_first (name ∷ names) (more t ts) ≡ lead is_first ++ (equation atoms name t ++ rest_of_line atoms false names ts)
 rest_of_line-shown atoms true name names t ts = refl
 rest_of_line-shown atoms false name names t ts = refl
@@ -82,7 +78,7 @@ module _ (atoms names : List (List ℕ)) (tuple : List Term) where
   pub turn-hidden : (i : ℕ) (is_first : Bool) (found out name : List ℕ) → IsSoFar atoms names tuple i is_first found out → i < length names → name ≡ get_or names i name → is_hidden name ≡ true
       → IsSoFar atoms names tuple (i + 1) is_first found out
   turn-hidden i is_first found out name so lt is h =
-      let e = at_place names i name lt is in
+      let e = drop-read names i name lt is in
       let terms = printed_from-hidden names tuple i name e h in
       let found_names = printed_names-hidden names i name e h in
       let all = all_found names tuple in
@@ -100,7 +96,7 @@ module _ (atoms names : List (List ℕ)) (tuple : List Term) where
       → ((later : List ℕ) → IsPrefix new later → written ≡ parted ++ equation atoms name (instance (numbered_by later) (tree_of t)))
       → IsSoFar atoms names tuple (i + 1) false new written
   turn-shown i is_first found new out parted written name t so lt is h within is_t p n w =
-      let e = at_place names i name lt is in
+      let e = drop-read names i name lt is in
       let terms = printed_from-shown names tuple i name t e h within is_t in
       let found_names = printed_names-shown names i name e h in
       let all = all_found names tuple in

@@ -2,7 +2,7 @@ use Rattle.std.proofs.Common.{◌≡◌, ◌+◌, Some, drop, slice_get, ap, sym
 use Rattle.ap_instr.specs.declared.instruction.Instr.{Instr}
 use Rattle.ap_instr.specs.declared.instruction.Instr.TheVariants.{Try, Fail}
 use Rattle.ap_instr.specs.StandsFor.{alternatives}
-use Rattle.ap_needs.proofs.Places.{drop-here}
+use Rattle.ap_term.proofs.Lists.{drop-here}
 use Rattle.ap_control.proofs.Choices.{drop-past, alternatives-other}
 use Rattle.ap_control.proofs.alternatives.first.Goals as goal
 

@@ -2,7 +2,7 @@ use Rattle.std.proofs.Common.{◌≡◌, ◌+◌, Some, length, drop, slice_get,
 use Rattle.ap_instr.specs.declared.instruction.Instr.{Instr}
 use Rattle.ap_instr.specs.declared.instruction.Instr.TheVariants.{Retry, Trust}
 use Rattle.ap_instr.specs.StandsFor.{tried}
-use Rattle.ap_needs.proofs.Places.{drop-here}
+use Rattle.ap_term.proofs.Lists.{drop-here}
 use Rattle.ap_control.proofs.Choices.{drop-past, drop-beyond, tried-other}
 use Rattle.ap_control.proofs.alternatives.named_at.Goals as goal
 

@@ -2,8 +2,8 @@ use Rattle.std.proofs.Common.{◌≡◌, ◌-◌, length, sym, subst, arith}
 use Rattle.ap_term.specs.Search.{variables}
 use Rattle.ap_term.specs.UpToNames.{SameUpToNames}
 use Rattle.ap_cells.specs.Trees.{trees, span}
+use Rattle.ap_cells.proofs.Walks.{count-span}
 use Rattle.ap_copy.proofs.Fresh.{names-variables}
-use Rattle.ap_copy.proofs.Tuples.{count-span}
 use Rattle.ap_copy.proofs.parcels.new_variables.Goals as goal
 
 pub returns-clause-names : goal.returns-clause-names

@@ -2,9 +2,10 @@ use Rattle.std.proofs.Common.{◌≡◌, ◌<◌, ◌+◌, ◌++◌, ◌∷◌, 
 use Rattle.std.proofs.lemmas.List.{append-nil}
 use Rattle.ap_cells.specs.Trees.{tree_at, trees}
 use Rattle.ap_term.specs.Tuples.{tuple_under}
+use Rattle.ap_term.proofs.Lists.{drop-read}
 use Rattle.ap_lines.specs.SoFar.{IsSoFar}
-use Rattle.ap_writer.proofs.Turns.{lead}
-use Rattle.ap_lines.proofs.Turns.{at_place, behind, turn-hidden, turn-shown}
+use Rattle.ap_writer.proofs.Turns.{lead, behind}
+use Rattle.ap_lines.proofs.Turns.{turn-hidden, turn-shown}
 use Rattle.ap_lines.proofs.Spans.{tuple_under-drop_more}
 use Rattle.ap_lines.proofs.line.answer_line.Goals as goal
 use Rattle.ap_lines.proofs.line.answer_line.Goals.{then-not-is_first+in_ok-extend_from_slice, else-not-is_first}
@@ -20,7 +21,7 @@ loop-i-preserved-then-is_hidden c =
     let left = drop (i + 1) names in
     let within : i < length roots = omega (arith, ap length c.names-name-items.ensures.names) in
     let so = subst (λ l. IsSoFar atoms names tuple l (tuple_under (tree_at ts) (drop i roots)) c.loop-i.is_first c.loop-i.numbers c.loop-i.out.items)
-    (at_place names i c.name-item.result c.loop-i-test.true c.name-item.is) c.loop-i.invariant in
+    (drop-read names i c.name-item.result c.loop-i-test.true c.name-item.is) c.loop-i.invariant in
     subst (λ us. IsSoFar atoms names tuple left us c.loop-i.is_first c.loop-i.numbers c.loop-i.out.items) (ap behind (tuple_under-drop_more (tree_at ts) roots i within))
     (turn-hidden atoms names tuple left (tuple_under (tree_at ts) (drop i roots)) c.loop-i.is_first c.loop-i.numbers c.loop-i.out.items c.name-item.result so (sym c.if-is_hidden.ensures))
 
@@ -43,7 +44,7 @@ loop-i-preserved c =
       | else-not-is_first w ↦ ap (λ o. o.items) w.out-is ∙ sym (append-nil out) ∙ ap (λ b. out ++ lead b) (sym w.if-not-is_first.false)
     ] in
     let so = subst (λ l. IsSoFar atoms names tuple l (tuple_under (tree_at ts) (drop i roots)) c.loop-i.is_first c.loop-i.numbers out)
-    (at_place names i c.name-item.result c.loop-i-test.true c.name-item.is) c.loop-i.invariant in
+    (drop-read names i c.name-item.result c.loop-i-test.true c.name-item.is) c.loop-i.invariant in
     let so_first = subst (λ vs. IsSoFar atoms names tuple (c.name-item.result ∷ left) vs c.loop-i.is_first c.loop-i.numbers out) (tuple_under-drop_more (tree_at ts) roots i within) so in
     turn-shown atoms names tuple left us c.loop-i.is_first c.loop-i.numbers _ out _ _ c.name-item.result term so_first
     (sym c.if-is_hidden.ensures) parted c.in_ok-write_equation.ensures.variables c.in_ok-write_equation.ensures.text

@@ -2,8 +2,8 @@ use Rattle.std.proofs.Common.{◌++◌, ap, ◌∙◌}
 use Rattle.std.specs.Fmt.{signed_decimal}
 use Rattle.std.proofs.lemmas.Int.{to_z-of_z}
 use mir.Syntax.{w64}
-use Rattle.ap_writer.proofs.Numbering.{prefix-refl}
 use Rattle.ap_lines.proofs.text.write_integer.Goals as goal
+use Rattle.ap_term.proofs.Lists.{prefix-refl}
 
 pub returns-clause-text : goal.returns-clause-text
 returns-clause-text c =

@@ -1,8 +1,8 @@
 use Rattle.std.proofs.Common.{◌++◌, ap, ◌∙◌}
 use Rattle.ap_writer.specs.Text.{name_at}
-use Rattle.ap_writer.proofs.Numbering.{prefix-refl}
 use Rattle.ap_lines.proofs.Spans.{atom-own}
 use Rattle.ap_lines.proofs.text.write_name.Goals as goal
+use Rattle.ap_term.proofs.Lists.{prefix-refl}
 
 pub returns-clause-text : goal.returns-clause-text
 returns-clause-text c =

@@ -1,6 +1,7 @@
 use Rattle.std.proofs.Common.{sym}
-use Rattle.ap_spec.proofs.Apart.{apart-last, last-smaller}
+use Rattle.ap_spec.proofs.Apart.{apart-last}
 use Rattle.ap_spec.proofs.unification.+apart.Goals as goal
+use Rattle.ap_term.proofs.TermLists.{last_smaller}
 
 pub apart-loop-left-preserved : goal.apart-loop-left-preserved
 apart-loop-left-preserved t c =
@@ -10,5 +11,5 @@ apart-loop-left-preserved t c =
       whole =
           apart-last _ _ _ c.in-Node-Node.a c.in-Node-Node.b _ _ _ _ _ _ (sym c.if-eq.ensures) c.in-Some-Some.ensures c.in-Some-Some.ensures'
           (rw c.if-not-branch.false at c.in_ok-apart_all-in-Some-Some.ensures) whole;
-      smaller = last-smaller c.in-Node-Node.a _ _ _ _ c.in-Some-Some.ensures smaller;
+      smaller = last_smaller c.in-Node-Node.a _ _ _ _ c.in-Some-Some.ensures smaller;
     }

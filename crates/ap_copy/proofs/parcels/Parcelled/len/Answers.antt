@@ -1,7 +1,7 @@
 use Rattle.std.proofs.Common.{◌-◌, length, ap, sym, ◌∙◌}
 use Rattle.ap_term.specs.Tree.{count_trees}
 use Rattle.ap_cells.specs.Trees.{trees}
-use Rattle.ap_copy.proofs.Tuples.{count-span}
+use Rattle.ap_cells.proofs.Walks.{count-span}
 use Rattle.ap_copy.proofs.parcels.Parcelled.len.Goals as goal
 
 pub returns : goal.returns
