@@ -11,6 +11,10 @@ pub struct Common {
     /// Workers for which nothing was offered yet.
     fresh: AtomicCell<i64>,
     done: AtomicCell<bool>,
+    /// Tickets that were stolen from another worker's stack.
+    stolen: AtomicCell<u64>,
+    /// Goals that were taken by them.
+    taken: AtomicCell<u64>,
     /// Wakes those that sleep: what they look for changes first, and then they are told.
     news: EventCount,
 }
@@ -22,6 +26,8 @@ impl Common {
             demand: AtomicCell::new(0),
             fresh: AtomicCell::new(i64::from(workers.saturating_sub(1))),
             done: AtomicCell::new(false),
+            stolen: AtomicCell::new(0),
+            taken: AtomicCell::new(0),
             news: EventCount::new(),
         }
     }
@@ -60,6 +66,26 @@ impl Common {
     /// Tells whether nothing was offered yet for one of the others, which is then answered for.
     pub fn serves_fresh(&self) -> bool {
         self.fresh.load() > 0 && self.fresh.fetch_sub(1) > 0
+    }
+
+    /// Notes that a ticket was stolen.
+    pub(crate) fn stole(&self) {
+        self.stolen.fetch_add(1);
+    }
+
+    /// Notes that a goal was taken by a ticket that was stolen.
+    pub(crate) fn took(&self) {
+        self.taken.fetch_add(1);
+    }
+
+    /// Counts the tickets that were stolen: with those of goals that were offered no longer.
+    pub fn stolen(&self) -> u64 {
+        self.stolen.load()
+    }
+
+    /// Counts the goals that were taken from another worker.
+    pub fn taken(&self) -> u64 {
+        self.taken.load()
     }
 
     /// Notes that a worker begins to look for a goal, or that an offer was taken back.

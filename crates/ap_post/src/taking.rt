@@ -24,6 +24,7 @@ impl<'a, 'b> Post<'a, 'b> {
             if let Some(job) = self.take_from(k)? {
                 // The goal that it looked for was counted off as it was offered.
                 self.looks.store(false);
+                self.common.took();
                 return Ok(Some(job));
             }
         }
@@ -43,6 +44,7 @@ impl<'a, 'b> Post<'a, 'b> {
         let Some(ticket) = self.thieves[k].steal() else {
             return Ok(None);
         };
+        self.common.stole();
         Ok(self.desk.take(self.board, ticket)?)
     }
 

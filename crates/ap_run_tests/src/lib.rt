@@ -31,4 +31,6 @@ mod parts;
 #[cfg(test)]
 mod shown;
 #[cfg(test)]
+mod steals;
+#[cfg(test)]
 mod workers;

@@ -6,6 +6,7 @@ ghost use Rattle.ap_term.specs.Tree.{Trees};
 ghost use Rattle.ap_machine.specs.Lent.{terms_of};
 ghost use Rattle.ap_worker.specs.Ends.{end_of};
 ghost use Rattle.ap_worker.specs.Sought.{MayBeAsked};
+ghost use Rattle.ap_worker.specs.Totals.{NoneTaken};
 ghost use Rattle.ap_top.specs.Output.{line_of, fault_line, end_line, is_spent, AreAnswers, IsQueryBlock};
 ghost use Rattle.ap_top.specs.Lines.{line_same};
 
@@ -101,7 +102,7 @@ impl Answers for Lines<'_> {
     ghost names = { λ a t u h. line_same a.atoms.now a.query.now t u h };
 }
 
-/// Puts the lines of a query's answers as they are found, and gives how they end, what was charged for them and which calls were made. What is annotated, compiled and searched is the part of the program that the query can
+/// Puts the lines of a query's answers as they are found, and gives how they end, what was charged for them, which calls were made and how many goals workers took from one another. What is annotated, compiled and searched is the part of the program that the query can
 /// call.
 pub fn put_answers<R: Threads + Wait + Sync, G: Gate, K: Sink>(
     alloc: Global,
@@ -117,6 +118,7 @@ pub fn put_answers<R: Threads + Wait + Sync, G: Gate, K: Sink>(
     requires pads { (0 < pads) × (pads ≤ 1024) }
     ensures lines { Finishes (K.pieces out.old) (K.pieces out.new) (AreAnswers bounds.budget bounds.answers program.now atoms.now query.now) result }
     ensures total { IfOk result (λ e. e.charged ≤ e.total.sum) }
+    ensures one { crew.now.workers ≡ 1 → IfOk result NoneTaken }
     ensures count { SinkCount (K.faults out.old) (K.faults out.new) result }
 {
     let lines = Lines { query, atoms };

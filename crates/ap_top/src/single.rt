@@ -1,7 +1,8 @@
 //! One query of a text, with what its search was charged and which calls were made for it.
 
-ghost use Rattle.std.specs.Prelude.{◌<◌, ◌≤◌, IfOk, IfSome};
+ghost use Rattle.std.specs.Prelude.{◌≡◌, ◌<◌, ◌≤◌, IfOk, IfSome};
 ghost use Rattle.ap_outside.specs.Halting.{Finishes, SinkCount};
+ghost use Rattle.ap_worker.specs.Totals.{NoneTaken};
 ghost use Rattle.ap_top.specs.Single.{FirstEnds, SingleEnds};
 ghost use Rattle.ap_top.specs.Unasked.{LeavesQuery};
 
@@ -31,6 +32,7 @@ fn answer_first<R: Threads + Wait + Sync, G: Gate, K: Sink>(
     requires query { LeavesQuery program.now atoms.old }
     ensures lines { Finishes (K.pieces out.old) (K.pieces out.new) (FirstEnds bounds.budget bounds.answers program.now atoms.old text.now) result }
     ensures total { IfOk result (λ r. IfSome r (λ e. e.charged ≤ e.total.sum)) }
+    ensures one { crew.now.workers ≡ 1 → IfOk result (λ r. IfSome r NoneTaken) }
     ensures count { SinkCount (K.faults out.old) (K.faults out.new) result }
 {
     let Ok(pieces) = pieces(alloc, text) else {
@@ -68,6 +70,7 @@ pub fn answer<R: Threads + Wait + Sync, G: Gate, K: Sink>(
     requires pads { (0 < pads) × (pads ≤ 1024) }
     ensures lines { Finishes (K.pieces out.old) (K.pieces out.new) (SingleEnds bounds.budget bounds.answers text.now queries.now) result }
     ensures total { IfOk result (λ r. IfSome r (λ e. e.charged ≤ e.total.sum)) }
+    ensures one { crew.now.workers ≡ 1 → IfOk result (λ r. IfSome r NoneTaken) }
     ensures count { SinkCount (K.faults out.old) (K.faults out.new) result }
 {
     let Ok(mut atoms) = Atoms::new(alloc) else {

@@ -72,44 +72,44 @@ turned : (p a : Program) (q b : Query) → AreRead p q a b → AreRead a b p q
 turned p a q b h = record { same_program = sym h.same_program; same_question = sym h.same_question; same_lifted = sym h.same_lifted }
 
 -- with the total of all calls
-with-total : (t : Total) (o o' : Option (List (List ℕ))) (E F : End → List (List ℕ) → Type 0) (r : Result Answered Halt) → ((e : End) (put : List (List ℕ)) → E e put → F e put) → Finishes o o' (λ (a : Answered) put. E a.end put) r
-    → Finishes o o' (λ (a : Ended) put. F a.end put) (ended_with t r)
-with-total t o o' E F (Ok a) f h = puts_map o o' (E a.end) (F a.end) (f a.end) h
-with-total t o o' E F (Err e) f h =
-    halts_map o o' (λ (a : Answered) put. E a.end put) (λ (a : Ended) put. F a.end put) (λ ls any. (record { end = any.0.end; charged = any.0.charged; total = t }, f any.0.end ls any.1)) e h
+with-total : (t : Total) (n m : ℕ) (o o' : Option (List (List ℕ))) (E F : End → List (List ℕ) → Type 0) (r : Result Answered Halt) → ((e : End) (put : List (List ℕ)) → E e put → F e put) → Finishes o o' (λ (a : Answered) put. E a.end put) r
+    → Finishes o o' (λ (a : Ended) put. F a.end put) (ended_with t n m r)
+with-total t n m o o' E F (Ok a) f h = puts_map o o' (E a.end) (F a.end) (f a.end) h
+with-total t n m o o' E F (Err e) f h =
+    halts_map o o' (λ (a : Answered) put. E a.end put) (λ (a : Ended) put. F a.end put) (λ ls any. (record { end = any.0.end; charged = any.0.charged; total = t; taken = n; stolen = m }, f any.0.end ls any.1)) e h
 
-pub total-counts : (t : Total) (before now : ℕ) (r : Result Answered Halt) → SinkCount before now r → SinkCount before now (ended_with t r)
-total-counts t before now (Ok a) h = h
-total-counts t before now (Err halt.Sink) h = h
-total-counts t before now (Err halt.NoMemory) h = h
+pub total-counts : (t : Total) (n m before now : ℕ) (r : Result Answered Halt) → SinkCount before now r → SinkCount before now (ended_with t n m r)
+total-counts t n m before now (Ok a) h = h
+total-counts t n m before now (Err halt.Sink) h = h
+total-counts t n m before now (Err halt.NoMemory) h = h
 
 -- what was charged is a part of it
-pub total-paid : (t : Total) (r : Result Answered Halt) (share : ℕ) → min share (2 ^ 64 - 1) ≤ t.sum → IfOk r (λ e. e.charged < 2 ^ 64) → IfOk r (λ e. e.charged ≤ share) → IfOk (ended_with t r) (λ e. e.charged ≤ e.total.sum)
-total-paid t (Ok a) share least few most = most-of a.charged share t.sum few most least
+pub total-paid : (t : Total) (n m : ℕ) (r : Result Answered Halt) (share : ℕ) → min share (2 ^ 64 - 1) ≤ t.sum → IfOk r (λ e. e.charged < 2 ^ 64) → IfOk r (λ e. e.charged ≤ share) → IfOk (ended_with t n m r) (λ e. e.charged ≤ e.total.sum)
+total-paid t n m (Ok a) share least few most = most-of a.charged share t.sum few most least
   where
     most-of : (c share sum : ℕ) → c < 2 ^ 64 → c ≤ share → min share (2 ^ 64 - 1) ≤ sum → c ≤ sum
     most-of c share sum few most least = search rules
-total-paid t (Err e) share least few most = tt
+total-paid t n m (Err e) share least few most = tt
 
 -- the query's search by its code, and the lines that it puts
 module _ (law : ReadingLaw) (code : Compiled) (a : Program) (b : Query) (good : IsProgram a) (is : IsQuery b) (may : MayBeAsked a b) (stands : StandsForQuery code a b) where
   pub is-searched : IsSafeQuery a b → IsSearched code (rules_beside a b) (tracked_start b)
   is-searched safe = law.searched code a b good is may.calls safe stands.stands
 
-  pub read-finishes : (line : Trees → List ℕ) (budget limit : ℕ) (o o' : Option (List (List ℕ))) (t : Total) (r : Result Answered Halt) (p : Program) (q : Query) → IsProgram p → IsQuery q → AreRead p q a b
-      → Finishes o o' (λ e put. IsBlock line (joined a (asked_query b)) (start b) budget limit put (end_of e.end)) r → Finishes o o' (λ e put. IsBlock line (joined p q) (start q) budget limit put (end_of e.end)) (ended_with t r)
-  read-finishes line budget limit o o' t r p q fine asks read h =
+  pub read-finishes : (line : Trees → List ℕ) (budget limit : ℕ) (o o' : Option (List (List ℕ))) (t : Total) (n m : ℕ) (r : Result Answered Halt) (p : Program) (q : Query) → IsProgram p → IsQuery q → AreRead p q a b
+      → Finishes o o' (λ e put. IsBlock line (joined a (asked_query b)) (start b) budget limit put (end_of e.end)) r → Finishes o o' (λ e put. IsBlock line (joined p q) (start q) budget limit put (end_of e.end)) (ended_with t n m r)
+  read-finishes line budget limit o o' t n m r p q fine asks read h =
       let never = law.never_calls a p b q QUERY (turned p a q b read) may.calls in
-      with-total t o o' (λ e put. IsBlock line (joined a (asked_query b)) (start b) budget limit put (end_of e)) (λ e put. IsBlock line (joined p q) (start q) budget limit put (end_of e)) r
+      with-total t n m o o' (λ e put. IsBlock line (joined a (asked_query b)) (start b) budget limit put (end_of e)) (λ e put. IsBlock line (joined p q) (start q) budget limit put (end_of e)) r
       (λ e put block. law.blocks line p a q b budget limit put (end_of e) fine asks good is read never block) h
 
   abbrev Searched : (Trees → List ℕ) → ℕ → ℕ → Answered → List (List ℕ) → Type 0
   Searched line budget limit e put = IsChargedEnd line (joined a (asked_query b)) (start b) budget limit (IsUngrouped (joined a (asked_query b)) × AreCalls b.question.body) e.end e.charged put
 
-  pub read-charged : (line : Trees → List ℕ) (budget limit : ℕ) (o o' : Option (List (List ℕ))) (t : Total) (r : Result Answered Halt) (p : Program) (q : Query) → IsProgram p → IsQuery q → AreRead p q a b
-      → IfOk r (λ e. Puts o o' (Searched line budget limit e)) → IfOk (ended_with t r) (λ e. Puts o o' (IsChargedBlock line (joined p q) (start q) budget limit (IsUngrouped (joined a b)) e))
-  read-charged line budget limit o o' t (Err h) p q fine asks read k = tt
-  read-charged line budget limit o o' t (Ok e) p q fine asks read (put, adds, k) =
+  pub read-charged : (line : Trees → List ℕ) (budget limit : ℕ) (o o' : Option (List (List ℕ))) (t : Total) (n m : ℕ) (r : Result Answered Halt) (p : Program) (q : Query) → IsProgram p → IsQuery q → AreRead p q a b
+      → IfOk r (λ e. Puts o o' (Searched line budget limit e)) → IfOk (ended_with t n m r) (λ e. Puts o o' (IsChargedBlock line (joined p q) (start q) budget limit (IsUngrouped (joined a b)) e))
+  read-charged line budget limit o o' t n m (Err h) p q fine asks read k = tt
+  read-charged line budget limit o o' t n m (Ok e) p q fine asks read (put, adds, k) =
       let never = law.never_calls a p b q QUERY (turned p a q b read) may.calls in (
         put,
         adds,

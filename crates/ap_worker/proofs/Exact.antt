@@ -32,7 +32,7 @@ use Rattle.ap_worker.specs.declared.emission.Ended.{Ended}
 use Rattle.ap_worker.specs.declared.lead.Lead.{Lead}
 use Rattle.ap_worker.specs.Charged.{charge_after}
 use Rattle.ap_worker.specs.Leads.{MadeNoMore}
-use Rattle.ap_worker.specs.Totals.{ended_with}
+use Rattle.ap_worker.specs.Totals.{NoneTaken, ended_with}
 use Rattle.ap_worker.proofs.Charging.{spent-alone}
 
 pub frameless : (code : Compiled) (p : Rules) (q : Query) (budget : ℕ) (w : Post) (s : Stack) (given : List Trees) → IsUngrouped p.program → AreCalls q.question.body
@@ -74,12 +74,20 @@ charge-least ending.Failed n budget = omega arith
 charge-least ending.Spent n budget = omega arith
 
 -- the total of a search that made no more
-pub total-exact : (t : Total) (r : Result Answered Halt) (l : Lead) → IfOk r (λ e. MadeNoMore l e.charged) → (l.worker.taken.items ≡ [] → t.sum ≤ l.query.share) → IfOk (ended_with t r) (λ e. e.charged ≤ e.total.sum) → IfOk (ended_with t r) (λ e. e.total.sum ≡ e.charged)
-total-exact t (Ok a) l made most least = same a.charged l.query.share t.sum made.0 (most made.1) least
+pub total-exact : (t : Total) (n m : ℕ) (r : Result Answered Halt) (l : Lead) → IfOk r (λ e. MadeNoMore l e.charged) → (l.worker.taken.items ≡ [] → t.sum ≤ l.query.share) → IfOk (ended_with t n m r) (λ e. e.charged ≤ e.total.sum) → IfOk (ended_with t n m r) (λ e. e.total.sum ≡ e.charged)
+total-exact t n m (Ok a) l made most least = same a.charged l.query.share t.sum made.0 (most made.1) least
   where
     same : (c share sum : ℕ) → share ≤ c → sum ≤ share → c ≤ sum → sum ≡ c
     same c share sum a b d = omega arith
-total-exact t (Err h) l made most least = tt
+total-exact t n m (Err h) l made most least = tt
+
+-- one worker, of which no other took anything
+pub one-of : (n k : ℕ) → 0 < n → n ≤ k → k ≡ 1 → n ≡ 1
+one-of n k some few one = omega (arith, some, few, one)
+
+pub none-taken : (t : Total) (n m : ℕ) (r : Result Answered Halt) → n ≡ 0 → m ≡ 0 → IfOk (ended_with t n m r) NoneTaken
+none-taken t n m (Ok a) e f = (e, f)
+none-taken t n m (Err h) e f = tt
 
 -- the only worker leads
 none-longer : {X : Type 0} (u w : X) (us : List X) → length (u ∷ (us ++ w ∷ [])) ≡ 1 → ⊥

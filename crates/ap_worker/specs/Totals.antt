@@ -13,7 +13,11 @@ pub record IsFresh (budget : ℕ) (s : Section) : Type 0 where
   pub given : budget_in s ≡ budget
   pub owes : owed s ≡ 0
 
--- the same with the total
-abbrev pub ended_with : Total → Result Answered Halt → Result Ended Halt
-ended_with t (Ok a) = Ok (record { end = a.end; charged = a.charged; total = t })
-ended_with t (Err h) = Err h
+-- the same with the total, the goals that were taken, and the tickets that were stolen
+abbrev pub ended_with : Total → ℕ → ℕ → Result Answered Halt → Result Ended Halt
+ended_with t n m (Ok a) = Ok (record { end = a.end; charged = a.charged; total = t; taken = n; stolen = m })
+ended_with t n m (Err h) = Err h
+
+-- no worker took a goal of another one, nor a ticket
+abbrev pub NoneTaken : Ended → Type 0
+NoneTaken e = (e.taken ≡ 0) × (e.stolen ≡ 0)

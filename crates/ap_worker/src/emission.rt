@@ -28,7 +28,7 @@ pub(crate) struct Answered {
     pub(crate) charged: u64,
 }
 
-/// How a query's answers end, what its search was charged, and the calls that all workers made for it.
+/// How a query's answers end, what its search was charged, the calls that all workers made for it, and what they took from one another.
 #[derive(Clone, Copy, Debug, PartialEq, Eq)]
 pub struct Ended {
     pub end: End,
@@ -36,11 +36,20 @@ pub struct Ended {
     pub charged: u64,
     /// What is charged is a part of them.
     pub total: Total,
+    /// How many goals workers took from one another.
+    pub taken: u64,
+    /// How many tickets they stole for it: also those of goals that were offered no longer.
+    pub stolen: u64,
 }
 
-/// The same with the total.
-pub(crate) fn with_total(found: Result<Answered, Halt>, total: Total) -> Result<Ended, Halt>
-    ensures with { result ≡ ended_with total found }
+/// The same with the total, the goals that were taken, and the tickets that were stolen.
+pub(crate) fn with_total(
+    found: Result<Answered, Halt>,
+    total: Total,
+    taken: u64,
+    stolen: u64,
+) -> Result<Ended, Halt>
+    ensures with { result ≡ ended_with total taken stolen found }
     ensures small { IfOk found (λ e. e.charged < 2 ^ 64) }
 {
     let found = found?;
@@ -48,5 +57,7 @@ pub(crate) fn with_total(found: Result<Answered, Halt>, total: Total) -> Result<
         end: found.end,
         charged: found.charged,
         total,
+        taken,
+        stolen,
     })
 }

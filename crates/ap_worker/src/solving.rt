@@ -28,7 +28,7 @@ ghost use Rattle.ap_worker.specs.Charged.{IsChargedBlock, IsChargedEnd};
 ghost use Rattle.ap_worker.specs.Ends.{end_of};
 ghost use Rattle.ap_worker.specs.Grouped.{is_grouped};
 ghost use Rattle.ap_worker.specs.Leads.{IsAlone, IsLeading, MadeNoMore};
-ghost use Rattle.ap_worker.specs.Totals.{IsFresh};
+ghost use Rattle.ap_worker.specs.Totals.{IsFresh, NoneTaken};
 ghost use Rattle.ap_worker.specs.Workers.{IsStaffed, IsIdle};
 ghost use Rattle.ap_worker.specs.Sought.{MayBeAsked};
 
@@ -249,10 +249,21 @@ fn gathered(alloc: Global, lead: Lead<'_, '_>, others: Vec<Worker<'_, '_>>) -> T
     gather(&[share])
 }
 
+/// So much of what workers do for one another; nothing where the one that leads has no others.
+fn among(others: &Vec<Worker<'_, '_>>, count: u64) -> u64
+    ensures { others.now.items ≡ [] → result ≡ 0 }
+{
+    if others.is_empty() {
+        return 0;
+    }
+    count
+}
+
 /// Searches a query beside a program by code, with its groups, and puts the lines of its answers as they are found, as many as
 /// the limit at most. They are a block of any query and program that these are without their groups, however many workers there are
 /// however many goals each may have out (1 to 1,024, its pads), and however they take turns. With fewer calls than were charged for them sequential search hasn't ended, and all calls that were
-/// charged were made, and no other ones where neither has a group.
+/// charged were made, and no other ones where neither has a group. One worker, and several where there is no group, take nothing
+/// from one another.
 pub fn solve_with_pads<R: Threads + Wait + Sync, G: Gate, A: Answers, K: Sink>(
     alloc: Global,
     crew: &Crew<R, G>,
@@ -272,6 +283,8 @@ pub fn solve_with_pads<R: Threads + Wait + Sync, G: Gate, A: Answers, K: Sink>(
     ensures charged { (p : goals.Program) (q : Asked) → IsProgram p → IsQuery q → AreRead p q program.now query.now → IfOk result (λ e. Puts (K.pieces out.old) (K.pieces out.new) (IsChargedBlock (A.line answers.now) (joined p q) (start q) budget limit (IsUngrouped (joined program.now query.now)) e)) }
     ensures total { IfOk result (λ e. e.charged ≤ e.total.sum) }
     ensures exact { IsUngrouped (joined program.now query.now) → IfOk result (λ e. e.total.sum ≡ e.charged) }
+    ensures one { crew.now.workers ≡ 1 → IfOk result NoneTaken }
+    ensures plain { IsUngrouped (joined program.now query.now) → IfOk result NoneTaken }
     ensures count { SinkCount (K.faults out.old) (K.faults out.new) result }
 {
     reading_law();
@@ -310,7 +323,9 @@ pub fn solve_with_pads<R: Threads + Wait + Sync, G: Gate, A: Answers, K: Sink>(
         answers,
         out,
     );
-    with_total(found, gathered(alloc, lead, workers))
+    let taken = among(&workers, common.taken());
+    let stolen = among(&workers, common.stolen());
+    with_total(found, gathered(alloc, lead, workers), taken, stolen)
 }
 
 /// The same, where each worker has 64 pads.
@@ -331,6 +346,8 @@ pub fn solve<R: Threads + Wait + Sync, G: Gate, A: Answers, K: Sink>(
     ensures charged { (p : goals.Program) (q : Asked) → IsProgram p → IsQuery q → AreRead p q program.now query.now → IfOk result (λ e. Puts (K.pieces out.old) (K.pieces out.new) (IsChargedBlock (A.line answers.now) (joined p q) (start q) budget limit (IsUngrouped (joined program.now query.now)) e)) }
     ensures total { IfOk result (λ e. e.charged ≤ e.total.sum) }
     ensures exact { IsUngrouped (joined program.now query.now) → IfOk result (λ e. e.total.sum ≡ e.charged) }
+    ensures one { crew.now.workers ≡ 1 → IfOk result NoneTaken }
+    ensures plain { IsUngrouped (joined program.now query.now) → IfOk result NoneTaken }
     ensures count { SinkCount (K.faults out.old) (K.faults out.new) result }
 {
     solve_with_pads(

@@ -33,5 +33,6 @@ returns g c =
     record {
       lines = program-refused c.args.bounds.budget c.args.bounds.answers c.args.text.now c.args.queries.now _ r refuses;
       total = search rules;
+      one = search rules;
       count = search rules;
     }

@@ -75,5 +75,6 @@ returns g c =
     record {
       lines = query-refused b n program c.args.atoms.now c.args.text.now _ piece first.0 r is refuses;
       total = search rules;
+      one = search rules;
       count = search rules;
     }
