@@ -1,20 +1,18 @@
 //! Goals of a worker's own that go out and come back.
 
-ghost use Rattle.std.specs.Prelude.{◌≡◌, ℕ, ◌-◌, ◌^◌, ◌<◌, ◌≤◌, true, [], length, slice_get, Some, IfSome, MatchBool, MatchOption};
+ghost use Rattle.std.specs.Prelude.{◌≡◌, ℕ, ◌<◌, ◌≤◌, true, [], length, slice_get, Some, IfSome, MatchBool, MatchOption};
 ghost use Rattle.ap_desk.specs.declared.note.Note.{Note};
 ghost use Rattle.ap_open.specs.Away.{IsOutcomeOf};
 ghost use Rattle.ap_post.specs.Jobs.{outcome_of, IsReadyEnding, IsPaid};
 ghost use Rattle.ap_post.specs.Posted.{Posted, posted_at};
-ghost use Rattle.ap_post.specs.Posts.{posted_in, SamePosted, SameBelow, SameJobs, IsLess, IsMore, OthersNoted, IsLeftAt};
+ghost use Rattle.ap_post.specs.Posts.{posted_in, SamePosted, SameBelow, SameJobs, IsLess, IsMore};
 
 use crate::job::Job;
 use crate::outcome::Outcome;
-use crate::post::{LEFT, Post};
+use crate::post::Post;
 use ap_board::Ticket;
 use ap_desk::Desk;
 use ap_goalstack::{GoalStack, Unruled};
-use ap_ledger::Share;
-use std::alloc::Global;
 
 // Whether a goal is offered under a ticket, as far as its owner knows.
 fn is_offered(desk: &Desk<Job<'_>, Outcome>, ticket: Ticket) -> bool {
@@ -106,17 +104,6 @@ impl<'a, 'b> Post<'a, 'b> {
         None
     }
 
-    // Tells, by one look, whether the outcome of a note's goal can be collected.
-    fn is_finished(&mut self, k: usize) -> bool
-        requires { k < length self.old.desk.4 }
-        ensures posted { SamePosted self.old self.new }
-        ensures jobs { SameJobs self.old self.new }
-        ensures next { self.new.next ≡ self.old.next }
-        ensures notes { self.new.desk.4 ≡ self.old.desk.4 }
-    {
-        self.desk.done(self.board, k)
-    }
-
     // Collects the outcome of a note's goal, with the goal's place. None where its taker hasn't finished it.
     fn collect_note(&mut self, k: usize) -> Option<(usize, Outcome)>
         requires { k < length self.old.desk.4 }
@@ -124,17 +111,9 @@ impl<'a, 'b> Post<'a, 'b> {
         ensures jobs { SameJobs self.old self.new }
         ensures next { self.new.next ≡ self.old.next }
     {
-        if !self.is_finished(k) {
-            return None;
-        }
         let place = self.desk.note(k).place;
         let outcome = self.desk.collect(self.board, k)?;
         Some((place, outcome))
-    }
-
-    /// Tells whether some goal of a frame of its own is out.
-    pub fn has_out(&self) -> bool {
-        self.desk.count_out() > 0
     }
 
     /// Collects the outcome of a goal of a frame whose taker has finished it, with the goal's place. None where there is none.
@@ -144,7 +123,8 @@ impl<'a, 'b> Post<'a, 'b> {
         ensures next { self.new.next ≡ self.old.next }
     {
         for k in 0..self.desk.count_out() {
-            if self.desk.note(k).frame == frame {
+            let note = self.desk.note(k);
+            if note.frame == frame && note.gone {
                 if let Some(collected) = self.collect_note(k) {
                     return Some(collected);
                 }
@@ -187,7 +167,6 @@ impl<'a, 'b> Post<'a, 'b> {
         ensures jobs { SameJobs self.old self.new }
         ensures next { self.new.next ≡ self.old.next }
         ensures count { length self.new.desk.4 ≡ length self.old.desk.4 }
-        ensures others { OthersNoted k self.old.desk.4 self.new.desk.4 }
     {
         if self.desk.note(k).asked {
             return;
@@ -196,64 +175,35 @@ impl<'a, 'b> Post<'a, 'b> {
         self.common.tell_all();
     }
 
-    // Notes that a note's frame was left, once its taker was asked to stop.
-    fn leave_note(&mut self, k: usize)
-        requires place { k < length self.old.desk.4 }
-        requires gone { (n : Note) → slice_get self.old.desk.4 k ≡ Some n → n.gone ≡ true }
-        ensures posted { (f : ℕ) (n : Note) → slice_get self.old.desk.4 k ≡ Some n → (n.frame ≡ f → ⊥) → f < 2 ^ 64 - 1 → posted_in self.new f ≡ posted_in self.old f }
-        ensures jobs { SameJobs self.old self.new }
-        ensures next { self.new.next ≡ self.old.next }
-        ensures count { length self.new.desk.4 ≡ length self.old.desk.4 }
-        ensures left { IsLeftAt k self.old.desk.4 self.new.desk.4 }
-    {
-        self.ask(k);
-        self.desk.assign(k, LEFT);
-    }
-
     // Takes a note's goal back and drops it, or asks its taker to stop.
     fn drop_note(&mut self, k: usize)
         requires { k < length self.old.desk.4 }
-        ensures posted { (f : ℕ) (n : Note) → slice_get self.old.desk.4 k ≡ Some n → (n.frame ≡ f → ⊥) → f < 2 ^ 64 - 1 → posted_in self.new f ≡ posted_in self.old f }
+        ensures posted { (f : ℕ) (n : Note) → slice_get self.old.desk.4 k ≡ Some n → (n.frame ≡ f → ⊥) → posted_in self.new f ≡ posted_in self.old f }
         ensures jobs { SameJobs self.old self.new }
         ensures next { self.new.next ≡ self.old.next }
         ensures count { k ≤ length self.new.desk.4 }
-        ensures left { IsLeftAt k self.old.desk.4 self.new.desk.4 }
     {
         if self.desk.note(k).gone {
-            return self.leave_note(k);
+            return self.ask(k);
         }
         match self.desk.reclaim(self.board, k) {
             Some(_goal) => self.common.rise(),
-            None => self.leave_note(k),
+            None => self.ask(k),
         }
     }
 
-    /// Leaves the goals of all frames from a number on: each is taken back and dropped, or its taker is asked to stop. So none of these
-    /// frames has a goal out.
+    /// Leaves the goals of all frames from a number on: each is taken back and dropped, or its taker is asked to stop.
     pub fn leave(&mut self, from: u64)
         ensures posted { SameBelow from self.old self.new }
-        ensures none { (f : ℕ) → from ≤ f → f < self.new.next → posted_in self.new f ≡ [] }
         ensures jobs { SameJobs self.old self.new }
         ensures next { self.new.next ≡ self.old.next }
     {
         let count = self.desk.count_out();
         for back in 0..count {
             let k = count - 1 - back;
-            let frame = self.desk.note(k).frame;
-            if frame >= from && frame != LEFT {
+            if self.desk.note(k).frame >= from {
                 self.drop_note(k);
             }
         }
-    }
-
-    /// Collects what has come of a goal of a frame that was left, which frees its pad, and gives the calls that were made for it. None
-    /// where there is none.
-    pub fn sweep(&mut self, alloc: Global) -> Option<Share>
-        ensures posted { SameBelow self.old.next self.old self.new }
-        ensures jobs { SameJobs self.old self.new }
-        ensures next { self.new.next ≡ self.old.next }
-    {
-        let (_place, outcome) = self.collect(LEFT)?;
-        Some(outcome.release(alloc))
     }
 }
