@@ -5,11 +5,12 @@ use Rattle.std.proofs.lemmas.Bool.Decides.{Decides-eqb, Decides-int_eq}
 use Rattle.std.specs.Ordering.{int_eq}
 use Rattle.ap_term.specs.Tree.{Tree, Trees, var, int, atom, node, none, more}
 use Rattle.ap_term.specs.Substitution.{instance, instance_all}
+use Rattle.ap_term.specs.Unification.{both, Equations}
 use Rattle.ap_absunify.specs.MostGeneral.{MostGeneral, Unify_all, MostGeneral_all}
 use Rattle.ap_absunify.specs.declared.states.State.{State}
 use Rattle.ap_absunify.specs.State.{Covers}
 use Rattle.ap_absunify.specs.AfterUnify.{after_unify}
-use Rattle.ap_absunify.specs.AfterEqual.{after_all, Equations, join_parts, parts, parts_all, after_parts, after_equal}
+use Rattle.ap_absunify.specs.AfterEqual.{after_all, parts, parts_all, after_parts, after_equal}
 use Rattle.ap_absunify.proofs.AfterUnify.{after_unify-covers}
 use Rattle.ap_absunify.proofs.Renamed.{Covers-same, Covers-renamed}
 use Rattle.ap_absunify.proofs.Unifier.{complete}
@@ -78,12 +79,12 @@ append_parts : (f k : ℕ → Tree) (es ds : Equations) → Unify_all f k (es ++
 append_parts f k [] ds h = (tt, h)
 append_parts f k (e ∷ es) ds h = let r = append_parts f k es ds h.1 in ((h.0, r.0), r.1)
 
-join_made : (f k : ℕ → Tree) (a b : Option Equations) → Unify_some f k a → Unify_some f k b → Unify_some f k (join_parts a b)
+join_made : (f k : ℕ → Tree) (a b : Option Equations) → Unify_some f k a → Unify_some f k b → Unify_some f k (both a b)
 join_made f k None b h i = absurd h
 join_made f k (Some es) None h i = absurd i
 join_made f k (Some es) (Some ds) h i = append_made f k es ds h i
 
-join_split : (f k : ℕ → Tree) (a b : Option Equations) → Unify_some f k (join_parts a b) → Unify_some f k a × Unify_some f k b
+join_split : (f k : ℕ → Tree) (a b : Option Equations) → Unify_some f k (both a b) → Unify_some f k a × Unify_some f k b
 join_split f k None b h = absurd h
 join_split f k (Some es) None h = absurd h
 join_split f k (Some es) (Some ds) h = append_parts f k es ds h

@@ -1,17 +1,18 @@
 -- Equations are told one after another, as the terms come apart.
-use Rattle.std.proofs.Common.{◌≡◌, ◌≢◌, ◌≤◌, ◌<◌, ◌+◌, ◌==◌, ℕ, suc, true, IsTrue, drop, get_or, List, [], ◌∷◌, ◌++◌, length, append_assoc, append-nil, if◌then◌else◌, Option, Some, None, refl, ap, ap₂, sym, ◌∙◌, arith}
+use Rattle.std.proofs.Common.{◌≡◌, ◌≢◌, ◌<◌, ◌+◌, ◌==◌, ℕ, suc, true, IsTrue, drop, get_or, List, [], ◌∷◌, ◌++◌, length, append_assoc, append-nil, if◌then◌else◌, Option, Some, None, refl, ap, ap₂, sym, ◌∙◌}
 use Rattle.std.proofs.lemmas.Bool.{and_parts}
 use Rattle.ap_term.specs.declared.terms.Term.{Term}
 use Rattle.ap_term.specs.declared.terms.Term.TheVariants.{Node}
-use Rattle.ap_term.specs.Tree.{Tree, Trees, node, none, more, push_tree, size, size_all}
+use Rattle.ap_term.specs.Tree.{Tree, Trees, node, none, more, push_tree}
 use Rattle.ap_term.specs.TermView.{tree_of, trees_of}
 use Rattle.ap_term.proofs.TermLists.{size_all-push, item_smaller, trees_of-drop_more}
 use Rattle.ap_term.specs.WellFormed.{numbered, numbered_all}
+use Rattle.ap_term.specs.Unification.{both, Equations}
 use Rattle.ap_term.proofs.Walks.{numbered_all-push}
 use Rattle.ap_absunify.specs.declared.states.State.{State}
 use Rattle.ap_absunify.specs.declared.states.State.TheVariants.{Unreachable}
 use Rattle.ap_absunify.specs.AfterUnify.{after_unify}
-use Rattle.ap_absunify.specs.AfterEqual.{Equations, after_all, join_parts, parts, parts_all, after_parts}
+use Rattle.ap_absunify.specs.AfterEqual.{after_all, parts, parts_all, after_parts}
 
 after_all-unreachable : (es : Equations) → after_all Unreachable es ≡ Unreachable
 after_all-unreachable [] = refl
@@ -25,24 +26,24 @@ after_all-append : (es : Equations) (s : State) (ds : Equations) → after_all s
 after_all-append [] s ds = refl
 after_all-append (e ∷ es) s ds = after_all-append es (after_unify s e.0 e.1) ds
 
-pub after_join : (s : State) (a b : Option Equations) → after_parts s (join_parts a b) ≡ after_parts (after_parts s a) b
+pub after_join : (s : State) (a b : Option Equations) → after_parts s (both a b) ≡ after_parts (after_parts s a) b
 after_join s None b = sym (after_parts-unreachable b)
 after_join s (Some es) None = refl
 after_join s (Some es) (Some ds) = after_all-append es s ds
 
-join_none : (a : Option Equations) → join_parts a None ≡ None
+join_none : (a : Option Equations) → both a None ≡ None
 join_none None = refl
 join_none (Some es) = refl
 
-join_nothing : (a : Option Equations) → join_parts a (Some []) ≡ a
+join_nothing : (a : Option Equations) → both a (Some []) ≡ a
 join_nothing None = refl
 join_nothing (Some es) = ap Some (append-nil es)
 
-nothing_join : (a : Option Equations) → join_parts (Some []) a ≡ a
+nothing_join : (a : Option Equations) → both (Some []) a ≡ a
 nothing_join None = refl
 nothing_join (Some es) = refl
 
-join_assoc : (a b c : Option Equations) → join_parts (join_parts a b) c ≡ join_parts a (join_parts b c)
+join_assoc : (a b c : Option Equations) → both (both a b) c ≡ both a (both b c)
 join_assoc None b c = refl
 join_assoc (Some x) None c = refl
 join_assoc (Some x) (Some y) None = refl
@@ -53,7 +54,7 @@ parts_all-lengths [] [] h = absurd (h refl)
 parts_all-lengths [] (u ∷ us) h = refl
 parts_all-lengths (t ∷ ts) [] h = refl
 parts_all-lengths (t ∷ ts) (u ∷ us) h =
-    ap (join_parts (parts (tree_of t) (tree_of u))) (parts_all-lengths ts us (λ e. h (ap suc e))) ∙ join_none (parts (tree_of t) (tree_of u))
+    ap (both (parts (tree_of t) (tree_of u))) (parts_all-lengths ts us (λ e. h (ap suc e))) ∙ join_none (parts (tree_of t) (tree_of u))
 
 pub push_none : (ts : Trees) (t : Tree) → parts_all (push_tree ts t) none ≡ None
 push_none none t = refl
@@ -64,12 +65,12 @@ none_push none t = refl
 none_push (more u ts) t = refl
 
 -- the last arguments come last
-pub parts_all-push : (ts us : Trees) (t u : Tree) → parts_all (push_tree ts t) (push_tree us u) ≡ join_parts (parts_all ts us) (parts t u)
+pub parts_all-push : (ts us : Trees) (t u : Tree) → parts_all (push_tree ts t) (push_tree us u) ≡ both (parts_all ts us) (parts t u)
 parts_all-push none none t u = join_nothing (parts t u) ∙ sym (nothing_join (parts t u))
-parts_all-push none (more v us) t u = ap (join_parts (parts t v)) (none_push us u) ∙ join_none (parts t v)
-parts_all-push (more w ts) none t u = ap (join_parts (parts w u)) (push_none ts t) ∙ join_none (parts w u)
+parts_all-push none (more v us) t u = ap (both (parts t v)) (none_push us u) ∙ join_none (parts t v)
+parts_all-push (more w ts) none t u = ap (both (parts w u)) (push_none ts t) ∙ join_none (parts w u)
 parts_all-push (more w ts) (more v us) t u =
-    ap (join_parts (parts w v)) (parts_all-push ts us t u) ∙ sym (join_assoc (parts w v) (parts_all ts us) (parts t u))
+    ap (both (parts w v)) (parts_all-push ts us t u) ∙ sym (join_assoc (parts w v) (parts_all ts us) (parts t u))
 
 pub ruleset rules_of_parts = (parts_all-push, parts_all-lengths, after_join, after_parts-unreachable, push_none, none_push, size_all-push, item_smaller)
 
@@ -79,9 +80,6 @@ pub parts-last : (s next all : State) (a b : ℕ) (ts us front back : Trees) (t 
 parts-last s next all a b ts us front back t u same left right step h =
     ap (λ r. after_parts r (parts t u)) step ∙ sym (after_join s (parts_all front back) (parts t u))
     ∙ ap (after_parts s) (sym (parts_all-push front back t u) ∙ ap₂ parts_all (sym left) (sym right) ∙ ap (λ c. if c then parts_all ts us else None) (sym same)) ∙ h
-
-pub last-smaller : (a n : ℕ) (ts front : Trees) (t : Tree) → ts ≡ push_tree front t → size (node a ts) ≤ n → size t ≤ n
-last-smaller a n ts front t e h = let k : size_all ts ≡ size_all (push_tree front t) = ap size_all e in omega (arith, size_all-push front t)
 
 -- ---- the terms' variables are numbered
 

@@ -1,25 +1,16 @@
 -- The state after two terms were unified: the equations into which they come apart, one after another.
-use Rattle.std.specs.Prelude.{ℕ, List, [], ◌∷◌, ◌++◌, Option, Some, None, ◌==◌, if◌then◌else◌}
+use Rattle.std.specs.Prelude.{[], ◌∷◌, Option, Some, None, ◌==◌, if◌then◌else◌}
 use Rattle.std.specs.Ordering.{int_eq}
 use Rattle.ap_term.specs.Tree.{Tree, Trees, var, int, atom, node, none, more}
+use Rattle.ap_term.specs.Unification.{both, Equations}
 use Rattle.ap_absunify.specs.declared.states.State.{State}
 use Rattle.ap_absunify.specs.declared.states.State.TheVariants.{Unreachable}
 use Rattle.ap_absunify.specs.AfterUnify.{after_unify}
-
--- equations of a variable and a term
-abbrev pub Equations : Type 0
-Equations = List (ℕ × Tree)
 
 -- the equations in order
 abbrev pub after_all : State → Equations → State
 after_all s [] = s
 after_all s (e ∷ es) = after_all (after_unify s e.0 e.1) es
-
--- the equations of both, where neither clashes
-abbrev pub join_parts : Option Equations → Option Equations → Option Equations
-join_parts None ds = None
-join_parts (Some es) None = None
-join_parts (Some es) (Some ds) = Some (es ++ ds)
 
 abbrev mutual
   -- a = b taken apart by equal functors, left to right, and None at a clash
@@ -42,7 +33,7 @@ abbrev mutual
   parts_all none none = Some []
   parts_all none (more u us) = None
   parts_all (more t ts) none = None
-  parts_all (more t ts) (more u us) = join_parts (parts t u) (parts_all ts us)
+  parts_all (more t ts) (more u us) = both (parts t u) (parts_all ts us)
 
 -- no state is reached after a clash
 abbrev pub after_parts : State → Option Equations → State

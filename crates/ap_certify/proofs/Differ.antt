@@ -15,7 +15,7 @@ use Rattle.ap_patterns.specs.Covered.{is_share_covered, is_covered}
 use Rattle.ap_certify.specs.declared.faults.CertErr.TheVariants.{NotClosed}
 use Rattle.ap_certify.specs.Refused.{IsRefusedBy}
 
-within-itself : (s : ℕ) → within s s ≡ true
+pub within-itself : (s : ℕ) → within s s ≡ true
 within-itself s = within-made s s (λ x h. h)
 
 members : (sh : Share) (ss : List ℕ) → ((s : ℕ) → listed s ss ≡ true → listed s sh.sets ≡ true) → list_all (λ s. is_member s sh) ss ≡ true

@@ -4,12 +4,12 @@ use Rattle.std.specs.List.{list_all}
 use Rattle.std.proofs.lemmas.Bool.{and_parts, and_from, leb-true, le-leb}
 use Rattle.ap_term.specs.declared.clauses.Check.{Check}
 use Rattle.ap_term.specs.declared.clauses.Check.TheVariants.{Ground, Indep}
-use Rattle.ap_term.specs.Tree.{Tree, none, more, count_trees}
+use Rattle.ap_term.specs.Tree.{count_trees}
 use Rattle.ap_term.specs.Goals.{Part, call, group, Clause}
 use Rattle.ap_term.specs.WellFormed.{in_range, callable, all_callable, numbered, numbered_all, numbered_check, well_formed_part, IsClause}
 use Rattle.ap_patterns.specs.Places.{arguments}
 use Rattle.ap_patterns.specs.Given.{is_analysed}
-use Rattle.ap_patterns.proofs.Arguments.{numbered_all-more}
+use Rattle.ap_patterns.proofs.Arguments.{numbered_all-more, head-callable, head-numbered, head-in_range, numbered-more}
 
 range-more : (n m x : ℕ) → n ≤ m → IsTrue (in_range n x) → IsTrue (in_range m x)
 range-more n m x l h =
@@ -28,11 +28,8 @@ checks-more n m (c ∷ cs) l h =
     let r = and_parts (numbered_check n c) (list_all (numbered_check n) cs) h in
     and_from (numbered_check m c) (list_all (numbered_check m) cs) (check-more n m c l r.0) (checks-more n m cs l r.1)
 
-pub tree-more : (n m : ℕ) (t : Tree) → n ≤ m → IsTrue (numbered n t) → IsTrue (numbered m t)
-tree-more n m t l h = (and_parts (numbered m t) (numbered_all m none) (numbered_all-more n m (more t none) l (and_from (numbered n t) (numbered_all n none) h refl))).0
-
 part-more : (n m : ℕ) (p : Part) → n ≤ m → IsTrue (well_formed_part n p) → IsTrue (well_formed_part m p)
-part-more n m (call t) l h = let r = and_parts (callable t) (numbered n t) h in and_from (callable t) (numbered m t) r.0 (tree-more n m t l r.1)
+part-more n m (call t) l h = let r = and_parts (callable t) (numbered n t) h in and_from (callable t) (numbered m t) r.0 (numbered-more n m t l r.1)
 part-more n m (group cs ts) l h =
     let a = and_parts (list_all (numbered_check n) cs) (nat_le 1 (count_trees ts) && (all_callable ts && numbered_all n ts)) h in
     let b = and_parts (nat_le 1 (count_trees ts)) (all_callable ts && numbered_all n ts) a.1 in
@@ -49,19 +46,7 @@ body-more n m (p ∷ ps) l h =
 pub clause-body : (c : Clause) → IsClause c → IsTrue (list_all (well_formed_part 255) c.body)
 clause-body c h = body-more c.vars 255 c.body h.few h.body
 
-pub clause-head : (c : Clause) → IsClause c → IsTrue (callable c.head) × IsTrue (numbered c.vars c.head) × IsTrue (numbered 255 c.head)
-clause-head c h = let r = and_parts (callable c.head) (numbered c.vars c.head) h.head in (r.0, r.1, tree-more c.vars 255 c.head h.few r.1)
-
 pub analysed-few : (c : Clause) → IsTrue (is_analysed c) → c.vars + count_trees (arguments c.head) ≤ 255
 analysed-few c h = let k = leb-true (c.vars + count_trees (arguments c.head)) 64 h in omega arith
 
-pub callable-head : (c : Clause) → IsClause c → IsTrue (callable c.head)
-callable-head c h = (clause-head c h).0
-
-pub numbered-head : (c : Clause) → IsClause c → IsTrue (numbered c.vars c.head)
-numbered-head c h = (clause-head c h).1
-
-pub numbered-head-255 : (c : Clause) → IsClause c → IsTrue (numbered 255 c.head)
-numbered-head-255 c h = (clause-head c h).2
-
-pub ruleset rules_of_clauses = (clause-body, callable-head, numbered-head, numbered-head-255, analysed-few)
+pub ruleset rules_of_clauses = (clause-body, head-callable, head-numbered, head-in_range, analysed-few)

@@ -17,13 +17,12 @@ use Rattle.ap_patterns.specs.Places.{arguments}
 use Rattle.ap_patterns.specs.Table.{predicate_of, same_predicate}
 use Rattle.ap_patterns.specs.Given.{Patterns, to_call, any_pattern, given_by_heads, given_by_entries, given_by_clause}
 use Rattle.ap_patterns.specs.Covered.{IsHeld, IsClosed}
-use Rattle.ap_patterns.proofs.Arguments.{callable-few}
+use Rattle.ap_patterns.proofs.Arguments.{callable-few, head-callable}
 use Rattle.ap_patterns.proofs.Rows.{same_predicate-true}
 use Rattle.ap_tracked.specs.Tracked.{IsOneOf}
 use Rattle.ap_certify.specs.Refused.{with_new, predicates_behind, call_of_any, entry_calls}
 use Rattle.ap_certify.specs.Scopes.{AreSameEntries}
 use Rattle.ap_certify.proofs.Closed.{left_all, right_all, arity_of}
-use Rattle.ap_certify.proofs.HeldClauses.{callable-head}
 
 -- ---- what holds of the predicates of clauses
 
@@ -49,7 +48,7 @@ arities-few A w = behind-all (λ p. p.arity ≤ 255) [] A few (All-nil (λ (p : 
     each (d ∷ cs) v c (inr i) = each cs (All-tail IsClause d cs v) c i
 
     few : (c : Clause) → IsOneOf c A → (p : Predicate) → predicate_of c.head ≡ Some p → p.arity ≤ 255
-    few c i p e = subst (λ n. n ≤ 255) (sym (arity_of c.head p e)) (callable-few c.head (callable-head c (each A w c i)))
+    few c i p e = subst (λ n. n ≤ 255) (sym (arity_of c.head p e)) (callable-few c.head (head-callable c (each A w c i)))
 
 -- ---- each clause's predicate is among them
 

@@ -16,11 +16,7 @@ use Rattle.ap_lexer.specs.Row.{Item, Plain, Escape, IsItem, item_text, begins}
 use Rattle.ap_lexer.proofs.Again.{again}
 use Rattle.ap_lexer.proofs.Valid.{valid_least}
 use Rattle.ap_writer.specs.Quoted.{is_name, is_symbols, begins_comment, escaped}
-
--- the first byte, if there is one, doesn't pass
-abbrev pub stops : (ℕ → Bool) → List ℕ → Bool
-stops p [] = true
-stops p (b ∷ bs) = not (p b)
+use Rattle.ap_writer.proofs.Fronts.{stops}
 
 stopped : (p : ℕ → Bool) (rest : List ℕ) → stops p rest ≡ true → prefix_len p rest ≡ 0
 stopped p [] h = refl

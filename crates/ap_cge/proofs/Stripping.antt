@@ -7,22 +7,16 @@ use Rattle.std.proofs.lemmas.List.{take_all}
 use Rattle.ap_term.specs.declared.terms.Term.{Term}
 use Rattle.ap_term.specs.declared.clauses.Part as code
 use Rattle.ap_term.specs.GoalView.{part_of}
-use Rattle.ap_term.specs.Tree.{Tree, Trees, none, more, count_trees}
+use Rattle.ap_term.specs.Tree.{Tree, count_trees}
 use Rattle.ap_term.specs.TermView.{tree_of, trees_of}
 use Rattle.ap_term.specs.Goals.{Part, call, group, calls, Clause}
-use Rattle.ap_term.specs.WellFormed.{callable, all_callable, numbered, numbered_all, numbered_check, well_formed_part, IsClause}
+use Rattle.ap_term.specs.WellFormed.{all_callable, numbered_all, numbered_check, well_formed_part, IsClause}
+use Rattle.ap_term.proofs.WellFormed.{calls-formed}
 use Rattle.ap_cge.specs.Stripped.{stripped_part, stripped_clause}
 
 pub calls-map : (ts : List Term) → calls (trees_of ts) ≡ map (λ t. call (tree_of t)) ts
 calls-map [] = refl
 calls-map (t ∷ ts) = ap (λ ps. call (tree_of t) ∷ ps) (calls-map ts)
-
-calls-formed : (n : ℕ) (ts : Trees) → all_callable ts ≡ true → numbered_all n ts ≡ true → list_all (well_formed_part n) (calls ts) ≡ true
-calls-formed n none h k = refl
-calls-formed n (more t ts) h k =
-    let a = and_parts (callable t) (all_callable ts) h in
-    let b = and_parts (numbered n t) (numbered_all n ts) k in
-    and_from (callable t && numbered n t) (list_all (well_formed_part n) (calls ts)) (and_from (callable t) (numbered n t) a.0 b.0) (calls-formed n ts a.1 b.1)
 
 part-formed : (n : ℕ) (p : Part) → well_formed_part n p ≡ true → list_all (well_formed_part n) (stripped_part p) ≡ true
 part-formed n (call t) h = and_from (well_formed_part n (call t)) true h refl

@@ -16,9 +16,10 @@ use Rattle.ap_term.specs.Tree.{Tree, Trees, var, int, atom, node, none, more}
 use Rattle.ap_writer.specs.Quoted.{is_word, is_symbols, name_text}
 use Rattle.ap_writer.specs.Text.{Shown, by_itself, behind_commas, arguments, compound, cell, shown_node, shown_atom, shown, all_shown, name_at, text}
 use Rattle.ap_writer.specs.Writable.{IsWritable, AreWritable}
+use Rattle.ap_writer.proofs.Fronts.{stops}
 use Rattle.ap_cge.specs.Again.{is_apart, one_token, name_tokens, integer_tokens, variable_tokens}
 use Rattle.ap_cge.specs.TermTokens.{Told, told_alone, told_later, told_arguments, told_compound, told_cell, told_node, told_atom, told, all_told, term_tokens}
-use Rattle.ap_cge.proofs.Lexing.{stops, one_ascii}
+use Rattle.ap_cge.proofs.Lexing.{one_ascii}
 use Rattle.ap_cge.proofs.Tokens.{is_inner, Front, one_front, joined_front, name_front, name_apart, integer_front, variable_front, open_list, close_list}
 
 abbrev pub AreBytes : List ℕ → Type 0

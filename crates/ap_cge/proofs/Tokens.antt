@@ -21,8 +21,9 @@ use Rattle.ap_lexer.specs.Piece.{Role, Part, role, start, begun_after, ended_by,
 use Rattle.ap_lexer.specs.Law.{Spelled, spelled, spelled_by, begins_token}
 use Rattle.ap_lexer.proofs.Lexemes.{lexemes-cons}
 use Rattle.ap_writer.specs.Quoted.{is_word, is_symbol, is_name, is_symbols, escaped, name_text}
+use Rattle.ap_writer.proofs.Fronts.{stops}
 use Rattle.ap_cge.specs.Again.{is_apart, one_token, name_tokens, integer_tokens, variable_tokens, IsReadAs}
-use Rattle.ap_cge.proofs.Lexing.{stops, word_again, variable_again, integer_again, symbols_again, quoted_again}
+use Rattle.ap_cge.proofs.Lexing.{word_again, variable_again, integer_again, symbols_again, quoted_again}
 
 -- the token at the front, and what is behind it
 at_front : (row : TokenKind) (tok rest : List ℕ) → 0 < length tok → lexeme (tok ++ rest) ≡ (kind.Token row, length tok)

@@ -20,7 +20,7 @@ add_pieces_vars-push : (ps : List Piece) (p : Piece) (found : List ℕ) → add_
 add_pieces_vars-push [] p found = refl
 add_pieces_vars-push (q ∷ ps) p found = add_pieces_vars-push ps p (add_piece_vars q found)
 
-add_piece_vars-prefix : (p : Piece) (found : List ℕ) → IsPrefix found (add_piece_vars p found)
+pub add_piece_vars-prefix : (p : Piece) (found : List ℕ) → IsPrefix found (add_piece_vars p found)
 add_piece_vars-prefix (word bytes) found = prefix-refl found
 add_piece_vars-prefix (term t) found = add_vars-prefix t found
 

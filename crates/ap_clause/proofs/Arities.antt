@@ -1,8 +1,9 @@
 -- Terms of other numbers of arguments than a definition singles out.
-use Rattle.std.proofs.Common.{◌≡◌, ℕ, ◌≤◌, false, List, [], ◌∷◌, length, get_or, refl, ap, ap₂, sym, arith}
+use Rattle.std.proofs.Common.{◌≡◌, ℕ, ◌≤◌, false, List, [], ◌∷◌, length, get_or, refl, ap, sym, arith}
 use Rattle.ap_term.specs.declared.terms.Term.{Term}
 use Rattle.ap_term.specs.Tree.{none, more, node}
 use Rattle.ap_term.specs.TermView.{tree_of, trees_of}
+use Rattle.ap_term.proofs.TermLists.{trees_of-two}
 use Rattle.ap_clause.specs.Arity.{is_one, is_pair}
 use Rattle.ap_clause.specs.Clause.{conditions_in}
 
@@ -27,11 +28,5 @@ pub trees_of-one : (ts : List Term) (t : Term) → length ts ≡ 1 → t ≡ get
 trees_of-one [] t h e = absurd (omega arith)
 trees_of-one (x ∷ []) t h e = ap (λ v. more (tree_of v) none) (sym e)
 trees_of-one (x ∷ (y ∷ ts)) t h e = absurd (omega arith)
-
-pub trees_of-two : (ts : List Term) (t u : Term) → length ts ≡ 2 → t ≡ get_or ts 0 t → u ≡ get_or ts 1 u → trees_of ts ≡ more (tree_of t) (more (tree_of u) none)
-trees_of-two [] t u h e k = absurd (omega arith)
-trees_of-two (x ∷ []) t u h e k = absurd (omega arith)
-trees_of-two (x ∷ (y ∷ [])) t u h e k = ap₂ (λ v w. more (tree_of v) (more (tree_of w) none)) (sym e) (sym k)
-trees_of-two (x ∷ (y ∷ (z ∷ ts))) t u h e k = absurd (omega arith)
 
 pub ruleset arities = (one_other, pair_other, trees_of-one, trees_of-two)

@@ -22,7 +22,7 @@ sizes_same goals group sum g m c e f k =
     ∙ ap (λ b. over (nat_lt MAX_GOALS g) what.Goals (over b what.Group (over (nat_lt MAX_CLAUSES sum) what.Clauses None))) (held_test MAX_GROUP m group f (omega arith))
     ∙ ap (λ b. over (nat_lt MAX_GOALS g) what.Goals (over (nat_lt MAX_GROUP m) what.Group (over b what.Clauses None))) (held_test MAX_CLAUSES c sum k (omega arith))
 
-over_none : (b : Bool) (w : What) (rest : Option What) → over b w rest ≡ None → (b ≡ false) × (rest ≡ None)
+pub over_none : (b : Bool) (w : What) (rest : Option What) → over b w rest ≡ None → (b ≡ false) × (rest ≡ None)
 over_none true w rest h = absurd (clash h)
   where
     clash : Some w ≡ None → ⊥

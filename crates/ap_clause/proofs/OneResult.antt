@@ -9,27 +9,26 @@ use Rattle.ap_term.specs.Goals.{Program, Query}
 use Rattle.ap_reader.specs.declared.written.TheConstants.{MAX_OPEN}
 use Rattle.ap_reader.specs.Bracket.{most_open}
 use Rattle.ap_reader.specs.Word.{words}
-use Rattle.ap_reader.specs.Reading.{first_line, EndsAs}
+use Rattle.ap_reader.specs.Reading.{first_line}
 use Rattle.ap_reader.proofs.Complete.{one}
+use Rattle.ap_reader.proofs.Read.{one_front}
 use Rattle.ap_lifting.specs.Rule.{Rule}
 use Rattle.ap_lifting.specs.Lifted.{lifted_program}
 use Rattle.ap_clause.specs.declared.refusal.Refusal.{Refusal}
 use Rattle.ap_clause.specs.declared.source.Source.{Source}
 use Rattle.ap_clause.specs.declared.source.Source.TheVariants as source
 use Rattle.ap_clause.specs.Fresh.{IsNext, AreNext, lift_name, with_lifted, names_by}
-use Rattle.ap_clause.specs.Reads.{Position, Taken, Verdict, Refused, Took, Sentence, IsSentence, judged, JudgesOpen, JudgesBy, Judges, Outcome, Stopped, Whole, Goes, Reads, start, beside, lifted_query, AcceptsProgram, RefusesProgram, AcceptsQuery, RefusesQuery}
+use Rattle.ap_clause.specs.Reads.{Position, Verdict, Refused, Took, Sentence, IsSentence, judged, JudgesOpen, JudgesBy, Judges, Outcome, Stopped, Whole, Goes, Reads, start, beside, lifted_query, AcceptsProgram, RefusesProgram, AcceptsQuery, RefusesQuery}
+use Rattle.ap_clause.proofs.Taken.{took}
+use Rattle.ap_clause.proofs.RulesRead.{whole-is}
 use Rattle.std.proofs.lemmas.Bool.{both_ways}
-use Rattle.std.proofs.lemmas.List.{same_from_push}
-
-front_one : (ts a b : List Placed) → EndsAs ts a → EndsAs ts b → a ≡ b
-front_one ts a b h k = (same_from_push a b h.0 k.0 (sym h.2 ∙ k.2)).0
 
 sentence_one : (ts : List Placed) (a b : Option Sentence) → IsSentence ts a → IsSentence ts b → a ≡ b
 sentence_one ts None None x y = refl
 sentence_one ts None (Some b) x y = absurd (x b.front b.tree y)
 sentence_one ts (Some a) None x y = absurd (y a.front a.tree x)
 sentence_one ts (Some a) (Some b) x y =
-    let front = front_one ts a.front b.front x.ends y.ends in
+    let front = one_front ts a.front b.front x.ends y.ends in
     let tree = one a.tree b.tree x.rules y.rules (x.spelling ∙ ap words front ∙ sym y.spelling) in
     ap (λ f. Some (record { front = f; tree = a.tree })) front ∙ ap (λ t. Some (record { front = b.front; tree = t })) tree
 
@@ -84,12 +83,9 @@ not_both text table new program r x y = clash (reads_one text (pieces text) (sta
     clash : Whole x.0 x.1 ≡ Stopped r → ⊥
     clash e = cc
 
-whole : {rs qs : List Rule} {p q : Position} → Whole rs p ≡ Whole qs q → (rs ≡ qs) × (p ≡ q)
-whole e = (cc, cc)
-
 pub one_program : (text : Text) (table new other : List Text) (program another : Program) → AcceptsProgram text table program new → AcceptsProgram text table another other → (program ≡ another) × (new ≡ other)
 one_program text table new other program another x y =
-    let same = whole (reads_one text (pieces text) (start table) [] (Whole x.0 x.1) (Whole y.0 y.1) x.3 y.3) in
+    let same = whole-is (reads_one text (pieces text) (start table) [] (Whole x.0 x.1) (Whole y.0 y.1) x.3 y.3) in
     let there : AreNext y.1.table 1 x.2 = subst (λ p. AreNext p.table 1 x.2) same.1 x.4 in
     let ks = are_next_one y.1.table 1 x.2 y.2 there y.4 (x.5 ∙ ap (λ p. p.counts.lifted) same.1 ∙ sym y.5) in (
       x.6 ∙ ap (λ rs. lifted_program (names_by x.1.table x.2) rs) same.0 ∙ ap (λ p. lifted_program (names_by p.table x.2) y.0) same.1 ∙ ap (λ ns. lifted_program (names_by y.1.table ns) y.0) ks ∙ sym y.6,
@@ -109,12 +105,9 @@ not_both_query text piece program table new query r x y = clash (judges_one sour
     clash : Took x.0 ≡ Refused r → ⊥
     clash e = cc
 
-taken : {a b : Taken} → Took a ≡ Took b → a ≡ b
-taken e = cc
-
 pub one_query : (text : Text) (piece : Piece) (program : Program) (table new other : List Text) (query another : Query) → AcceptsQuery text piece program table query new → AcceptsQuery text piece program table another other → (query ≡ another) × (new ≡ other)
 one_query text piece program table new other query another x y =
-    let same = taken (judges_one source.Query text (beside program table) piece (Took x.0) (Took y.0) x.2 y.2) in
+    let same = took (judges_one source.Query text (beside program table) piece (Took x.0) (Took y.0) x.2 y.2) in
     let there : AreNext y.0.after.table 1 x.1 = subst (λ t. AreNext t.after.table 1 x.1) same x.3 in
     let ks = are_next_one y.0.after.table 1 x.1 y.1 there y.3 (x.4 ∙ ap (λ t. t.after.counts.lifted) same ∙ sym y.4) in (
       x.5 ∙ ap (λ t. lifted_query (names_by t.after.table x.1) t.rule t.names) same ∙ ap (λ ns. lifted_query (names_by y.0.after.table ns) y.0.rule y.0.names) ks ∙ sym y.5,

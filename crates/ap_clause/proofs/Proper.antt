@@ -1,13 +1,13 @@
 -- Terms whose variables are numbered up to some number, and each of whose compounds has an argument.
 use Rattle.std.proofs.Common.{◌≡◌, ℕ, zero, suc, ◌+◌, ◌≤◌, ◌<◌, Bool, true, false, cond, List, [], ◌∷◌, length, Option, Some, None, slice_get, refl, arith, length-append}
 use Rattle.std.specs.Prelude.{bytes_eq, codes}
-use Rattle.std.proofs.lemmas.Bool.Decides.{nat_tests}
 use Rattle.std.proofs.lemmas.Bool.{and_from}
 use Rattle.ap_lexer.specs.declared.kind.TokenKind.{TokenKind}
 use Rattle.ap_lexer.specs.declared.kind.TokenKind.TheVariants as token
 use Rattle.ap_lexer.specs.Lexeme.{Text}
 use Rattle.ap_lexer.specs.Token.{Placed}
 use Rattle.ap_term.specs.WellFormed.{in_range, numbered, numbered_all}
+use Rattle.ap_term.proofs.WellFormed.{in_range-true}
 use Rattle.ap_reader.specs.Grammar.{Tree, Single, Positive, Negative, Prefix, Infix, Group, Compound, Empty, Listed, Tailed, Items, Begin, Then}
 use Rattle.ap_reader.specs.Written.{Written, Variable, Integer, Atom, Node, Paren, Writtens, Nil, Cons, place_in, known, seen_after, number_after, seen_by, leaf_by, leaves, variables, leaf_at, name_at, cell, meaning, arguments, listed}
 use Rattle.ap_reader.specs.Build.{term_in, terms_in}
@@ -115,9 +115,6 @@ pub spelled_proper : (front : List Placed) (t : Tree) → IsProper (length (vari
 spelled_proper front t = tree_proper (length (variables [] front)) (leaves [] front) (leaves_proper [] front) t
 
 -- ---- numbers
-
-in_range-true : (n k : ℕ) → 1 ≤ k → k ≤ n → in_range n k ≡ true
-in_range-true n k h j = grind (arith, nat_tests)
 
 pub variable_in_range : (n k : ℕ) → (1 ≤ k) × (k ≤ n) → in_range n k ≡ true
 variable_in_range n k h = in_range-true n k h.0 h.1

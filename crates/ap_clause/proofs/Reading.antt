@@ -7,7 +7,7 @@ use Rattle.ap_lexer.specs.Lexeme.{Text}
 use Rattle.ap_lexer.specs.declared.cut.Piece.{Piece}
 use Rattle.ap_lexer.specs.Piece.{pieces}
 use Rattle.ap_lifting.specs.Rule.{Rule}
-use Rattle.ap_lifting.specs.Sizes.{predicates_if, predicates_in}
+use Rattle.ap_lifting.proofs.Filled.{predicates_in-push}
 use Rattle.ap_clause.specs.declared.judge.Counts.{Counts}
 use Rattle.ap_clause.specs.declared.judge.Read.{Read}
 use Rattle.ap_clause.specs.declared.refusal.Refusal.{Refusal}
@@ -15,10 +15,6 @@ use Rattle.ap_clause.specs.declared.refusal.Refusal.TheVariants as refusal
 use Rattle.ap_clause.specs.declared.source.Source.TheVariants as source
 use Rattle.ap_clause.specs.Reads.{Position, Refused, Took, Judges, Outcome, Stopped, Whole, Reads, start}
 use Rattle.ap_clause.specs.Verdict.{position, taken_of, IsCounted, AreCounted}
-
-pub predicates_in-push : (rs : List Rule) (r : Rule) → predicates_in (rs ++ r ∷ []) ≡ predicates_in rs + predicates_if r.body
-predicates_in-push [] r = omega arith
-predicates_in-push (q ∷ rs) r = omega (arith, predicates_in-push rs r)
 
 pub counted_more : (rs : List Rule) (before : Counts) (r : Read) (old new : List Text) → AreCounted rs before old → IsCounted before r new → AreCounted (rs ++ r.rule ∷ []) r.counts new
 counted_more rs before r old new h k = (k.0, omega (arith, h.1, k.1, predicates_in-push rs r.rule))

@@ -21,23 +21,24 @@ use Rattle.ap_reader.proofs.Tables.{extends-names, length-extends}
 use Rattle.ap_lifting.specs.Rule.{Rule, IsRule}
 use Rattle.ap_lifting.specs.Sizes.{predicates_if, predicates_in}
 use Rattle.ap_lifting.specs.LiftingLaws.{is_named, AvoidsIf}
+use Rattle.ap_lifting.proofs.Filled.{predicates_in-push}
 use Rattle.ap_clause.specs.declared.limit.TheConstants.{MAX_VARIABLES}
 use Rattle.ap_clause.specs.declared.refusal.What.{What}
 use Rattle.ap_clause.specs.declared.refusal.Refusal.{Refusal}
 use Rattle.ap_clause.specs.declared.source.Source.{Source}
 use Rattle.ap_clause.specs.declared.source.Source.TheVariants as source
 use Rattle.ap_clause.specs.Clause.{halves, rule_of}
-use Rattle.ap_clause.specs.Limit.{is_narrow, over}
+use Rattle.ap_clause.specs.Limit.{is_narrow}
 use Rattle.ap_clause.specs.Reads.{Position, Taken, Verdict, Refused, Took, Sentence, fits, table_after, refused_outside, refused_past, judged, JudgesOpen, JudgesBy, Judges, Stopped, Whole, Goes, Reads}
 use Rattle.ap_clause.proofs.Proper.{spelled_proper}
 use Rattle.ap_clause.proofs.CanBe.{can_be_rule}
-use Rattle.ap_clause.proofs.Reading.{predicates_in-push}
 use Rattle.ap_clause.proofs.Taken.{took, took_if}
 use Rattle.ap_clause.proofs.TermNames.{spelled_held, term_lacks, halves_lack}
+use Rattle.ap_clause.proofs.Limits.{over_none}
 
 -- ---- verdicts
 
-clash : (r : Refusal) (t : Taken) → Refused r ≡ Took t → ⊥
+pub clash : (r : Refusal) (t : Taken) → Refused r ≡ Took t → ⊥
 clash r t h = cc
 
 not_outside : (o : Option ℕ) (line : ℕ) (v : Verdict) (t : Taken) → refused_outside o line v ≡ Took t → (o ≡ None) × (v ≡ Took t)
@@ -47,13 +48,6 @@ not_outside (Some a) line v t h = absurd (clash _ t h)
 not_past : (o : Option What) (line : ℕ) (v : Verdict) (t : Taken) → refused_past o line v ≡ Took t → (o ≡ None) × (v ≡ Took t)
 not_past None line v t h = (refl, h)
 not_past (Some a) line v t h = absurd (clash _ t h)
-
-not_over : (b : Bool) (w : What) (rest : Option What) → over b w rest ≡ None → (b ≡ false) × (rest ≡ None)
-not_over true w rest h = absurd (some h)
-  where
-    some : Some w ≡ None → ⊥
-    some k = cc
-not_over false w rest h = (refl, h)
 
 is_so : (b : Bool) → not b ≡ false → b ≡ true
 is_so true h = refl
@@ -98,8 +92,8 @@ sentence_good s p line (Some x) t table h =
     let out = not_outside _ line _ t full.1 in
     let past = not_past _ line _ t out.1 in
     let whole = took past.1 in
-    let few = not_over (nat_lt MAX_VARIABLES n) _ _ past.0 in
-    let narrow = not_over (not (is_narrow u)) _ _ few.1 in
+    let few = over_none (nat_lt MAX_VARIABLES n) _ _ past.0 in
+    let narrow = over_none (not (is_narrow u)) _ _ few.1 in
     let room : length ns + (p.counts.lifted + predicates_if r.body) ≤ capacity = ltb-false capacity _ full.0 in
     let grown : IsAtomTable ns = names_table p.table more table (omega (arith, room)) in
     subst (IsGood p) whole
@@ -146,10 +140,10 @@ one_more p rules t h k =
       room = k.room;
     }
 
-whole-is : {rules rules' : List Rule} {p p' : Position} → Whole rules p ≡ Whole rules' p' → (rules ≡ rules') × (p ≡ p')
+pub whole-is : {rules rules' : List Rule} {p p' : Position} → Whole rules p ≡ Whole rules' p' → (rules ≡ rules') × (p ≡ p')
 whole-is e = (cc, cc)
 
-stopped-whole : (r : Refusal) (rules : List Rule) (p : Position) → Whole rules p ≡ Stopped r → ⊥
+pub stopped-whole : (r : Refusal) (rules : List Rule) (p : Position) → Whole rules p ≡ Stopped r → ⊥
 stopped-whole r rules p e = cc
 
 pub reads_good : (text : Text) (ps : List Piece) (p q : Position) (rules all : List Rule) → Reads text ps p rules (Whole all q) → AreGood p rules → AreGood q all

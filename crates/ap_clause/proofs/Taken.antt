@@ -28,14 +28,14 @@ took_if true r v t h = absurd (clash h)
     clash k = cc
 took_if false r v t h = (refl, h)
 
-took_outside : (o : Option ℕ) (line : ℕ) (v : Verdict) (t : Taken) → refused_outside o line v ≡ Took t → v ≡ Took t
+pub took_outside : (o : Option ℕ) (line : ℕ) (v : Verdict) (t : Taken) → refused_outside o line v ≡ Took t → v ≡ Took t
 took_outside None line v t h = h
 took_outside (Some a) line v t h = absurd (clash _ h)
   where
     clash : (r : Refusal) → Refused r ≡ Took t → ⊥
     clash r k = cc
 
-took_past : (o : Option What) (line : ℕ) (v : Verdict) (t : Taken) → refused_past o line v ≡ Took t → v ≡ Took t
+pub took_past : (o : Option What) (line : ℕ) (v : Verdict) (t : Taken) → refused_past o line v ≡ Took t → v ≡ Took t
 took_past None line v t h = h
 took_past (Some a) line v t h = absurd (clash _ h)
   where

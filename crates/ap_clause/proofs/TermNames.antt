@@ -3,7 +3,6 @@ use Rattle.std.proofs.Common.{◌≡◌, ℕ, zero, suc, ◌+◌, ◌<◌, ◌�
 use Rattle.std.specs.Prelude.{bytes_eq, codes, nat_eq, ◌==◌}
 use Rattle.std.specs.List.{AllByRecursion}
 use Rattle.std.proofs.lemmas.Bool.{false≢true}
-use Rattle.std.proofs.lemmas.Bool.Decides.{nat_tests}
 use Rattle.std.proofs.lemmas.Slice.Eq.{bytes_eq-Decides}
 use Rattle.ap_lexer.specs.declared.kind.TokenKind.{TokenKind}
 use Rattle.ap_lexer.specs.declared.kind.TokenKind.TheVariants as token
@@ -13,6 +12,7 @@ use Rattle.ap_term.specs.declared.fixed.TheConstants.{NECK, QUERY}
 use Rattle.ap_term.specs.AtomTable.{is_held, insert_name, insert_names}
 use Rattle.ap_term.specs.Tree as term
 use Rattle.ap_term.specs.Tree.{Trees, var, int, atom, node, none, more}
+use Rattle.ap_term.proofs.Facts.{below-other}
 use Rattle.ap_reader.specs.Grammar.{Tree, Single, Positive, Negative, Prefix, Infix, Group, Compound, Empty, Listed, Tailed, Items, Begin, Then}
 use Rattle.ap_reader.specs.declared.pass.Step.{Step}
 use Rattle.ap_reader.specs.declared.pass.Step.TheVariants as step
@@ -189,12 +189,9 @@ abbrev mutual
   AllLack a none = Unit {0}
   AllLack a (more t ts) = Lacks a t × AllLack a ts
 
-pub below_other : (m n : ℕ) → m < n → nat_eq m n ≡ false
-below_other m n h = grind (arith, nat_tests)
-
 module _ (ns : List Text) (a : ℕ) (behind : length ns ≤ a) where
   name_lacks : (f : Text) → is_held ns f ≡ true → nat_eq (place_of ns f) a ≡ false
-  name_lacks f h = let k = place_within ns f h in below_other (place_of ns f) a (omega arith)
+  name_lacks f h = let k = place_within ns f h in below-other (place_of ns f) a (omega arith)
 
   mutual
     pub term_lacks : (x : Written) → HasOnly (λ f. is_held ns f ≡ true) x → Lacks a (term_in ns x)
@@ -245,16 +242,16 @@ clause_lacks a (node f (more x (more y none))) h = of (f == NECK)
 clause_lacks a (node f (more x (more y (more z ts)))) h = (h.0, tt)
 
 query_lacks : (a : ℕ) (t : term.Tree) → QUERY < a → Lacks a t → (is_named a (query_halves t).0 ≡ false) × AvoidsIf a (query_halves t).1
-query_lacks a (var x) q h = (below_other QUERY a q, refl)
-query_lacks a (int z) q h = (below_other QUERY a q, refl)
-query_lacks a (atom b) q h = (below_other QUERY a q, h)
-query_lacks a (node f none) q h = (below_other QUERY a q, h.0)
+query_lacks a (var x) q h = (below-other QUERY a q, refl)
+query_lacks a (int z) q h = (below-other QUERY a q, refl)
+query_lacks a (atom b) q h = (below-other QUERY a q, h)
+query_lacks a (node f none) q h = (below-other QUERY a q, h.0)
 query_lacks a (node f (more x none)) q h = of (f == QUERY)
   where
     of : (b : Bool) → (is_named a (cond b (question x) (question (node f (more x none)))).0 ≡ false) × AvoidsIf a (cond b (question x) (question (node f (more x none)))).1
-    of true = (below_other QUERY a q, body_lacks a x h.1.0)
-    of false = (below_other QUERY a q, h.0)
-query_lacks a (node f (more x (more y ts))) q h = (below_other QUERY a q, body_lacks a (node f (more x (more y ts))) h)
+    of true = (below-other QUERY a q, body_lacks a x h.1.0)
+    of false = (below-other QUERY a q, h.0)
+query_lacks a (node f (more x (more y ts))) q h = (below-other QUERY a q, body_lacks a (node f (more x (more y ts))) h)
 
 -- a clause by its term has no name that the term lacks
 pub halves_lack : (s : Source) (a : ℕ) (t : term.Tree) → QUERY < a → Lacks a t → (is_named a (halves s t).0 ≡ false) × AvoidsIf a (halves s t).1

@@ -1,8 +1,8 @@
 -- The names of lifted predicates are fresh beside the clauses of a text and of a query.
-use Rattle.std.proofs.Common.{◌≡◌, ℕ, zero, suc, ◌+◌, ◌-◌, ◌<◌, ◌≤◌, Bool, true, false, cond, List, [], ◌∷◌, ◌++◌, map, length, refl, sym, ap, subst, ◌∙◌, append_assoc, append-nil, arith, length-append, inl, inr}
-use Rattle.std.specs.Prelude.{◌⊎◌, nat_lt, slice_index}
+use Rattle.std.proofs.Common.{◌≡◌, ℕ, zero, suc, ◌+◌, ◌-◌, ◌<◌, ◌≤◌, false, cond, List, [], ◌∷◌, ◌++◌, map, length, refl, sym, ap, subst, ◌∙◌, append_assoc, append-nil, arith, length-append, inl, inr}
+use Rattle.std.specs.Prelude.{◌⊎◌, slice_index}
 use Rattle.std.specs.List.{AllByRecursion}
-use Rattle.std.proofs.lemmas.Bool.{ltb-true, ltb-false, lt-ltb, le-ltb}
+use Rattle.std.proofs.lemmas.Bool.{lt-ltb, le-ltb, cases_lt}
 use Rattle.ap_lexer.specs.Lexeme.{Text}
 use Rattle.ap_lexer.specs.Piece.{pieces}
 use Rattle.ap_term.specs.declared.fixed.TheConstants.{QUERY, COUNT}
@@ -10,17 +10,17 @@ use Rattle.ap_term.specs.AtomTable.{fixed_names, capacity, IsAtomTable}
 use Rattle.ap_term.specs.Tree.{atom}
 use Rattle.ap_term.proofs.NameTable.{table-fixed, table-long, table-push}
 use Rattle.ap_term.proofs.Zips.{AllByRecursion-append}
+use Rattle.ap_term.proofs.Facts.{below-other}
 use Rattle.ap_lifting.specs.Rule.{Rule, IsRule}
 use Rattle.ap_lifting.specs.Sizes.{predicates_if, predicates_in}
 use Rattle.ap_lifting.specs.LiftingLaws.{is_named, AvoidsIf, AreFresh, supply, KeepsMeaning, MeaningLaw}
+use Rattle.ap_lifting.proofs.Filled.{predicates_in-push}
 use Rattle.ap_clause.specs.declared.source.Source.TheVariants as source
 use Rattle.ap_clause.specs.Fresh.{AreNext, lift_name, with_lifted, atoms_from, names_by}
 use Rattle.ap_clause.specs.Reads.{start, beside}
 use Rattle.ap_clause.specs.TextMeaning.{TextMeaningLaw}
 use Rattle.ap_clause.proofs.Names.{length-with_lifted}
-use Rattle.ap_clause.proofs.Reading.{predicates_in-push}
 use Rattle.ap_clause.proofs.Taken.{query_taken, judges_taken}
-use Rattle.ap_clause.proofs.TermNames.{below_other}
 use Rattle.ap_clause.proofs.RulesRead.{Away, judges_good, reads_good}
 
 -- ---- names of lifted predicates
@@ -35,13 +35,6 @@ lifted_table table from [] h next room = subst IsAtomTable (sym (append-nil tabl
 lifted_table table from (k ∷ ks) h next room =
     let pushed = table-push table (lift_name k) h next.0.new (omega (arith, room)) in
     subst IsAtomTable (append_assoc table (lift_name k ∷ []) (map lift_name ks)) (lifted_table (table ++ lift_name k ∷ []) (k + 1) ks pushed next.1 (omega (arith, room, length-append table (lift_name k ∷ []))))
-
-either : (i n : ℕ) → (i < n) ⊎ (n ≤ i)
-either i n = of (nat_lt i n) refl
-  where
-    of : (b : Bool) → nat_lt i n ≡ b → (i < n) ⊎ (n ≤ i)
-    of true e = inl (ltb-true i n e)
-    of false e = inr (ltb-false i n e)
 
 -- ---- they are fresh
 
@@ -59,14 +52,14 @@ module _ (P Q table : List Text) (ks js : List ℕ) (rules : List Rule) (q : Rul
       ap (λ b. cond b (names_by P ks i) (names_by Q js (i - predicates_in rules))) (le-ltb i (predicates_in rules) le) ∙ name_at (length Q) js (i - predicates_in rules) (omega (arith, own, le, h))
 
   name_behind : (i : ℕ) → i < predicates_in rules + predicates_if q.body → length P ≤ name_of i
-  name_behind i h = of (either i (predicates_in rules))
+  name_behind i h = of (cases_lt i (predicates_in rules))
     where
       of : (i < predicates_in rules) ⊎ (predicates_in rules ≤ i) → length P ≤ name_of i
       of (inl lt) = omega (arith, name_low i lt)
       of (inr le) = omega (arith, name_high i le h, behind)
 
   name_once : (i j : ℕ) → i < predicates_in rules + predicates_if q.body → j < predicates_in rules + predicates_if q.body → name_of i ≡ name_of j → i ≡ j
-  name_once i j h k e = of (either i (predicates_in rules)) (either j (predicates_in rules))
+  name_once i j h k e = of (cases_lt i (predicates_in rules)) (cases_lt j (predicates_in rules))
     where
       of : (i < predicates_in rules) ⊎ (predicates_in rules ≤ i) → (j < predicates_in rules) ⊎ (predicates_in rules ≤ j) → i ≡ j
       of (inl a) (inl b) = omega (arith, name_low i a, name_low j b, e)
@@ -83,10 +76,10 @@ module _ (P Q table : List Text) (ks js : List ℕ) (rules : List Rule) (q : Rul
   goals_away a le (r ∷ rs) h = ((h.0 a le).1, goals_away a le rs h.1)
 
   own_head : (a : ℕ) → length P ≤ a → is_named a q.head ≡ false
-  own_head a le = subst (λ t. is_named a t ≡ false) (sym head) (below_other QUERY a (omega (arith, fixed, le)))
+  own_head a le = subst (λ t. is_named a t ≡ false) (sym head) (below-other QUERY a (omega (arith, fixed, le)))
 
   own_goals : (i : ℕ) → i < predicates_in rules + predicates_if q.body → AvoidsIf (name_of i) q.body
-  own_goals i h = of (either i (predicates_in rules))
+  own_goals i h = of (cases_lt i (predicates_in rules))
     where
       of : (i < predicates_in rules) ⊎ (predicates_in rules ≤ i) → AvoidsIf (name_of i) q.body
       of (inl lt) = calls (name_of i) (name_behind i h) (omega (arith, name_low i lt, size, program, lt))

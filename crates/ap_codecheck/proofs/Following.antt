@@ -3,6 +3,7 @@
 use Rattle.std.proofs.Common.{◌≡◌, ◌⊎◌, ℕ, zero, suc, ◌+◌, ◌<◌, ◌≤◌, Bool, true, false, length, List, [], ◌∷◌, ◌++◌, Option, Some, None, refl, sym, ◌∙◌, ap, subst, inl, inr, arith}
 use Rattle.std.specs.List.{slice_get}
 use Rattle.std.proofs.lemmas.Option.{slice_get_cases, slice_get_within}
+use Rattle.std.proofs.lemmas.Bool.{cases_lt}
 use Rattle.ap_instr.specs.declared.compiled.Predicate.{Predicate}
 use Rattle.ap_instr.specs.Code.{Compiled}
 use Rattle.ap_codecheck.specs.declared.rule.Rule.TheVariants.{End}
@@ -14,21 +15,11 @@ use Rattle.ap_codecheck.specs.Held.{shape_of}
 use Rattle.ap_codecheck.specs.Judged.{IsFineFrom}
 use Rattle.ap_codecheck.specs.Walk.{is_inner}
 use Rattle.ap_codecheck.specs.Known.{Keeps, IsKnown, IsNew, Remembers, Comes, AreReached, AreFineBehind, IsSettled, IsPassed, IsFollowed, IsWay}
-use Rattle.ap_codecheck.proofs.Tried.{lt-or-eq, lt-or-le}
 use Rattle.ap_codecheck.proofs.Ways.{Path-more, Path-append, fine-on, leads-where, leads-behind, leads-elsewhere, elsewhere-forward}
+use Rattle.ap_term.proofs.Facts.{lt-or-eq}
+use Rattle.ap_term.proofs.Lists.{slice_get-push}
 
 -- ---- what is remembered
-
-pub remembers-none : (ways : List Way) (s : Shape) → Remembers ways ways None s
-remembers-none ways s = record { keeps = λ k w e. e; known = λ l e. cc; only = λ k w e. inl (k, e) }
-
-pub remembers-known : (ways : List Way) (at : ℕ) (s : Shape) → IsKnown ways at s → Remembers ways ways (Some at) s
-remembers-known ways at s h =
-    record {
-      keeps = λ k w e. e;
-      known = λ l e. (let same : at ≡ l = cc in subst (λ k. IsKnown ways k s) same h);
-      only = λ k w e. inl (k, e);
-    }
 
 pushed-cases : {A : Type 0} (xs : List A) (x : A) (k : ℕ) (y : A) → slice_get (xs ++ x ∷ []) k ≡ Some y → (slice_get xs k ≡ Some y) ⊎ (x ≡ y)
 pushed-cases [] x zero y e = inr (cc)
@@ -41,15 +32,11 @@ pushed-old [] x k y e = cc
 pushed-old (z ∷ xs) x zero y e = e
 pushed-old (z ∷ xs) x (suc k) y e = pushed-old xs x k y e
 
-pushed-new : {A : Type 0} (xs : List A) (x : A) → slice_get (xs ++ x ∷ []) (length xs) ≡ Some x
-pushed-new [] x = refl
-pushed-new (z ∷ xs) x = pushed-new xs x
-
 pub remembers-pushed : (ways : List Way) (w : Way) (s : Shape) → shape_of w.shape ≡ s → Remembers ways (ways ++ w ∷ []) (Some w.place) s
 remembers-pushed ways w s h =
     record {
       keeps = pushed-old ways w;
-      known = λ l e. record { number = length ways; way = w; held = pushed-new ways w; place = (let same : w.place ≡ l = cc in same); shape = h };
+      known = λ l e. record { number = length ways; way = w; held = slice_get-push ways w; place = (let same : w.place ≡ l = cc in same); shape = h };
       only = λ k v e. elim (pushed-cases ways w k v e) as (λ _. IsNew ways (λ l. Some w.place ≡ Some l) s v) [
         | inl old ↦ inl (k, old)
         | inr new ↦ inr (ap (λ u. Some u.place) new, ap (λ u. shape_of u.shape) (sym new) ∙ h)
@@ -61,9 +48,6 @@ keeps-both a b c f g k w e = g k w (f k w e)
 
 pub fine_fewer : (code : Compiled) (p : Predicate) (at : ℕ) (old new : List Way) → Keeps old new → AreFineBehind code p at new → AreFineBehind code p at old
 fine_fewer code p at old new k f j w e = f j w (k j w e)
-
-fine_further : (code : Compiled) (p : Predicate) (a b : ℕ) (ways : List Way) → a ≤ b → AreFineBehind code p a ways → AreFineBehind code p b ways
-fine_further code p a b ways le f k w e lt = f k w e (omega arith)
 
 fine_known : (code : Compiled) (p : Predicate) (from at : ℕ) (s : Shape) (ways : List Way) → IsKnown ways at s → from < at → AreFineBehind code p from ways → IsFineFrom code p at s
 fine_known code p from at s ways h lt f =
@@ -80,10 +64,6 @@ pub record IsOn (code : Compiled) (p : Predicate) (from : ℕ) (r : Shape) (old 
   pub keeps : Keeps old ways
   pub reached : (a : ℕ) (u : Shape) → AreReached code p a u old → Comes code a u from r → AreReached code p a u ways
   pub rest : AreFineBehind code p from ways → IsFineFrom code p at s → IsFineFrom code p from r
-
-pub on-start : (code : Compiled) (p : Predicate) (from : ℕ) (s : Shape) (ways : List Way) → IsOn code p from s ways from s ways
-on-start code p from s ways =
-    record { behind = omega arith; comes = (0, (refl, refl)); keeps = λ k w e. e; reached = λ a u h c. h; rest = λ f g. g }
 
 module _ (code : Compiled) (p : Predicate) (from at : ℕ) (r s t : Shape) (old ways new : List Way) (on : Bool) (start : p.start ≤ from) (o : IsOn code p from r old at s ways) (h : IsPlaceOf code p at) (x : IsPassed code at s t ways new on) where
   goes : GoesOn x.instr at
@@ -234,7 +214,7 @@ checking-end code p start ways number c e =
   where
     all : (k : ℕ) (w : Way) → slice_get ways k ≡ Some w → IsSettled code p w.place (shape_of w.shape) ways
     all k w f =
-        elim (lt-or-le k number) as (λ _. IsSettled code p w.place (shape_of w.shape) ways) [
+        elim (cases_lt k number) as (λ _. IsSettled code p w.place (shape_of w.shape) ways) [
           | inl l ↦ c.each k w l f
           | inr l ↦ absurd (none_further l)
         ]

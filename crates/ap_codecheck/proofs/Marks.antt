@@ -1,5 +1,5 @@
 -- Marks behind a write, and with more places.
-use Rattle.std.proofs.Common.{◌≡◌, ℕ, ◌+◌, ◌-◌, ◌<◌, ◌≤◌, ◌==◌, ◌&&◌, nat_le, Bool, true, false, cond, List, ◌++◌, [], ◌∷◌, length, get_or, take, replicate, refl, ap, ◌∙◌, arith}
+use Rattle.std.proofs.Common.{◌≡◌, ℕ, ◌+◌, ◌-◌, ◌<◌, ◌≤◌, ◌==◌, ◌&&◌, nat_le, Bool, true, false, cond, List, ◌++◌, [], ◌∷◌, length, get_or, take, replicate, refl, ap, arith}
 use Rattle.std.proofs.Math.Bool.{beq}
 use Rattle.std.specs.Cmp.Lexicographic.{pointwise}
 use Rattle.std.proofs.Math.ListN.{set}
@@ -7,9 +7,7 @@ use Rattle.std.proofs.Math.Path.{fun_ext}
 use Rattle.std.proofs.lemmas.Grind.{common_steps}
 use Rattle.std.proofs.lemmas.List.{take_all}
 use Rattle.std.proofs.lemmas.Bool.Decides.{nat_tests}
-use Rattle.ap_codecheck.specs.declared.shape.Shape.{Shape as Kept}
 use Rattle.ap_codecheck.specs.Shape.{entry}
-use Rattle.ap_codecheck.specs.Held.{shape_of}
 use Rattle.ap_instr.specs.Runs.{set as changed}
 use Rattle.ap_codecheck.specs.Marks.{marked}
 
@@ -37,15 +35,6 @@ marked-widened xs ys n m h e = rw (e, take_all) (marked-padded xs (n - m))
 pub marked-opened : (n m : ℕ) (xs ys : List Bool) → xs ≡ [] → m ≡ 0 → ys ≡ take (n + 1) xs ++ replicate (n + 1 - m) true → marked (set ys 0 false) ≡ (entry n).x
 marked-opened n m xs ys e z h =
     let same : ys ≡ replicate (n + 1) true = grind (arith, common_steps) in rw same (marked-entry n)
-
-pub same-shape : (a b : Kept) → a.x.items ≡ b.x.items → a.y.items ≡ b.y.items → a.room ≡ b.room → a.pending ≡ b.pending → a.target ≡ b.target → a.group ≡ b.group → shape_of a ≡ shape_of b
-same-shape a b e f g h i j =
-    ap (λ v. record { x = marked v; y = marked a.y.items; room = a.room; pending = a.pending; target = a.target; group = a.group }) e
-    ∙ ap (λ v. record { x = marked b.x.items; y = marked v; room = a.room; pending = a.pending; target = a.target; group = a.group }) f
-    ∙ ap (λ v. record { x = marked b.x.items; y = marked b.y.items; room = v; pending = a.pending; target = a.target; group = a.group }) g
-    ∙ ap (λ v. record { x = marked b.x.items; y = marked b.y.items; room = b.room; pending = v; target = a.target; group = a.group }) h
-    ∙ ap (λ v. record { x = marked b.x.items; y = marked b.y.items; room = b.room; pending = b.pending; target = v; group = a.group }) i
-    ∙ ap (λ v. record { x = marked b.x.items; y = marked b.y.items; room = b.room; pending = b.pending; target = b.target; group = v }) j
 
 -- marks that are told to be the same are
 pub marks_same : (xs ys : List Bool) → pointwise beq xs ys ≡ true → xs ≡ ys

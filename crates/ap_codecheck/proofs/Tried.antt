@@ -1,14 +1,13 @@
 -- The clauses of a predicate are tried one by one: what is fine of those that are left is fine of all.
-use Rattle.std.proofs.Common.{◌≡◌, ℕ, zero, suc, ◌+◌, ◌<◌, ◌≤◌, length, List, [], ◌∷◌, drop, Option, Some, refl, sym, ◌∙◌, ap, subst, inl, inr, ◌⊎◌, arith}
+use Rattle.std.proofs.Common.{◌≡◌, ℕ, zero, suc, ◌+◌, ◌<◌, ◌≤◌, length, List, [], ◌∷◌, drop, Option, Some, refl, sym, ◌∙◌, ap, subst, inl, inr, arith}
 use Rattle.std.specs.List.{slice_get}
 use Rattle.std.specs.Prelude.{Result, Ok, Err, IfErr, OnOk, IfSome}
-use Rattle.std.proofs.lemmas.Bool.{cases_order}
+use Rattle.std.proofs.lemmas.Bool.{cases_lt}
 use Rattle.ap_instr.specs.declared.instruction.Instr.{Instr}
 use Rattle.ap_instr.specs.declared.instruction.Instr.TheVariants.{Fail, Try, Retry, Trust}
 use Rattle.ap_instr.specs.declared.compiled.Predicate.{Predicate}
 use Rattle.ap_instr.specs.Code.{Compiled}
 use Rattle.ap_instr.specs.StandsFor.{tried, alternatives, clause_places}
-use Rattle.ap_index.proofs.Keyed.{drop_at}
 use Rattle.ap_codecheck.specs.declared.rule.Rule.{Rule}
 use Rattle.ap_codecheck.specs.declared.rule.Rule.TheVariants.{Operand, Target, Unset, Environment, Argument, Group, End, Called}
 use Rattle.ap_codecheck.specs.declared.rule.CodeErr.{CodeErr}
@@ -16,21 +15,9 @@ use Rattle.ap_codecheck.specs.declared.rule.CodeErr.TheVariants.{Bad, NoMemory}
 use Rattle.ap_codecheck.specs.Shape.{Shape, entry}
 use Rattle.ap_codecheck.specs.Paths.{IsPlaceOf, Begins, Reaches, Awaits}
 use Rattle.ap_codecheck.specs.Rules.{At, IsAlternative, IsSound}
-use Rattle.ap_codecheck.specs.Judged.{IsFine, IsFineFrom, FailsFrom, AreFine, AreAwaited, ArePathsFine, others, KeepsBelow, BreaksIn, KeepsAll, KeepsAllAt, Breaks}
-
-pub lt-or-eq : (k n : ℕ) → k < n + 1 → (k < n) ⊎ (k ≡ n)
-lt-or-eq k n h =
-    elim (cases_order k n) [
-      | inl e ↦ inr e
-      | inr w ↦ elim w [ inl a ↦ inl a | inr b ↦ absurd (omega arith) ]
-    ]
-
-pub lt-or-le : (k n : ℕ) → (k < n) ⊎ (n ≤ k)
-lt-or-le k n =
-    elim (cases_order k n) [
-      | inl e ↦ inr (omega arith)
-      | inr w ↦ elim w [ inl a ↦ inl a | inr b ↦ inr (omega arith) ]
-    ]
+use Rattle.ap_codecheck.specs.Judged.{IsFine, IsFineFrom, FailsFrom, AreFine, AreAwaited, ArePathsFine, others, KeepsBelow, BreaksIn, KeepsAll, KeepsAllAt}
+use Rattle.ap_term.proofs.Facts.{lt-or-eq}
+use Rattle.ap_term.proofs.Lists.{drop-here}
 
 none_held : (k m : ℕ) → slice_get {X = ℕ} [] k ≡ Some m → ⊥
 none_held k m e = cc
@@ -60,7 +47,7 @@ pub record Tries (code : Compiled) (p : Predicate) : Type 0 where
   pub tries : slice_get code.instructions p.start ≡ Some (Try first)
 
 pub places-tried : (code : Compiled) (p : Predicate) (first : ℕ) → slice_get code.instructions p.start ≡ Some (Try first) → clause_places code p ≡ first ∷ others code p
-places-tried code p first e = ap (alternatives p.start) (drop_at code.instructions p.start (Try first) e)
+places-tried code p first e = ap (alternatives p.start) (drop-here code.instructions p.start (Try first) e)
 
 -- where the choices before a place have been gone through
 pub record IsTrying (code : Compiled) (p : Predicate) (at : ℕ) : Type 0 where
@@ -69,10 +56,6 @@ pub record IsTrying (code : Compiled) (p : Predicate) (at : ℕ) : Type 0 where
   pub rest : AreFine code p (tried (drop at code.instructions)) → AreFine code p (others code p)
   pub part : (k l : ℕ) → slice_get (tried (drop at code.instructions)) k ≡ Some l → (m : ℕ) × (slice_get (others code p) m ≡ Some l)
 
-pub trying-start : (code : Compiled) (p : Predicate) → IsTrying code p (p.start + 1)
-trying-start code p =
-    record { behind = omega arith; between = λ k a b. absurd (omega (arith, a, b)); rest = λ f. f; part = λ k l e. (k, e) }
-
 fine_more : (code : Compiled) (p : Predicate) (l : ℕ) (ls : List ℕ) → IsFineFrom code p l (entry p.arity) → AreFine code p ls → AreFine code p (l ∷ ls)
 fine_more code p l ls f g zero m e =
     let same : l ≡ m = cc in
@@ -80,10 +63,10 @@ fine_more code p l ls f g zero m e =
 fine_more code p l ls f g (suc k) m e = g k m e
 
 retried : (code : Compiled) (at l : ℕ) → slice_get code.instructions at ≡ Some (Retry l) → tried (drop at code.instructions) ≡ l ∷ tried (drop (at + 1) code.instructions)
-retried code at l e = ap tried (drop_at code.instructions at (Retry l) e)
+retried code at l e = ap tried (drop-here code.instructions at (Retry l) e)
 
 trusted : (code : Compiled) (at l : ℕ) → slice_get code.instructions at ≡ Some (Trust l) → tried (drop at code.instructions) ≡ l ∷ []
-trusted code at l e = ap tried (drop_at code.instructions at (Trust l) e)
+trusted code at l e = ap tried (drop-here code.instructions at (Trust l) e)
 
 retry_between : (code : Compiled) (p : Predicate) (at l : ℕ) → IsTrying code p at → slice_get code.instructions at ≡ Some (Retry l) → (k : ℕ) → p.start < k → k < at + 1 → (m : ℕ) × (slice_get code.instructions k ≡ Some (Retry m))
 retry_between code p at l o e k a b =
@@ -130,16 +113,10 @@ awaited_before code p at l b o h e w le =
 
 pub trying-awaited : (code : Compiled) (p : Predicate) (at l : ℕ) → IsTrying code p at → IsPlaceOf code p at → slice_get code.instructions at ≡ Some (Trust l) → AreAwaited code p
 trying-awaited code p at l o h e b w =
-    elim (lt-or-le at b) as (λ _. IsPlaceOf code p b × At code b IsAlternative) [
+    elim (cases_lt at b) as (λ _. IsPlaceOf code p b × At code b IsAlternative) [
       | inl z ↦ (let found = w.between at o.behind z in absurd (trust_no_retry code at l found.0 e found.1))
       | inr z ↦ awaited_before code p at l b o h e w z
     ]
-
--- a clause behind the first one that fails
-pub trying-fails : (code : Compiled) (p : Predicate) (at l first : ℕ) (e : CodeErr) → IsTrying code p at → slice_get code.instructions p.start ≡ Some (Try first) → (slice_get (tried (drop at code.instructions)) 0 ≡ Some l) → FailsFrom code p l (entry p.arity) e → BreaksIn code p e
-trying-fails code p at l first e o t h f =
-    let found = o.part 0 l h in
-    fails-breaks code p l e (suc found.0, ap (λ ls. slice_get ls (suc found.0)) (places-tried code p first t) ∙ found.1) f
 
 pub retry-first : (code : Compiled) (at l : ℕ) → slice_get code.instructions at ≡ Some (Retry l) → slice_get (tried (drop at code.instructions)) 0 ≡ Some l
 retry-first code at l e = ap (λ ls. slice_get ls 0) (retried code at l e)
@@ -153,21 +130,18 @@ awaits code p at first o t = record { first = first; tries = t; behind = o.behin
 pub trying-stray : (code : Compiled) (p : Predicate) (at first : ℕ) (i : Instr) → IsTrying code p at → slice_get code.instructions p.start ≡ Some (Try first) → slice_get code.instructions at ≡ Some i → (IsAlternative i → ⊥) → BreaksIn code p (Bad at End)
 trying-stray code p at first i o t e no_alternative = λ k. no_alternative ((k.1 (awaits code p at first o t)).1 i e)
 
-pub trying-out : (code : Compiled) (p : Predicate) (at first : ℕ) → IsTrying code p at → slice_get code.instructions p.start ≡ Some (Try first) → (IsPlaceOf code p at → ⊥) → BreaksIn code p (Bad at End)
-trying-out code p at first o t out = λ k. out (k.1 (awaits code p at first o t)).0
-
 -- a predicate of one clause, or none
-alternatives_one : (at : ℕ) (i : Instr) (is : List Instr) → ((l : ℕ) → i ≡ Try l → ⊥) → (i ≡ Fail → ⊥) → alternatives at (i ∷ is) ≡ at ∷ []
+pub alternatives_one : (at : ℕ) (i : Instr) (is : List Instr) → ((l : ℕ) → i ≡ Try l → ⊥) → (i ≡ Fail → ⊥) → alternatives at (i ∷ is) ≡ at ∷ []
 alternatives_one at (Try l) is f g = absurd (f l refl)
 alternatives_one at Fail is f g = absurd (g refl)
 alternatives_one at _ is f g = refl
 
 pub places-one : (code : Compiled) (p : Predicate) (i : Instr) → slice_get code.instructions p.start ≡ Some i → ((l : ℕ) → i ≡ Try l → ⊥) → (i ≡ Fail → ⊥) → clause_places code p ≡ p.start ∷ []
 places-one code p i e f g =
-    ap (alternatives p.start) (drop_at code.instructions p.start i e) ∙ alternatives_one p.start i (drop (p.start + 1) code.instructions) f g
+    ap (alternatives p.start) (drop-here code.instructions p.start i e) ∙ alternatives_one p.start i (drop (p.start + 1) code.instructions) f g
 
 pub places-none : (code : Compiled) (p : Predicate) → slice_get code.instructions p.start ≡ Some Fail → clause_places code p ≡ []
-places-none code p e = ap (alternatives p.start) (drop_at code.instructions p.start Fail e)
+places-none code p e = ap (alternatives p.start) (drop-here code.instructions p.start Fail e)
 
 none_awaited : (code : Compiled) (p : Predicate) (i : Instr) → slice_get code.instructions p.start ≡ Some i → ((l : ℕ) → i ≡ Try l → ⊥) → AreAwaited code p
 none_awaited code p i e f at w = absurd (f w.first (same_some i (Try w.first) (sym e ∙ w.tries)))
@@ -229,10 +203,6 @@ pub err_more : {T : Type 0} (r : Result T CodeErr) (P Q : CodeErr → Type 0) �
 err_more (Ok x) P Q f h = tt
 err_more (Err e) P Q f h = f e h
 
-pub ok_more : {T E : Type 0} (r : Result T E) (P Q : Type 0) → (P → Q) → OnOk r P → OnOk r Q
-ok_more (Ok x) P Q f h = f h
-ok_more (Err e) P Q f h = tt
-
 -- a predicate whose operands and paths are fine keeps every rule
 reached_fine : (code : Compiled) (p : Predicate) (at : ℕ) (s : Shape) → ArePathsFine code p → Reaches code p at s → (rule : Rule) → IsFine rule code p at s
 reached_fine code p at s h r rule = h.clauses r.2.0 r.0 r.2.1 r.1 at s r.3 rule
@@ -248,10 +218,6 @@ keeps-all code p b h Group at = λ s r. reached_fine code p at s h r Group
 keeps-all code p b h End at =
     (λ s r. reached_fine code p at s h r End, h.awaited at, λ e. (let P : ℕ → Type 0 = λ k. IsPlaceOf code p k in subst P (sym e) h.start))
 
-pub breaks-code : (code : Compiled) (number : ℕ) (p : Predicate) → slice_get code.predicates number ≡ Some p → (e : CodeErr) → BreaksIn code p e → Breaks code e
-breaks-code code number p h NoMemory b = tt
-breaks-code code number p h (Bad at rule) b = λ k. b (k.each number p h)
-
 pub sound-all : (code : Compiled) → IfSome code.query (λ q. q < length code.predicates) → ((number : ℕ) → KeepsAllAt code number) → IsSound code
 sound-all code q h rule at = record { each = λ number p e. h number p e rule at; query = λ _ _. q }
 
@@ -262,9 +228,6 @@ query-known code number h e =
 
 same_predicate : (a b : Predicate) → Some a ≡ Some b → a ≡ b
 same_predicate a b e = cc
-
-pub keeps-numbered : (code : Compiled) (number : ℕ) (p : Predicate) → slice_get code.predicates number ≡ Some p → KeepsAll code p → KeepsAllAt code number
-keeps-numbered code number p e h q f = (let P : Predicate → Type 0 = λ r. KeepsAll code r in subst P (same_predicate p q (sym e ∙ f)) h)
 
 pub ok_both : {T E : Type 0} (r : Result T E) (P Q R : Type 0) → (P → Q → R) → OnOk r P → OnOk r Q → OnOk r R
 ok_both (Ok x) P Q R f h k = f h k

@@ -13,8 +13,8 @@ use Rattle.ap_codecheck.specs.Judged.{KeepsWith, KeepsBelow, IsFineFrom, IsJudge
 use Rattle.ap_codecheck.specs.Walk.{Fits, Walks, IsLaid}
 use Rattle.ap_codecheck.specs.Laws.{LaidLaw}
 use Rattle.ap_codecheck.proofs.Ways.{fine-on, leads-where, elsewhere-forward}
-use Rattle.ap_index.proofs.Keyed.{drop_at}
 use Rattle.ap_codecheck.proofs.Tried.{keeps-all, sound-all}
+use Rattle.ap_term.proofs.Lists.{drop-here}
 
 first_held : {A : Type 0} (xs : List A) (n : ℕ) (x : A) (ys : List A) → drop n xs ≡ x ∷ ys → slice_get xs n ≡ Some x
 first_held [] zero x ys e = cc
@@ -46,7 +46,7 @@ judged code at s i e f rule j g =
     subst P same (kept code at s i f rule)
 
 rest_held : {A : Type 0} (xs : List A) (n : ℕ) (x : A) (ys : List A) → drop n xs ≡ x ∷ ys → drop (n + 1) xs ≡ ys
-rest_held xs n x ys e = let laid = drop_at xs n x (first_held xs n x ys e) in cc
+rest_held xs n x ys e = let laid = drop-here xs n x (first_held xs n x ys e) in cc
 
 walked : (code : Compiled) (p : Predicate) (is : List Instr) (at n : ℕ) (s : Shape) → drop at (take p.end code.instructions) ≡ is → p.start ≤ at → Walks code at n is s → IsFineFrom code p (at + n) s
 walked code p [] at n s d h w = absurd w

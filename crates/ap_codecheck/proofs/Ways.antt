@@ -12,9 +12,9 @@ use Rattle.ap_codecheck.specs.declared.rule.CodeErr.{CodeErr}
 use Rattle.ap_codecheck.specs.declared.rule.CodeErr.TheVariants.{Bad, NoMemory}
 use Rattle.ap_codecheck.specs.Shape.{Shape, after}
 use Rattle.ap_codecheck.specs.Paths.{IsPlaceOf, Leads, Path}
-use Rattle.ap_codecheck.specs.Rules.{GoesOn, At}
+use Rattle.ap_codecheck.specs.Rules.{GoesOn}
 use Rattle.ap_codecheck.specs.Walk.{is_inner, elsewhere}
-use Rattle.ap_codecheck.specs.Judged.{KeepsWith, IsFine, IsFineFrom, FailsFrom, IsJudged, FailsAt}
+use Rattle.ap_codecheck.specs.Judged.{IsFine, IsFineFrom, FailsFrom, IsJudged}
 
 -- a path goes on by the instruction at its end
 pub Path-more : (code : Compiled) (n a b to : ℕ) (s t : Shape) (i : Instr) → Path code n a s b t → slice_get code.instructions b ≡ Some i → Leads i b to → Path code (suc n) a s to (after i t)
@@ -100,27 +100,6 @@ elsewhere-forward (Jump q) at l g h = let same : q ≡ l = cc in subst (λ k. at
 elsewhere-forward (CheckGround v q) at l g h = let same : q ≡ l = cc in subst (λ k. at < k) same g
 elsewhere-forward (CheckIndep v w q) at l g h = let same : q ≡ l = cc in subst (λ k. at < k) same g
 elsewhere-forward _ at l g h = cc
-
--- a rule that isn't kept at the shape makes the place not fine
-unfine : (code : Compiled) (p : Predicate) (at : ℕ) (s : Shape) (rule : Rule) → (At code at (λ i. KeepsWith rule code i at s) → ⊥) → IsFine rule code p at s → ⊥
-unfine code p at s End b f = b f.1
-unfine code p at s Operand b f = b f
-unfine code p at s Target b f = b f
-unfine code p at s Unset b f = b f
-unfine code p at s Environment b f = b f
-unfine code p at s Argument b f = b f
-unfine code p at s Group b f = b f
-unfine code p at s Called b f = b f
-
--- an error behind a path is one from where the path begins
-pub fails-here : (code : Compiled) (p : Predicate) (from at n : ℕ) (r s : Shape) (e : CodeErr) → Path code n from r at s → FailsAt code at s e → FailsFrom code p from r e
-fails-here code p from at n r s NoMemory q b = tt
-fails-here code p from at n r s (Bad to rule) q b =
-    let P : ℕ → Type 0 = λ k. FailsFrom code p from r (Bad k rule) in
-    subst P (sym b.0) (n, s, q, unfine code p at s rule b.1)
-
-pub fails-out : (code : Compiled) (p : Predicate) (from at n : ℕ) (r s : Shape) → Path code n from r at s → (IsPlaceOf code p at → ⊥) → FailsFrom code p from r (Bad at End)
-fails-out code p from at n r s q out = (n, s, q, λ f. out f.0)
 
 pub Path-append : (code : Compiled) (n m a b c : ℕ) (r s t : Shape) → Path code n a r b s → Path code m b s c t → (k : ℕ) × Path code k a r c t
 Path-append code zero m a b c r s t p q =

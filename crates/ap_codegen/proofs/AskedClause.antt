@@ -1,58 +1,34 @@
 -- The clause of a query, with the query's variables in its head.
 use Rattle.std.proofs.Common.{◌≡◌, ℕ, zero, suc, ◌+◌, ◌≤◌, nat_le, true, ◌&&◌, refl, ap, sym, ◌∙◌, subst, arith}
-use Rattle.std.proofs.lemmas.Bool.{and_parts, and_from}
+use Rattle.std.proofs.lemmas.Bool.{and_from}
 use Rattle.std.proofs.lemmas.Bool.Decides.{nat_tests}
 use Rattle.ap_term.specs.declared.fixed.TheConstants.{QUERY}
-use Rattle.ap_term.specs.Tree.{Tree, Trees, var, node, none, more, count_trees, push_tree}
+use Rattle.ap_term.specs.Tree.{var, node, count_trees, push_tree}
 use Rattle.ap_term.specs.Goals.{Clause}
 use Rattle.ap_term.specs.Search.{variables}
 use Rattle.std.specs.List.{list_all}
 use Rattle.ap_term.specs.WellFormed.{numbered, numbered_all, callable, well_formed_part, IsClause}
+use Rattle.ap_term.proofs.TreeLists.{count_trees-variables, applied-push}
+use Rattle.ap_term.proofs.WellFormed.{numbered_all-variables}
 use Rattle.ap_instr.specs.Runs.{applied}
 
 pub variables_more : (n : ℕ) → variables (n + 1) ≡ push_tree (variables n) (var (n + 1))
 variables_more n = let e : n + 1 ≡ suc n = omega arith in ap variables e ∙ ap (λ m. push_tree (variables n) (var m)) (sym e)
 
-count_push : (ts : Trees) (t : Tree) → count_trees (push_tree ts t) ≡ count_trees ts + 1
-count_push none t = refl
-count_push (more u ts) t = ap (λ n. n + 1) (count_push ts t)
-
-count_variables : (n : ℕ) → count_trees (variables n) ≡ n
-count_variables zero = refl
-count_variables (suc n) = count_push (variables n) (var (suc n)) ∙ omega (arith, count_variables n)
-
-numbered_push : (m : ℕ) (ts : Trees) (t : Tree) → numbered_all m ts ≡ true → numbered m t ≡ true → numbered_all m (push_tree ts t) ≡ true
-numbered_push m none t h k = ap (λ b. b && true) k
-numbered_push m (more u ts) t h k =
-    let b = and_parts (numbered m u) (numbered_all m ts) h in
-    ap (λ c. c && numbered_all m (push_tree ts t)) b.0 ∙ numbered_push m ts t b.1 k
-
-variables_numbered : (m n : ℕ) → n ≤ m → numbered_all m (variables n) ≡ true
-variables_numbered m zero l = refl
-variables_numbered m (suc n) l =
-    numbered_push m (variables n) (var (suc n)) (variables_numbered m n (omega arith)) (and_from (nat_le 1 (suc n)) (nat_le (suc n) m) (le_true 1 (suc n) (omega arith)) (le_true (suc n) m l))
-  where
-    le_true : (a b : ℕ) → a ≤ b → nat_le a b ≡ true
-    le_true a b l = grind (arith, nat_tests)
-
-pub applied_push : (a : ℕ) (ts : Trees) (t : Tree) → applied a (push_tree ts t) ≡ node a (push_tree ts t)
-applied_push a none t = refl
-applied_push a (more u ts) t = refl
-
 -- the head of a query with variables
 pub applied_variables : (a n : ℕ) → 1 ≤ n → node a (variables n) ≡ applied a (variables n)
 applied_variables a zero l = absurd (omega arith)
-applied_variables a (suc n) l = sym (applied_push a (variables n) (var (suc n)))
+applied_variables a (suc n) l = sym (applied-push a (variables n) (var (suc n)))
 
 head_fits : (m n : ℕ) → n ≤ m → n ≤ 255 → (callable (applied QUERY (variables n)) && numbered m (applied QUERY (variables n))) ≡ true
 head_fits m zero l k = refl
 head_fits m (suc n) l k =
-    let e : applied QUERY (variables (suc n)) ≡ node QUERY (variables (suc n)) = applied_push QUERY (variables n) (var (suc n)) in
-    let c : count_trees (variables (suc n)) ≡ suc n = count_variables (suc n) in
+    let e : applied QUERY (variables (suc n)) ≡ node QUERY (variables (suc n)) = applied-push QUERY (variables n) (var (suc n)) in
+    let c : count_trees (variables (suc n)) ≡ suc n = count_trees-variables (suc n) in
     ap (λ t. callable t && numbered m t) e
     ∙ and_from (nat_le 1 (count_trees (variables (suc n))) && nat_le (count_trees (variables (suc n))) 255) (numbered_all m (variables (suc n)))
     (and_from (nat_le 1 (count_trees (variables (suc n)))) (nat_le (count_trees (variables (suc n))) 255) (le_true 1 _ (omega arith)) (le_true _ 255 (omega arith)))
-    (variables_numbered m (suc n) l)
+    (numbered_all-variables m (suc n) l)
   where
     le_true : (a b : ℕ) → a ≤ b → nat_le a b ≡ true
     le_true a b l = grind (arith, nat_tests)

@@ -16,6 +16,7 @@ use Rattle.ap_codegen.specs.Temporary.{ends}
 use Rattle.ap_codegen.specs.Permanent.{name, is_builtin, goal_code, asking, gets}
 use Rattle.ap_codegen.specs.Grouped.{straight, IsEnded, see_check, see_checks, make, make_check, make_checks, pushes, side_by_side, in_turn, check_step, check_leads, ways, group_leads, is_last_part, body_leads, clause_leads}
 use Rattle.ap_codegen.proofs.Open.{is_quiet, Quiet, quiet_goal, quiet_gets}
+use Rattle.ap_codegen.proofs.PartLeads.{straight_both}
 
 -- ---- steps behind which others run
 
@@ -135,10 +136,6 @@ group_ended : (cs : List Check) (gs : Trees) (seen : List ℕ) (rest : List Lead
 group_ended cs gs seen rest h =
     subst IsEnded (sym (append_assoc (straight (make_checks cs seen)) (ways cs gs (see_checks cs seen)) rest))
     (straight_ended (make_checks cs seen) (ways cs gs (see_checks cs seen) ++ rest) (makes_goes cs seen) (ways_ended cs gs (see_checks cs seen) rest h))
-
-straight_both : (is js : List Step) → straight (is ++ js) ≡ straight is ++ straight js
-straight_both [] js = refl
-straight_both (i ∷ is) js = ap (λ ls. (i, 0) ∷ ls) (straight_both is js)
 
 body_ended : (ps : List Part) (seen : List ℕ) → IsEnded (body_leads ps seen)
 body_ended [] seen = (refl, refl)

@@ -14,6 +14,7 @@ use Rattle.ap_instr.specs.Steps.{skipped, steps_behind, steps_from}
 use Rattle.ap_instr.specs.Runs.{Reads, AsksOpenly}
 use Rattle.ap_instr.specs.Groups.{otherwise, AsksUnmarked}
 use Rattle.ap_instr.specs.StandsFor.{ReadsAt}
+use Rattle.ap_instr.proofs.Steps.{behind-passed}
 use Rattle.ap_codegen.specs.declared.steps.Step.{Step as Emitted}
 use Rattle.ap_codegen.specs.declared.steps.Step.TheVariants.{Jump as JumpStep, CheckGround as GroundStep, CheckIndep as IndepStep}
 use Rattle.ap_codegen.specs.Emitted.{step_of, label_of, Lead, lead_of, leads_of}
@@ -65,12 +66,6 @@ behind_flow code at zero (i ∷ is) =
     ap (λ k. said_by code i ∷ steps_behind code (at + 1) k is) (sym (passed_same code at i))
     ∙ ap (λ ts. said_by code i ∷ ts) (behind_flow code (at + 1) (passed_over (said_by code i, label_at at (special_of i))) is)
 
--- instructions that are passed over are left out
-behind_passed : (code : Compiled) (at n : ℕ) (is : List Instr) → steps_behind code at n is ≡ steps_behind code (at + n) 0 (drop n is)
-behind_passed code at zero is = ap (λ k. steps_behind code k 0 is) (let q : at ≡ at + 0 = omega arith in q)
-behind_passed code at (suc n) [] = refl
-behind_passed code at (suc n) (i ∷ is) = behind_passed code (at + 1) n is ∙ ap (λ k. steps_behind code k 0 (drop n is)) (let q : at + 1 + n ≡ at + suc n = omega arith in q)
-
 -- ---- instructions that say steps
 
 label_said : (at : ℕ) (e : Emitted) → label_at at (special_in at e) ≡ label_of e
@@ -95,7 +90,7 @@ said_flow : (code : Compiled) (at n : ℕ) (es : List Emitted) (is later : List 
     → steps_from code (at + n) ≡ flow n (leads_of es ++ leads_at code (at + length is) later)
 said_flow code at n es is later h d =
     ap (steps_behind code (at + n) 0) (sym (drop-drop n at code.instructions))
-    ∙ sym (behind_passed code at n (drop at code.instructions))
+    ∙ sym (behind-passed code at n (drop at code.instructions))
     ∙ ap (steps_behind code at n) d
     ∙ behind_flow code at n (is ++ later)
     ∙ ap (flow n) (said_leads code at es is later h)

@@ -8,6 +8,7 @@ use Rattle.ap_term.specs.Tree.{Tree, Trees, var, none, more, count_trees, append
 use Rattle.ap_term.specs.Vars.{has, add_vars, add_all_vars}
 use Rattle.ap_term.specs.Substitution.{instance, instance_all}
 use Rattle.ap_term.specs.WellFormed.{callable, all_callable}
+use Rattle.ap_term.proofs.Found.{has-added, has-kept}
 use Rattle.ap_tracked.specs.Marks.{ground_mark, apart_mark, group_mark, check_marks}
 use Rattle.ap_instr.specs.declared.instruction.Slot.TheVariants.{Y}
 use Rattle.ap_instr.specs.Step.{Step, put_variable, execute, proceed, jump, group, push, wait}
@@ -15,7 +16,7 @@ use Rattle.ap_instr.specs.Runs.{Runs, IsOpen, AsksOpenly, applied, spread, set, 
 use Rattle.ap_codegen.specs.Permanent.{name, is_builtin, goal_code, asking}
 use Rattle.ap_codegen.specs.Grouped.{see_check, see_checks, make, make_check, make_checks, pushes, side_by_side, in_turn, check_step}
 use Rattle.ap_codegen.proofs.Registers.{has_more}
-use Rattle.ap_codegen.proofs.PermanentReads.{AgreeOn, set_agrees, push_agrees, seen_same, grows, here, goal-only, goal-each, asks-only, asks-each}
+use Rattle.ap_codegen.proofs.PermanentReads.{AgreeOn, set_agrees, push_agrees, seen_same, goal-only, goal-each, asks-only, asks-each}
 use Rattle.ap_codegen.proofs.Open.{quiet_openly, quiet_goal, behind}
 
 -- Where the variables that were seen stand in Y, the steps ask for just these goals, over all values of the others, and test
@@ -59,7 +60,7 @@ module _ (is : List Step) (goals : (ℕ → Tree) → Trees) where
             let q = asks-only (is_builtin g) (name g) n is k.0 k.1 bs k.4 in
             let d = a.only q.1 k.1 q.0 q.3 in (
               d.0,
-              λ w o. k.2 w o ∙ d.1 w (grows g seen w o),
+              λ w o. k.2 w o ∙ d.1 w (has-kept g seen w o),
               q.2 ∙ ap (more (applied (name g) (spread k.0 1 n))) d.2 ∙ ap (λ t. more t (goals d.0)) (k.3 ∙ seen_same g seen k.1 d.0 d.1),
             );
         each = λ h x y o.
@@ -80,7 +81,7 @@ module _ (is : List Step) (goals : (ℕ → Tree) → Trees) where
             let q = k.4 in
             let d = a.only k.0 k.1 q.0 q.2 in (
               d.0,
-              λ w o. k.2 w o ∙ d.1 w (grows g seen w o),
+              λ w o. k.2 w o ∙ d.1 w (has-kept g seen w o),
               q.1 ∙ ap (more (applied (name g) (spread k.0 1 n))) d.2 ∙ ap (λ t. more t (goals d.0)) (k.3 ∙ seen_same g seen k.1 d.0 d.1),
             );
         each = λ h x y o.
@@ -126,8 +127,8 @@ SeesAll seen [] = Unit {0}
 SeesAll seen (c ∷ cs) = Sees seen c × SeesAll seen cs
 
 see_check-grows : (c : Check) (seen : List ℕ) (w : ℕ) → has seen w ≡ true → has (see_check c seen) w ≡ true
-see_check-grows (Ground v) seen w o = grows (var v) seen w o
-see_check-grows (Indep u v) seen w o = grows (var v) (add_vars (var u) seen) w (grows (var u) seen w o)
+see_check-grows (Ground v) seen w o = has-kept (var v) seen w o
+see_check-grows (Indep u v) seen w o = has-kept (var v) (add_vars (var u) seen) w (has-kept (var u) seen w o)
 
 see_checks-grows : (cs : List Check) (seen : List ℕ) (w : ℕ) → has seen w ≡ true → has (see_checks cs seen) w ≡ true
 see_checks-grows [] seen w o = o
@@ -135,10 +136,10 @@ see_checks-grows (c ∷ cs) seen w o = see_checks-grows cs (see_check c seen) w 
 
 pub checks_seen : (cs : List Check) (seen : List ℕ) → SeesAll (see_checks cs seen) cs
 checks_seen [] seen = tt
-checks_seen (Ground v ∷ cs) seen = (see_checks-grows cs (add_vars (var v) seen) v (here seen v), checks_seen cs (add_vars (var v) seen))
+checks_seen (Ground v ∷ cs) seen = (see_checks-grows cs (add_vars (var v) seen) v (has-added seen v), checks_seen cs (add_vars (var v) seen))
 checks_seen (Indep u v ∷ cs) seen =
     let both : List ℕ = add_vars (var v) (add_vars (var u) seen) in
-    ((see_checks-grows cs both u (grows (var v) (add_vars (var u) seen) u (here seen u)), see_checks-grows cs both v (here (add_vars (var u) seen) v)), checks_seen cs both)
+    ((see_checks-grows cs both u (has-kept (var v) (add_vars (var u) seen) u (has-added seen u)), see_checks-grows cs both v (has-added (add_vars (var u) seen) v)), checks_seen cs both)
 
 check_first : (is : List Step) (goals : (ℕ → Tree) → Trees) (c : Check) (seen : List ℕ) → Sees seen c → AsksFor seen is goals → AsksFor seen (check_step c ∷ is) (λ h. check_marks h (c ∷ []) (goals h))
 check_first is goals (Ground v) seen s a = record {

@@ -1,6 +1,6 @@
 -- Tables that grow, and what instructions say by them.
 use Rattle.std.proofs.Common.{◌≡◌, ℕ, zero, suc, ◌+◌, ◌<◌, ◌≤◌, Bool, true, false, if◌then◌else◌, ◌⊎◌, inl, inr, List, [], ◌∷◌, ◌++◌, length, take, get_or, slice_get, Some, refl, ap, sym, ◌∙◌, subst, arith}
-use Rattle.std.proofs.lemmas.List.{take_more}
+use Rattle.std.proofs.lemmas.List.{take_more, take_all}
 use Rattle.ap_instr.specs.declared.instruction.Instr.{Instr}
 use Rattle.ap_instr.specs.Code.{Compiled}
 use Rattle.ap_instr.specs.Step.{step_of as said_by}
@@ -55,12 +55,6 @@ said_turn code start steps i at step o0 o1 instr l e o a s f h =
     (subst (AreSaidAt code start (take i steps ++ step ∷ [])) (sym o)
     (said_push code start (take i steps) o0 step instr h (subst (λ n. IsSaidAt code n step instr) a (record { says = s; special = f }))))
 
-pub take_all : {A : Type 0} (xs : List A) (i : ℕ) → length xs ≤ i → take i xs ≡ xs
-take_all [] zero l = refl
-take_all [] (suc i) l = refl
-take_all (x ∷ xs) zero l = absurd (omega arith)
-take_all (x ∷ xs) (suc i) l = ap (λ l. x ∷ l) (take_all xs i (omega arith))
-
 -- no instruction is left
 pub said_end : (code : Compiled) (start : ℕ) (steps : List Emitted) (o : List Instr) (i : ℕ) → length steps ≤ i → AreSaidAt code start (take i steps) o → AreSaidAt code start steps o
-said_end code start steps o i l h = subst (λ es. AreSaidAt code start es o) (take_all steps i l) h
+said_end code start steps o i l h = subst (λ es. AreSaidAt code start es o) (take_all i steps l) h

@@ -1,34 +1,22 @@
 -- The predicates of clauses in a table, and those that are listed.
-use Rattle.std.proofs.Common.{◌≡◌, ℕ, zero, suc, ◌+◌, ◌<◌, ◌≤◌, nat_lt, ◌==◌, Bool, true, false, not, ◌&&◌, ◌||◌, is_some, is_none, if◌then◌else◌, inl, inr, List, [], ◌∷◌, ◌++◌, map, length, take, drop, get_or, slice_get, Option, Some, None, refl, ap, sym, ◌∙◌, subst, arith, append_assoc}
+use Rattle.std.proofs.Common.{◌≡◌, ℕ, zero, suc, ◌+◌, ◌<◌, ◌≤◌, nat_lt, Bool, true, false, not, ◌&&◌, ◌||◌, is_some, is_none, if◌then◌else◌, inl, inr, List, [], ◌∷◌, ◌++◌, map, length, take, drop, get_or, slice_get, Option, Some, None, refl, ap, sym, ◌∙◌, subst, arith, append_assoc}
 use Rattle.std.specs.List.{filter, list_any}
-use Rattle.std.proofs.lemmas.Bool.{false≢true, and_parts}
-use Rattle.std.proofs.lemmas.Bool.Decides.{Decides-eqb, nat_tests}
-use Rattle.std.proofs.lemmas.List.{drop_more, drop_all}
+use Rattle.std.proofs.lemmas.Bool.{false≢true}
+use Rattle.std.proofs.lemmas.Bool.Decides.{nat_tests}
+use Rattle.std.proofs.lemmas.List.{drop_more, drop_all, take_all}
 use Rattle.ap_term.specs.declared.builtins.Relation.{Relation}
-use Rattle.ap_term.specs.declared.fixed.TheConstants.{TRUE, FAIL}
-use Rattle.ap_term.specs.Tree.{Tree, Trees, atom, node, none, more, count_trees}
+use Rattle.ap_term.specs.Tree.{Tree}
 use Rattle.ap_term.specs.Substitution.{Subst}
-use Rattle.ap_term.specs.Builtins.{relation_named, named_answer}
+use Rattle.ap_term.specs.Builtins.{named_answer}
 use Rattle.ap_term.specs.Goals.{Clause, Program}
-use Rattle.ap_term.specs.WellFormed.{callable}
+use Rattle.ap_term.proofs.Lists.{same_key, own_key}
 use Rattle.ap_tracked.specs.Tracked.{IsOneOf}
 use Rattle.ap_instr.specs.declared.compiled.Predicate.{Predicate}
 use Rattle.ap_instr.specs.Table.{Key, is_key, key_of, head_key, first, predicates_of, AreTiled}
 use Rattle.ap_codegen.specs.Assembled.{Keeps}
 use Rattle.ap_codegen.specs.Heads.{with_key, with_heads}
-use Rattle.ap_codegen.specs.Permanent.{is_builtin_key}
 
 -- ---- keys
-
-same_key : (k l : Key) → is_key k l ≡ true → k ≡ l
-same_key k l e =
-    let b = and_parts (k.0 == l.0) (k.1 == l.1) e in
-    let f : k.0 ≡ l.0 = (Decides-eqb k.0 l.0).0 b.0 in
-    let g : k.1 ≡ l.1 = (Decides-eqb k.1 l.1).0 b.1 in
-    ap (λ n. (n, k.1)) f ∙ ap (λ n. (l.0, n)) g
-
-own_key : (k : Key) → is_key k k ≡ true
-own_key k = ap (λ b. b && (k.1 == k.1)) ((Decides-eqb k.0 k.0).1 refl) ∙ (Decides-eqb k.1 k.1).1 refl
 
 turned_key : (k l : Key) → is_key k l ≡ is_key l k
 turned_key k l = go (is_key k l) (is_key l k) refl refl
@@ -40,10 +28,6 @@ turned_key k l = go (is_key k l) (is_key l k) refl refl
     go false false e f = refl
 
 -- ---- heads
-
-is_some_none : {A : Type 0} (o : Option A) → is_none o ≡ not (is_some o)
-is_some_none None = refl
-is_some_none (Some x) = refl
 
 abbrev answer_by : Bool → Bool → Option (Option Subst)
 answer_by b d = if b then Some (Some []) else (if d then Some None else None)
@@ -59,51 +43,6 @@ named (Some r) t u = refl
 
 abbrev pub some_key : ℕ → ℕ → Option Key
 some_key a n = Some (a, n)
-
--- the predicate of a head, by its name and arity
-pub atom_key : (a : ℕ) → head_key (atom a) ≡ (if is_builtin_key (a, 0) then None else some_key a 0)
-atom_key a = ap (λ b. if b then some_key a 0 else None) (control_answer (a == TRUE) (a == FAIL)) ∙ go ((a == TRUE) || (a == FAIL)) (is_some (relation_named a))
-  where
-    go : (b d : Bool) → (if not b then some_key a 0 else None) ≡ (if (b && true) || (d && false) then None else some_key a 0)
-    go true d = refl
-    go false true = refl
-    go false false = refl
-
-pub node_key : (a : ℕ) (ts : Trees) → callable (node a ts) ≡ true → head_key (node a ts) ≡ (if is_builtin_key (a, count_trees ts) then None else some_key a (count_trees ts))
-node_key a none c = absurd (false≢true c)
-node_key a (more t none) c = go ((a == TRUE) || (a == FAIL)) (is_some (relation_named a))
-  where
-    go : (b d : Bool) → some_key a 1 ≡ (if (b && false) || (d && false) then None else some_key a 1)
-    go true true = refl
-    go true false = refl
-    go false true = refl
-    go false false = refl
-node_key a (more t (more u none)) c = ap (λ b. if b then some_key a 2 else None) (named (relation_named a) t u) ∙ go ((a == TRUE) || (a == FAIL)) (is_some (relation_named a))
-  where
-    go : (b d : Bool) → (if not d then some_key a 2 else None) ≡ (if (b && false) || (d && true) then None else some_key a 2)
-    go true true = refl
-    go true false = refl
-    go false true = refl
-    go false false = refl
-node_key a (more t (more u (more v ts))) c = go ((a == TRUE) || (a == FAIL)) (is_some (relation_named a)) (count_trees ts + 1 + 1 + 1 == 0) (count_trees ts + 1 + 1 + 1 == 2) zeroth second
-  where
-    n : ℕ
-    n = count_trees ts + 1 + 1 + 1
-
-    zeroth : (n == 0) ≡ false
-    zeroth = grind (arith, nat_tests)
-
-    second : (n == 2) ≡ false
-    second = grind (arith, nat_tests)
-
-    go : (b d e f : Bool) → e ≡ false → f ≡ false → some_key a n ≡ (if (b && e) || (d && f) then None else some_key a n)
-    go b d e f i j = ap (λ q. if q then None else some_key a n) (sym (ap (λ e. (b && e) || (d && f)) i ∙ ap (λ f. (b && false) || (d && f)) j ∙ none b d))
-      where
-        none : (b d : Bool) → ((b && false) || (d && false)) ≡ false
-        none true true = refl
-        none true false = refl
-        none false true = refl
-        none false false = refl
 
 -- ---- keys that are put into a table
 
@@ -298,12 +237,6 @@ take_short [] ys (suc m) l = absurd (omega arith)
 take_short (x ∷ xs) ys zero l = refl
 take_short (x ∷ xs) ys (suc m) l = ap (λ zs. x ∷ zs) (take_short xs ys m (omega arith))
 
-take_long : {A : Type 0} (xs : List A) (m : ℕ) → length xs ≤ m → take m xs ≡ xs
-take_long [] zero l = refl
-take_long [] (suc m) l = refl
-take_long (x ∷ xs) zero l = absurd (omega arith)
-take_long (x ∷ xs) (suc m) l = ap (λ zs. x ∷ zs) (take_long xs m (omega arith))
-
 length_push : {A : Type 0} (xs : List A) (x : A) → length (xs ++ x ∷ []) ≡ length xs + 1
 length_push [] x = refl
 length_push (y ∷ xs) x = let e = length_push xs x in omega (arith, e)
@@ -315,7 +248,7 @@ listed_push qs q m f h = push_filter (λ q. q.is_listed) qs q ∙ ap (λ b. if b
     go : (b : Bool) → nat_lt (length qs) m ≡ b → (if b then filter (λ q. q.is_listed) qs ++ q ∷ [] else filter (λ q. q.is_listed) qs) ≡ take m (qs ++ q ∷ [])
     go true e =
         let l : length qs < m = grind (arith, nat_tests) in
-        ap (λ l. l ++ q ∷ []) (h ∙ take_long qs m (omega arith)) ∙ sym (take_long (qs ++ q ∷ []) m (let n = length_push qs q in omega (arith, n)))
+        ap (λ l. l ++ q ∷ []) (h ∙ take_all m qs (omega arith)) ∙ sym (take_all m (qs ++ q ∷ []) (let n = length_push qs q in omega (arith, n)))
     go false e =
         let l : m ≤ length qs = grind (arith, nat_tests) in
         h ∙ sym (take_short qs (q ∷ []) m l)

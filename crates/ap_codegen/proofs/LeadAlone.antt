@@ -15,7 +15,7 @@ use Rattle.ap_instr.specs.Runs.{arguments}
 use Rattle.ap_codecheck.specs.Shape.{entry}
 use Rattle.ap_codegen.specs.declared.steps.Step.{Step as Emitted}
 use Rattle.ap_codegen.specs.declared.steps.Step.TheVariants.{Execute as ExecuteStep, Proceed as ProceedStep, Allocate as EnterStep, Deallocate as LeaveStep, Jump as JumpStep, CheckGround as GroundStep, CheckIndep as IndepStep, AllocParcall as GroupStep, PushGoal as PushStep, WaitAll as WaitStep}
-use Rattle.ap_codegen.specs.Emitted.{step_of, label_of, Lead, lead_of, leads_of}
+use Rattle.ap_codegen.specs.Emitted.{step_of, label_of, lead_of, leads_of}
 use Rattle.ap_codegen.specs.Temporary.{ends}
 use Rattle.ap_codegen.specs.Framed.{leaving}
 use Rattle.ap_codegen.specs.Grouped.{IsEnded, clause_leads}
@@ -26,6 +26,7 @@ use Rattle.ap_codegen.proofs.Walking.{plain_alone}
 use Rattle.ap_codegen.proofs.LeadPaces.{clause_led}
 use Rattle.ap_codegen.proofs.LeadRanges.{clause_range}
 use Rattle.ap_codegen.proofs.LeadWalks.{special_same, special_push, numbered_tail, said_at}
+use Rattle.ap_codegen.proofs.RelocatedCode.{ended_tail, label_below}
 
 -- ---- one instruction
 
@@ -99,14 +100,6 @@ last_special at _ t = absurd (false≢true t)
 
 -- ---- the steps of a clause
 
-label_within : (l : Lead) (ls : List Lead) → ends l.0 ≡ false → IsEnded (l ∷ ls) → l.1 < length ls
-label_within l [] t h = absurd (false≢true (sym t ∙ h.0))
-label_within l (m ∷ ls) t h = let d = h.1 in omega (arith, d)
-
-ended_next : (l : Lead) (ls : List Lead) → ends l.0 ≡ false → IsEnded (l ∷ ls) → IsEnded ls
-ended_next l [] t h = absurd (false≢true (sym t ∙ h.0))
-ended_next l (m ∷ ls) t h = h.2
-
 nothing_behind : (e : Emitted) (es : List Emitted) → ends (step_of e) ≡ true → IsEnded (leads_of (e ∷ es)) → es ≡ []
 nothing_behind e [] t h = refl
 nothing_behind e (f ∷ fs) t h = absurd (false≢true (sym h.0 ∙ t))
@@ -145,10 +138,10 @@ lead_alone code low end at k (e ∷ es) is l m d r num h =
         )
     go false t [] m h ih = absurd h
     go false t (i ∷ is) m h ih =
-        let few = label_within (lead_of e) (leads_of es) t d in
+        let few = label_below (lead_of e) (leads_of es) t d in
         let size = said_length code (at + 1) es is h.1 in (
           step_alone code at low end k e es i (omega (arith, l)) (omega (arith, m, few, size)) r.0 num h.0,
-          ih is (omega (arith, m)) (ended_next (lead_of e) (leads_of es) t d) h.1,
+          ih is (omega (arith, m)) (ended_tail (lead_of e) (leads_of es) t d) h.1,
         )
 
 alone_in : (code : Compiled) (low end : ℕ) (is : List Instr) → AreAlone code is → AreAloneIn code low end is

@@ -10,6 +10,7 @@ use Rattle.ap_term.specs.Tree.{Tree, Trees, var, int, atom, node, none, more, co
 use Rattle.ap_term.specs.Vars.{has, add_vars, add_all_vars}
 use Rattle.ap_term.specs.Goals.{Part, call as goal, group as parallel, Clause}
 use Rattle.ap_term.specs.WellFormed.{in_range, numbered, numbered_all, callable, all_callable, numbered_check, well_formed_part, IsClause}
+use Rattle.ap_term.proofs.Found.{has-added, has-kept}
 use Rattle.ap_instr.specs.declared.instruction.Slot.TheVariants.{X, Y}
 use Rattle.ap_instr.specs.declared.instruction.Instr.TheVariants.{GetStructure, PutStructure, PutVariable, Call, WaitAll}
 use Rattle.ap_instr.specs.Step.{Step, get_variable, get_value, get_constant, get_structure, put_variable, put_value, put_constant, put_structure, unify_variable, unify_value, unify_constant, call, execute, builtin, proceed, jump, push, wait}
@@ -20,7 +21,6 @@ use Rattle.ap_codegen.specs.Emitted.{Lead}
 use Rattle.ap_codegen.specs.Permanent.{name, is_builtin, place, inner, see, fill, fills, see_built, see_nested, build, nested, puts as put_all, goal_code, asking, gets}
 use Rattle.ap_codegen.specs.Grouped.{straight, see_check, see_checks, make, make_check, make_checks, pushes, side_by_side, in_turn, check_step, check_leads, ways, group_leads, is_last_part, body_leads, clause_leads}
 use Rattle.ap_codegen.specs.Paces.{PacesTo, inside, StandsIn, IsOpen, IsFull, one_pushed, PacesOn, PacesLeads}
-use Rattle.ap_codegen.proofs.PermanentReads.{here, grows}
 use Rattle.ap_codegen.proofs.Walking.{passed_group}
 use Rattle.ap_codegen.proofs.Pacing.{Fine, Sees, slot_of, sees_more, numbered_arguments, goal_paces, gets_paces, entered}
 
@@ -258,19 +258,19 @@ module _ (n : ℕ) where
       makes_led ds (see_check d seen) ls z ez b.1 fz oz c))
 
   check_grows : (d : Check) (seen : List ℕ) (w : ℕ) → has seen w ≡ true → has (see_check d seen) w ≡ true
-  check_grows (Ground x) seen w h = grows (var x) seen w h
-  check_grows (Indep x y) seen w h = grows (var y) (add_vars (var x) seen) w (grows (var x) seen w h)
+  check_grows (Ground x) seen w h = has-kept (var x) seen w h
+  check_grows (Indep x y) seen w h = has-kept (var y) (add_vars (var x) seen) w (has-kept (var x) seen w h)
 
   checks_grow : (cs : List Check) (seen : List ℕ) (w : ℕ) → has seen w ≡ true → has (see_checks cs seen) w ≡ true
   checks_grow [] seen w h = h
   checks_grow (d ∷ ds) seen w h = checks_grow ds (see_check d seen) w (check_grows d seen w h)
 
   first_seen : (d : Check) (ds : List Check) (seen : List ℕ) → CheckSeen d (see_checks ds (see_check d seen))
-  first_seen (Ground x) ds seen = checks_grow ds (add_vars (var x) seen) x (here seen x)
+  first_seen (Ground x) ds seen = checks_grow ds (add_vars (var x) seen) x (has-added seen x)
   first_seen (Indep x y) ds seen =
       let seen1 : List ℕ = add_vars (var x) seen in
       let seen2 : List ℕ = add_vars (var y) seen1 in
-      (checks_grow ds seen2 x (grows (var y) seen1 x (here seen x)), checks_grow ds seen2 y (here seen1 y))
+      (checks_grow ds seen2 x (has-kept (var y) seen1 x (has-added seen x)), checks_grow ds seen2 y (has-added seen1 y))
 
   checks_seen : (cs : List Check) (seen : List ℕ) → ChecksSeen cs (see_checks cs seen)
   checks_seen [] seen = tt

@@ -1,10 +1,11 @@
 -- Lists of numbers some of which are forgotten, one after another.
-use Rattle.std.proofs.Common.{◌≡◌, ◌≢◌, ℕ, zero, suc, ◌+◌, ◌<◌, ◌≤◌, ◌==◌, Bool, true, false, if◌then◌else◌, List, [], ◌∷◌, length, ◌⊎◌, inl, inr, refl, ap, sym, ◌∙◌, subst, get_or-set_same, get_or-set_other, arith}
+use Rattle.std.proofs.Common.{◌≡◌, ◌≢◌, ℕ, zero, suc, ◌+◌, ◌<◌, ◌≤◌, ◌==◌, Bool, true, false, if◌then◌else◌, List, [], ◌∷◌, length, inl, inr, refl, ap, sym, ◌∙◌, subst, get_or-set_same, get_or-set_other, arith}
 use Rattle.std.proofs.lemmas.Bool.{false≢true}
 use Rattle.std.proofs.lemmas.Bool.Decides.{Decides-eqb}
 use Rattle.std.proofs.Math.ListN.{set as set_at}
 use Rattle.ap_instr.specs.Runs.{set}
-use Rattle.ap_codegen.specs.Relocated.{by, Left}
+use Rattle.ap_codegen.specs.Relocated.{by}
+use Rattle.ap_term.proofs.Facts.{lt-or-eq}
 
 pub by_set : (ns : List ℕ) (p n w : ℕ) → p < length ns → by (set_at ns p n) w ≡ set (by ns) p n w
 by_set ns p n w l = go (w == p) refl
@@ -25,32 +26,11 @@ pub record IsLeft (old now : List ℕ) (i : ℕ) (P : ℕ → ℕ → Type 0) : 
   pub fine : (p : ℕ) → p < i → 0 < by now p → (by old p ≡ by now p) × P p (by now p)
   pub rest : (p : ℕ) → i ≤ p → by now p ≡ by old p
 
-pub left_begun : (ns : List ℕ) (P : ℕ → ℕ → Type 0) → IsLeft ns ns 0 P
-left_begun ns P = record { count = refl; fine = λ p l h. absurd (omega arith); rest = λ p l. refl }
-
-at_or_below : (p i : ℕ) → p < i + 1 → (p < i) ⊎ (p ≡ i)
-at_or_below p i l = go (p == i) refl
-  where
-    go : (b : Bool) → (p == i) ≡ b → (p < i) ⊎ (p ≡ i)
-    go true e = inr ((Decides-eqb p i).0 e)
-    go false e = let d : p ≢ i = λ k. false≢true (sym e ∙ (Decides-eqb p i).1 k) in inl (omega arith)
-
--- the next one is left
-pub left_fine : (old now : List ℕ) (i : ℕ) (P : ℕ → ℕ → Type 0) → IsLeft old now i P → P i (by now i) → IsLeft old now (i + 1) P
-left_fine old now i P h f = record {
-  count = h.count;
-  fine = λ p l k. elim (at_or_below p i l) as (λ _. (by old p ≡ by now p) × P p (by now p)) [
-    | inl b ↦ h.fine p b k
-    | inr e ↦ (sym (h.rest p (omega arith)), subst (λ p. P p (by now p)) (sym e) f)
-  ];
-  rest = λ p l. h.rest p (omega arith);
-}
-
 -- the next one is forgotten
 pub left_out : (old now : List ℕ) (i : ℕ) (P : ℕ → ℕ → Type 0) → i < length now → length (set_at now i 0) ≡ length now → IsLeft old now i P → IsLeft old (set_at now i 0) (i + 1) P
 left_out old now i P b n h = record {
   count = n ∙ h.count;
-  fine = λ p l k. elim (at_or_below p i l) as (λ _. (by old p ≡ by (set_at now i 0) p) × P p (by (set_at now i 0) p)) [
+  fine = λ p l k. elim (lt-or-eq p i l) as (λ _. (by old p ≡ by (set_at now i 0) p) × P p (by (set_at now i 0) p)) [
     | inl c ↦
         let e : by (set_at now i 0) p ≡ by now p = get_or-set_other now i p 0 0 (other p c) in
         let f = h.fine p c (subst (λ n. 0 < n) e k) in
@@ -65,17 +45,3 @@ left_out old now i P b n h = record {
 
     behind : (p : ℕ) → i + 1 ≤ p → p ≢ i
     behind p l e = omega arith
-
-below_or_not : (p i : ℕ) → (p < i) ⊎ (i ≤ p)
-below_or_not p zero = inr (omega arith)
-below_or_not p (suc i) = elim (below_or_not p i) as (λ _. (p < suc i) ⊎ (suc i ≤ p)) [ inl b ↦ inl (omega (arith, b)) | inr b ↦ next b (p == i) refl ]
-  where
-    next : i ≤ p → (c : Bool) → (p == i) ≡ c → (p < suc i) ⊎ (suc i ≤ p)
-    next b true e = inl (let d : p ≡ i = (Decides-eqb p i).0 e in omega (arith, d))
-    next b false e = let d : p ≢ i = λ k. false≢true (sym e ∙ (Decides-eqb p i).1 k) in inr (omega arith)
-
-pub left_done : (old now : List ℕ) (i : ℕ) (P : ℕ → ℕ → Type 0) → length now ≤ i → IsLeft old now i P → Left (by old) (by now) P
-left_done old now i P l h p k = elim (below_or_not p i) as (λ _. (by old p ≡ by now p) × P p (by now p)) [
-  | inl b ↦ h.fine p b k
-  | inr b ↦ absurd (let z : by now p ≡ 0 = by_beyond now p (omega (arith, b, l)) in omega (arith, k, z))
-]

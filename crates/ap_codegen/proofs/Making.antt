@@ -1,10 +1,11 @@
 -- Predicates made one after another.
-use Rattle.std.proofs.Common.{◌≡◌, ℕ, zero, suc, ◌+◌, ◌<◌, ◌≤◌, Bool, true, false, not, if◌then◌else◌, ◌⊎◌, inl, inr, List, [], ◌∷◌, ◌++◌, map, length, take, get_or, slice_get, Some, None, IfSome, refl, ap, sym, ◌∙◌, subst, arith, append_assoc}
+use Rattle.std.proofs.Common.{◌≡◌, ℕ, zero, suc, ◌+◌, ◌<◌, ◌≤◌, true, not, if◌then◌else◌, ◌⊎◌, inl, inr, List, [], ◌∷◌, ◌++◌, map, length, take, get_or, slice_get, Some, None, IfSome, refl, ap, sym, ◌∙◌, subst, arith, append_assoc}
 use Rattle.std.specs.List.{IsDistinct, filter}
-use Rattle.std.proofs.lemmas.List.{map-append, take_more}
+use Rattle.std.proofs.lemmas.List.{map-append, take_more, take_all}
 use Rattle.std.proofs.lemmas.Option.{slice_get_within}
 use Rattle.std.proofs.lemmas.Bool.{false≢true, not_from_true}
 use Rattle.ap_term.specs.Goals.{Clause, Program}
+use Rattle.ap_term.proofs.Lists.{filter-push}
 use Rattle.ap_instr.specs.declared.instruction.Instr.{Instr}
 use Rattle.ap_instr.specs.declared.instruction.Instr.TheVariants.{Call, Execute}
 use Rattle.ap_instr.specs.declared.compiled.Predicate.{Predicate}
@@ -18,7 +19,7 @@ use Rattle.ap_instr.specs.Table.{Key, is_key, key_of, AreTiled}
 use Rattle.ap_tracked.specs.Tracked.{IsOneOf}
 use Rattle.ap_codegen.specs.Assembled.{Numbered, Grows, Holds, Keeps, AreCallsApart, AreSequences, AreInstructionsOf, AreCoded, chosen, choices, together, heads, clauses_for, IsStanding, IsBlock, IsMade, StandsBeside}
 use Rattle.ap_codegen.specs.Permanent.{is_builtin_key}
-use Rattle.ap_codegen.proofs.Growing.{push_get, holds_less, take_all}
+use Rattle.ap_codegen.proofs.Growing.{push_get, holds_less}
 use Rattle.ap_codecheck.proofs.Walked.{laid-sound}
 use Rattle.ap_codegen.proofs.Straight.{both_sequences, sequence_at}
 use Rattle.ap_codegen.proofs.Laying.{length_both}
@@ -181,20 +182,9 @@ made_all t is qs p code m k made ended at ei ez eq em own first both e1 e2 k2 k1
 
 -- ---- the codes of a predicate's clauses
 
-filter_push : {A : Type 0} (p : A → Bool) (xs : List A) (x : A) → filter p (xs ++ x ∷ []) ≡ (if p x then filter p xs ++ x ∷ [] else filter p xs)
-filter_push p [] x = refl
-filter_push p (y ∷ xs) x = go (p y) (p x) (filter_push p xs x)
-  where
-    go : (b c : Bool) → filter p (xs ++ x ∷ []) ≡ (if c then filter p xs ++ x ∷ [] else filter p xs)
-        → (if b then y ∷ filter p (xs ++ x ∷ []) else filter p (xs ++ x ∷ [])) ≡ (if c then (if b then y ∷ filter p xs else filter p xs) ++ x ∷ [] else (if b then y ∷ filter p xs else filter p xs))
-    go true true e = ap (λ l. y ∷ l) e
-    go true false e = ap (λ l. y ∷ l) e
-    go false true e = e
-    go false false e = e
-
 clauses_take : (k : ℕ × ℕ) (cs : Program) (i : ℕ) (c : Clause) → i < length cs → c ≡ get_or cs i c
     → clauses_for k (take (i + 1) cs) ≡ (if heads k c.head then clauses_for k (take i cs) ++ c ∷ [] else clauses_for k (take i cs))
-clauses_take k cs i c l e = ap (clauses_for k) (take_more cs i c l) ∙ ap (λ d. clauses_for k (take i cs ++ d ∷ [])) (sym e) ∙ filter_push (λ c. heads k c.head) (take i cs) c
+clauses_take k cs i c l e = ap (clauses_for k) (take_more cs i c l) ∙ ap (λ d. clauses_for k (take i cs ++ d ∷ [])) (sym e) ∙ filter-push (λ c. heads k c.head) (take i cs) c
 
 -- one more clause in the index
 pub index_turn : (k : ℕ × ℕ) (cs : Program) (i : ℕ) (c : Clause) (old new : Program) → i < length cs → c ≡ get_or cs i c → new ≡ (if heads k c.head then old ++ c ∷ [] else old)
@@ -202,7 +192,7 @@ pub index_turn : (k : ℕ × ℕ) (cs : Program) (i : ℕ) (c : Clause) (old new
 index_turn k cs i c old new l e n o = n ∙ ap (λ p. if heads k c.head then p ++ c ∷ [] else p) o ∙ sym (clauses_take k cs i c l e)
 
 pub index_end : (k : ℕ × ℕ) (cs : Program) (i : ℕ) (old : Program) → length cs ≤ i → old ≡ clauses_for k (take i cs) → old ≡ clauses_for k cs
-index_end k cs i old l o = o ∙ ap (clauses_for k) (take_all cs i l)
+index_end k cs i old l o = o ∙ ap (clauses_for k) (take_all i cs l)
 
 coded_push : (code : Compiled) (at : ℕ) (bs : List (List Instr)) (cs : List Clause) (is : List Instr) (c : Clause) → AreCoded code at bs cs → AreInstructionsOf code (at + length (together bs)) c is → AreCoded code at (bs ++ is ∷ []) (cs ++ c ∷ [])
 coded_push code at [] [] is c h i = (let e : at + 0 ≡ at = omega arith in subst (λ n. AreInstructionsOf code n c is) e i, tt)
@@ -240,7 +230,7 @@ module _ {R : Type 0} (now : R → Clause) {V : Type 0} (items : V → List Inst
       ap (λ n. n + length (items v)) place ∙ together_push first (map items vs) (items v) ∙ ap (λ bs. first + length (together bs)) (sym (ap (map items) en ∙ map-append items vs (v ∷ [])))
 
   pub codes_end : (rs : List R) (i : ℕ) (vs : List V) (code : Compiled) (first : ℕ) → length rs ≤ i → AreCoded code first (map items vs) (map now (take i rs)) → AreCoded code first (map items vs) (map now rs)
-  codes_end rs i vs code first l h = subst (λ ds. AreCoded code first (map items vs) (map now ds)) (take_all rs i l) h
+  codes_end rs i vs code first l h = subst (λ ds. AreCoded code first (map items vs) (map now ds)) (take_all i rs l) h
 
 module _ {V : Type 0} (now : V → List Instr) where
   pub length_codes : (vs : List V) → length (map now vs) ≡ length vs

@@ -1,14 +1,14 @@
 -- Steps of a clause that ask for no goal, before which nothing asks for one; and goals that are called, which are no built-in ones.
-use Rattle.std.proofs.Common.{[], ◌≡◌, ℕ, ◌+◌, ◌==◌, Bool, true, false, not, ◌&&◌, ◌||◌, is_some, if◌then◌else◌, List, ◌∷◌, ◌++◌, refl, ap, ◌∙◌, arith}
+use Rattle.std.proofs.Common.{[], ◌≡◌, ℕ, ◌+◌, ◌==◌, Bool, true, false, not, ◌&&◌, ◌||◌, is_some, if◌then◌else◌, List, ◌∷◌, ◌++◌, refl, ap, ◌∙◌}
 use Rattle.std.specs.List.{list_all}
 use Rattle.std.proofs.lemmas.Bool.{false≢true}
-use Rattle.std.proofs.lemmas.Bool.Decides.{Decides-eqb}
 use Rattle.std.proofs.lemmas.List.Folds.{list_all-append}
 use Rattle.ap_term.specs.declared.fixed.TheConstants.{TRUE, FAIL}
 use Rattle.ap_term.specs.Tree.{Tree, Trees, var, int, atom, node, none, more, count_trees}
 use Rattle.ap_term.specs.Vars.{has, add_vars}
 use Rattle.ap_term.specs.Builtins.{relation_named}
 use Rattle.ap_term.specs.WellFormed.{callable}
+use Rattle.ap_term.proofs.Facts.{not_zero}
 use Rattle.ap_instr.specs.declared.instruction.Slot.TheVariants.{Y}
 use Rattle.ap_instr.specs.Step.{Step, get_variable, get_value, put_variable, put_value, put_structure, unify_variable, unify_value, call, execute, builtin, proceed, jump, check_ground, check_indep, group, push, wait}
 use Rattle.ap_instr.specs.Runs.{arguments, IsOpen, AsksOpenly}
@@ -135,13 +135,6 @@ behind true p n is o a = (o, a)
 behind false p n is o a = (o, a)
 
 -- ---- what is called
-
-not_zero : (n : ℕ) → (n + 1 == 0) ≡ false
-not_zero n = go (n + 1 == 0) refl
-  where
-    go : (b : Bool) → (n + 1 == 0) ≡ b → b ≡ false
-    go true e = absurd (let k : n + 1 ≡ 0 = (Decides-eqb (n + 1) 0).0 e in omega arith)
-    go false e = refl
 
 pub key_apart : (g : Tree) → callable g ≡ true → is_builtin g ≡ false → is_builtin_key (name g, count_trees (arguments g)) ≡ false
 key_apart (var x) c e = absurd (false≢true c)

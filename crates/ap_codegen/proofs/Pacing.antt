@@ -1,10 +1,11 @@
 -- The code of a head and of a goal keeps the rules of code one by one.
 use Rattle.std.proofs.Common.{[], ◌≡◌, ◌≢◌, ℕ, zero, suc, ◌+◌, ◌-◌, ◌<◌, ◌≤◌, nat_le, ◌==◌, Bool, true, false, ◌&&◌, if◌then◌else◌, List, ◌∷◌, ◌++◌, ◌⊎◌, inl, inr, Option, Some, None, refl, ap, sym, ◌∙◌, subst, arith, append_assoc}
-use Rattle.std.proofs.lemmas.Bool.{and_parts}
+use Rattle.std.proofs.lemmas.Bool.{and_parts, leb-true}
 use Rattle.std.proofs.lemmas.Bool.Decides.{Decides-eqb, nat_tests}
 use Rattle.ap_term.specs.Tree.{Tree, Trees, var, int, atom, node, none, more, count_trees}
 use Rattle.ap_term.specs.Vars.{has, add_vars, add_all_vars}
 use Rattle.ap_term.specs.WellFormed.{in_range, numbered, numbered_all, callable}
+use Rattle.ap_term.proofs.Facts.{not_zero}
 use Rattle.ap_instr.specs.declared.instruction.Slot.TheVariants.{X, Y}
 use Rattle.ap_instr.specs.declared.instruction.Instr.TheVariants.{PutStructure}
 use Rattle.ap_instr.specs.Step.{Step, get_variable, get_value, put_variable, put_value, put_structure, unify_variable, unify_value}
@@ -78,13 +79,6 @@ set_twice x a w b e = go (w == a)
 pub sees_more : (seen : List ℕ) (y : ℕ → Bool) (v : ℕ) → Sees seen y → Sees (seen ++ v ∷ []) (set y v true)
 sees_more seen y v s w h = elim (has-push seen v w h) [ inl p ↦ set_true y v w (s w p) | inr p ↦ ap (set y v true) (sym p) ∙ set_here y v true ]
 
-not_zero : (c : ℕ) → (c + 1 == 0) ≡ false
-not_zero c = go (c + 1 == 0) refl
-  where
-    go : (b : Bool) → (c + 1 == 0) ≡ b → b ≡ false
-    go true e = absurd (let k : c + 1 ≡ 0 = (Decides-eqb (c + 1) 0).0 e in omega arith)
-    go false e = refl
-
 not_one : (c : ℕ) → (c + 1 + 1 == 1) ≡ false
 not_one c = go (c + 1 + 1 == 1) refl
   where
@@ -107,15 +101,12 @@ behind_filling x y r g c = ap (λ b. passed b (filling x y r g (c + 1 + 1))) (no
 begun : (s : Shape) (f a c : ℕ) → after (PutStructure f (c + 1) a) s ≡ filling (set s.x a false) s.y s (Some a) (c + 1)
 begun s f a c = ap (λ b. record { x = set s.x a b; y = s.y; room = s.room; pending = c + 1; target = if b then None else Some a; group = s.group }) (not_zero c)
 
-below : (n k : ℕ) → nat_le n k ≡ true → n ≤ k
-below n k e = grind (arith, nat_tests)
-
 -- a permanent variable of the environment
 pub slot_of : (n v : ℕ) (s : Shape) → in_range n v ≡ true → s.room ≡ Some n → IsSlot (Y v) s
 slot_of n v s h r =
     let b = and_parts (nat_le 1 v) (nat_le v n) h in
-    let l : 1 ≤ v = below 1 v b.0 in
-    (omega arith, subst (IsRoomFor v) (sym r) (below v n b.1))
+    let l : 1 ≤ v = leb-true 1 v b.0 in
+    (omega arith, subst (IsRoomFor v) (sym r) (leb-true v n b.1))
 
 -- an argument's place is set, where it is a structure
 abbrev IsThere : Tree → ℕ → (ℕ → Bool) → Type 0

@@ -13,11 +13,11 @@ use Rattle.ap_instr.specs.declared.instruction.Slot.TheVariants.{Y}
 use Rattle.ap_instr.specs.Step.{Step, put_variable, call, execute, builtin, proceed, jump, check_ground, check_indep, group, push, wait}
 use Rattle.ap_instr.specs.Runs.{arguments}
 use Rattle.ap_codegen.specs.declared.steps.Step.{Step as Emitted}
-use Rattle.ap_codegen.specs.declared.steps.Step.TheVariants.{Jump, CheckGround, CheckIndep, AllocParcall, PushGoal, WaitAll}
+use Rattle.ap_codegen.specs.declared.steps.Step.TheVariants.{Jump, CheckGround, CheckIndep, AllocParcall, PushGoal}
 use Rattle.ap_codegen.specs.Emitted.{Lead, step_of, steps_of, lead_of, leads_of}
 use Rattle.ap_codegen.specs.Said.{AreNumbered}
 use Rattle.ap_codegen.specs.Permanent.{name, is_builtin, goal_code, asking}
-use Rattle.ap_codegen.specs.Grouped.{straight, make, make_check, make_checks, see_check, see_checks, pushes, side_by_side, in_turn, check_leads, ways, group_leads, Numbers, IsWritten}
+use Rattle.ap_codegen.specs.Grouped.{straight, make, make_check, make_checks, see_check, see_checks, side_by_side, in_turn, check_leads, ways, group_leads, Numbers, IsWritten}
 use Rattle.ap_codegen.proofs.Open.{Quiet, quiet_goal}
 
 -- whether a step leads to the next one alone and is none of a group's goals
@@ -158,34 +158,6 @@ pub pushed_numbers : (part new : List Emitted) (is : List Step) (k i p n : ℕ) 
 pushed_numbers part new is k i p n e s d q rest r =
     subst (λ es. AreNumbered k (es ++ rest)) (sym d)
     (subst (AreNumbered k) (sym (append_assoc part (PushGoal i p n ∷ []) rest)) (simple_numbers part k (ap (list_all is_simple) e ∙ s) (PushGoal i p n ∷ rest) (q, r)))
-
-pub numbers_append : (k i j : ℕ) (es fs new : List Emitted) → new ≡ es ++ fs → Numbers k i es → Numbers i j fs → Numbers k j new
-numbers_append k i j es fs new e a b rest r =
-    subst (λ es. AreNumbered k (es ++ rest)) (sym e) (subst (AreNumbered k) (sym (append_assoc es fs rest)) (a (fs ++ rest) (b rest r)))
-
-pub pushes_turn : (es part new : List Emitted) (g : Tree) (gs : Trees) (s0 s1 : List ℕ) (w : List Lead) → new ≡ es ++ part
-    → leads_of part ≡ straight (goal_code g s0 ++ push (name g) (count_trees (arguments g)) ∷ []) → s1 ≡ add_vars g s0 → leads_of es ++ straight (pushes (more g gs) s0) ≡ w → leads_of new ++ straight (pushes gs s1) ≡ w
-pushes_turn es part new g gs s0 s1 w n p s r =
-    let last : Step = push (name g) (count_trees (arguments g)) in
-    let behind : List Step = pushes gs (add_vars g s0) in
-    let first : List Step = goal_code g s0 ++ last ∷ [] in
-    ap (λ es. leads_of es ++ straight (pushes gs s1)) n
-    ∙ ap (λ s. leads_of (es ++ part) ++ straight (pushes gs s)) s
-    ∙ ap (λ ls. ls ++ straight behind) (leads_both es part ∙ ap (λ ls. leads_of es ++ ls) p)
-    ∙ append_assoc (leads_of es) (straight first) (straight behind)
-    ∙ ap (λ ls. leads_of es ++ ls) (sym (straight_both first behind) ∙ ap straight (append_assoc (goal_code g s0) (last ∷ []) behind))
-    ∙ r
-
--- the end of a group's goals
-pub sides_end : (es new : List Emitted) (gs : Trees) (seen s1 : List ℕ) (i : ℕ) → new ≡ es ++ WaitAll ∷ [] → leads_of es ++ straight (pushes none s1) ≡ straight (group (count_trees gs) ∷ pushes gs seen) → ((k : ℕ) → Numbers k i es)
-    → IsWritten new (straight (side_by_side gs seen))
-sides_end es new gs seen s1 i n e a = (
-  ap leads_of n
-      ∙ leads_both es (WaitAll ∷ [])
-      ∙ ap (λ ls. ls ++ leads_of (WaitAll ∷ [])) (sym (append-nil (leads_of es)) ∙ e)
-      ∙ sym (straight_both (group (count_trees gs) ∷ pushes gs seen) (wait ∷ [])),
-  λ k. subst (AreNumbered k) (sym n) (a k (WaitAll ∷ []) tt),
-)
 
 -- ---- a group
 

@@ -1,16 +1,18 @@
 -- A body with groups asks for its goals and marks, and each check of it leads to its group's goals one after another.
-use Rattle.std.proofs.Common.{◌≡◌, ℕ, suc, ◌+◌, Bool, true, false, ◌&&◌, if◌then◌else◌, List, [], ◌∷◌, ◌++◌, map, length, pos, refl, ap, sym, ◌∙◌, subst, arith, append_assoc}
+use Rattle.std.proofs.Common.{◌≡◌, ℕ, suc, ◌+◌, Bool, true, false, ◌&&◌, if◌then◌else◌, List, [], ◌∷◌, ◌++◌, map, length, refl, ap, sym, ◌∙◌, subst, arith, append_assoc}
 use Rattle.std.specs.List.{list_all}
 use Rattle.std.proofs.lemmas.Bool.{false≢true, and_parts}
 use Rattle.ap_term.specs.declared.clauses.Check.{Check}
 use Rattle.ap_term.specs.declared.clauses.Check.TheVariants.{Ground, Indep}
-use Rattle.ap_term.specs.Tree.{Tree, Trees, int, none, more, count_trees, append_trees}
+use Rattle.ap_term.specs.Tree.{Tree, Trees, none, more, count_trees, append_trees}
 use Rattle.ap_term.specs.Vars.{add_vars, add_all_vars}
 use Rattle.ap_term.specs.Substitution.{instance, instance_all}
 use Rattle.ap_term.specs.Goals.{Part, call as goal, group as parallel}
 use Rattle.ap_term.specs.WellFormed.{callable, all_callable, numbered, numbered_all, numbered_check, well_formed_part}
+use Rattle.ap_term.proofs.TreeLists.{same_integer}
 use Rattle.ap_tracked.specs.Tracked.{placed}
 use Rattle.ap_tracked.specs.Marks.{marked, check_marks, group_mark, Unmarked, past_ground, past_apart, past_group}
+use Rattle.ap_tracked.proofs.Marks.{past-checks}
 use Rattle.ap_instr.specs.Step.{Step, execute, jump}
 use Rattle.ap_instr.specs.Runs.{Runs, arguments}
 use Rattle.ap_codegen.specs.Emitted.{Lead}
@@ -67,25 +69,17 @@ ways_before c cs gs seen ls =
 
 -- ---- a group's marks
 
-check_unmarked : (h : ℕ → Tree) (cs : List Check) (n : ℕ) (ts : Trees) → Unmarked (check_marks h cs (more (group_mark n) ts)) ts
-check_unmarked h [] n ts = past_group n
-check_unmarked h (Ground v ∷ cs) n ts = past_ground (check_unmarked h cs n ts)
-check_unmarked h (Indep v w ∷ cs) n ts = past_apart (check_unmarked h cs n ts)
-
-same_number : (m n : ℕ) → int (pos m) ≡ int (pos n) → m ≡ n
-same_number m n e = cc
-
 -- what is left without the marks is just the goals
 only_unmarked : (h : ℕ → Tree) (cs : List Check) (n : ℕ) (ts ms us : Trees) → Unmarked ms us → ms ≡ check_marks h cs (more (group_mark n) ts) → us ≡ ts
-only_unmarked h [] n ts ms us (past_ground u) e = absurd (let k = same_number 0 (n + 2) (cc) in omega arith)
-only_unmarked h [] n ts ms us (past_apart u) e = absurd (let k = same_number 1 (n + 2) (cc) in omega arith)
+only_unmarked h [] n ts ms us (past_ground u) e = absurd (let k = same_integer 0 (n + 2) (cc) in omega arith)
+only_unmarked h [] n ts ms us (past_apart u) e = absurd (let k = same_integer 1 (n + 2) (cc) in omega arith)
 only_unmarked h [] n ts ms us (past_group m) e = cc
 only_unmarked h (Ground v ∷ cs) n ts ms us (past_ground u) e = only_unmarked h cs n ts _ us u (cc)
-only_unmarked h (Ground v ∷ cs) n ts ms us (past_apart u) e = absurd (let k = same_number 1 0 (cc) in omega arith)
-only_unmarked h (Ground v ∷ cs) n ts ms us (past_group m) e = absurd (let k = same_number (m + 2) 0 (cc) in omega arith)
-only_unmarked h (Indep v w ∷ cs) n ts ms us (past_ground u) e = absurd (let k = same_number 0 1 (cc) in omega arith)
+only_unmarked h (Ground v ∷ cs) n ts ms us (past_apart u) e = absurd (let k = same_integer 1 0 (cc) in omega arith)
+only_unmarked h (Ground v ∷ cs) n ts ms us (past_group m) e = absurd (let k = same_integer (m + 2) 0 (cc) in omega arith)
+only_unmarked h (Indep v w ∷ cs) n ts ms us (past_ground u) e = absurd (let k = same_integer 0 1 (cc) in omega arith)
 only_unmarked h (Indep v w ∷ cs) n ts ms us (past_apart u) e = only_unmarked h cs n ts _ us u (cc)
-only_unmarked h (Indep v w ∷ cs) n ts ms us (past_group m) e = absurd (let k = same_number (m + 2) 1 (cc) in omega arith)
+only_unmarked h (Indep v w ∷ cs) n ts ms us (past_group m) e = absurd (let k = same_integer (m + 2) 1 (cc) in omega arith)
 
 -- ---- a group
 
@@ -112,7 +106,7 @@ module _ (gs : Trees) (seen : List ℕ) (ls : List Lead) (goals : (ℕ → Tree)
       record {
         only = λ x y bs r.
             let d = turns_ask.only x y bs r in
-            (with_marks cs d.0, subst (Unmarked (with_marks cs d.0)) (sym d.2) (check_unmarked d.0 cs (count_trees gs) (after d.0)), from.each d.0 x y d.1);
+            (with_marks cs d.0, subst (Unmarked (with_marks cs d.0)) (sym d.2) (past-checks d.0 cs (count_trees gs) (after d.0)), from.each d.0 x y d.1);
         each = λ x y ms bs u r.
             let d = from.only x y ms r in
             subst (Runs (flow 0 (straight (in_turn gs seen) ++ ls)) none x y) (sym (only_unmarked d.0 cs (count_trees gs) (after d.0) ms bs u d.2)) (turns_ask.each d.0 x y d.1);

@@ -9,11 +9,12 @@ use Rattle.ap_term.specs.Substitution.{instance, instance_all}
 use Rattle.ap_term.specs.WellFormed.{callable}
 use Rattle.ap_term.proofs.Solutions.{instance_agree, instance_all_agree, or_left, or_right, same_var, same_test}
 use Rattle.ap_term.proofs.Solvable.{has-add_vars, has-add_all_vars}
+use Rattle.ap_term.proofs.Found.{has-push, has-kept}
 use Rattle.ap_instr.specs.declared.instruction.Slot.TheVariants.{Y}
 use Rattle.ap_instr.specs.Step.{Step, get_variable, get_value, put_variable, put_value, put_structure, unify_variable, unify_value, call, builtin}
 use Rattle.ap_instr.specs.Runs.{Runs, set, spread, lost, applied, arguments}
 use Rattle.ap_codegen.specs.Permanent.{name, see, see_all, inner, place, fills, see_built, see_nested, build, nested, puts, see_puts, goal_code, see_taken, see_opened, takes, get, opens, gets}
-use Rattle.ap_codegen.proofs.Registers.{set_here, has_more, has_first}
+use Rattle.ap_codegen.proofs.Registers.{set_here, has_more}
 
 -- the same below m, but for two numbers
 abbrev But : ℕ → ℕ → ℕ → (ℕ → Tree) → (ℕ → Tree) → Type 0
@@ -116,12 +117,6 @@ push_agrees seen y h v a w o = go (w == v) refl
     go true e = ap h (sym (same_var w v e))
     go false e = elim (has-push seen v w o) [ inl p ↦ a w p | inr p ↦ absurd (false≢true (sym e ∙ same_test w v (sym p))) ]
 
-pub here : (seen : List ℕ) (v : ℕ) → has (add_vars (var v) seen) v ≡ true
-here seen v = has-add_vars v (var v) seen (or_right (has seen v) (nat_eq v v) (same_test v v refl))
-
-pub grows : (t : Tree) (seen : List ℕ) (v : ℕ) → has seen v ≡ true → has (add_vars t seen) v ≡ true
-grows t seen v h = has-add_vars v t seen (or_left (has seen v) (occurs v t) h)
-
 -- maps that agree on what was seen of a tree make the same of it
 pub seen_same : (t : Tree) (seen : List ℕ) (y h : ℕ → Tree) → AgreeOn (add_vars t seen) y h → instance y t ≡ instance h t
 seen_same t seen y h a = instance_agree y h t (λ v o. a v (has-add_vars v t seen (or_right (has seen v) (occurs v t) o)))
@@ -133,7 +128,7 @@ seen_same_all ts seen y h a = instance_all_agree y h ts (λ v o. a v (has-add_al
 
 -- what was seen stays so
 see-grows : (t : Tree) (seen : List ℕ) (w : ℕ) → has seen w ≡ true → has (see t seen) w ≡ true
-see-grows (var v) seen w h = grows (var v) seen w h
+see-grows (var v) seen w h = has-kept (var v) seen w h
 see-grows (int z) seen w h = h
 see-grows (atom a) seen w h = h
 see-grows (node a us) seen w h = h
@@ -144,7 +139,7 @@ see_all-grows (more t ts) seen w h = see_all-grows ts (see t seen) w (see-grows 
 
 mutual
   see_built-grows : (t : Tree) (seen : List ℕ) (w : ℕ) → has seen w ≡ true → has (see_built t seen) w ≡ true
-  see_built-grows (var v) seen w h = grows (var v) seen w h
+  see_built-grows (var v) seen w h = has-kept (var v) seen w h
   see_built-grows (int z) seen w h = h
   see_built-grows (atom a) seen w h = h
   see_built-grows (node f ts) seen w h = see_all-grows ts (see_nested ts seen) w (see_nested-grows ts seen w h)
@@ -214,7 +209,7 @@ see_puts-has w (more t ts) seen o =
 -- the same of a term that is taken apart
 mutual
   see_taken-grows : (t : Tree) (seen : List ℕ) (w : ℕ) → has seen w ≡ true → has (see_taken t seen) w ≡ true
-  see_taken-grows (var v) seen w h = grows (var v) seen w h
+  see_taken-grows (var v) seen w h = has-kept (var v) seen w h
   see_taken-grows (int z) seen w h = h
   see_taken-grows (atom a) seen w h = h
   see_taken-grows (node f ts) seen w h = see_opened-grows ts (see_all ts seen) w (see_all-grows ts seen w h)
@@ -287,7 +282,7 @@ module _ (bs : Trees) (rest : List Step) (x : ℕ → Tree) (b m : ℕ) where
             k.0,
             λ w o. set_agrees seen y v u e w o ∙ k.1 w (has_more seen v w o),
             λ h a t.
-                ap (λ q. more q us) (sym (set_here y v u) ∙ k.1 v (has_first seen v) ∙ a v (see_all-grows ts (seen ++ v ∷ []) v (has_first seen v))) ∙ ap (more (h v)) (k.2 h a t),
+                ap (λ q. more q us) (sym (set_here y v u) ∙ k.1 v (has-push seen v) ∙ a v (see_all-grows ts (seen ++ v ∷ []) v (has-push seen v))) ∙ ap (more (h v)) (k.2 h a t),
             k.3,
           )
   fills-only (more (int z) ts) (more u us) seen y c r =
@@ -327,7 +322,7 @@ module _ (bs : Trees) where
           set x a r.0,
           set y v r.0,
           set_agrees seen y v r.0 e,
-          λ h g. set_here x a r.0 ∙ sym (set_here y v r.0) ∙ g v (has_first seen v),
+          λ h g. set_here x a r.0 ∙ sym (set_here y v r.0) ∙ g v (has-push seen v),
           λ w i n k. set_but x a w r.0 n,
           r.1,
         )
@@ -522,7 +517,7 @@ module _ (bs : Trees) (rest : List Step) where
             k.3,
             λ w o. set_agrees seen y v u e w o ∙ k.4 w (has_more seen v w o),
             λ h a t.
-                ap (λ q. more q us) (sym (set_here y v u) ∙ k.4 v (has_first seen v) ∙ a v (see_all-grows ts (seen ++ v ∷ []) v (has_first seen v))) ∙ ap (more (h v)) (k.5 h a t),
+                ap (λ q. more q us) (sym (set_here y v u) ∙ k.4 v (has-push seen v) ∙ a v (see_all-grows ts (seen ++ v ∷ []) v (has-push seen v))) ∙ ap (more (h v)) (k.5 h a t),
             k.6,
           )
   takes-only (more (int z) ts) (more u us) seen m x y c r =
@@ -570,7 +565,7 @@ module _ (bs : Trees) where
         go : (b : Bool) → has seen v ≡ b → Runs ((if b then get_value (Y v) a ∷ [] else get_variable (Y v) a ∷ []) ++ rest) none x y bs
             → (x' : ℕ → Tree) × (y' : ℕ → Tree) × Same m x x' × AgreeOn seen y y' × ((h : ℕ → Tree) → AgreeOn (if b then seen else seen ++ v ∷ []) y' h → x a ≡ h v) × Runs rest none x' y' bs
         go true e r = (x, y, λ w i. refl, λ w o. refl, λ h g. sym r.0 ∙ g v e, r.1)
-        go false e r = (x, set y v (x a), λ w i. refl, set_agrees seen y v (x a) e, λ h g. sym (set_here y v (x a)) ∙ g v (has_first seen v), r)
+        go false e r = (x, set y v (x a), λ w i. refl, set_agrees seen y v (x a) e, λ h g. sym (set_here y v (x a)) ∙ g v (has-push seen v), r)
     get-only (int z) a seen m rest x y r = (x, y, λ w i. refl, λ w o. refl, λ h g. r.0, r.1)
     get-only (atom c) a seen m rest x y r = (x, y, λ w i. refl, λ w o. refl, λ h g. r.0, r.1)
     get-only (node f ts) a seen m rest x y r =
@@ -614,7 +609,7 @@ module _ (bs : Trees) where
         k.0,
         k.1,
         λ w i. k.2 w i ∙ g.2 w i,
-        λ w o. g.3 w o ∙ k.3 w (grows t seen w o),
+        λ w o. g.3 w o ∙ k.3 w (has-kept t seen w o),
         ap (spread x a) e
             ∙ ap (λ u. more u (spread x (a + 1) (count_trees ts))) (g.4 g.1 (λ w o. refl) ∙ seen_same t seen g.1 k.1 k.3)
             ∙ ap (more (instance k.1 t)) (spread_under x g.0 (a + 1) (count_trees ts) (λ w i. sym (g.2 w (omega arith))) ∙ k.4),

@@ -1,5 +1,5 @@
 -- Clauses one behind another, with choice instructions before them, are read in order.
-use Rattle.std.proofs.Common.{◌≡◌, ℕ, zero, suc, ◌+◌, ◌<◌, ◌≤◌, ◌==◌, Bool, true, false, if◌then◌else◌, List, [], ◌∷◌, ◌++◌, length, drop, map, ◌⊎◌, inl, inr, refl, ap, sym, ◌∙◌, subst, arith, append_assoc}
+use Rattle.std.proofs.Common.{◌≡◌, ℕ, zero, suc, ◌+◌, ◌≤◌, ◌==◌, Bool, true, false, if◌then◌else◌, List, [], ◌∷◌, ◌++◌, length, drop, map, ◌⊎◌, inl, inr, refl, ap, sym, ◌∙◌, subst, arith, append_assoc}
 use Rattle.ap_term.proofs.TreeLists.{count_trees-instance_all}
 use Rattle.std.specs.List.{AllZip}
 use Rattle.std.proofs.lemmas.Bool.Decides.{Decides-eqb}
@@ -15,6 +15,7 @@ use Rattle.ap_instr.specs.Step.{Step, other}
 use Rattle.ap_instr.specs.Steps.{steps_behind}
 use Rattle.ap_instr.specs.Runs.{Reads, set, spread, arguments}
 use Rattle.ap_instr.specs.StandsFor.{ReadsAt, tried, alternatives}
+use Rattle.ap_instr.proofs.Registers.{set-above}
 use Rattle.ap_codegen.specs.Assembled.{AreSequences, AreCoded, places, retries, choices, chosen, together}
 use Rattle.ap_codegen.proofs.Registers.{set_here}
 use Rattle.ap_codegen.proofs.Straight.{both_sequences}
@@ -34,13 +35,6 @@ drop_twice (suc m) n (x ∷ xs) = let e : suc m + n ≡ suc (m + n) = omega arit
 
 -- ---- code that reads as a clause begins with an instruction of it
 
-set_above : (r : ℕ → Tree) (p w : ℕ) (t : Tree) → p < w → set r p t w ≡ r w
-set_above r p w t l = go (w == p) refl
-  where
-    go : (b : Bool) → (w == p) ≡ b → (if b then t else r w) ≡ r w
-    go true e = absurd (let k : w ≡ p = (Decides-eqb w p).0 e in omega arith)
-    go false e = refl
-
 spread_agree : (k l : ℕ → Tree) (p n : ℕ) → ((w : ℕ) → p ≤ w → k w ≡ l w) → spread k p n ≡ spread l p n
 spread_agree k l p zero h = refl
 spread_agree k l p (suc n) h = ap (λ t. more t (spread k (p + 1) n)) (h p (omega arith)) ∙ ap (more (l p)) (spread_agree k l (p + 1) n (λ w i. h w (omega arith)))
@@ -56,7 +50,7 @@ spread_loaded p (more t ts) =
     let e : count_trees ts + 1 ≡ suc (count_trees ts) = omega arith in
     ap (spread (loaded p (more t ts)) p) e
     ∙ ap (λ u. more u (spread (loaded p (more t ts)) (p + 1) (count_trees ts))) (set_here (loaded (p + 1) ts) p t)
-    ∙ ap (more t) (spread_agree (loaded p (more t ts)) (loaded (p + 1) ts) (p + 1) (count_trees ts) (λ w i. set_above (loaded (p + 1) ts) p w t (omega arith)) ∙ spread_loaded (p + 1) ts)
+    ∙ ap (more t) (spread_agree (loaded p (more t ts)) (loaded (p + 1) ts) (p + 1) (count_trees ts) (λ w i. set-above (loaded (p + 1) ts) p w t (omega arith)) ∙ spread_loaded (p + 1) ts)
 
 not_other : (is : List Step) (c : Clause) → Reads (other ∷ is) c → ⊥
 not_other is c r =

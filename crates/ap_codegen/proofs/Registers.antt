@@ -3,7 +3,7 @@ use Rattle.std.proofs.Common.{◌≡◌, ◌≢◌, ℕ, Bool, true, false, ◌|
 use Rattle.std.proofs.lemmas.Bool.{false≢true}
 use Rattle.std.proofs.lemmas.Bool.Decides.{Decides-eqb}
 use Rattle.ap_term.specs.Vars.{has}
-use Rattle.ap_term.proofs.Solutions.{same_test, or_left, or_right}
+use Rattle.ap_term.proofs.Solutions.{same_test}
 use Rattle.ap_instr.specs.declared.instruction.Slot.{Slot}
 use Rattle.ap_instr.specs.declared.instruction.Slot.TheVariants.{X, Y}
 use Rattle.ap_instr.specs.Runs.{set, read, set_x, set_y}
@@ -60,7 +60,3 @@ has_more (u ∷ seen) w v h = go (nat_eq u v) h (has_more seen w v)
     go : (b : Bool) → (b || has seen v) ≡ true → (has seen v ≡ true → has (seen ++ w ∷ []) v ≡ true) → (b || has (seen ++ w ∷ []) v) ≡ true
     go true h r = refl
     go false h r = r h
-
-pub has_first : (seen : List ℕ) (w : ℕ) → has (seen ++ w ∷ []) w ≡ true
-has_first [] w = or_left (nat_eq w w) false (same_test w w refl)
-has_first (u ∷ seen) w = or_right (nat_eq u w) (has (seen ++ w ∷ []) w) (has_first seen w)

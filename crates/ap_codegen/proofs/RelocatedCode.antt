@@ -102,7 +102,7 @@ dropped_on (get_variable v a) e = refl
 dropped_on (put_value v a) e = refl
 dropped_on _ e = absurd (false≢true e)
 
-ended_tail : (l : Lead) (ls : List Lead) → ends l.0 ≡ false → IsEnded (l ∷ ls) → IsEnded ls
+pub ended_tail : (l : Lead) (ls : List Lead) → ends l.0 ≡ false → IsEnded (l ∷ ls) → IsEnded ls
 ended_tail l [] e h = absurd (false≢true (sym e ∙ h.0))
 ended_tail l (m ∷ ls) e h = h.2
 
@@ -114,7 +114,7 @@ ended_last : (l : Lead) (ls : List Lead) → ends l.0 ≡ true → IsEnded (l �
 ended_last l [] e h = refl
 ended_last l (m ∷ ls) e h = absurd (false≢true (sym h.0 ∙ e))
 
-label_below : (l : Lead) (ls : List Lead) → ends l.0 ≡ false → IsEnded (l ∷ ls) → l.1 < length ls
+pub label_below : (l : Lead) (ls : List Lead) → ends l.0 ≡ false → IsEnded (l ∷ ls) → l.1 < length ls
 label_below l [] e h = absurd (false≢true (sym e ∙ h.0))
 label_below l (m ∷ ls) e h = let d = h.1 in omega (arith, d)
 

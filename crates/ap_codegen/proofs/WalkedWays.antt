@@ -71,19 +71,6 @@ kept_leap (kept (i, m) u o) cs k e n a = one i e
     one jump e = (k, forgets_itself k, (refl, (n, a)))
     one _ e = absurd (false≢true e)
 
--- any other change leads to the next one
-pub next_other : (c : Change) → is_end c ≡ false → is_test c ≡ false → is_leap c ≡ false → is_next c ≡ true
-next_other (dropped l) e t j = refl
-next_other (kept (i, m) u o) e t j = one i e t j
-  where
-    one : (i : Step) → ends i ≡ false → is_check i ≡ false → is_jump i ≡ false → leads_next i ≡ true
-    one jump e t j = absurd (false≢true (sym j))
-    one (check_ground v) e t j = absurd (false≢true (sym t))
-    one (check_indep v w) e t j = absurd (false≢true (sym t))
-    one (execute p n) e t j = absurd (false≢true (sym e))
-    one proceed e t j = absurd (false≢true (sym e))
-    one _ e t j = refl
-
 -- both ways of a group join
 pub way_joined : (w : Way) (n : ℕ) (there : Numbers) (c : Change) (cs : List Change) (j : Known) → Turns n there ≡ w → n ≡ 1 → checks_nothing c ≡ true → Forgets (known_by there) j → AreKept 0 j cs → WayKept w (c ∷ cs)
 way_joined w n there c cs j e d t f a = subst (λ w. WayKept w (c ∷ cs)) (ap (λ n. Turns n there) (sym d) ∙ e) ((t, tt), kept_forgets 0 cs (known_by there) j f a)

@@ -1,19 +1,19 @@
 -- The code of a whole clause leads as the clause's leads say.
-use Rattle.std.proofs.Common.{[], ◌≡◌, ℕ, suc, ◌+◌, ◌-◌, ◌<◌, ◌≤◌, ◌==◌, Bool, true, false, ◌&&◌, not, if◌then◌else◌, List, ◌∷◌, ◌++◌, map, length, drop, get_or, refl, ap, sym, ◌∙◌, subst, arith, append_assoc}
+use Rattle.std.proofs.Common.{[], ◌≡◌, ℕ, suc, ◌+◌, ◌-◌, ◌<◌, ◌==◌, Bool, true, false, ◌&&◌, not, if◌then◌else◌, List, ◌∷◌, ◌++◌, map, length, drop, get_or, refl, ap, sym, ◌∙◌, subst, arith, append_assoc}
 use Rattle.std.proofs.lemmas.Bool.{and_parts}
 use Rattle.std.specs.List.{list_all}
 use Rattle.std.proofs.lemmas.Bool.Decides.{Decides-eqb}
-use Rattle.std.proofs.lemmas.List.{drop_more, drop_all, length-drop}
+use Rattle.std.proofs.lemmas.List.{drop_more, length-drop}
 use Rattle.ap_term.specs.declared.clauses.Part.{Part as Held}
 use Rattle.ap_term.specs.Tree.{Tree, Trees, none, more, count_trees, append_trees}
 use Rattle.ap_term.specs.Vars.{add_vars, add_all_vars}
 use Rattle.ap_term.specs.GoalView.{part_of}
 use Rattle.ap_term.specs.Goals.{Part, call as goal, group as parallel, calls, Clause, plain_goals}
 use Rattle.ap_term.specs.WellFormed.{callable, all_callable, numbered, numbered_all, numbered_check, well_formed_part, IsClause}
-use Rattle.ap_instr.specs.Step.{Step, execute, proceed}
+use Rattle.ap_term.proofs.WellFormed.{all_callable-append}
+use Rattle.ap_instr.specs.Step.{Step, execute}
 use Rattle.ap_instr.specs.Runs.{arguments}
 use Rattle.ap_codegen.specs.declared.steps.Step.{Step as Emitted}
-use Rattle.ap_codegen.specs.declared.steps.Step.TheVariants.{Proceed}
 use Rattle.ap_codegen.specs.Emitted.{Lead, steps_of, leads_of}
 use Rattle.ap_codegen.specs.Sequential.{sequential}
 use Rattle.ap_codegen.specs.Permanent.{name, is_builtin, goal_code, asking, gets}
@@ -84,18 +84,7 @@ parts_last ps i left p g es k0 last new s0 w l e n f q z t d a =
     ∙ last_part g rest s0 (ap (ends_body (goal g)) (count_parts (drop (i + 1) ps) ∙ sym m) ∙ ap (λ p. ends_body p (left - 1)) (sym q) ∙ f) in
     subst (λ es. IsWritten es w) (sym d) (a last (subst (IsWritten last) (sym k) (simple_written last is (t ∙ ap (λ k. steps_of k ++ is) z) (simple_both (goal_code g s0) (execute (name g) (count_trees (arguments g)) ∷ []) (goal_simple g s0) refl))))
 
-pub parts_proceed : (ps : List Held) (i : ℕ) (es new : List Emitted) (s0 : List ℕ) (w : List Lead) → length ps ≤ i → new ≡ es ++ Proceed ∷ [] → Awaits es (body_leads (map part_of (drop i ps)) s0) w → IsWritten new w
-parts_proceed ps i es new s0 w l d a =
-    let k : body_leads (map part_of (drop i ps)) s0 ≡ straight (proceed ∷ []) = ap (λ qs. body_leads (map part_of qs) s0) (drop_all i ps l) in
-    subst (λ es. IsWritten es w) (sym d) (a (Proceed ∷ []) (subst (IsWritten (Proceed ∷ [])) (sym k) (simple_written (Proceed ∷ []) (proceed ∷ []) refl refl)))
-
 -- ---- a clause whose groups are their goals one after another
-
-append_callable : (ts us : Trees) → all_callable ts ≡ true → all_callable us ≡ true → all_callable (append_trees ts us) ≡ true
-append_callable none us h k = k
-append_callable (more t ts) us h k =
-    let b = and_parts (callable t) (all_callable ts) h in
-    ap (λ c. c && all_callable (append_trees ts us)) b.0 ∙ append_callable ts us b.1 k
 
 goals_callable : (n : ℕ) (ps : List Part) → list_all (well_formed_part n) ps ≡ true → all_callable (plain_goals ps) ≡ true
 goals_callable n [] h = refl
@@ -108,7 +97,7 @@ goals_callable n (parallel cs ts ∷ ps) h =
     let d = and_parts (list_all (numbered_check n) cs) _ b.0 in
     let e = and_parts _ (all_callable ts && numbered_all n ts) d.1 in
     let f = and_parts (all_callable ts) (numbered_all n ts) e.1 in
-    append_callable ts (plain_goals ps) f.0 (goals_callable n ps b.1)
+    all_callable-append ts (plain_goals ps) f.0 (goals_callable n ps b.1)
 
 goals_numbered : (n : ℕ) (ps : List Part) → list_all (well_formed_part n) ps ≡ true → numbered_all n (plain_goals ps) ≡ true
 goals_numbered n [] h = refl

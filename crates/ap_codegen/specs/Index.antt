@@ -1,15 +1,12 @@
 -- The clauses that stand in an index at a predicate's name and arity.
-use Rattle.std.specs.Prelude.{◌≡◌, ℕ, [], map, Option, Some, None}
+pub use Rattle.ap_term.specs.GoalView.{listed}
+use Rattle.std.specs.Prelude.{◌≡◌, ℕ}
 use Rattle.std.specs.Borrow.{Bor}
 use Rattle.std.proofs.Common.{Vec, Global}
 use Rattle.indexmap.specs.IndexMap.{IndexMap, get}
 use Rattle.ap_term.specs.Goals.{Clause, Program}
 use Rattle.ap_instr.specs.Table.{is_key}
 use Rattle.ap_codegen.specs.Assembled.{clauses_for}
-
-abbrev pub listed : Option (Vec (Bor Clause) Global) → Program
-listed None = []
-listed (Some v) = map (λ c. c.now) v.items
 
 abbrev pub clauses_at : {S : Type 0} → IndexMap (ℕ × ℕ) (Vec (Bor Clause) Global) S → ℕ × ℕ → Program
 clauses_at m k = listed (get is_key m k)

@@ -1,7 +1,8 @@
 -- The instructions of a clause each of whose variables has a place of its own in the environment: variable v in Y v.
 -- Temporaries stand in the X registers behind the arguments. Each is used again once what stood there is done with, so
 -- that there are as many as structures that wait for others: a list takes a few, however long it is.
-use Rattle.std.specs.Prelude.{[], ℕ, zero, suc, ◌+◌, Bool, false, ◌&&◌, ◌||◌, ◌==◌, is_some, if◌then◌else◌, List, ◌∷◌, ◌++◌}
+pub use Rattle.ap_term.specs.Builtins.{is_builtin}
+use Rattle.std.specs.Prelude.{[], ℕ, zero, suc, ◌+◌, Bool, ◌&&◌, ◌||◌, ◌==◌, is_some, if◌then◌else◌, List, ◌∷◌, ◌++◌}
 use Rattle.ap_term.specs.declared.fixed.TheConstants.{TRUE, FAIL}
 use Rattle.ap_term.specs.Tree.{Tree, Trees, var, int, atom, node, none, more, count_trees}
 use Rattle.ap_term.specs.Vars.{has, add_vars}
@@ -15,12 +16,6 @@ name (var x) = 0
 name (int z) = 0
 name (atom a) = a
 name (node a ts) = a
-
--- whether a goal is one that an instruction runs
-abbrev pub is_builtin : Tree → Bool
-is_builtin (atom a) = (a == TRUE) || (a == FAIL)
-is_builtin (node a ts) = (count_trees ts == 2) && is_some (relation_named a)
-is_builtin _ = false
 
 -- whether goals of this name and so many arguments are such
 abbrev pub is_builtin_key : ℕ × ℕ → Bool

@@ -3,20 +3,17 @@ use Rattle.std.proofs.Common.{◌≡◌, ℕ, zero, suc, ◌+◌, ◌-◌, ◌<�
 use Rattle.std.specs.List.{filter, flat_map}
 use Rattle.std.proofs.lemmas.List.Elements.{filter-append}
 use Rattle.std.proofs.lemmas.Grind.{flat_map-append}
+use Rattle.std.proofs.lemmas.List.{map-append}
 use Rattle.ap_conditions.specs.FullCondition.{numbers}
 
 pub numbers-more : (n : ℕ) → numbers (n + 1) ≡ numbers n ++ (n + 1) ∷ []
 unfolding numbers
 numbers-more n = ap numbers (add-one n) ∙ ap (λ m. numbers n ++ m ∷ []) (sym (add-one n))
 
-map_both : {A B : Type 0} (g : A → B) (xs ys : List A) → map g (xs ++ ys) ≡ map g xs ++ map g ys
-map_both g [] ys = refl
-map_both g (x ∷ xs) ys = ap (λ l. g x ∷ l) (map_both g xs ys)
-
 pub picked-more : {B : Type 0} (g : ℕ → B) (p : ℕ → Bool) (n : ℕ) → map g (filter p (numbers (n + 1))) ≡ map g (filter p (numbers n)) ++ (if p (n + 1) then g (n + 1) ∷ [] else [])
 picked-more {B = B} g p n =
     ap (λ l. map g (filter p l)) (numbers-more n) ∙ ap (map g) (filter-append p (numbers n) ((n + 1) ∷ []))
-    ∙ map_both g (filter p (numbers n)) (filter p ((n + 1) ∷ [])) ∙ ap (λ l. map g (filter p (numbers n)) ++ l) (one (p (n + 1)) refl)
+    ∙ map-append g (filter p (numbers n)) (filter p ((n + 1) ∷ [])) ∙ ap (λ l. map g (filter p (numbers n)) ++ l) (one (p (n + 1)) refl)
   where
     one : (b : Bool) → p (n + 1) ≡ b → map g (filter p ((n + 1) ∷ [])) ≡ (if b then g (n + 1) ∷ [] else [])
     one true e = ap (λ c. map g (if c then (n + 1) ∷ [] else [])) e

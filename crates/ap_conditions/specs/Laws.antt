@@ -1,5 +1,6 @@
 -- What conditions are worth.
-use Rattle.std.specs.Prelude.{◌≡◌, ◌↔◌, ℕ, true, ◌⊎◌, IsTrue, List, [], ◌∷◌}
+pub use Rattle.ap_term.specs.Lists.{IsOneOf as IsIn}
+use Rattle.std.specs.Prelude.{◌≡◌, ◌↔◌, ℕ, true, IsTrue}
 use Rattle.ap_term.specs.declared.clauses.Check.{Check}
 use Rattle.ap_term.specs.Tree.{Tree, Trees}
 use Rattle.ap_term.specs.WellFormed.{numbered_all}
@@ -8,10 +9,6 @@ use Rattle.ap_absunify.specs.declared.states.State.{State}
 use Rattle.ap_absunify.specs.State.{Covers}
 use Rattle.ap_conditions.specs.FullCondition.{full_condition}
 use Rattle.ap_conditions.specs.Simplified.{gives, never}
-
-abbrev pub IsIn : {A : Type 0} → A → List A → Type 0
-IsIn x [] = ⊥
-IsIn x (y ∷ ys) = (x ≡ y) ⊎ IsIn x ys
 
 -- the list has exactly the checks of the full condition
 abbrev pub FullListLaw : Type 0

@@ -5,6 +5,7 @@ use Rattle.std.specs.List.{AllByRecursion}
 use Rattle.std.proofs.lemmas.Bool.{eqb-true, and_from}
 use Rattle.std.proofs.lemmas.Bool.Decides.{Decides-int_eq}
 use Rattle.ap_term.specs.Tree.{Tree, Trees, atom, node, count_trees}
+use Rattle.ap_term.proofs.Lists.{drop-here}
 use Rattle.ap_cells.specs.declared.cells.Raw.{Raw}
 use Rattle.ap_instr.specs.declared.instruction.Instr.{Instr}
 use Rattle.ap_instr.specs.declared.instruction.Instr.TheVariants.{GetConstant, GetInteger, GetStructure, Allocate, Try}
@@ -17,7 +18,6 @@ use Rattle.ap_index.specs.declared.key.Key.{Key}
 use Rattle.ap_index.specs.declared.key.Key.TheVariants.{Atom, Integer, Structure}
 use Rattle.ap_index.specs.Index.{AsksOther, LeavesOthers, named, tried_from, named_from, first_for, IsRowOf}
 use Rattle.ap_index.specs.declared.row.Row.{Row}
-use Rattle.ap_index.proofs.Keyed.{drop_at}
 use Rattle.ap_match.specs.Fits.{Fits}
 use Rattle.ap_steps.specs.Moves.{Asked}
 use Rattle.ap_standing.specs.Machine.{places_from}
@@ -89,7 +89,7 @@ tried-places code (Some at) = refl
 
 -- the clauses of a predicate whose row begins there
 row-places : (code : Compiled) (q : Predicate) (r : Row) → IsRowOf code q.start r → clause_places code q ≡ named_from code (Some q.start)
-row-places code q r h = let e = drop_at code.instructions q.start (Try h.clause) h.begins in ap (alternatives q.start) e ∙ sym (ap named e)
+row-places code q r h = let e = drop-here code.instructions q.start (Try h.clause) h.begins in ap (alternatives q.start) e ∙ sym (ap named e)
 
 -- of those the ones from the choice on that the row has for the key
 pub row-passes : (code : Compiled) (cs : List Raw) (x : ℕ → ℕ) (key : Key) → ((k : ℕ → Tree) → Fits cs k → IsKeyOf key (k (x 1))) → (q : Predicate) (r : Row) → IsRowOf code q.start r → PassesOver code cs x (clause_places code q) (named_from code (first_for r key))

@@ -1,13 +1,9 @@
 -- Going back to a mark.
 use Rattle.std.proofs.Common.{◌≡◌, ℕ, ◌+◌, ◌<◌, ◌≤◌, List, [], ◌∷◌, length, drop, get_or, refl, ap, sym, ◌∙◌, arith}
-use Rattle.std.proofs.lemmas.List.{length-take, length-drop, length-set, get_or-drop, get_or-set_same, take_all}
-use Rattle.ap_cells.specs.declared.cells.Raw.{Raw}
+use Rattle.std.proofs.lemmas.List.{length-take, length-drop, get_or-drop, get_or-set_same, take_all}
 use Rattle.ap_cells.specs.declared.cells.Raw.TheVariants.{Free}
 use Rattle.ap_cells.specs.Store.{Store, freed, undone, IsMark, IsTrail, Keeps}
-
-length-freed : (xs : List ℕ) (cs : List Raw) → length (freed xs cs) ≡ length cs
-length-freed [] cs = refl
-length-freed (x ∷ xs) cs = length-set (freed xs cs) x Free ∙ length-freed xs cs
+use Rattle.ap_cells.proofs.Stores.{freed-length}
 
 -- a mark that leads back to the very cells is one of all the cells and of the whole trail
 pub mark-whole : (v : Store) (n t : ℕ) → IsTrail v.cells v.trail → IsMark v.cells v.trail n t → undone v n t ≡ v.cells → (n ≡ length v.cells) × (t ≡ length v.trail)
@@ -17,12 +13,12 @@ mark-whole v n t trail mark e = (cells_whole, trail_whole)
     cells_whole =
         let l = ap length e in
         let k = length-take n (freed (drop t v.trail) v.cells) in
-        let m = length-freed (drop t v.trail) v.cells in
+        let m = freed-length (drop t v.trail) v.cells in
         let f : n ≤ length v.cells = mark.fewer in
         omega arith
 
     all_cells : freed (drop t v.trail) v.cells ≡ v.cells
-    all_cells = sym (take_all n (freed (drop t v.trail) v.cells) (let m = length-freed (drop t v.trail) v.cells in let c = cells_whole in omega arith)) ∙ e
+    all_cells = sym (take_all n (freed (drop t v.trail) v.cells) (let m = freed-length (drop t v.trail) v.cells in let c = cells_whole in omega arith)) ∙ e
 
     go : (xs : List ℕ) → drop t v.trail ≡ xs → t ≡ length v.trail
     go [] d = let l = ap length d in let k = length-drop t v.trail in let f : t ≤ length v.trail = mark.earlier in omega arith
@@ -31,7 +27,7 @@ mark-whole v n t trail mark e = (cells_whole, trail_whole)
         let k = length-drop t v.trail in
         let here : x ≡ get_or v.trail t 0 = ap (λ ys. get_or ys 0 0) (sym d) ∙ get_or-drop t v.trail 0 0 ∙ ap (λ m. get_or v.trail m 0) (let q : t + 0 ≡ t = omega arith in q) in
         let below : get_or v.trail t 0 < length v.cells = trail.below t (omega arith) in
-        let m = length-freed xs v.cells in
+        let m = freed-length xs v.cells in
         let free_here : get_or (freed (x ∷ xs) v.cells) x Free ≡ Free = get_or-set_same (freed xs v.cells) x Free Free (omega arith) in
         let same : get_or v.cells x Free ≡ Free = ap (λ cs. get_or cs x Free) (sym (ap (λ ys. freed ys v.cells) (sym d) ∙ all_cells)) ∙ free_here in
         absurd (trail.bound t Free (omega arith) (ap (λ y. get_or v.cells y Free) (sym here) ∙ same))
@@ -57,9 +53,6 @@ back-to v w u n t trail mark e keeps cells older leads =
 
     earlier : {a b : ℕ} → (n ≡ length v.cells) × (t ≡ length v.trail) → IsMark v.cells v.trail a b → b ≤ t
     earlier {a} {b} w m = let f : b ≤ length v.trail = m.earlier in omega (arith, w.1)
-
-pub Keeps-trans : (u v w : Store) → Keeps u v → Keeps v w → Keeps u w
-Keeps-trans u v w h k = record { stays = λ n t m. k.stays n t (h.stays n t m); leads = λ n t m. k.leads n t (h.stays n t m) ∙ h.leads n t m }
 
 pub Keeps-refl : (u : Store) → Keeps u u
 Keeps-refl u = record { stays = λ n t m. m; leads = λ n t m. refl }

@@ -8,16 +8,14 @@ use Rattle.ap_instr.specs.Code.{Compiled}
 use Rattle.ap_instr.specs.Step.{step_of}
 use Rattle.ap_instr.specs.Steps.{steps_from}
 use Rattle.ap_needs.specs.Needs.{cells_of, room, wants, is_transfer}
-use Rattle.ap_steps.specs.Moves.{held, HoldPlaces, Moves, IsStuck}
+use Rattle.ap_needs.proofs.Places.{steps-next}
+use Rattle.ap_steps.specs.Moves.{held, Moves, IsStuck}
 use Rattle.ap_steps.specs.Ways.{NoneOfControl, Passed}
-use Rattle.ap_steps.proofs.Steps.{Moves-refl, Moves-trans, Moves-stuck}
+use Rattle.ap_steps.proofs.Steps.{Moves-trans, Moves-stuck}
 use Rattle.ap_steps.proofs.MemoryWants.{wants-on, wants-past}
-use Rattle.ap_steps.proofs.Places.{steps-next, room-here, none-room}
+use Rattle.ap_steps.proofs.Places.{room-here, none-room}
 use Rattle.ap_control.specs.Runs.{Ran}
 use Rattle.ap_control.proofs.Openness.{openly-past}
-
-pub ran-nowhere : (code : Compiled) (at : ℕ) (cs : List Raw) (x y : List ℕ) → HoldPlaces (length cs) x → HoldPlaces (length cs) y → Ran code at cs x y at cs x y
-ran-nowhere code at cs x y hx hy = record { moves = Moves-refl cs (held x) (held y) (steps_from code at); openly = λ o. o; holds_x = hx; holds_y = hy }
 
 -- one instruction more, which stands at a place
 module _ (code : Compiled) (at place : ℕ) (cs : List Raw) (x y : List ℕ) (v : Store) (x' y' : List ℕ) (i : Instr) (e : slice_get code.instructions place ≡ Some i) where

@@ -39,9 +39,6 @@ fork-returns ss fs points qs q s k ks d h rising e v n f =
     let newest = is-newest-fork ss fs points qs q s k ks e v n f in
     ap (λ ws. (forked_of newest.0 ws k.moments).returns) (sym (chain-at ss fs q.frames (q.frames - 1) d h.up (omega arith) (omega arith))) ∙ ap (λ g. g.returns) newest.1
 
-pub same-first : {X : Type 0} {x y : X} {xs ys : List X} → x ∷ xs ≡ y ∷ ys → x ≡ y
-same-first e = cc
-
 -- so many above them
 pub fork-above : (ss : List ℕ) (fs gs : List Frame) (points qs : List Point) (q : Point) (s : Segments) (k : Forked) (ks : List Forked) (g : Frame) (top i : ℕ) → AreFrames ss fs → Rising 0 points (length fs)
     → points ≡ qs ++ q ∷ [] → segments ss fs points ≡ s → s.moments ≡ [] → s.forks ≡ k ∷ ks → g ≡ get_or fs (q.frames - 1) g → gs ≡ fs → ((us : List ℕ) → chain us gs top ≡ drop i (chain us gs g.up))

@@ -12,6 +12,7 @@ use Rattle.ap_environments.specs.declared.environments.Frame.{Frame}
 use Rattle.ap_environments.specs.declared.environments.Point.{Point}
 use Rattle.ap_environments.specs.Kept.{Moment, Forked}
 use Rattle.ap_environments.specs.Frames.{return_of, chains_from, chains, chain, moment_of, forked_of, Segments, put_entry, put_point, segments_from, segments, Laid, LeadUp, Rising, AreFrames}
+use Rattle.ap_term.proofs.Lists.{slice_get-inside}
 
 -- ---- lists of returns
 
@@ -251,14 +252,9 @@ newest-entry ss fs points qs q e = ap (segments ss fs) e ∙ segments-push ss fs
 
 -- ---- the last of a list
 
-some-at : {X : Type 0} (xs : List X) (n : ℕ) → n < length xs → slice_get xs n ≡ None → ⊥
-some-at [] n l e = absurd (omega arith)
-some-at (x ∷ xs) zero l e = cc
-some-at (x ∷ xs) (suc n) l e = some-at xs n (omega arith) e
-
 none-last : {X : Type 0} (xs : List X) → slice_get xs (length xs - 1) ≡ None → xs ≡ []
 none-last [] e = refl
-none-last (x ∷ xs) e = absurd (some-at (x ∷ xs) (length (x ∷ xs) - 1) (omega arith) e)
+none-last (x ∷ xs) e = absurd (slice_get-inside (x ∷ xs) (length (x ∷ xs) - 1) (omega arith) e)
 
 some-last : {X : Type 0} (xs : List X) (x : X) → slice_get xs (length xs - 1) ≡ Some x → (ys : List X) × (xs ≡ ys ++ x ∷ [])
 some-last [] x e = cc

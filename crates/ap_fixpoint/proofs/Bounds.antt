@@ -25,6 +25,7 @@ use Rattle.ap_patterns.specs.Places.{arguments, argument_sets, places, call_patt
 use Rattle.ap_patterns.specs.Entering.{own}
 use Rattle.ap_patterns.specs.Entry.{free_sets, any_marks, free_marks, marked_pattern}
 use Rattle.ap_patterns.specs.Given.{Patterns, is_builtin, is_analysed, to_call, to_success, call_at, entered, after_goal, after_part, after_body, given_by_goal, given_in_turn, given_at_fork, given_by_part, given_by_body, given_from, any_pattern, anything, given_anyhow, given_by_all, given_by_any_part, given_unanalysed, given_by_clause, given_by_heads, given_by_entries, given}
+use Rattle.ap_patterns.proofs.Arguments.{argument_sets-length}
 use Rattle.ap_fixpoint.specs.Fix.{same_slot, joined, joined_all, kept, united, table}
 use Rattle.ap_fixpoint.specs.Reads.{call_slot, success_slot}
 use Rattle.ap_fixpoint.proofs.Members.{Has, Has-left, Has-right, Has-cases}
@@ -131,17 +132,13 @@ anything_bounded : (k : ℕ) (s : State) (goal : Tree) → count_trees (argument
 anything_bounded k Unreachable goal l = tt
 anything_bounded k (Reachable sh fr) goal l = any_bounded k (count_trees (arguments goal)) l
 
-as_many : (ts : Trees) → length (argument_sets ts) ≡ count_trees ts
-as_many none = refl
-as_many (more t ts) = let e = as_many ts in omega (arith, e)
-
 call_bounded : (k : ℕ) (s : State) (goal : Tree) → count_trees (arguments goal) < k → Bounded (2 ^ k) (call_pattern s goal)
 call_bounded k Unreachable goal l = tt
 call_bounded k (Reachable sh fr) goal l =
     made_bounded k _ _ (norm_low k _ (low sh.any, sets_low (2 ^ k) (map (λ s. places 1 s (argument_sets (arguments goal))) sh.sets) (mapped_low (2 ^ k) (λ s. places 1 s (argument_sets (arguments goal))) sh.sets low)))
   where
     low : (s : ℕ) → places 1 s (argument_sets (arguments goal)) < 2 ^ k
-    low s = places_low k 1 s (argument_sets (arguments goal)) (let e = as_many (arguments goal) in omega (arith, l, e))
+    low s = places_low k 1 s (argument_sets (arguments goal)) (let e = argument_sets-length (arguments goal) in omega (arith, l, e))
 
 -- ---- the pattern of an entry
 

@@ -7,7 +7,7 @@ use Rattle.ap_term.specs.Tree.{Trees, count_trees}
 use Rattle.ap_term.specs.Goals as goals
 use Rattle.ap_term.specs.Goals.{Clause, call, group}
 use Rattle.ap_term.specs.WellFormed.{callable, all_callable, numbered, numbered_all, numbered_check, well_formed_part, IsClause}
-use Rattle.ap_patterns.proofs.Arguments.{callable-few, numbered_all-more, numbered-more}
+use Rattle.ap_patterns.proofs.Arguments.{callable-few, numbered_all-more, numbered-more, head-callable, head-numbered, head-in_range}
 use Rattle.ap_fixpoint.specs.Formed.{goals_formed}
 
 -- ---- parts
@@ -38,14 +38,5 @@ parts-formed n (p ∷ ps) l h =
 
 pub clause-formed : (c : Clause) → IsClause c → IsTrue (list_all goals_formed c.body)
 clause-formed c h = parts-formed c.vars c.body h.few h.body
-
-pub head-callable : (c : Clause) → IsClause c → IsTrue (callable c.head)
-head-callable c h = (and_parts (callable c.head) (numbered c.vars c.head) h.head).0
-
-pub head-numbered : (c : Clause) → IsClause c → IsTrue (numbered c.vars c.head)
-head-numbered c h = (and_parts (callable c.head) (numbered c.vars c.head) h.head).1
-
-pub head-in_range : (c : Clause) → IsClause c → IsTrue (numbered 255 c.head)
-head-in_range c h = numbered-more c.vars 255 c.head h.few (head-numbered c h)
 
 pub ruleset rules_of_clauses = (clause-formed, head-callable, head-numbered, head-in_range, callable-few)

@@ -1,6 +1,3 @@
 -- What is in a list.
-use Rattle.std.specs.Prelude.{◌≡◌, ◌⊎◌, List, [], ◌∷◌}
+pub use Rattle.ap_term.specs.Lists.{IsOneOf as Has}
 
-abbrev pub Has : {A : Type 0} → A → List A → Type 0
-Has x [] = ⊥
-Has x (y ∷ ys) = (x ≡ y) ⊎ Has x ys

@@ -1,6 +1,5 @@
 -- The redone slot itself stays as it was until it stands otherwise.
-use Rattle.std.proofs.Common.{◌≡◌, ℕ, zero, suc, ◌+◌, ◌-◌, ◌<◌, ◌≤◌, Bool, true, false, nat_lt, List, [], ◌∷◌, length, slice_get, Option, Some, None, refl, ap, sym, ◌∙◌, arith}
-use Rattle.std.proofs.lemmas.Bool.{le-ltb, eq-eqb}
+use Rattle.std.proofs.Common.{◌≡◌, ℕ, zero, suc, ◌+◌, ◌-◌, ◌<◌, ◌≤◌, Bool, true, List, [], ◌∷◌, length, slice_get, Option, Some, None, refl, ap, sym, ◌∙◌, arith}
 use Rattle.std.specs.Ordering.{nat_cmp}
 use Rattle.std.specs.declared.cmp.Ordering.TheVariants.{Equal}
 use Rattle.ap_frames.specs.declared.slots.Slot.{Slot}
@@ -9,9 +8,7 @@ use Rattle.ap_frames.specs.declared.frame.Round.TheVariants.{First, Draining, La
 use Rattle.ap_frames.specs.Rows.{Row}
 use Rattle.ap_frames.specs.Rounds.{numbered, reset, reset_by, new_round, begun_in}
 use Rattle.ap_frames.proofs.Numbered.{length-numbered}
-
-cmp_equal : (a b : ℕ) → a ≡ b → nat_cmp a b ≡ Equal
-cmp_equal a b h = let l : nat_lt a b ≡ false = le-ltb a b (omega arith) in rw (l, eq-eqb a b h) refl
+use Rattle.ap_term.proofs.Facts.{cmp_equal}
 
 kept-at : {S T : Type 0} (i n k : ℕ) (xs : List (Slot S T)) → n + k ≡ i → slice_get (numbered (reset_by i) n xs) k ≡ slice_get xs k
 kept-at i n k [] e = refl

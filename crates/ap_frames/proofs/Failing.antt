@@ -1,5 +1,5 @@
 -- Where the leftmost failed slot stands, the left edge, the rightmost of a kind: lemmas of the laws.
-use Rattle.std.proofs.Common.{◌≡◌, ℕ, suc, ◌+◌, ◌-◌, ◌<◌, Bool, true, false, ◌&&◌, ◌||◌, not, nat_lt, cond, if◌then◌else◌, List, [], ◌∷◌, ◌++◌, length, Option, Some, None, refl, ap, ap₂, sym, ◌∙◌, arith}
+use Rattle.std.proofs.Common.{◌≡◌, ℕ, suc, ◌+◌, ◌-◌, ◌<◌, Bool, true, false, ◌&&◌, ◌||◌, not, nat_lt, cond, if◌then◌else◌, List, [], ◌∷◌, ◌++◌, length, Option, Some, None, refl, ap, ap₂, sym, ◌∙◌, arith, ◌≤◌}
 use Rattle.std.specs.Prelude.{sum_by, position}
 use Rattle.std.specs.List.{list_any, list_all, position_or_len, prefix_len}
 use Rattle.std.proofs.Math.Seq.{take-append_seam}
@@ -48,6 +48,16 @@ position-none f xs h =
 pub rightmost-none : {A : Type 0} (f : A → Bool) (xs : List A) → list_any f xs ≡ false → rightmost f xs ≡ None
 rightmost-none f [] h = refl
 rightmost-none f (x ∷ xs) h = let k = or_parts (f x) (list_any f xs) h in ap₂ place_behind (rightmost-none f xs k.1) k.0
+
+-- it is one of them
+pub rightmost-inside : {A : Type 0} (f : A → Bool) (xs : List A) (i : ℕ) → rightmost f xs ≡ Some i → (0 < i) × (i ≤ length xs)
+rightmost-inside f [] i e = absurd (cc)
+rightmost-inside f (x ∷ xs) i e = go (rightmost f xs) (rightmost-inside f xs) (f x) e
+  where
+    go : (o : Option ℕ) → ((j : ℕ) → o ≡ Some j → (0 < j) × (j ≤ length xs)) → (b : Bool) → place_behind o b ≡ Some i → (0 < i) × (i ≤ length (x ∷ xs))
+    go (Some j) k b e = let h = k j refl in let d : j + 1 ≡ i = cc in (omega (arith, d), omega (arith, d, h.1))
+    go None k true e = let d : 1 ≡ i = cc in (omega (arith, d), omega (arith, d))
+    go None k false e = absurd (cc)
 
 pub rightmost-here : {A : Type 0} (f : A → Bool) (ls rs : List A) (x : A) → f x ≡ true → list_any f rs ≡ false → rightmost f (ls ++ x ∷ rs) ≡ Some (length ls + 1)
 rightmost-here f [] rs x e h = ap₂ place_behind (rightmost-none f rs h) e
@@ -98,15 +108,6 @@ answered-stands GivenBack h = refl
 pub answered-unfailed : {S T : Type 0} (xs : List (Slot S T)) → list_all has_answer xs ≡ true → list_any has_failed xs ≡ false
 answered-unfailed [] h = refl
 answered-unfailed (x ∷ xs) h = let k = and_parts (has_answer x) (list_all has_answer xs) h in ap₂ (λ a b. a || b) (answered-stands x.stand k.0) (answered-unfailed xs k.1)
-
-pub failed-stands : {S : Type 0} (y : Stand S) → is_failure (ends y) ≡ true → stands_answered y ≡ false
-failed-stands (Answered a) h = absurd (false≢true h)
-failed-stands (Replayed k) h = absurd (false≢true h)
-failed-stands Ready h = refl
-failed-stands Waiting h = refl
-failed-stands (Running r) h = refl
-failed-stands (Ended e c) h = refl
-failed-stands GivenBack h = refl
 
 pub first-failed : {S T : Type 0} (r c : ℕ) (ls rs : List (Slot S T)) (x : Slot S T) → list_any has_failed ls ≡ false → has_failed x ≡ true
     → in_first r c (ls ++ x ∷ rs) (position has_failed (ls ++ x ∷ rs)) ≡ after_failure r c ls (ls ++ x ∷ rs)

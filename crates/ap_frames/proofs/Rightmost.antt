@@ -3,7 +3,7 @@ use Rattle.std.proofs.Common.{◌≡◌, ℕ, zero, suc, ◌+◌, ◌<◌, ◌�
 use Rattle.ap_frames.specs.declared.slots.Slot.{Slot}
 use Rattle.ap_frames.specs.Slots.{has_more, is_loud_with_more}
 use Rattle.ap_frames.specs.Verdicts.{place_behind, rightmost, next_redo}
-use Rattle.ap_frames.proofs.Walks.{drop_step}
+use Rattle.ap_term.proofs.Lists.{drop-read}
 
 -- what a walk has found that had found p before the first i, and finds o behind them
 abbrev pub found_by : ℕ → Option ℕ → Option ℕ → Option ℕ
@@ -22,7 +22,7 @@ found_step i p None false = refl
 pub found_more : {A : Type 0} (f : A → Bool) (xs : List A) (i : ℕ) (x : A) (p q : Option ℕ) → i < length xs → x ≡ get_or xs i x → q ≡ (if f x then Some (i + 1) else p)
     → rightmost f xs ≡ found_by i p (rightmost f (drop i xs)) → rightmost f xs ≡ found_by (i + 1) q (rightmost f (drop (i + 1) xs))
 found_more f xs i x p q h e v k =
-    k ∙ ap (λ ys. found_by i p (rightmost f ys)) (drop_step xs i x h e) ∙ found_step i p (rightmost f (drop (i + 1) xs)) (f x)
+    k ∙ ap (λ ys. found_by i p (rightmost f ys)) (drop-read xs i x h e) ∙ found_step i p (rightmost f (drop (i + 1) xs)) (f x)
     ∙ ap (λ r. found_by (i + 1) r (rightmost f (drop (i + 1) xs))) (sym v)
 
 pub found_last : {A : Type 0} (f : A → Bool) (xs : List A) (i : ℕ) (p : Option ℕ) → length xs ≤ i → rightmost f xs ≡ found_by i p (rightmost f (drop i xs)) → p ≡ rightmost f xs

@@ -241,12 +241,6 @@ guarding = record { clause = same_clause; stripped = same_program; safe = λ p q
 
 -- ---- one after another
 
-pub one-more : {A B : Type 0} (R : A → B → Type 0) (xs : List A) (ys : List B) (x : A) (y : B) → AllZip R xs ys → R x y → AllZip R (xs ++ x ∷ []) (ys ++ y ∷ [])
-one-more R [] [] x y h r = (r, tt)
-one-more R [] (b ∷ ys) x y h r = absurd h
-one-more R (a ∷ xs) [] x y h r = absurd h
-one-more R (a ∷ xs) (b ∷ ys) x y h r = (h.0, one-more R xs ys x y h.1 r)
-
 same_zip : (ps : List Part) → AllZip IsGuardedPart ps ps
 same_zip [] = tt
 same_zip (p ∷ ps) = (inl refl, same_zip ps)

@@ -10,6 +10,7 @@ use Rattle.ap_instr.specs.Step.{Step, get_variable, unify_variable, get_constant
 use Rattle.ap_instr.specs.Steps.{steps_from}
 use Rattle.ap_instr.specs.Runs.{Runs, set_x, set_y, IsOpen, AsksOpenly}
 use Rattle.ap_needs.specs.Needs.{is_transfer}
+use Rattle.ap_needs.proofs.Places.{steps-next}
 use Rattle.ap_index.specs.declared.key.Key.{Key}
 use Rattle.ap_index.specs.declared.key.Key.TheVariants.{Integer, Structure}
 use Rattle.ap_index.specs.declared.head.Ask.{Ask}
@@ -18,7 +19,7 @@ use Rattle.ap_index.specs.declared.head.Passed.{Passed}
 use Rattle.ap_index.specs.declared.head.Passed.TheVariants.{On, Asking, No}
 use Rattle.ap_index.specs.Keys.{IsKeyOf, integer_key}
 use Rattle.ap_index.specs.Heads.{IsMet, AreEnough, IsNarrower, Keeps, Left, AsksAlone, AsksFor, IsPassed}
-use Rattle.ap_index.proofs.Openness.{steps-next, past}
+use Rattle.ap_index.proofs.Openness.{past}
 
 -- no argument is to come
 none_left-arguments : (ts : Trees) → count_trees ts ≡ 0 → ts ≡ none

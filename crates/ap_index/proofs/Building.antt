@@ -2,6 +2,7 @@
 use Rattle.std.proofs.Common.{◌≡◌, ℕ, ℤ, ◌+◌, ◌==◌, Bool, true, false, if◌then◌else◌, List, ◌∷◌, Option, Some, None, refl, ap, sym, ◌∙◌, subst, arith}
 use Rattle.std.proofs.lemmas.Bool.Decides.{Decides-eqb}
 use Rattle.ap_term.specs.Tree.{Tree, Trees, atom, int, node, none, more, count_trees}
+use Rattle.ap_term.proofs.Facts.{funext}
 use Rattle.ap_instr.specs.declared.instruction.Slot.{Slot}
 use Rattle.ap_instr.specs.declared.instruction.Slot.TheVariants.{X, Y}
 use Rattle.ap_instr.specs.Step.{Step, put_structure, unify_variable, unify_value, unify_constant, with_integer}
@@ -12,10 +13,6 @@ use Rattle.ap_index.specs.Opening.{IsApart, IsOpenInside}
 
 pub inside-none : (a : ℕ) (is : List Step) → IsOpen is → IsOpenInside a 0 is
 inside-none a is o = λ x y. (none, refl, λ t. o (set x a t) y)
-
--- two maps with the same values are the same
-funext : {A B : Type 0} (f g : A → B) → ((a : A) → f a ≡ g a) → f ≡ g
-funext f g h = λ i. λ a. h a i
 
 set-own : (x : ℕ → Tree) (a : ℕ) → set x a (x a) ≡ x
 set-own x a = funext (set x a (x a)) x (λ w. go w (w == a) refl)

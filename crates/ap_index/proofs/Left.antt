@@ -14,8 +14,8 @@ use Rattle.ap_index.specs.declared.row.Link.{Link}
 use Rattle.ap_index.specs.declared.index.Entry.{Entry}
 use Rattle.ap_index.specs.declared.index.Entry.TheVariants.{Nothing, Begins, Rest, Behind, Asks}
 use Rattle.ap_index.specs.Index.{LeavesOthers, named, tried_from, named_from, in_slot, first_for, IsFilled, IsRowOf, IsLinkOf, IsEntryOf}
-use Rattle.ap_index.proofs.Keyed.{drop_at}
 use Rattle.ap_index.proofs.Same.{true-same}
+use Rattle.ap_term.proofs.Lists.{slice_get-push, drop-here}
 
 -- a choice for a key was put first in its slot
 abbrev pub PutsFirst : Key → ℕ → Row → Row → Type 0
@@ -64,19 +64,19 @@ module _ (code : Compiled) (at : ℕ) (here : named_from code (Some at) ≡ trie
 -- what choices name
 module _ (code : Compiled) (at l : ℕ) where
   trust-last : slice_get code.instructions at ≡ Some (Trust l) → tried_from code (Some at) ≡ l ∷ []
-  trust-last e = ap tried (drop_at code.instructions at (Trust l) e)
+  trust-last e = ap tried (drop-here code.instructions at (Trust l) e)
 
   retry-more : slice_get code.instructions at ≡ Some (Retry l) → tried_from code (Some at) ≡ l ∷ tried_from code (Some (at + 1))
-  retry-more e = ap tried (drop_at code.instructions at (Retry l) e)
+  retry-more e = ap tried (drop-here code.instructions at (Retry l) e)
 
   try-more : slice_get code.instructions at ≡ Some (Try l) → named_from code (Some at) ≡ l ∷ tried_from code (Some (at + 1))
-  try-more e = ap named (drop_at code.instructions at (Try l) e)
+  try-more e = ap named (drop-here code.instructions at (Try l) e)
 
   pub trust-named : slice_get code.instructions at ≡ Some (Trust l) → named_from code (Some at) ≡ tried_from code (Some at)
-  trust-named e = ap named (drop_at code.instructions at (Trust l) e) ∙ sym (ap tried (drop_at code.instructions at (Trust l) e))
+  trust-named e = ap named (drop-here code.instructions at (Trust l) e) ∙ sym (ap tried (drop-here code.instructions at (Trust l) e))
 
   pub retry-named : slice_get code.instructions at ≡ Some (Retry l) → named_from code (Some at) ≡ tried_from code (Some at)
-  retry-named e = ap named (drop_at code.instructions at (Retry l) e) ∙ sym (ap tried (drop_at code.instructions at (Retry l) e))
+  retry-named e = ap named (drop-here code.instructions at (Retry l) e) ∙ sym (ap tried (drop-here code.instructions at (Retry l) e))
 
 -- a link leads where the row did for its key
 pub row-link : (code : Compiled) (from : ℕ) (row : Row) (asked : Key) (l : Link) → l.count ≡ row.count → l.slot ≡ slot_of asked row.count → l.next ≡ first_for row asked
@@ -103,13 +103,6 @@ filled-last code at asked k old new empty put = record {
       (subst (λ first. named_from code first ≡ tried_from code first) (sym (empty key)) refl) put;
 }
 
--- none yet
-pub filled-none : (code : Compiled) (at : ℕ) (row : Row) → named_from code (Some at) ≡ tried_from code (Some at) → ((key : Key) → first_for row key ≡ Some at) → IsFilled code at row
-filled-none code at row here empty = record {
-  leads = λ key. leaves-all code key (tried_from code (Some at)) (tried_from code (first_for row key)) (sym (ap (tried_from code) (empty key)));
-  behind_try = λ key. subst (λ first. named_from code first ≡ tried_from code first) (sym (empty key)) here;
-}
-
 -- the `try`
 pub filled-first : (code : Compiled) (at : ℕ) (asked : Key) (k : IsKeyed code at (λ clause. Try clause) asked) (old new : Row) → IsFilled code (at + 1) old → PutsFirst asked at old new → IsRowOf code at new
 filled-first code at asked k old new h put = record {
@@ -126,13 +119,9 @@ has-more [] ys n x e = absurd (let z : ⊥ = cc in z)
 has-more (y ∷ xs) ys zero x e = e
 has-more (y ∷ xs) ys (suc n) x e = has-more xs ys n x e
 
-last-is : {X : Type 0} (xs : List X) (x : X) → slice_get (xs ++ x ∷ []) (length xs) ≡ Some x
-last-is [] x = refl
-last-is (y ∷ xs) x = last-is xs x
-
 -- what was pushed stands at the number of those before it
 pub pushed-is : {X : Type 0} (xs ys : List X) (x : X) (n : ℕ) → ys ≡ xs ++ x ∷ [] → n ≡ length xs → slice_get ys n ≡ Some x
-pushed-is xs ys x n e l = ap (slice_get ys) l ∙ ap (λ zs. slice_get zs (length xs)) e ∙ last-is xs x
+pushed-is xs ys x n e l = ap (slice_get ys) l ∙ ap (λ zs. slice_get zs (length xs)) e ∙ slice_get-push xs x
 
 -- an entry stays right with more rows
 pub more-rows : (code : Compiled) (rs new : List Row) (r : Row) (ls : List Link) (hs : List Head) (from : ℕ) (e : Entry) → new ≡ rs ++ r ∷ [] → IsEntryOf code rs ls hs from e → IsEntryOf code new ls hs from e

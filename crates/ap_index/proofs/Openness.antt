@@ -1,5 +1,5 @@
 -- Instructions that lead to goals, and to the instructions behind them.
-use Rattle.std.proofs.Common.{◌≡◌, ℕ, ℤ, ◌+◌, false, List, ◌∷◌, Option, Some, None, slice_get, refl, ap, sym, ◌∙◌, subst, arith}
+use Rattle.std.proofs.Common.{◌≡◌, ℕ, ℤ, ◌+◌, false, List, ◌∷◌, Option, Some, None, slice_get, refl, sym, subst}
 use Rattle.std.proofs.lemmas.Bool.{false≢true}
 use Rattle.ap_term.specs.Tree.{int, none, more}
 use Rattle.ap_instr.specs.declared.instruction.Instr.{Instr}
@@ -7,10 +7,10 @@ use Rattle.ap_instr.specs.declared.instruction.Instr.TheVariants.{GetVariable, G
 use Rattle.ap_instr.specs.declared.compiled.Predicate.{Predicate}
 use Rattle.ap_instr.specs.Code.{Compiled}
 use Rattle.ap_instr.specs.Step.{Step, get_constant, put_constant, unify_constant, call, execute, push, other, with_integer, with_predicate, step_of}
-use Rattle.ap_instr.specs.Steps.{steps_from, skipped}
-use Rattle.ap_instr.proofs.Steps.{steps_law}
+use Rattle.ap_instr.specs.Steps.{steps_from}
 use Rattle.ap_instr.specs.Runs.{set, applied, spread, lost, IsOpen, AsksOpenly}
 use Rattle.ap_needs.specs.Needs.{is_transfer}
+use Rattle.ap_needs.proofs.Places.{steps-next}
 use Rattle.ap_index.specs.declared.opening.Way.{Way}
 use Rattle.ap_index.specs.declared.opening.Way.TheVariants.{On, Structure, Goal, Other}
 use Rattle.ap_index.specs.Opening.{IsWayByCall, LeadsBy}
@@ -69,15 +69,6 @@ by-listed None z e a is opens = absurd (let f : ⊥ = cc in f)
 by-listed (Some v) z e a is opens = λ x y. opens (set x a (int v)) y
 
 -- ---- behind an instruction
-
--- one that leads to the next one
-pub steps-next : (code : Compiled) (at : ℕ) (i : Instr) → slice_get code.instructions at ≡ Some i → is_transfer i ≡ false → steps_from code at ≡ step_of code i ∷ steps_from code (at + 1)
-steps-next code at i e goes_on =
-    steps_law code at i e ∙ ap (λ m. step_of code i ∷ steps_from code m) (let z : skipped i at ≡ 0 = skips-none i goes_on in let q : at + 1 + skipped i at ≡ at + 1 = omega arith in q)
-  where
-    skips-none : (i : Instr) → is_transfer i ≡ false → skipped i at ≡ 0
-    skips-none (Jump l) e = cc
-    skips-none i e = refl
 
 passed : (code : Compiled) (i : Instr) (is : List Step) → is_transfer i ≡ false → AsksOpenly (step_of code i ∷ is) → AsksOpenly is
 passed code (GetVariable v a) is e o = o

@@ -66,6 +66,3 @@ written n ys zs e = take-append-le n ys (drop (length ys) zs) (omega arith) ∙ 
 
 pub Returned-refl : (s : Paused) → AtNewest s.machine → Returned s s
 Returned-refl s at = record { stays = Stays-refl s; points = refl; now = refl; at = at }
-
-pub leaves-same : (code : Compiled) (m : Machine) (ls rest more : List ℕ) → rest ≡ more → LeavesOut code m ls rest → LeavesOut code m ls more
-leaves-same code m ls rest more e h = subst (LeavesOut code m ls) e h

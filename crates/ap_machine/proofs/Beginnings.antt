@@ -3,7 +3,7 @@ use Rattle.std.proofs.Common.{◌≡◌, ℕ, zero, suc, ◌+◌, ◌-◌, ◌<�
 use Rattle.ap_tracked.specs.Sets.{SameSet}
 use Rattle.ap_term.proofs.UpToNames.{instance-same}
 use Rattle.ap_term.specs.Tuples.{tuple_under}
-use Rattle.ap_term.proofs.TreeLists.{instance-applied}
+use Rattle.ap_term.proofs.TreeLists.{instance-applied, append_trees-none, arguments-applied}
 use Rattle.ap_term.specs.declared.fixed.TheConstants.{QUERY}
 use Rattle.ap_term.specs.Tree.{Tree, Trees, var, atom, none, more, count_trees, append_trees}
 use Rattle.ap_term.specs.Substitution.{instance, instance_all, shift}
@@ -62,17 +62,9 @@ spread-fits cs k f e p (suc n) l = ap₂ more (e p (omega arith)) (spread-fits c
 
 -- ---- names on arguments
 
-arguments-applied : (p : ℕ) (ts : Trees) → arguments (applied p ts) ≡ ts
-arguments-applied p none = refl
-arguments-applied p (more t ts) = refl
-
 Local-applied : (P : ℕ → Type 0) (p : ℕ) (ts : Trees) → LocalAll P ts → Local P (applied p ts)
 Local-applied P p none h = tt
 Local-applied P p (more t ts) h = h
-
-append-none : (ts : Trees) → append_trees ts none ≡ ts
-append-none none = refl
-append-none (more t ts) = ap (more t) (append-none ts)
 
 -- ---- the machine
 
@@ -204,7 +196,7 @@ module _ (code : Compiled) (cs : List Raw) (base first count : ℕ) (ts : Trees)
       λ h.
           let a : Asks (asked q) (λ w. h.0 (held x w)) h.1 = reads.reads.only (λ w. h.0 (held x w)) (λ w. h.0 (held y w)) h.1 h.4 in (
             a.0,
-            h.5 ∙ ap (append_trees h.1) h.6.0 ∙ append-none h.1 ∙ a.2 ∙ sym (body-is a.0),
+            h.5 ∙ ap (append_trees h.1) h.6.0 ∙ append_trees-none h.1 ∙ a.2 ∙ sym (body-is a.0),
             h.6.1 ∙ same-places h.0 ∙ ap (spread (λ w. h.0 (held x w)) 1) (sym head-count) ∙ a.1 ∙ ap (instance_all a.0) head-arguments,
           ),
       λ h.
@@ -222,7 +214,7 @@ module _ (code : Compiled) (cs : List Raw) (base first count : ℕ) (ts : Trees)
             none,
             o.1,
             reads.reads.each (λ w. o.0 (held x w)) (λ w. o.0 (held y w)) bs a,
-            h.1 ∙ body-is h.0 ∙ sym (append-none bs),
+            h.1 ∙ body-is h.0 ∙ sym (append_trees-none bs),
             (refl, h.2 ∙ sym i.1 ∙ sym o.2 ∙ sym (same-places o.0)),
           ),
     )

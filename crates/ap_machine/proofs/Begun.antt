@@ -4,6 +4,7 @@ use Rattle.std.specs.List.{AllZip, AllByRecursion}
 use Rattle.ap_term.specs.Tree.{Tree, Trees, count_trees}
 use Rattle.ap_term.specs.Vars.{LocalAll}
 use Rattle.ap_term.proofs.TreeLists.{count_trees-instance_all}
+use Rattle.ap_term.proofs.Lists.{drop-here}
 use Rattle.ap_term.specs.Substitution.{instance_all, shift}
 use Rattle.ap_term.specs.Goals.{Program, Query}
 use Rattle.ap_term.specs.UpToNames.{SameUpToNames}
@@ -12,6 +13,7 @@ use Rattle.ap_tracked.specs.Tracked.{Tracked}
 use Rattle.ap_graft.specs.Starts.{tracked_start}
 use Rattle.ap_cells.specs.Store.{Store}
 use Rattle.ap_cells.specs.Trees.{trees, span}
+use Rattle.ap_cells.proofs.Walks.{count-span}
 use Rattle.ap_instr.specs.declared.compiled.Predicate.{Predicate}
 use Rattle.ap_instr.specs.Code.{Compiled}
 use Rattle.ap_environments.specs.Kept.{Kept}
@@ -19,7 +21,6 @@ use Rattle.ap_steps.specs.Moves.{held, HoldPlaces}
 use Rattle.ap_standing.specs.Machine.{Now, calling, inside}
 use Rattle.ap_instr.specs.declared.instruction.Instr.TheVariants.{Builtin as BuiltinGoal}
 use Rattle.ap_instr.specs.StandsFor.{IsOfBuiltin, ReadsAt, alternatives, clause_places}
-use Rattle.ap_term.proofs.Lists.{drop-here}
 use Rattle.ap_standing.specs.Holds.{IsApart, Holds}
 use Rattle.ap_standing.proofs.Turns.{of-clauses}
 use Rattle.ap_standing.specs.Laws.{machine}
@@ -27,7 +28,6 @@ use Rattle.ap_machine.specs.declared.state.Now.{Now as Kind}
 use Rattle.ap_machine.specs.Sane.{HasBottom, Sane}
 use Rattle.ap_machine.specs.View.{now_of, point_of, segment_of, machine_of, IsFor, paused_of}
 use Rattle.ap_machine.specs.Started.{called, IsAtCall, IsAsked, IsQuestion, IsFirst, Started}
-use Rattle.ap_cells.proofs.Walks.{count-span}
 use Rattle.ap_machine.proofs.Sanity.{held-zeros}
 use Rattle.ap_machine.proofs.Beginnings.{holds-call, holds-goal, holds-question}
 use Rattle.ap_machine.proofs.Questions.{question, question-reads}

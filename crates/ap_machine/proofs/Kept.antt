@@ -1,7 +1,7 @@
 -- What is kept when a store grows and when it goes back.
 use Rattle.std.proofs.Common.{◌≡◌, ℕ, ◌<◌, ◌≤◌, List, [], ◌∷◌, ◌++◌, length, take, drop, map, get_or, set, ◌⊎◌, ◌≢◌, inl, inr, refl, ap, ap₂, sym, ◌∙◌, subst, arith}
 use Rattle.std.specs.List.{AllByRecursion}
-use Rattle.std.proofs.lemmas.List.{get_or-take, length-set, drop_all, get_or-set_same, get_or-set_other}
+use Rattle.std.proofs.lemmas.List.{get_or-take, drop_all, get_or-set_same, get_or-set_other}
 use Rattle.std.proofs.lemmas.Bool.{cases_eq}
 use Rattle.ap_term.specs.Tree.{Tree, atom}
 use Rattle.ap_term.specs.Substitution.{instance}
@@ -10,6 +10,7 @@ use Rattle.ap_cells.specs.declared.cells.Raw.TheVariants.{Free, Atom}
 use Rattle.ap_cells.specs.Trees.{trees, step, Stand, Finite}
 use Rattle.ap_cells.specs.Store.{Store, freed, undone, IsMark, IsStore, Keeps}
 use Rattle.ap_cells.proofs.Rounds.{trees_are}
+use Rattle.ap_cells.proofs.Stores.{freed-length}
 use Rattle.ap_match.specs.Fits.{Fits}
 use Rattle.ap_environments.specs.Kept.{Moment, Forked}
 use Rattle.ap_steps.specs.Moves.{held, HoldPlaces}
@@ -114,17 +115,13 @@ module _ (v w : Store) (n t : ℕ)
 
 -- ---- place 0
 
-length-freed : (xs : List ℕ) (cs : List Raw) → length (freed xs cs) ≡ length cs
-length-freed [] cs = refl
-length-freed (x ∷ xs) cs = length-set (freed xs cs) x Free ∙ length-freed xs cs
-
 freed-still : (xs : List ℕ) (cs : List Raw) (i : ℕ) (d : Raw) → i < length cs → (get_or (freed xs cs) i d ≡ Free → ⊥) → get_or (freed xs cs) i d ≡ get_or cs i d
 freed-still [] cs i d l h = refl
 freed-still (x ∷ xs) cs i d l h = go (cases_eq i x) (freed-still xs cs i d l)
   where
     go : (i ≡ x) ⊎ (i ≢ x) → ((get_or (freed xs cs) i d ≡ Free → ⊥) → get_or (freed xs cs) i d ≡ get_or cs i d) → get_or (set (freed xs cs) x Free) i d ≡ get_or cs i d
     go (inl e) ih =
-        let m = length-freed xs cs in
+        let m = freed-length xs cs in
         absurd (h (ap (λ j. get_or (set (freed xs cs) x Free) j d) e ∙ get_or-set_same (freed xs cs) x Free d (omega arith)))
     go (inr n) ih =
         let same : get_or (set (freed xs cs) x Free) i d ≡ get_or (freed xs cs) i d = get_or-set_other (freed xs cs) x i Free d n in

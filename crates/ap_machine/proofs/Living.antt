@@ -3,13 +3,13 @@ use Rattle.std.proofs.Common.{◌≡◌, ℕ, List, [], ◌∷◌, ◌++◌, ref
 use Rattle.std.specs.List.{AllByRecursion}
 use Rattle.ap_tracked.specs.Sets.{IsSetOf}
 use Rattle.ap_term.specs.Tree.{Tree, Trees, append_trees}
+use Rattle.ap_term.proofs.Facts.{funext}
 use Rattle.ap_tracked.specs.Tracked.{Tracked}
 use Rattle.ap_cells.specs.declared.cells.Raw.{Raw}
 use Rattle.ap_instr.specs.Code.{Compiled}
 use Rattle.ap_steps.specs.Moves.{held}
 use Rattle.ap_steps.specs.Standing.{InCode}
 use Rattle.ap_instr.specs.Steps.{steps_from}
-use Rattle.ap_steps.proofs.RegisterMaps.{funext}
 use Rattle.ap_standing.specs.Machine.{Point, Now, calling, inside, returning, failed, Machine, standing_at, places_from}
 use Rattle.ap_standing.specs.Holds.{HoldsPoints}
 use Rattle.ap_standing.proofs.Machines.{a-state}

@@ -18,6 +18,7 @@ use Rattle.ap_machine.proofs.Kept.{HoldPlaces-more, inside-more, AreMoments-more
 use Rattle.ap_machine.proofs.Living.{live-none, live-points}
 use Rattle.ap_machine.proofs.Progress.{as-wide}
 use Rattle.ap_machine.proofs.Sanity.{held-zeros}
+use Rattle.ap_term.proofs.Lists.{slice_get-inside}
 
 -- ---- what is seen of them
 
@@ -216,11 +217,6 @@ for-dropped code t u h some none = go t.older refl
 
 -- ---- whether there is a fork
 
-pub some-at : {X : Type 0} (xs : List X) (n : ℕ) → n < length xs → slice_get xs n ≡ None → ⊥
-some-at [] n l e = absurd (omega arith)
-some-at (x ∷ xs) zero l e = cc
-some-at (x ∷ xs) (suc n) l e = some-at xs n (omega arith) e
-
 module _ (v : Store) (k : Kept) (x y roots : List ℕ) (next : Kind) (spent budget : ℕ) (s : Paused) (view : paused_of v k x y roots next spent budget ≡ s) where
   pub no-fork : s.older ≡ [] → k.forks ≡ []
   no-fork e = none-mapped (segment_of v) k.forks (ap (λ (t : Paused). t.older) view ∙ e)
@@ -247,7 +243,7 @@ module _ (v : Store) (k : Kept) (x y roots : List ℕ) (next : Kind) (spent budg
       go (f ∷ fs) h =
           let counted = goals-counted v k x y roots f fs h sane next spent budget s view f.fork refl in
           let n : f.fork.goals ≤ length f.returns = enough v k x y roots f fs h sane in
-          some-at f.returns i (omega arith) (none f fs h (omega arith))
+          slice_get-inside f.returns i (omega arith) (none f fs h (omega arith))
 
   -- a fork that was taken off, if there was one
   pub Sane-dropped : Sane v k x y roots → (l : Kept) → ((f : Forked) (fs : List Forked) → k.forks ≡ f ∷ fs → l ≡ record k { moments = f.moments; forks = fs }) → (k.forks ≡ [] → l ≡ k) → Sane v l x y roots

@@ -1,9 +1,9 @@
 -- A search whose instructions were taken, or taken back.
-use Rattle.std.proofs.Common.{◌≡◌, ℕ, ◌<◌, ◌≤◌, List, ◌++◌, length, take, drop, map, replicate, Option, ap, ap₂, sym, ◌∙◌, subst, arith}
+use Rattle.std.proofs.Common.{◌≡◌, ℕ, ◌<◌, ◌≤◌, List, ◌++◌, length, take, map, replicate, Option, ap, ap₂, sym, ◌∙◌, subst, arith}
 use Rattle.std.proofs.lemmas.List.{take_all, take-append-le, length-replicate}
 use Rattle.ap_tracked.specs.Tracked.{Tracked}
 use Rattle.ap_cells.specs.declared.cells.Raw.{Raw}
-use Rattle.ap_cells.specs.Store.{Store, Keeps, IsTrail, IsMark, freed, undone}
+use Rattle.ap_cells.specs.Store.{Store, Keeps}
 use Rattle.ap_instr.specs.Code.{Compiled}
 use Rattle.ap_environments.specs.Kept.{Moment, Kept}
 use Rattle.ap_steps.specs.Moves.{held, HoldPlaces, IsStuck}
@@ -14,7 +14,6 @@ use Rattle.ap_standing.specs.Holds.{Holds}
 use Rattle.ap_standing.specs.Laws.{machine}
 use Rattle.ap_standing.proofs.Machines.{went, failed-inside}
 use Rattle.ap_control.specs.Runs.{Ran, RanOrStuck}
-use Rattle.ap_control.proofs.Marks.{mark-whole}
 use Rattle.ap_machine.specs.declared.state.Now.{Now as Kind}
 use Rattle.ap_machine.specs.View.{Paused, point_of, now_of, machine_of, paused_of}
 use Rattle.ap_machine.specs.Sane.{AreShort, AreMoments, all_moments, Sane}
@@ -26,20 +25,6 @@ use Rattle.ap_machine.proofs.Kept.{HoldPlaces-more, AreWithin-more, inside-more,
 -- registers that were written back
 pub written : (n : ℕ) (xs ys : List ℕ) → length xs ≡ n → take n (xs ++ ys) ≡ xs
 written n xs ys e = take-append-le n xs ys (omega arith) ∙ take_all n xs (omega arith)
-
--- only room was made
-pub same-store : (v w : Store) → w.cells ≡ v.cells → w.trail ≡ v.trail → Keeps v w
-same-store v w ec et = record {
-  stays = λ n t m. subst (λ cs. IsMark cs w.trail n t) (sym ec) (subst (λ tr. IsMark v.cells tr n t) (sym et) m);
-  leads = λ n t m. ap₂ (λ cs tr. take n (freed (drop t tr) cs)) ec et;
-}
-
--- a store that keeps its marks has no fewer cells
-pub longer : (v w : Store) (n t : ℕ) → IsTrail v.cells v.trail → IsMark v.cells v.trail n t → undone v n t ≡ v.cells → Keeps v w → length v.cells ≤ length w.cells
-longer v w n t trail mark e keeps =
-    let whole : n ≡ length v.cells = (mark-whole v n t trail mark e).0 in
-    let f : n ≤ length w.cells = (keeps.stays n t mark).fewer in
-    omega arith
 
 short-as : (n m : ℕ) (ws : List Return) → m ≡ n → AreShort n ws → AreShort m ws
 short-as n m ws e h = subst (λ k. AreShort k ws) (sym e) h

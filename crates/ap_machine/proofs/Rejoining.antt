@@ -2,6 +2,7 @@
 use Rattle.std.proofs.Common.{◌≡◌, ℕ, zero, suc, ◌+◌, ◌<◌, ◌≤◌, true, false, List, [], ◌∷◌, ◌++◌, length, take, drop, map, slice_get, Some, refl, ap, sym, ◌∙◌, subst, arith}
 use Rattle.ap_group.specs.Meets.{MeetAll, AreInside}
 use Rattle.ap_term.specs.Tree.{Trees}
+use Rattle.ap_term.proofs.Lists.{some_first}
 use Rattle.ap_cells.specs.Store.{Store, Keeps}
 use Rattle.ap_instr.specs.Code.{Compiled}
 use Rattle.ap_match.specs.Fits.{Fits, Becomes, Answered}
@@ -35,16 +36,12 @@ listed (suc i) (v ∷ ws) w e = ap (λ ps. pushed_of v ∷ ps) (listed i ws w e)
 pub listed-more : (i : ℕ) (ws : List Return) (w : Return) → slice_get ws i ≡ Some w → map pushed_of (take (i + 1) ws) ≡ map pushed_of (take i ws) ++ pushed_of w ∷ []
 listed-more i ws w e = ap (λ n. map pushed_of (take n ws)) (let q : i + 1 ≡ suc i = omega arith in q) ∙ listed i ws w e
 
-some-older : (gs : List Segment) → 0 < length gs → (g : Segment) × (hs : List Segment) × (gs ≡ g ∷ hs)
-some-older [] l = absurd (omega arith)
-some-older (g ∷ gs) l = (g, gs, refl)
-
 -- from s to r, which is at the fork
 module _ (s r : Paused) (came : (g : Segment) (gs : List Segment) → s.older ≡ g ∷ gs → IsAtFork g (g ∷ gs) s r) (no_points : r.machine.points ≡ []) (fork : 0 < length s.older)
     (v : Store) (k : Kept) (x y roots : List ℕ) (next : Kind) (spent budget : ℕ) (view : paused_of v k x y roots next spent budget ≡ r) (sane : Sane v k x y roots) where
   found : (f : Forked) × (fs : List Forked) × (k.forks ≡ f ∷ fs)
   found =
-      let o = some-older s.older fork in
+      let o = some_first s.older fork in
       some-fork v k x y roots next spent budget r view o.0 o.1 (came o.0 o.1 o.2).older
 
   abbrev Listed : List Pushed → Type 0

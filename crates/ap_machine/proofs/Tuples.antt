@@ -1,5 +1,5 @@
 -- A tuple of places, in two spellings, and how many terms it has.
-use Rattle.std.proofs.Common.{◌≡◌, ℕ, List, [], ◌∷◌, length, refl, ap, sym, ◌∙◌, arith}
+use Rattle.std.proofs.Common.{◌≡◌, ℕ, List, [], ◌∷◌, refl, ap, sym, ◌∙◌}
 use Rattle.ap_term.specs.Tuples.{tuple_under}
 use Rattle.ap_term.specs.Tree.{Tree, Trees, more, count_trees}
 use Rattle.ap_term.specs.UpToNames.{SameUpToNames}
@@ -10,10 +10,6 @@ use Rattle.ap_copy.specs.Copies.{tuple_at}
 pub tuple_at-under : (ts : List Tree) (rs : List ℕ) → tuple_at ts rs ≡ tuple_under (tree_at ts) rs
 tuple_at-under ts [] = refl
 tuple_at-under ts (r ∷ rs) = ap (more (tree_at ts r)) (tuple_at-under ts rs)
-
-pub count-under : (k : ℕ → Tree) (rs : List ℕ) → count_trees (tuple_under k rs) ≡ length rs
-count-under k [] = refl
-count-under k (r ∷ rs) = let e : count_trees (tuple_under k rs) ≡ length rs = count-under k rs in omega arith
 
 -- tuples that are the same up to names are of as many terms
 pub count-same : (ts us : Trees) → SameUpToNames ts us → count_trees ts ≡ count_trees us

@@ -1,8 +1,9 @@
 -- Where a search begins.
+pub use Rattle.ap_graft.specs.Uncalled.{HasName}
 use Rattle.std.specs.Prelude.{◌≡◌, ℕ, ◌<◌, ◌⊎◌, [], ◌∷◌, length, slice_get, Some, None}
 use Rattle.std.specs.List.{AllByRecursion}
 use Rattle.ap_term.specs.declared.fixed.TheConstants.{QUERY}
-use Rattle.ap_term.specs.Tree.{Tree, Trees, atom, node, count_trees}
+use Rattle.ap_term.specs.Tree.{Trees, count_trees}
 use Rattle.ap_term.specs.Goals.{Clause, Program, Query}
 use Rattle.ap_term.specs.UpToNames.{SameUpToNames}
 use Rattle.ap_term.specs.WellFormed.{IsQuery}
@@ -26,12 +27,6 @@ called name ts next = record { goals = call (applied name ts) ∷ []; tuple = ts
 pub record IsAtCall (code : Compiled) (number : ℕ) (ts : Trees) (m : Machine) : Type 0 where
   pub points : m.points ≡ []
   pub holds : (q : Predicate) (next : ℕ) → slice_get code.predicates number ≡ Some q → IsApart q ⊎ IsOfBuiltin code q → LocalAll (λ x. x < next) ts → Holds code m (called q.name ts next ∷ [])
-
--- whether a tree has a name
-abbrev pub HasName : ℕ → Tree → Type 0
-HasName a (atom b) = b ≡ a
-HasName a (node b ts) = b ≡ a
-HasName a _ = ⊥
 
 -- no clause is one for a name
 abbrev pub NoneIsFor : ℕ → Program → Type 0

@@ -17,6 +17,7 @@ use Rattle.ap_cells.specs.Trees.{tree_at, trees, span, step, Within}
 use Rattle.ap_cells.specs.Tops.{topped, IsTop}
 use Rattle.ap_cells.proofs.Rounds.{trees-length}
 use Rattle.ap_instr.specs.Runs.{set, spread}
+use Rattle.ap_instr.proofs.Registers.{spread-agree}
 use Rattle.ap_unify.specs.Works.{Unified, Answer}
 use Rattle.ap_match.specs.Fits.{Fits, Agree, cell_tree, top_tree, Becomes, Answered}
 
@@ -122,10 +123,6 @@ set-below k n i t l = go (i == n) refl
     go : (b : Bool) → (i == n) ≡ b → (if b then t else k i) ≡ k i
     go true e = absurd (let q : i ≡ n = (Decides-eqb i n).0 e in omega arith)
     go false e = refl
-
-pub spread-agree : (k l : ℕ → Tree) (p m : ℕ) → ((w : ℕ) → p ≤ w → w < p + m → k w ≡ l w) → spread k p m ≡ spread l p m
-spread-agree k l p zero h = refl
-spread-agree k l p (suc m) h = ap (λ t. more t (spread k (p + 1) m)) (h p (omega arith) (omega arith)) ∙ ap (more (l p)) (spread-agree k l (p + 1) m (λ w b c. h w (omega arith) (omega arith)))
 
 -- a cell that leads to places below says the same under maps that agree there
 cell-agree : (n : ℕ) (k l : ℕ → Tree) → Agree n k l → (c : Raw) → (c ≡ Free → k n ≡ l n) → Within n n c → cell_tree k n c ≡ cell_tree l n c

@@ -10,9 +10,10 @@ use Rattle.ap_cells.specs.declared.cells.Raw.{Raw}
 use Rattle.ap_cells.specs.Trees.{tree_at, trees, span, step, Within}
 use Rattle.ap_cells.specs.Store.{IsStore}
 use Rattle.ap_instr.specs.Runs.{spread}
+use Rattle.ap_instr.proofs.Registers.{spread-agree}
 use Rattle.ap_match.specs.Fits.{Fits, Agree, cell_tree, Becomes, Answered}
 use Rattle.ap_match.proofs.Inside.{inside}
-use Rattle.ap_match.proofs.Maps.{spread-agree, fits-longer, push-fits}
+use Rattle.ap_match.proofs.Maps.{fits-longer, push-fits}
 
 -- a new cell behind the old ones
 module _ (old new : List Raw) (trail : List ℕ) (c : Raw) (s : IsStore old trail) (w : Within (length old) (length old) c) (e : new ≡ old ++ c ∷ []) (t : trees new ≡ trees old ++ step (trees old) (length old) c ∷ []) where

@@ -8,6 +8,7 @@ use Rattle.ap_term.specs.declared.clauses.Check.{Check}
 use Rattle.ap_term.specs.Tree.{Tree, Trees, none, more, count_trees}
 use Rattle.ap_term.specs.Goals.{Part, call, group, calls, Clause, Program}
 use Rattle.ap_term.specs.WellFormed.{callable, all_callable, numbered, numbered_all, numbered_check, well_formed_part, IsClause}
+use Rattle.ap_term.proofs.WellFormed.{calls-formed}
 use Rattle.ap_absunify.specs.declared.states.State.{State}
 use Rattle.ap_patterns.specs.Given.{Patterns, is_analysed}
 use Rattle.ap_cge.specs.Stripped.{stripped_part, stripped_clause, stripped}
@@ -18,13 +19,6 @@ use Rattle.ap_mel.specs.Mended.{is_given_up, is_none, mended, mended_body, is_ba
 
 -- ---- it is well formed
 
-calls_formed : (n : ℕ) (ts : Trees) → all_callable ts ≡ true → numbered_all n ts ≡ true → list_all (well_formed_part n) (calls ts) ≡ true
-calls_formed n none h k = refl
-calls_formed n (more t ts) h k =
-    let a = and_parts (callable t) (all_callable ts) h in
-    let b = and_parts (numbered n t) (numbered_all n ts) k in
-    and_from (callable t && numbered n t) (list_all (well_formed_part n) (calls ts)) (and_from (callable t) (numbered n t) a.0 b.0) (calls_formed n ts a.1 b.1)
-
 mended_formed : (n : ℕ) (bare : Bool) (s : State) (p : Part) → well_formed_part n p ≡ true → list_all (well_formed_part n) (mended bare s p) ≡ true
 mended_formed n bare s (call g) h = and_from (well_formed_part n (call g)) true h refl
 mended_formed n bare s (group cs gs) h = go (is_given_up bare s cs gs)
@@ -34,7 +28,7 @@ mended_formed n bare s (group cs gs) h = go (is_given_up bare s cs gs)
         let r = and_parts (list_all (numbered_check n) cs) (nat_le 1 (count_trees gs) && (all_callable gs && numbered_all n gs)) h in
         let a = and_parts (nat_le 1 (count_trees gs)) (all_callable gs && numbered_all n gs) r.1 in
         let b = and_parts (all_callable gs) (numbered_all n gs) a.1 in
-        calls_formed n gs b.0 b.1
+        calls-formed n gs b.0 b.1
     go false = and_from (well_formed_part n (group (cs ++ missing s cs gs) gs)) true (completed-formed n s (group cs gs) h) refl
 
 body_formed : (n : ℕ) (bare analysed : Bool) (t : Patterns) (s : State) (ps : List Part) → list_all (well_formed_part n) ps ≡ true → list_all (well_formed_part n) (mended_body bare analysed t s ps) ≡ true

@@ -1,9 +1,8 @@
 -- Which block the answers of a query's search are.
-use Rattle.std.proofs.Common.{◌≡◌, ℕ, ◌+◌, ◌<◌, ◌≤◌, max, ◌⊎◌, inl, inr, Bool, true, false, List, [], ◌∷◌, ◌++◌, map, length, length-append, append_assoc, append-nil, Option, Some, None, refl, ap, ap₂, sym, ◌∙◌, subst, arith}
+use Rattle.std.proofs.Common.{◌≡◌, ℕ, ◌+◌, ◌<◌, ◌≤◌, max, ◌⊎◌, inl, inr, Bool, true, false, List, [], ◌∷◌, ◌++◌, map, length, length-append, append-nil, Option, Some, None, refl, ap, ap₂, sym, ◌∙◌, subst, arith}
 use Rattle.std.specs.List.{AllZip}
 use Rattle.std.proofs.lemmas.Bool.{false≢true, cases_lt}
-use Rattle.std.proofs.lemmas.List.{map-append}
-use Rattle.std.proofs.lemmas.Grind.{common_steps}
+use Rattle.std.proofs.lemmas.List.{map-append, length-map}
 use Rattle.ap_term.specs.declared.faults.Fault.{Fault}
 use Rattle.ap_term.specs.Tree.{Trees}
 use Rattle.ap_term.specs.Goals.{Program, Query}
@@ -12,17 +11,19 @@ use Rattle.ap_term.specs.Blocks.{IsPrefix, End, no_more, budget_spent, stopped, 
 use Rattle.ap_term.specs.UpToNames.{SameUpToNames}
 use Rattle.ap_term.specs.WellFormed.{IsQuery}
 use Rattle.ap_term.proofs.SearchLaws.{search-Begins, budgets, blocks}
+use Rattle.ap_term.proofs.Lists.{prefix-trans, first_is}
 use Rattle.ap_laws.specs.Rejoining.{IsOnTheWay}
 use Rattle.ap_laws.specs.Tasks.{left}
 use Rattle.ap_laws.proofs.Conjunctions.{query}
 use Rattle.ap_core.specs.declared.events.Kind.TheVariants as kinds
 use Rattle.ap_core.specs.declared.tasks.Status.TheVariants.{GoingOn, NoBudget}
-use Rattle.ap_core.specs.Tasks.{Task, task}
+use Rattle.ap_core.specs.Tasks.{Task}
 use Rattle.ap_core.specs.Conditions.{is_exhausted, spent_by}
 use Rattle.ap_core.specs.Relation.{Rules, Core, has_spent, only_if, with_status, while_going, at_root}
 use Rattle.ap_core.specs.Reached.{Happening, beginning, after_all, and_then, AreAnswers}
 use Rattle.ap_core.specs.Erased.{erased}
 use Rattle.ap_core.proofs.Reached.{reached_by_events}
+use Rattle.ap_core.proofs.Erasing.{spent_by-left}
 use Rattle.ap_tracked.specs.Tracked.{Tracked}
 use Rattle.ap_graft.specs.Starts.{tracked_start}
 use Rattle.ap_instr.specs.Code.{Compiled}
@@ -39,18 +40,8 @@ use Rattle.ap_open.proofs.Resting.{spent_tied, ended, spent}
 
 -- ---- lists that begin others
 
-size_map : {A B : Type 0} (f : A → B) (xs : List A) → length (map f xs) ≡ length xs
-size_map f [] = refl
-size_map f (x ∷ xs) = grind (arith, common_steps, size_map f xs)
-
-prefix_then : {A : Type 0} (xs ys zs : List A) → IsPrefix xs ys → IsPrefix ys zs → IsPrefix xs zs
-prefix_then xs ys zs h k = (h.0 ++ k.0, sym (append_assoc xs h.0 k.0) ∙ ap (λ us. us ++ k.0) h.1 ∙ k.1)
-
 prefix_map : {A B : Type 0} (f : A → B) (xs ys : List A) → IsPrefix xs ys → IsPrefix (map f xs) (map f ys)
 prefix_map f xs ys h = (map f h.0, sym (map-append f xs h.0) ∙ ap (map f) h.1)
-
-head_same : {A : Type 0} {x y : A} {xs ys : List A} → x ∷ xs ≡ y ∷ ys → x ≡ y
-head_same h = cc
 
 tail_same : {A : Type 0} {x y : A} {xs ys : List A} → x ∷ xs ≡ y ∷ ys → xs ≡ ys
 tail_same h = cc
@@ -61,7 +52,7 @@ prefix_either [] ys zs h k = inl (ys, refl)
 prefix_either (x ∷ xs) [] zs h k = inr (x ∷ xs, refl)
 prefix_either (x ∷ xs) (y ∷ ys) [] h k = absurd (cc)
 prefix_either (x ∷ xs) (y ∷ ys) (z ∷ zs) h k =
-    let same : x ≡ y = head_same h.1 ∙ sym (head_same k.1) in
+    let same : x ≡ y = first_is h.1 ∙ sym (first_is k.1) in
     go same (prefix_either xs ys zs (h.0, tail_same h.1) (k.0, tail_same k.1))
   where
     go : x ≡ y → IsPrefix xs ys ⊎ IsPrefix ys xs → IsPrefix (x ∷ xs) (y ∷ ys) ⊎ IsPrefix (y ∷ ys) (x ∷ xs)
@@ -76,7 +67,7 @@ cut_begins (o ∷ os) rs [] h = absurd (cc)
 cut_begins (fails_by e ∷ os) rs (t ∷ ts) h = absurd (cc)
 cut_begins (answer u ∷ os) rs (t ∷ ts) h =
     let r = cut_begins os rs ts (tail_same h) in
-    let same : u ≡ t = let e : answer u ≡ answer t = head_same h in cc in
+    let same : u ≡ t = let e : answer u ≡ answer t = first_is h in cc in
     (r.0, (r.1.0, ap₂ (λ a as'. a ∷ as') same r.1.1))
 
 on_the_way : (f : Met) (ts : List Trees) → IsOnTheWay f (map answer ts) → ((found_by (cut f.outcomes) f.ended).ended ≡ false) × IsPrefix (found_by (cut f.outcomes) f.ended).answers ts
@@ -109,7 +100,7 @@ module _ (line : Trees → List ℕ) (p : Program) (q : State) (budget limit : �
       found_in = by b.found
         where
           by : IsPrefix found ls ⊎ (length ls ≡ limit) → IsPrefix found gs
-          by (inl h) = prefix_then found ls gs h front
+          by (inl h) = prefix-trans found ls gs h front
           by (inr h) = absurd (omega arith)
 
       none_longer : (f : Option Fault) → IsAllUpTo line p q f ls → ⊥
@@ -176,9 +167,6 @@ abbrev by_levels : (code : Compiled) (p : Rules) (q : Query) (budget : ℕ) (lev
 by_levels code p q budget levels s aways given h =
     record { events = h.events; core = h.core; led = h.led; rules = h.rules; going = h.going; searched = searched_beside code p (tracked_start q) levels s aways h.core.root h.opened; emitted = h.emitted }
 
-spent_left : (t : Task) → spent_by t ≤ left (erased t)
-spent_left (task r c l) = omega arith
-
 only_true : {A : Type 0} (b : Bool) (x : A) → b ≡ true → only_if b x ≡ Some x
 only_true true x h = refl
 only_true false x h = absurd (cc)
@@ -211,7 +199,7 @@ module _ (line : Trees → List ℕ) (code : Compiled) (p : Rules) (q : Query) (
   pub charged : (c : ℕ) → c ≤ spent_by h.core.root → IsCharged line p.program (start q) c (map line given)
   charged c few n lt =
       let r = reached_by_events p h.searched.program (λ g e b. harmless p.program g b) (start q) (query q is).0 (query q is).1 budget h.events h.core h.led in
-      let below : n < left (erased h.core.root) = let k = spent_left h.core.root in omega arith in
+      let below : n < left (erased h.core.root) = let k = spent_by-left h.core.root in omega arith in
       let w = on_the_way (meets p.program n (start q ∷ [])) h.core.emitted (r.1.1 n below) in
       (w.0, subst (IsPrefix (map line (search p.program n (start q ∷ [])).answers)) lines (prefix_map line (search p.program n (start q ∷ [])).answers h.core.emitted w.1))
 
@@ -222,7 +210,7 @@ module _ (line : Trees → List ℕ) (code : Compiled) (p : Rules) (q : Query) (
       let found : Program → ℕ → List (List ℕ) = λ r k. map line (search r k (start q ∷ [])).answers in
       let fewer : IsPrefix (search p.program n (start q ∷ [])).answers (search p.program budget (start q ∷ [])).answers = budgets.begins p.program (start q ∷ []) n budget (omega arith) in (
         go (search p.program n (start q ∷ [])).ended refl,
-        prefix_then (found p.program n) (found p.program budget) (map line given) (prefix_map line (search p.program n (start q ∷ [])).answers (search p.program budget (start q ∷ [])).answers fewer) w.1,
+        prefix-trans (found p.program n) (found p.program budget) (map line given) (prefix_map line (search p.program n (start q ∷ [])).answers (search p.program budget (start q ∷ [])).answers fewer) w.1,
       )
     where
       go : (b : Bool) → (search p.program n (start q ∷ [])).ended ≡ b → b ≡ false
@@ -233,7 +221,7 @@ module _ (line : Trees → List ℕ) (code : Compiled) (p : Rules) (q : Query) (
 
   module _ (limit : ℕ) where
     fewer : length given < limit → length (map line given) < limit
-    fewer lt = let e = size_map line given in omega arith
+    fewer lt = let e = length-map given line in omega arith
 
     pub ends : length given < limit → is_exhausted h.core.root ≡ true → IsBlock line p.program (start q) budget limit (map line given) no_more
     ends lt e = record {
@@ -248,11 +236,11 @@ module _ (line : Trees → List ℕ) (code : Compiled) (p : Rules) (q : Query) (
 
     pub stops : length given ≡ limit → IsBlock line p.program (start q) budget limit (map line given) stopped
     stops e =
-        let size : length (map line given) ≡ limit = size_map line given ∙ e in
+        let size : length (map line given) ≡ limit = length-map given line ∙ e in
         record { begins = begins; few = omega arith; found = inr size; ends = size }
 
     pub goes_on : length given ≤ limit → (rest : List (List ℕ)) × (end : End) × IsBlock line p.program (start q) budget limit (map line given ++ rest) end
-    goes_on le = front_of_block line p.program (start q) budget limit (map line given) begins (let e = size_map line given in omega arith)
+    goes_on le = front_of_block line p.program (start q) budget limit (map line given) begins (let e = length-map given line in omega arith)
 
 pub block : RestingLaw → SettlingLaw → BlockLaw
 block resting settling = record {

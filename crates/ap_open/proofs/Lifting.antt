@@ -1,5 +1,6 @@
 -- Events of the section that runs a slot, as events of the section outside of it.
 use Rattle.std.proofs.Common.{◌≡◌, ℕ, zero, suc, List, [], ◌∷◌, map, Option, Some, None, option_and_then, refl, ap, sym, ◌∙◌, subst}
+use Rattle.std.proofs.lemmas.Option.{none-some, same_Some}
 use Rattle.ap_core.specs.declared.events.Kind.{Kind}
 use Rattle.ap_core.specs.Tasks as core
 use Rattle.ap_core.specs.Tasks.{Task, task, exhausted, alternative, state, frame, Progress, idle, stored, busy, again, redone, drained}
@@ -18,12 +19,6 @@ use Rattle.ap_tied.specs.Happened.{happened}
 use Rattle.ap_tied.specs.SlotCalls.{since, since_in, since_of, RunsSlot}
 use Rattle.ap_tied.specs.Ties.{IsSimple, SlotsAreSimple, IsSimpleProgress, WasRedone, IsRedoneAt, IsRedoneIn, IsInRound, IsTied}
 
-pub refused : {A : Type 0} {x : A} → None ≡ Some x → ⊥
-refused h = absurd (cc)
-
-pub some_is : {A : Type 0} {x y : A} → Some x ≡ Some y → x ≡ y
-some_is h = cc
-
 -- ---- with another task in slot i
 
 abbrev filled_in : ℕ → core.Slots → Task → core.Slots
@@ -39,14 +34,14 @@ filled_at i (task r c (alternative (state s) l)) y = task r c (alternative (stat
 filled_at i (task r c (alternative (frame s rd w) l)) y = task r c (alternative (frame s rd (filled_in i w y)) l)
 
 event_in : (p : Rules) (k : Kind) (path : List ℕ) (r b i : ℕ) (w : core.Slots) (z y : Task) → running_in i w ≡ Some z → at_end p k path z ≡ Some y → in_slots p k i path r b w ≡ Some (filled_in i w y)
-event_in p k path r b i core.no_slot z y h e = absurd (refused h)
-event_in p k path r b zero (core.slot g o x w) z y h e = absurd (refused h)
+event_in p k path r b i core.no_slot z y h e = absurd (none-some _ h)
+event_in p k path r b zero (core.slot g o x w) z y h e = absurd (none-some _ h)
 event_in p k path r b (suc zero) (core.slot g o x w) z y h e = ap (mapped (λ c. core.slot g c.0 c.1 w)) (in_filled p k path r b g o x z y h e).0
 event_in p k path r b (suc (suc i)) (core.slot g o x w) z y h e = ap (mapped (core.slot g o x)) (event_in p k path r b (suc i) w z y h e)
 
 event_at : (p : Rules) (k : Kind) (path : List ℕ) (i : ℕ) (t z y : Task) → running_task i t ≡ Some z → at_end p k path z ≡ Some y → in_task p k i path t ≡ Some (filled_at i t y)
-event_at p k path i (task r c exhausted) z y h e = absurd (refused h)
-event_at p k path i (task r c (alternative (state s) l)) z y h e = absurd (refused h)
+event_at p k path i (task r c exhausted) z y h e = absurd (none-some _ h)
+event_at p k path i (task r c (alternative (state s) l)) z y h e = absurd (none-some _ h)
 event_at p k path i (task r c (alternative (frame s rd w) l)) z y h e =
     let d = Some-if (is_open rd) (running_in i w) z h in
     ap (λ x. mapped (task r c) (mapped (λ b. alternative b l) x)) (chosen (is_open rd) (mapped (frame s rd) (in_slots p k i path r s.next w)) d.0)
@@ -141,7 +136,7 @@ lift_one : (code : Compiled) (p : Rules) (o : Tracked) (s : Section) (i : ℕ) (
     → (u : Task) × (at_end p k (i ∷ path) t ≡ Some u) × IsTied code p o s u × RunsSlot i u n d y
 lift_one code p o s i t z y k path n d h r e =
     let f = lift code p o s i t z y k path h.holds r.runs e in
-    let same : filled_at i t y ≡ f.0 = some_is (sym (event_at p k path i t z y r.runs e) ∙ f.1) in (
+    let same : filled_at i t y ≡ f.0 = same_Some _ _ (sym (event_at p k path i t z y r.runs e) ∙ f.1) in (
       f.0,
       f.1,
       record {
@@ -160,14 +155,14 @@ through i es = map (λ e. (e.0, i ∷ e.1)) es
 
 pub lift_all : (code : Compiled) (p : Rules) (o : Tracked) (s : Section) (i : ℕ) (es : List Happening) (t z y : Task) (n : Tracked) (d : ℕ) → IsTied code p o s t → RunsSlot i t n d z → happened p es z ≡ Some y
     → (u : Task) × (happened p (through i es) t ≡ Some u) × IsTied code p o s u × RunsSlot i u n d y
-lift_all code p o s i [] t z y n d h r e = (t, refl, h, subst (RunsSlot i t n d) (some_is e) r)
+lift_all code p o s i [] t z y n d h r e = (t, refl, h, subst (RunsSlot i t n d) (same_Some _ _ e) r)
 lift_all code p o s i (e ∷ es) t z y n d h r is = go (at_end p e.0 e.1 z) refl is (lift_all code p o s i es)
   where
     go : (x : Option Task) → at_end p e.0 e.1 z ≡ x → option_and_then (happened p es) x ≡ Some y
         → ((t z y : Task) (n : Tracked) (d : ℕ) → IsTied code p o s t → RunsSlot i t n d z → happened p es z ≡ Some y
         → (u : Task) × (happened p (through i es) t ≡ Some u) × IsTied code p o s u × RunsSlot i u n d y)
         → (u : Task) × (happened p (through i (e ∷ es)) t ≡ Some u) × IsTied code p o s u × RunsSlot i u n d y
-    go None same is rec = absurd (refused is)
+    go None same is rec = absurd (none-some _ is)
     go (Some x) same is rec =
         let a = lift_one code p o s i t z x e.0 e.1 n d h r same in
         let b = rec a.0 x y n d a.2 a.3 is in

@@ -1,5 +1,6 @@
 -- Events of the innermost of open sections, and those of the core.
 use Rattle.std.proofs.Common.{◌≡◌, ℕ, List, [], ◌∷◌, ◌++◌, Option, Some, None, option_and_then, refl, ap, sym, ◌∙◌, subst}
+use Rattle.std.proofs.lemmas.Option.{none-some, same_Some}
 use Rattle.std.specs.List.{AllZip}
 use Rattle.ap_term.specs.Tree.{Trees}
 use Rattle.ap_term.specs.Search.{State}
@@ -16,7 +17,7 @@ use Rattle.ap_instr.specs.Code.{Compiled}
 use Rattle.ap_tie.specs.Sections.{Section}
 use Rattle.ap_tied.specs.Happened.{happened}
 use Rattle.ap_open.specs.Opened.{Outer, AreOpen, OpenTied, IsSolving}
-use Rattle.ap_open.proofs.Lifting.{refused, some_is, through, lift_all}
+use Rattle.ap_open.proofs.Lifting.{through, lift_all}
 
 -- ---- the innermost section
 
@@ -55,19 +56,19 @@ of_root p k c u r h = go k (ap (λ x. own x k c.root) r ∙ h)
     go : (k : Kind) → own c.rules k c.root ≡ Some u → at_root k c ≡ Some (with_root c u)
     go kinds.Infer h = ap (mapped (with_root c)) h
     go kinds.Fork h = ap (mapped (with_root c)) h
-    go kinds.Start h = absurd (refused h)
-    go kinds.Answer h = absurd (refused h)
-    go kinds.Fail h = absurd (refused h)
-    go kinds.Spend h = absurd (refused h)
-    go kinds.Stop h = absurd (refused h)
-    go kinds.Stopped h = absurd (refused h)
+    go kinds.Start h = absurd (none-some _ h)
+    go kinds.Answer h = absurd (none-some _ h)
+    go kinds.Fail h = absurd (none-some _ h)
+    go kinds.Spend h = absurd (none-some _ h)
+    go kinds.Stop h = absurd (none-some _ h)
+    go kinds.Stopped h = absurd (none-some _ h)
     go kinds.Join h = ap (mapped (with_root c)) h
     go kinds.Break h = ap (mapped (with_root c)) h
     go kinds.Redo h = ap (mapped (with_root c)) h
     go kinds.Restart h = ap (mapped (with_root c)) h
-    go kinds.Raise h = absurd (refused h)
+    go kinds.Raise h = absurd (none-some _ h)
     go kinds.Drain h = ap (mapped (with_root c)) h
-    go kinds.Forget h = absurd (refused h)
+    go kinds.Forget h = absurd (none-some _ h)
     go kinds.Replay h = ap (mapped (with_root c)) h
 
 of_core : (p : Rules) (k : Kind) (path : List ℕ) (c : Core) (u : Task) → c.rules ≡ p → c.status ≡ GoingOn → at_end p k path c.root ≡ Some u → after k path c ≡ Some (with_root c u)
@@ -85,23 +86,23 @@ pub record Stands (p : Rules) (u : Task) (given : List Trees) (d : Core) : Type 
   pub emitted : d.emitted ≡ given
 
 pub core_after : (p : Rules) (es : List Happening) (c : Core) (u : Task) → c.rules ≡ p → c.status ≡ GoingOn → happened p es c.root ≡ Some u → (d : Core) × (after_all es c ≡ Some d) × Stands p u c.emitted d
-core_after p [] c u r g h = (c, refl, record { root = some_is h; rules = r; going = g; emitted = refl })
+core_after p [] c u r g h = (c, refl, record { root = same_Some _ _ h; rules = r; going = g; emitted = refl })
 core_after p (e ∷ es) c u r g h = go (at_end p e.0 e.1 c.root) refl h (core_after p es)
   where
     go : (x : Option Task) → at_end p e.0 e.1 c.root ≡ x → option_and_then (happened p es) x ≡ Some u
         → ((c : Core) (u : Task) → c.rules ≡ p → c.status ≡ GoingOn → happened p es c.root ≡ Some u → (d : Core) × (after_all es c ≡ Some d) × Stands p u c.emitted d)
         → (d : Core) × (after_all (e ∷ es) c ≡ Some d) × Stands p u c.emitted d
-    go None same h rec = absurd (refused h)
+    go None same h rec = absurd (none-some _ h)
     go (Some x) same h rec =
         let a = rec (with_root c x) u r g h in
         (a.0, ap (λ o. and_then o (after_all es)) (of_core p e.0 e.1 c x r g same) ∙ a.1, a.2)
 
 pub after_more : (es fs : List Happening) (c d : Core) → after_all es c ≡ Some d → after_all (es ++ fs) c ≡ after_all fs d
-after_more [] fs c d h = ap (after_all fs) (some_is h)
+after_more [] fs c d h = ap (after_all fs) (same_Some _ _ h)
 after_more (e ∷ es) fs c d h = go (after e.0 e.1 c) h (after_more es fs)
   where
     go : (o : Option Core) → and_then o (after_all es) ≡ Some d → ((c d : Core) → after_all es c ≡ Some d → after_all (es ++ fs) c ≡ after_all fs d) → and_then o (after_all (es ++ fs)) ≡ after_all fs d
-    go None h rec = absurd (refused h)
+    go None h rec = absurd (none-some _ h)
     go (Some x) h rec = rec x d h
 
 -- A search goes on by events that lead from whatever task its open sections are tied to, to one that the others are tied to.

@@ -1,5 +1,6 @@
 -- Searches that go on beside others, and what a goal's own comes to.
 use Rattle.std.proofs.Common.{◌≡◌, ℕ, Bool, List, [], ◌∷◌, ◌++◌, Option, Some, None, option_and_then, refl, ap, sym, ◌∙◌, subst}
+use Rattle.std.proofs.lemmas.Option.{none-some, same_Some}
 use Rattle.std.specs.List.{AllZip}
 use Rattle.ap_term.specs.Tree.{Tree, Trees}
 use Rattle.ap_term.specs.Search.{State}
@@ -22,25 +23,16 @@ use Rattle.ap_open.specs.Opened.{IsSolving, spent_in}
 use Rattle.ap_open.specs.Calling.{IsAnswering, HasMore, IsDone, IsSpent}
 use Rattle.ap_open.specs.Away.{Away, Level, OpenBeside, Carries, IsSearch, IsSolvingBeside, found, failed_at, spent_all, stopped_at, FitsAs}
 use Rattle.ap_open.specs.Sharing.{OutcomeLaw}
-use Rattle.ap_open.proofs.Lifting.{refused, some_is}
 use Rattle.ap_open.proofs.Opening.{core_after, after_more}
 use Rattle.ap_open.proofs.Resting.{spent_tied, ended, spent}
 
 pub happened_more : (p : Rules) (es fs : List Happening) (t u : Task) → happened p es t ≡ Some u → happened p (es ++ fs) t ≡ happened p fs u
-happened_more p [] fs t u h = ap (happened p fs) (some_is h)
+happened_more p [] fs t u h = ap (happened p fs) (same_Some _ _ h)
 happened_more p (e ∷ es) fs t u h = go (at_end p e.0 e.1 t) h (happened_more p es fs)
   where
     go : (o : Option Task) → option_and_then (happened p es) o ≡ Some u → ((t u : Task) → happened p es t ≡ Some u → happened p (es ++ fs) t ≡ happened p fs u) → option_and_then (happened p (es ++ fs)) o ≡ happened p fs u
-    go None h rec = absurd (refused h)
+    go None h rec = absurd (none-some _ h)
     go (Some x) h rec = rec x u h
-
--- one after the other
-pub carries_on : (code : Compiled) (levels levels' levels'' : List Level) (s s' s'' : Section) (aways aways' aways'' : List Away)
-    → Carries code levels s aways levels' s' aways' → Carries code levels' s' aways' levels'' s'' aways'' → Carries code levels s aways levels'' s'' aways''
-carries_on code levels levels' levels'' s s' s'' aways aways' aways'' f g p o t h =
-    let a = f p o t h in
-    let b = g p o a.1 a.3 in
-    (a.0 ++ b.0, b.1, happened_more p a.0 b.0 t a.1 a.2 ∙ b.2, b.3)
 
 searches : (code : Compiled) (p : Rules) (o : Tracked) (rest : ℕ) (levels levels' : List Level) (s s' : Section) (aways aways' : List Away) → Carries code levels s aways levels' s' aways'
     → IsSearch code p o rest levels s aways → IsSearch code p o rest levels' s' aways'

@@ -1,16 +1,14 @@
 -- What ties say of sections that have spent, and that are done.
-use Rattle.std.proofs.Common.{◌≡◌, ℕ, inl, inr, true, ap, refl, subst}
+use Rattle.std.proofs.Common.{◌≡◌, inl, inr, true, ap, subst}
 use Rattle.ap_core.specs.Tasks.{Task}
 use Rattle.ap_core.specs.Conditions.{is_exhausted, spent_by}
 use Rattle.ap_core.specs.Relation.{Rules, has_spent}
 use Rattle.ap_tracked.specs.Tracked.{Tracked}
 use Rattle.ap_instr.specs.Code.{Compiled}
-use Rattle.ap_frames.specs.declared.slots.Stand.{Stand}
-use Rattle.ap_tie.specs.Sections.{Section, section, bottom, parcall, Held}
+use Rattle.ap_tie.specs.Sections.{Section, section, bottom, parcall}
 use Rattle.ap_tied.specs.Settling.{SettlingLaw, RestingLaw}
-use Rattle.ap_tied.specs.SlotCalls.{stood}
 use Rattle.ap_tied.specs.Ties.{IsTied}
-use Rattle.ap_open.specs.Opened.{spent_in, rest_in}
+use Rattle.ap_open.specs.Opened.{spent_in}
 use Rattle.ap_open.specs.Calling.{IsDone, IsSpent}
 
 pub spent_tied : (code : Compiled) (p : Rules) (o : Tracked) (s : Section) (t : Task) → IsTied code p o s t → spent_by t ≡ spent_in s
@@ -23,11 +21,3 @@ pub spent : RestingLaw → SettlingLaw → (code : Compiled) (p : Rules) (o : Tr
 spent resting settling code p o (section m c b st) t (inl k) h = resting.spent code p o m c b st t h k.0 k.1
 spent resting settling code p o (section m c b bottom) t (inr k) h = absurd k
 spent resting settling code p o (section m c b (parcall f q rd w qs st)) t (inr k) h = settling.spends code p o m c b f q rd w qs st t h k.0 k.1
-
--- ---- counts stay where a slot stands otherwise
-
-pub spent_stood : (i : ℕ) (e : Stand (Unit {0})) (a : Held) (s : Section) → spent_in (stood i e a s) ≡ spent_in s
-spent_stood i e a (section m c b st) = refl
-
-pub rest_stood : (i : ℕ) (e : Stand (Unit {0})) (a : Held) (s : Section) → rest_in (stood i e a s) ≡ rest_in s
-rest_stood i e a (section m c b st) = refl

@@ -1,11 +1,11 @@
 -- Where a query's search begins, and what its answers do.
 use Rattle.std.proofs.Common.{ℕ, List, [], ◌∷◌, ◌++◌, refl, ap, ◌∙◌, subst}
-use Rattle.std.specs.List.{AllZip}
 use Rattle.ap_term.specs.Tree.{Trees}
 use Rattle.ap_term.specs.Goals.{Query}
 use Rattle.ap_term.specs.Search.{State, start}
 use Rattle.ap_term.specs.UpToNames.{SameUpToNames}
 use Rattle.ap_term.specs.WellFormed.{IsQuery}
+use Rattle.ap_term.proofs.Zips.{AllZip-push}
 use Rattle.ap_core.specs.declared.events.Kind.TheVariants as kinds
 use Rattle.ap_core.specs.Tasks.{task, exhausted, alternative, state}
 use Rattle.ap_core.specs.Relation.{Rules, emitting, while_going, at_root, mapped}
@@ -24,12 +24,6 @@ use Rattle.ap_open.specs.Opened.{IsSolving}
 use Rattle.ap_open.specs.Calling.{IsAnswering}
 use Rattle.ap_open.specs.Solving.{past_answer, SolvingLaw}
 use Rattle.ap_open.proofs.Opening.{after_more}
-
-zip_push : {A B : Type 0} (R : A → B → Type 0) (xs : List A) (ys : List B) (x : A) (y : B) → AllZip R xs ys → R x y → AllZip R (xs ++ x ∷ []) (ys ++ y ∷ [])
-zip_push R [] [] x y h r = (r, tt)
-zip_push R [] (z ∷ ys) x y h r = absurd h
-zip_push R (w ∷ xs) [] x y h r = absurd h
-zip_push R (w ∷ xs) (z ∷ ys) x y h r = (h.0, zip_push R xs ys x y h.1 r)
 
 module _ (beginning_is : BeginningLaw) (starting : StartLaw) (resting : RestingLaw) where
   begun : (code : Compiled) (p : Rules) (q : Query) (m : Machine) (rest : ℕ) → IsQuery q → IsSearched code p (tracked_start q) → Holds code m (tracked_start q ∷ [])
@@ -59,7 +53,7 @@ module _ (beginning_is : BeginningLaw) (starting : StartLaw) (resting : RestingL
         rules = h.rules;
         going = h.going;
         opened = (h.opened.0, left);
-        emitted = zip_push SameUpToNames given h.core.emitted tuple y.tuple h.emitted (same tuple names);
+        emitted = AllZip-push SameUpToNames given h.core.emitted tuple y.tuple h.emitted (same tuple names);
       }
 
   pub solving : SolvingLaw

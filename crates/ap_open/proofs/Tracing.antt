@@ -4,15 +4,13 @@ use Rattle.std.specs.List.{flat_map, AllByRecursion}
 use Rattle.std.proofs.lemmas.Grind.{flat_map-append}
 use Rattle.std.proofs.lemmas.List.{map-append}
 use Rattle.ap_term.specs.declared.fixed.TheConstants.{QUERY}
-use Rattle.ap_term.specs.Tree.{Tree, Trees, var, int, atom, node, none, more, append_trees}
+use Rattle.ap_term.specs.Tree.{Tree, Trees, none, more, append_trees}
 use Rattle.ap_term.specs.Substitution.{instance, instance_all, Subst, value, shift}
 use Rattle.ap_term.specs.Unification.{mgu}
-use Rattle.ap_term.specs.Unifier.{IsMostGeneral}
 use Rattle.ap_term.specs.Builtins.{builtin}
 use Rattle.ap_term.specs.Goals.{Part, Clause, Program, Query, joined, instance_part, plain_goals}
 use Rattle.ap_term.specs.WellFormed.{IsProgram, IsQuery}
 use Rattle.ap_term.specs.Search.{State, cut, meets, found_by, search, start, outcomes_to_depth, answers_to_depth, ways_by, clause_way, way_if, variables}
-use Rattle.ap_term.proofs.Solvable.{mgu-general}
 use Rattle.ap_term.proofs.GoalLists.{plain_goals-instance}
 use Rattle.ap_term.proofs.Zips.{AllByRecursion-append}
 use Rattle.ap_laws.specs.Plain.{Plain, state, faulted, PlainWay, way, fault_way, Ways, plain_way, plain_ways, plain_by, plain_of, goals_left, outcome, plain_children_by, steps_of, HasFullGroups}
@@ -22,44 +20,20 @@ use Rattle.ap_laws.proofs.Views.{plain_by-None}
 use Rattle.ap_cge.specs.Stripped.{stripped_clause, stripped}
 use Rattle.ap_instr.specs.StandsFor.{asked, asked_query}
 use Rattle.ap_instr.specs.Runs.{applied}
-use Rattle.ap_graft.specs.Uncalled.{IsOther, AreOthers, BodyIsOther, NeverCalls, HasName}
+use Rattle.ap_graft.specs.Uncalled.{IsOther, AreOthers, NeverCalls, HasName}
+use Rattle.ap_graft.proofs.Uncalled.{no-unifier, instance-other, middle}
 use Rattle.ap_open.specs.Reading.{AreRead}
 use Rattle.ap_open.proofs.Stripping.{plain_stripped}
 
 -- ---- goals of other names
 
-instance_other : (a : ℕ) (f : ℕ → Tree) (t : Tree) → IsOther a t → IsOther a (instance f t)
-instance_other a f (var x) h = absurd h
-instance_other a f (int z) h = h
-instance_other a f (atom b) h = h
-instance_other a f (node b ts) h = h
-
 instances_other : (a : ℕ) (f : ℕ → Tree) (ts : Trees) → AreOthers a ts → AreOthers a (instance_all f ts)
 instances_other a f none h = tt
-instances_other a f (more t ts) h = (instance_other a f t h.0, instances_other a f ts h.1)
+instances_other a f (more t ts) h = (instance-other a f t h.0, instances_other a f ts h.1)
 
-append_other : (a : ℕ) (ts us : Trees) → AreOthers a ts → AreOthers a us → AreOthers a (append_trees ts us)
+pub append_other : (a : ℕ) (ts us : Trees) → AreOthers a ts → AreOthers a us → AreOthers a (append_trees ts us)
 append_other a none us h k = k
 append_other a (more t ts) us h k = (h.0, append_other a ts us h.1 k)
-
--- no clause of the name can be taken
-apart : (a : ℕ) (f u : ℕ → Tree) (g h : Tree) → IsOther a g → HasName a h → instance u g ≡ instance u (instance f h) → ⊥
-apart a f u (var x) h o n e = o
-apart a f u g (var x) o n e = n
-apart a f u g (int z) o n e = n
-apart a f u (int z) (atom b) o n e = cc
-apart a f u (int z) (node b ts) o n e = cc
-apart a f u (atom c) (atom b) o n e = o (let d : c ≡ b = cc in d ∙ n)
-apart a f u (atom c) (node b ts) o n e = cc
-apart a f u (node c us) (atom b) o n e = cc
-apart a f u (node c us) (node b ts) o n e = o (let d : c ≡ b = cc in d ∙ n)
-
-no_unifier : (a : ℕ) (f : ℕ → Tree) (g h : Tree) → IsOther a g → HasName a h → mgu g (instance f h) ≡ None
-no_unifier a f g h o n = go (mgu g (instance f h)) refl (mgu-general g (instance f h))
-  where
-    go : (m : Option Subst) → mgu g (instance f h) ≡ m → IsMostGeneral g (instance f h) m → mgu g (instance f h) ≡ None
-    go None e k = e
-    go (Some s) e k = absurd (apart a f (value s) g h o n k.0)
 
 pub applied_named : (a : ℕ) (ts : Trees) → HasName a (applied a ts)
 applied_named a none = refl
@@ -98,7 +72,7 @@ module _ (n : ℕ) (g : Tree) where
   clauses_same p r e = sym (clauses_stripped p) ∙ ap by_clauses e ∙ clauses_stripped r
 
   clause_none : (a : ℕ) (c : Clause) → IsOther a g → HasName a c.head → by_clause c ≡ []
-  clause_none a c o h = ap (λ m. map plain_way (way_if m (map (instance_part (shift n)) c.body) (c.vars + 1))) (no_unifier a (shift n) g c.head o h)
+  clause_none a c o h = ap (λ m. map plain_way (way_if m (map (instance_part (shift n)) c.body) (c.vars + 1))) (no-unifier a (shift n) g c.head o h)
 
   clauses_asked : (a : ℕ) (p r l m : Program) (c d : Clause) → IsOther a g → HasName a c.head → HasName a d.head → stripped p ≡ stripped r → stripped l ≡ stripped m → by_clauses (p ++ c ∷ l) ≡ by_clauses (r ++ d ∷ m)
   clauses_asked a p r l m c d o hc hd e f =
@@ -160,10 +134,6 @@ module _ (a : ℕ) (A B : Ways) (same : (g : Tree) (n : ℕ) → IsOther a g →
       ∙ ap (λ es. called ∷ es) (flat_same (λ s. trace A r s) (λ s. trace B r s) (plain_children_by G T n k (B g n)) (same_trace r) (children_other G T n k (B g n) h.1 (others g n)))
 
 -- ---- the searches
-
-middle : (a : ℕ) (p l : Program) (c : Clause) → NeverCalls a (p ++ c ∷ l) → BodyIsOther a c
-middle a [] l c h = h.0
-middle a (e ∷ p) l c h = middle a p l c h.1
 
 -- what a budget finds, by the plain form of where the search begins
 meets_plain : (p : Program) → IsProgram p → (s : State) → HasFullGroups s → s.steps ≡ 0 → (n : ℕ) → meets p n (s ∷ []) ≡ found_upto n (traces (plain_ways p) n (plain_of s ∷ []))

@@ -2,6 +2,7 @@
 use Rattle.std.proofs.Common.{◌≡◌, ℕ, zero, suc, ◌+◌, ◌-◌, Bool, true, false, ◌&&◌, nat_lt, List, [], ◌∷◌, ◌++◌, map, Option, Some, None, is_none, append_assoc, refl, ap, ap₂, sym, ◌∙◌, subst, arith}
 use Rattle.std.proofs.lemmas.Bool.{false≢true}
 use Rattle.std.proofs.lemmas.List.{map-append}
+use Rattle.std.proofs.lemmas.Option.{none-some, same_Some}
 use Rattle.std.specs.List.{AllByRecursion, flat_map, list_all}
 use Rattle.ap_term.specs.declared.faults.Fault.{Fault}
 use Rattle.ap_term.specs.Tree.{Tree, Trees}
@@ -13,6 +14,7 @@ use Rattle.ap_term.specs.Unification.{mgu}
 use Rattle.ap_term.specs.Substitution.{instance}
 use Rattle.ap_term.specs.Builtins.{builtin}
 use Rattle.ap_term.specs.Faults.{fault_of}
+use Rattle.ap_term.proofs.Zips.{AllByRecursion-append}
 use Rattle.ap_core.specs.declared.events.Kind.{Kind}
 use Rattle.ap_core.specs.declared.events.Kind.TheVariants as kinds
 use Rattle.ap_core.specs.declared.tasks.Status.{Status}
@@ -23,6 +25,7 @@ use Rattle.ap_core.specs.Conditions.{has_goals, is_done, is_exhausted, spent_by}
 use Rattle.ap_core.specs.Relation as relation
 use Rattle.ap_core.specs.Relation.{Rules, Core, only_if, mapped, states, inferred, ready, fork_goals, forked, broken, drain, redo, readied, replayed, begun_anew, own, has_spent, met, emitting, with_root, with_status, at_root, along, while_going, after, in_task}
 use Rattle.ap_core.specs.Reached.{Happening, beginning, after_all, and_then}
+use Rattle.ap_core.proofs.Options.{Some-only_if}
 use Rattle.ap_instr.specs.StandsFor.{asked_query}
 use Rattle.ap_open.specs.Ungrouped.{AreCalls, IsUngrouped}
 
@@ -46,10 +49,6 @@ GoCalling ws = AllByRecursion (λ w. AreCalls w.body) ws
 abbrev Call : List State → Type 0
 Call ss = AllByRecursion (λ s. AreCalls s.goals) ss
 
-all_append : {A : Type 0} (P : A → Type 0) (xs ys : List A) → AllByRecursion P xs → AllByRecursion P ys → AllByRecursion P (xs ++ ys)
-all_append P [] ys h k = k
-all_append P (x ∷ xs) ys h k = (h.0, all_append P xs ys h.1 k)
-
 way_calls : (o : Option Subst) (body : List Part) (takes : ℕ) → AreCalls body → GoCalling (way_if o body takes)
 way_calls None body takes h = tt
 way_calls (Some s) body takes h = (h, tt)
@@ -57,7 +56,7 @@ way_calls (Some s) body takes h = (h, tt)
 clause_ways : (p : Program) (next : ℕ) (g : Tree) → IsUngrouped p → GoCalling (flat_map (clause_way next g) p)
 clause_ways [] next g h = tt
 clause_ways (c ∷ p) next g h =
-    all_append (λ w. AreCalls w.body) (clause_way next g c) (flat_map (clause_way next g) p)
+    AllByRecursion-append (λ w. AreCalls w.body) (clause_way next g c) (flat_map (clause_way next g) p)
     (way_calls (mgu g (instance (shift next) c.head)) (map (instance_part (shift next)) c.body) (c.vars + 1) (calls_map (shift next) c.body h.0))
     (clause_ways p next g h.1)
 
@@ -122,20 +121,9 @@ record Left (p : Rules) (q : State) (c : Core) : Type 0 where
   pub calls : Call left
   pub same : (n : ℕ) → meets p.program (spent + n) (q ∷ []) ≡ with_outcomes (map answer c.emitted) (meets p.program n left)
 
-none_some : {A : Type 0} {x : A} → None ≡ Some x → ⊥
-none_some h = cc
-
-some_is : {A : Type 0} {x y : A} → Some x ≡ Some y → x ≡ y
-some_is h = cc
-
--- what holds where the test does
-only_is : {A : Type 0} (b : Bool) (x y : A) → only_if b x ≡ Some y → (b ≡ true) × (x ≡ y)
-only_is true x y h = (refl, some_is h)
-only_is false x y h = absurd (none_some h)
-
 mapped_is : {A B : Type 0} (f : A → B) (o : Option A) (y : B) → mapped f o ≡ Some y → (x : A) × (o ≡ Some x) × (f x ≡ y)
-mapped_is f None y h = absurd (none_some h)
-mapped_is f (Some x) y h = (x, refl, some_is h)
+mapped_is f None y h = absurd (none-some _ h)
+mapped_is f (Some x) y h = (x, refl, same_Some _ _ h)
 
 no_fork : (ps : List Part) → AreCalls ps → fork_goals ps ≡ None
 no_fork [] h = refl
@@ -151,11 +139,11 @@ both false false h = absurd (false≢true h)
 module _ (p : Rules) (q : State) (plain : IsUngrouped p.program) where
   infers : (c d : Core) (rest spent : ℕ) (ss : List State) → c.rules ≡ p → Call ss → ((n : ℕ) → meets p.program (spent + n) (q ∷ []) ≡ with_outcomes (map answer c.emitted) (meets p.program n ss))
       → mapped (with_root c) (inferred p.program (task rest spent (states ss exhausted))) ≡ Some d → Left p q d
-  infers c d rest spent [] is k same h = absurd (none_some h)
+  infers c d rest spent [] is k same h = absurd (none-some _ h)
   infers c d rest spent (s ∷ ss) is k same h =
       let t = task (rest - 1) (spent + 1) (states (children p.program s) (states ss exhausted)) in
       let m = mapped_is (with_root c) (only_if (has_goals s && nat_lt 0 rest) t) d h in
-      let o = only_is (has_goals s && nat_lt 0 rest) t m.0 m.1 in
+      let o = Some-only_if (has_goals s && nat_lt 0 rest) t m.0 m.1 in
       let due = both (has_goals s) (nat_lt 0 rest) o.0 in
       subst (Left p q) m.2 (record {
         rest = rest - 1;
@@ -163,7 +151,7 @@ module _ (p : Rules) (q : State) (plain : IsUngrouped p.program) where
         left = children p.program s ++ ss;
         rules = is;
         root = sym o.1 ∙ ap (task (rest - 1) (spent + 1)) (sym (states_append (children p.program s) ss exhausted));
-        calls = all_append (λ s. AreCalls s.goals) (children p.program s) ss (goals_call p.program s s.goals plain k.0) k.1;
+        calls = AllByRecursion-append (λ s. AreCalls s.goals) (children p.program s) ss (goals_call p.program s s.goals plain k.0) k.1;
         same = λ n. ap (λ i. meets p.program i (q ∷ [])) (next spent n) ∙ same (suc n) ∙ ap (with_outcomes (map answer c.emitted)) (at_call p.program n s ss due.0);
       })
     where
@@ -171,17 +159,17 @@ module _ (p : Rules) (q : State) (plain : IsUngrouped p.program) where
       next a n = omega arith
 
   forks : (c d : Core) (rest spent : ℕ) (ss : List State) → Call ss → mapped (with_root c) (own p kinds.Fork (task rest spent (states ss exhausted))) ≡ Some d → ⊥
-  forks c d rest spent [] k h = none_some h
+  forks c d rest spent [] k h = none-some _ h
   forks c d rest spent (s ∷ ss) k h =
-      none_some (ap (λ o. mapped (with_root c) (mapped (λ gs. task rest spent (alternative (frame s First (ready gs)) (states ss exhausted))) o)) (sym (no_fork s.goals k.0)) ∙ h)
+      none-some _ (ap (λ o. mapped (with_root c) (mapped (λ gs. task rest spent (alternative (frame s First (ready gs)) (states ss exhausted))) o)) (sym (no_fork s.goals k.0)) ∙ h)
 
   answers : (c d : Core) (rest spent : ℕ) (ss : List State) → c.rules ≡ p → Call ss → ((n : ℕ) → meets p.program (spent + n) (q ∷ []) ≡ with_outcomes (map answer c.emitted) (meets p.program n ss))
       → mapped (emitting c) (relation.answer (task rest spent (states ss exhausted))) ≡ Some d → Left p q d
-  answers c d rest spent [] is k same h = absurd (none_some h)
+  answers c d rest spent [] is k same h = absurd (none-some _ h)
   answers c d rest spent (s ∷ ss) is k same h =
       let y : Answer × Task = (record { tuple = s.tuple; next = s.next; steps = s.steps }, task rest spent (states ss exhausted)) in
       let m = mapped_is (emitting c) (only_if (is_done s) y) d h in
-      let o = only_is (is_done s) y m.0 m.1 in
+      let o = Some-only_if (is_done s) y m.0 m.1 in
       subst (Left p q) (ap (emitting c) o.1 ∙ m.2) (record {
         rest = rest;
         spent = spent;
@@ -209,8 +197,8 @@ module _ (p : Rules) (q : State) (plain : IsUngrouped p.program) where
   -- where no frame is left
   no_frame : (c d : Core) (rest spent : ℕ) (ss : List State) (f : Task → Option Task) → f (task rest spent exhausted) ≡ None → ((s : State) (l : Alternatives) → f (task rest spent (alternative (state s) l)) ≡ None)
       → mapped (with_root c) (f (task rest spent (states ss exhausted))) ≡ Some d → ⊥
-  no_frame c d rest spent [] f e k h = none_some (ap (mapped (with_root c)) (sym e) ∙ h)
-  no_frame c d rest spent (s ∷ ss) f e k h = none_some (ap (mapped (with_root c)) (sym (k s (states ss exhausted))) ∙ h)
+  no_frame c d rest spent [] f e k h = none-some _ (ap (mapped (with_root c)) (sym e) ∙ h)
+  no_frame c d rest spent (s ∷ ss) f e k h = none-some _ (ap (mapped (with_root c)) (sym (k s (states ss exhausted))) ∙ h)
 
   -- with the same root
   kept : (c d : Core) → c.rules ≡ d.rules → c.root ≡ d.root → c.emitted ≡ d.emitted → Left p q c → Left p q d
@@ -227,13 +215,13 @@ module _ (p : Rules) (q : State) (plain : IsUngrouped p.program) where
   at_the_root : (k : Kind) (c d : Core) → Left p q c → at_root k c ≡ Some d → Left p q d
   at_the_root kinds.Infer c d l h = infers c d l.rest l.spent l.left l.rules l.calls l.same (ap₂ (λ r t. mapped (with_root c) (inferred r.program t)) (sym l.rules) (sym l.root) ∙ h)
   at_the_root kinds.Fork c d l h = absurd (forks c d l.rest l.spent l.left l.calls (ap (λ t. mapped (with_root c) (forked t)) (sym l.root) ∙ h))
-  at_the_root kinds.Start c d l h = absurd (none_some h)
+  at_the_root kinds.Start c d l h = absurd (none-some _ h)
   at_the_root kinds.Answer c d l h = answers c d l.rest l.spent l.left l.rules l.calls l.same (ap (λ t. mapped (emitting c) (relation.answer t)) (sym l.root) ∙ h)
-  at_the_root kinds.Fail c d l h = subst (Left p q) (only_is (is_exhausted c.root) c d h).1 l
+  at_the_root kinds.Fail c d l h = subst (Left p q) (Some-only_if (is_exhausted c.root) c d h).1 l
   at_the_root kinds.Spend c d l h =
-      subst (Left p q) (only_is (has_spent c.rules.loud c.root) (with_status c statuses.NoBudget) d h).1 (kept c (with_status c statuses.NoBudget) refl refl refl l)
-  at_the_root kinds.Stop c d l h = absurd (none_some h)
-  at_the_root kinds.Stopped c d l h = absurd (none_some h)
+      subst (Left p q) (Some-only_if (has_spent c.rules.loud c.root) (with_status c statuses.NoBudget) d h).1 (kept c (with_status c statuses.NoBudget) refl refl refl l)
+  at_the_root kinds.Stop c d l h = absurd (none-some _ h)
+  at_the_root kinds.Stopped c d l h = absurd (none-some _ h)
   at_the_root kinds.Join c d l h = absurd (no_frame c d l.rest l.spent l.left (relation.joined c.rules.loud) refl (λ s m. refl) (ap (λ t. mapped (with_root c) (relation.joined c.rules.loud t)) (sym l.root) ∙ h))
   at_the_root kinds.Break c d l h = absurd (no_frame c d l.rest l.spent l.left (broken c.rules.loud) refl (λ s m. refl) (ap (λ t. mapped (with_root c) (broken c.rules.loud t)) (sym l.root) ∙ h))
   at_the_root kinds.Redo c d l h = absurd (no_frame c d l.rest l.spent l.left redo refl (λ s m. refl) (ap (λ t. mapped (with_root c) (redo t)) (sym l.root) ∙ h))
@@ -242,7 +230,7 @@ module _ (p : Rules) (q : State) (plain : IsUngrouped p.program) where
       let m = mapped_is (λ e. with_status c (statuses.HasRaised e)) (met c.rules.loud c.root) d h in
       subst (Left p q) m.2 (kept c (with_status c (statuses.HasRaised m.0)) refl refl refl l)
   at_the_root kinds.Drain c d l h = absurd (no_frame c d l.rest l.spent l.left (drain c.rules.loud) refl (λ s m. refl) (ap (λ t. mapped (with_root c) (drain c.rules.loud t)) (sym l.root) ∙ h))
-  at_the_root kinds.Forget c d l h = absurd (none_some h)
+  at_the_root kinds.Forget c d l h = absurd (none-some _ h)
   at_the_root kinds.Replay c d l h = absurd (no_frame c d l.rest l.spent l.left (begun_anew replayed) refl (λ s m. refl) (ap (λ t. mapped (with_root c) (begun_anew replayed t)) (sym l.root) ∙ h))
 
   within : (k : Kind) (i : ℕ) (path : List ℕ) (c d : Core) → Left p q c → mapped (with_root c) (in_task c.rules k i path c.root) ≡ Some d → ⊥
@@ -255,15 +243,15 @@ module _ (p : Rules) (q : State) (plain : IsUngrouped p.program) where
       by : (g : Status) (path : List ℕ) → while_going g (along k path c) ≡ Some d → Left p q d
       by statuses.GoingOn [] h = at_the_root k c d l h
       by statuses.GoingOn (i ∷ path) h = absurd (within k i path c d l h)
-      by statuses.NoBudget path h = absurd (none_some h)
-      by (statuses.HasRaised e) path h = absurd (none_some h)
+      by statuses.NoBudget path h = absurd (none-some _ h)
+      by (statuses.HasRaised e) path h = absurd (none-some _ h)
 
   leads : (events : List Happening) (c d : Core) → Left p q c → after_all events c ≡ Some d → Left p q d
-  leads [] c d l h = subst (Left p q) (some_is h) l
+  leads [] c d l h = subst (Left p q) (same_Some _ _ h) l
   leads (e ∷ events) c d l h = by (λ b m k. leads events b d m k) (after e.0 e.1 c) refl h
     where
       by : ((b : Core) → Left p q b → after_all events b ≡ Some d → Left p q d) → (o : Option Core) → after e.0 e.1 c ≡ o → and_then o (after_all events) ≡ Some d → Left p q d
-      by on None is h = absurd (none_some h)
+      by on None is h = absurd (none-some _ h)
       by on (Some b) is h = on b (goes e.0 e.1 c b l is) h
 
   zero_plus : (n : ℕ) → 0 + n ≡ n

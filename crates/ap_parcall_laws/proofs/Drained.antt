@@ -23,9 +23,9 @@ use Rattle.ap_frames.specs.declared.verdict.Verdict.{Verdict}
 use Rattle.ap_frames.specs.declared.verdict.Verdict.TheVariants.{Joined, Broken, Drain, Raised, Spent}
 use Rattle.ap_frames.specs.Slots.{stands_answered, has_answer, has_failed, is_loud_with_more, cost_at, tuples_of}
 use Rattle.ap_frames.specs.Rows.{Row, at_place, standing, stood}
-use Rattle.ap_frames.specs.Verdicts.{ended_cost, leftmost_ending, charge, place_behind, rightmost, charged, by_ending, unless_failed, are_harmless, drains, after_failure, in_first, judged, verdict}
+use Rattle.ap_frames.specs.Verdicts.{ended_cost, leftmost_ending, charge, rightmost, charged, by_ending, unless_failed, are_harmless, drains, after_failure, in_first, judged, verdict}
 use Rattle.ap_frames.specs.Rounds.{begun_in, run_in, resumed}
-use Rattle.ap_frames.proofs.Failing.{first-failed, first-unfailed}
+use Rattle.ap_frames.proofs.Failing.{first-failed, first-unfailed, rightmost-inside}
 use Rattle.ap_parcall_laws.specs.Alike.{AreAlike, StandsAs, IsDrained, IsRound}
 use Rattle.ap_parcall_laws.specs.Laws.{DrainLaw}
 use Rattle.ap_parcall_laws.proofs.Rows.{Failure, find-failure}
@@ -84,21 +84,6 @@ first-drain {S} {T} r c i x xs h = go (find-failure xs)
     go (inr f) =
         let e : in_first r c (f.before ++ f.at ∷ f.after) (position has_failed (f.before ++ f.at ∷ f.after)) ≡ Drain i x = subst (λ ys. in_first r c ys (position has_failed ys) ≡ Drain i x) f.parts h in
         (f, after-drain r c i x f.before (f.before ++ f.at ∷ f.after) (sym (first-failed r c f.before f.after f.at f.none_before f.fails) ∙ e))
-
-some-same : {a b : ℕ} → Some a ≡ Some b → a ≡ b
-some-same h = cc
-
-none-some : {i : ℕ} → None ≡ Some i → ⊥
-none-some h = absurd (cc)
-
-rightmost-bound : {A : Type 0} (f : A → Bool) (xs : List A) (i : ℕ) → rightmost f xs ≡ Some i → (0 < i) × (i ≤ length xs)
-rightmost-bound f [] i h = absurd (none-some h)
-rightmost-bound f (x ∷ xs) i h = go (rightmost f xs) (f x) refl h (λ j e. rightmost-bound f xs j e)
-  where
-    go : (o : Option ℕ) (b : Bool) → rightmost f xs ≡ o → place_behind o b ≡ Some i → ((j : ℕ) → rightmost f xs ≡ Some j → (0 < j) × (j ≤ length xs)) → (0 < i) × (i ≤ length (x ∷ xs))
-    go (Some j) b e k rec = let m = rec j e in (omega (arith, some-same k), omega (arith, some-same k, m.1))
-    go None true e k rec = (omega (arith, some-same k), omega (arith, some-same k))
-    go None false e k rec = absurd (none-some k)
 
 -- ---- what becomes of the slots
 
@@ -181,7 +166,7 @@ drain-slots {S} {T} loud r c i x xs w h u e v = go (first-drain r c i x xs v)
 
     go : (f : Failure xs) × Drains r c i x f.before → on xs i (r - x)
     go (f, d) =
-        let b = rightmost-bound is_loud_with_more f.before i d.place in
+        let b = rightmost-inside is_loud_with_more f.before i d.place in
         let j1 : suc (i - 1) ≡ i = omega (arith, b.0) in
         let j2 : i - 1 < length f.before = omega (arith, b.0, b.1) in
         let n1 : e0 ≡ r - x = omega (arith, e, d.within, d.rest) in

@@ -1,11 +1,13 @@
 -- A closed frame is redone.
-use Rattle.std.proofs.Common.{◌≡◌, ℕ, zero, suc, ◌+◌, ◌-◌, ◌<◌, inl, inr, Bool, true, false, ◌&&◌, nat_lt, nat_eq, cond, if◌then◌else◌, is_some, List, [], ◌∷◌, ◌++◌, length, take, Option, Some, None, refl, ap, ap₂, sym, ◌∙◌, subst, arith}
+use Rattle.std.proofs.Common.{◌≡◌, ℕ, zero, suc, ◌+◌, ◌-◌, ◌<◌, inl, inr, Bool, true, false, ◌&&◌, if◌then◌else◌, is_some, List, [], ◌∷◌, ◌++◌, length, take, Option, Some, None, refl, ap, ap₂, sym, ◌∙◌, subst, arith}
 use Rattle.std.specs.List.{list_all}
 use Rattle.std.specs.Ordering.{nat_cmp}
 use Rattle.std.specs.declared.cmp.Ordering.{Ordering}
-use Rattle.std.specs.declared.cmp.Ordering.TheVariants.{Less, Equal, Greater}
-use Rattle.std.proofs.lemmas.Bool.{false≢true, lt-ltb, le-ltb, eq-eqb, ne_eqb, and_parts}
+use Rattle.std.specs.declared.cmp.Ordering.TheVariants.{Less, Equal}
+use Rattle.std.proofs.lemmas.Bool.{false≢true, and_parts}
+use Rattle.std.proofs.lemmas.Option.{same_Some, none-some}
 use Rattle.ap_term.specs.Tree.{Tree}
+use Rattle.ap_term.proofs.Facts.{cmp_less, cmp_equal, cmp_greater}
 use Rattle.ap_core.specs.declared.tasks.Busy.{Busy}
 use Rattle.ap_core.specs.declared.tasks.Busy.TheVariants as busy_kind
 use Rattle.ap_core.specs.declared.tasks.Round.TheVariants as core_round
@@ -26,19 +28,6 @@ use Rattle.ap_parcall_laws.specs.Alike.{AreAlike, StandsAs, HasAnswer, AreStored
 use Rattle.ap_parcall_laws.specs.Laws.{RedoLaw}
 use Rattle.ap_parcall_laws.proofs.Rows.{more-alike}
 
-cmp-less : (a b : ℕ) → a < b → nat_cmp a b ≡ Less
-cmp-less a b h = ap (λ c. cond c Less (cond (nat_eq a b) Equal Greater)) (lt-ltb a b h)
-
-cmp-equal : (a b : ℕ) → a ≡ b → nat_cmp a b ≡ Equal
-cmp-equal a b h =
-    let l : nat_lt a b ≡ false = le-ltb a b (omega arith) in
-    ap (λ c. cond c Less (cond (nat_eq a b) Equal Greater)) l ∙ ap (λ c. cond c Equal Greater) (eq-eqb a b h)
-
-cmp-greater : (a b : ℕ) → b < a → nat_cmp a b ≡ Greater
-cmp-greater a b h =
-    let l : nat_lt a b ≡ false = le-ltb a b (omega arith) in
-    ap (λ c. cond c Less (cond (nat_eq a b) Equal Greater)) l ∙ ap (λ c. cond c Equal Greater) (ne_eqb a b (λ (e : a ≡ b). absurd (omega (arith, e, h))))
-
 -- ---- right of the redone slot
 
 put-away : {S T : Type 0} (loud : Tree → Bool) (q r i n : ℕ) (xs : List (Slot S T)) (w : core.Slots) → AreAlike loud q xs w → i < n → AreStored xs w → AreAlike loud r (numbered (reset_by i) n xs) (all_put_away w)
@@ -46,7 +35,7 @@ put-away loud q r i n [] no_slot h l s = tt
 put-away loud q r i n [] (slot g k y w) h l s = absurd h
 put-away loud q r i n (x ∷ xs) no_slot h l s = absurd h
 put-away loud q r i n (x ∷ xs) (slot g k y w) (a, b, h) l (s, t) =
-    subst (λ o. AreAlike loud r (reset o x ∷ numbered (reset_by i) (n + 1) xs) (slot g k (put_away k y) (all_put_away w))) (sym (cmp-greater n i l))
+    subst (λ o. AreAlike loud r (reset o x ∷ numbered (reset_by i) (n + 1) xs) (slot g k (put_away k y) (all_put_away w))) (sym (cmp_greater n i l))
     (a, s, put-away loud q r i (n + 1) xs w h (omega (arith, l)) t)
 
 -- ---- left of it, and itself
@@ -103,25 +92,19 @@ undrained-on y g k w (m, b, t, i, p, h) = subst (λ v. IsUndrained (slot g k v w
 
 -- ---- the whole
 
-some-same : {a b : ℕ} → Some a ≡ Some b → a ≡ b
-some-same h = cc
-
-none-some : {i : ℕ} → None ≡ Some i → ⊥
-none-some h = absurd (cc)
-
 from-one : (o : Option ℕ) (k : Bool) (j : ℕ) → place_behind o k ≡ Some j → 0 < j
-from-one (Some n) k j h = omega (arith, some-same h)
-from-one None true j h = omega (arith, some-same h)
-from-one None false j h = absurd (none-some h)
+from-one (Some n) k j h = omega (arith, same_Some _ _ h)
+from-one None true j h = omega (arith, same_Some _ _ h)
+from-one None false j h = absurd (none-some _ h)
 
 pub redo-from-one : {S T : Type 0} (xs : List (Slot S T)) (j : ℕ) → next_redo xs ≡ Some j → 0 < j
-redo-from-one [] j e = absurd (none-some e)
+redo-from-one [] j e = absurd (none-some _ e)
 redo-from-one (x ∷ xs) j e = from-one (next_redo xs) (has_more x) j e
 
 redo-alike : {S T : Type 0} (loud : Tree → Bool) (q r i n j : ℕ) (xs : List (Slot S T)) (w : core.Slots) → AreAlike loud q xs w → next_redo xs ≡ Some j → i + 1 ≡ n + j
     → list_all has_answer (take (j - 1) xs) ≡ true → AreStoredBehind j xs w
     → AreAlike loud r (at_place (standing (Running Redone)) (j - 1) (numbered (reset_by i) n xs)) (redo_from r w) × IsUndrained (redo_from r w)
-redo-alike loud q r i n j [] w h e m a b = absurd (none-some e)
+redo-alike loud q r i n j [] w h e m a b = absurd (none-some _ e)
 redo-alike loud q r i n j (x ∷ xs) no_slot h e m a b = absurd h
 redo-alike {S} {T} loud q r i n j (x ∷ xs) (slot g k y w) (l, s, h) e m a b =
     go (next_redo xs) (has_more x) refl refl (λ p f u v. redo-alike loud q r i (n + 1) p xs w h f (omega (arith, u)) v.0 v.1)
@@ -141,7 +124,7 @@ redo-alike {S} {T} loud q r i n j (x ∷ xs) (slot g k y w) (l, s, h) e m a b =
         → AreAlike loud r (at_place (standing (Running Redone)) (p - 1) (numbered (reset_by i) (n + 1) xs)) (redo_from r w) × IsUndrained (redo_from r w))
         → Goal (j - 1) (nat_cmp n i) (conditions.some_has_more w)
     go (Some p) c f d rec =
-        let e1 : p + 1 ≡ j = some-same (sym (ap₂ place_behind f d) ∙ e) in
+        let e1 : p + 1 ≡ j = same_Some _ _ (sym (ap₂ place_behind f d) ∙ e) in
         let e0 : 0 < p = redo-from-one xs p f in
         let e2 : suc (p - 1) ≡ j - 1 = omega (arith, e0, e1) in
         let e3 : n < i = omega (arith, e0, e1, m) in
@@ -150,18 +133,18 @@ redo-alike {S} {T} loud q r i n j (x ∷ xs) (slot g k y w) (l, s, h) e m a b =
         let a2 = and_parts (has_answer x) (list_all has_answer (take (p - 1) xs)) a1 in
         let b1 : AreStoredBehind p xs w = subst (λ v. AreStoredBehind v (x ∷ xs) (slot g k y w)) e4 b in
         let z = rec p f (m ∙ ap (λ v. n + v) (sym e1)) (a2.1, b1) in
-        from (suc (p - 1)) Less true e2 (cmp-less n i e3) (ap is_some f)
+        from (suc (p - 1)) Less true e2 (cmp_less n i e3) (ap is_some f)
         ((l, stands-kept q r x.stand (length (tuples_of x)) y a2.0 s, z.0), undrained-kept q x.stand (length (tuples_of x)) y g k (redo_from r w) a2.0 s z.1)
     go None true f d rec =
-        let e1 : 1 ≡ j = some-same (sym (ap₂ place_behind f d) ∙ e) in
+        let e1 : 1 ≡ j = same_Some _ _ (sym (ap₂ place_behind f d) ∙ e) in
         let e2 : zero ≡ j - 1 = omega (arith, e1) in
         let e3 : n ≡ i = omega (arith, e1, m) in
         let e4 : j ≡ suc zero = omega (arith, e1) in
         let b1 : AreStored xs w = subst (λ v. AreStoredBehind v (x ∷ xs) (slot g k y w)) e4 b in
         let on = stands-on {S = S} q r x.stand (length (tuples_of x)) y d s in
-        from zero Equal false e2 (cmp-equal n i e3) (ap is_some f)
+        from zero Equal false e2 (cmp_equal n i e3) (ap is_some f)
         ((l, on, put-away loud q r i (n + 1) xs w h (omega (arith, e3)) b1), undrained-on (restarted_with r y) g k (all_put_away w) on)
-    go None false f d rec = absurd (none-some (sym (ap₂ place_behind f d) ∙ e))
+    go None false f d rec = absurd (none-some _ (sym (ap₂ place_behind f d) ∙ e))
 
 closed-resumed : {S T : Type 0} (i r : ℕ) (f : Row S T) → f.round ≡ round.Closed → stood i (Running Redone) (new_round i r f) ≡ resumed i r f
 closed-resumed i r f c = sym (ap (λ d. stood i (Running (run_in d)) (begun_in d i r f)) c)

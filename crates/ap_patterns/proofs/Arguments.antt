@@ -6,7 +6,8 @@ use Rattle.ap_term.specs.declared.terms.Term.{Term}
 use Rattle.ap_term.specs.Tree.{Tree, Trees, var, int, atom, node, more, none, count_trees}
 use Rattle.ap_term.specs.TermView.{tree_of, trees_of}
 use Rattle.ap_term.proofs.TermLists.{trees_of-drop_more, count-trees_of}
-use Rattle.ap_term.specs.WellFormed.{callable, numbered, numbered_all}
+use Rattle.ap_term.specs.WellFormed.{callable, numbered, numbered_all, IsClause}
+use Rattle.ap_term.specs.Goals.{Clause}
 use Rattle.ap_sharing.specs.VarSet.{has, empty, just, union, meets}
 use Rattle.ap_sharing.specs.Share.{Share, nonground}
 use Rattle.ap_sharing.proofs.Elements.{union_assoc, union-empty, empty-union}
@@ -106,6 +107,16 @@ mutual
   numbered_all-more n m (more t ts) l h =
       let r = and_parts (numbered n t) (numbered_all n ts) h in
       and_from (numbered m t) (numbered_all m ts) (numbered-more n m t l r.0) (numbered_all-more n m ts l r.1)
+
+-- a clause's head
+pub head-callable : (c : Clause) → IsClause c → IsTrue (callable c.head)
+head-callable c h = (and_parts (callable c.head) (numbered c.vars c.head) h.head).0
+
+pub head-numbered : (c : Clause) → IsClause c → IsTrue (numbered c.vars c.head)
+head-numbered c h = (and_parts (callable c.head) (numbered c.vars c.head) h.head).1
+
+pub head-in_range : (c : Clause) → IsClause c → IsTrue (numbered 255 c.head)
+head-in_range c h = numbered-more c.vars 255 c.head h.few (head-numbered c h)
 
 pub argument_sets-length : (ts : Trees) → length (argument_sets ts) ≡ count_trees ts
 argument_sets-length none = refl

@@ -1,7 +1,7 @@
 -- Call patterns cover.
 use Rattle.std.proofs.Common.{◌≡◌, ℕ, suc, ◌<◌, ◌⊎◌, inl, inr, Bool, true, false, ◌||◌, nat_eq, cond, List, [], map, refl, ap, sym, ◌∙◌, arith}
 use Rattle.std.proofs.lemmas.Bool.{or_left}
-use Rattle.ap_term.proofs.Facts.{same_bool}
+use Rattle.ap_term.proofs.Facts.{same_bool, below-other}
 use Rattle.ap_term.specs.Tree.{Tree, Trees, none, more}
 use Rattle.ap_term.specs.Substitution.{instance}
 use Rattle.ap_term.specs.Vars.{occurs}
@@ -16,7 +16,7 @@ use Rattle.ap_absunify.specs.State.{Covers}
 use Rattle.ap_absunify.specs.AfterUnify.{is_free}
 use Rattle.ap_patterns.specs.Places.{arguments, argument, argument_sets, places, free_places, call_share, call_pattern}
 use Rattle.ap_absunify.proofs.AfterUnify.{from_tree, into_tree, free_tree}
-use Rattle.ap_absunify.proofs.Vars.{or_cases, or_false, decide, refuted}
+use Rattle.ap_absunify.proofs.Vars.{or_cases, or_false, decide}
 use Rattle.ap_sharing.proofs.Covers.{Member-norm}
 use Rattle.ap_sharing.proofs.Elements.{clash, has-empty, has-union, has-just, meets-at, meets-none, both_left}
 use Rattle.ap_sharing.proofs.Lists.{In-map, In-join_right}
@@ -24,9 +24,6 @@ use Rattle.ap_term.proofs.Solutions.{same_var}
 
 pub In-sets_of : (P : ℕ → Type 0) (ss : List ℕ) → In P ss → In P (sets_of ss)
 In-sets_of P ss h = In-join_right P [] ss h
-
-below_test : (j i : ℕ) → j < i → nat_eq j i ≡ false
-below_test j i h = refuted (nat_eq j i) (λ e. let q : j ≡ i = same_var j i e in absurd (omega arith))
 
 pick_empty : (b : Bool) (i j : ℕ) → nat_eq j i ≡ false → has (cond b (just i) empty) j ≡ false
 pick_empty true i j h = has-just i j ∙ h
@@ -36,7 +33,7 @@ places_below : (i s : ℕ) (ts : Trees) (j : ℕ) → j < i → has (places i s 
 places_below i s none j h = has-empty j
 places_below i s (more t ts) j h =
     has-union (cond (meets s (var_set t)) (just i) empty) (places (suc i) s (argument_sets ts)) j
-    ∙ or_false (has (cond (meets s (var_set t)) (just i) empty) j) (has (places (suc i) s (argument_sets ts)) j) (pick_empty (meets s (var_set t)) i j (below_test j i h)) (places_below (suc i) s ts j (omega arith))
+    ∙ or_false (has (cond (meets s (var_set t)) (just i) empty) j) (has (places (suc i) s (argument_sets ts)) j) (pick_empty (meets s (var_set t)) i j (below-other j i h)) (places_below (suc i) s ts j (omega arith))
 
 pub has-places : (i s : ℕ) (ts : Trees) (j : ℕ) → has (places i s (argument_sets ts)) j ≡ meets s (var_set (argument i ts j))
 has-places i s none j = has-empty j ∙ sym (meets-none s empty (λ x a b. clash (has empty x) b (has-empty x)))
@@ -55,7 +52,7 @@ free_places_below : (i fr : ℕ) (ts : Trees) (j : ℕ) → j < i → has (free_
 free_places_below i fr none j h = has-empty j
 free_places_below i fr (more t ts) j h =
     has-union (cond (is_free fr t) (just i) empty) (free_places (suc i) fr ts) j
-    ∙ or_false (has (cond (is_free fr t) (just i) empty) j) (has (free_places (suc i) fr ts) j) (pick_empty (is_free fr t) i j (below_test j i h)) (free_places_below (suc i) fr ts j (omega arith))
+    ∙ or_false (has (cond (is_free fr t) (just i) empty) j) (has (free_places (suc i) fr ts) j) (pick_empty (is_free fr t) i j (below-other j i h)) (free_places_below (suc i) fr ts j (omega arith))
 
 has-free_places : (i fr : ℕ) (ts : Trees) (j : ℕ) → has (free_places i fr ts) j ≡ true → is_free fr (argument i ts j) ≡ true
 has-free_places i fr none j h = absurd (clash (has empty j) h (has-empty j))

@@ -2,13 +2,14 @@
 -- head, and then they are let go.
 use Rattle.std.specs.Prelude.{ℕ, zero, suc, ◌+◌, ◌-◌, if◌then◌else◌, List, [], ◌∷◌, map}
 use Rattle.ap_term.specs.Tree.{Tree, Trees, var, atom, none, more, count_trees}
+use Rattle.ap_term.specs.Unification.{Equations}
 use Rattle.ap_sharing.specs.VarSet.{has, empty, just, union}
 use Rattle.ap_sharing.specs.Sets.{insert_set, sets_of}
 use Rattle.ap_sharing.specs.Share.{norm}
 use Rattle.ap_absunify.specs.declared.states.State.{State}
 use Rattle.ap_absunify.specs.declared.states.State.TheVariants.{Unreachable, Reachable}
 use Rattle.ap_absunify.specs.State.{made, project}
-use Rattle.ap_absunify.specs.AfterEqual.{Equations, after_all}
+use Rattle.ap_absunify.specs.AfterEqual.{after_all}
 use Rattle.ap_patterns.specs.Places.{arguments, argument}
 
 -- the variables from 1 to n

@@ -1,9 +1,9 @@
 -- What the clauses of a program give to the patterns of a table: the calls of their goals, and their successes.
-use Rattle.std.specs.Prelude.{ℕ, Bool, false, ◌||◌, ◌&&◌, ◌==◌, nat_le, ◌+◌, if◌then◌else◌, is_some, List, [], ◌∷◌, ◌++◌, Option, Some, None}
+pub use Rattle.ap_term.specs.Builtins.{is_builtin}
+use Rattle.std.specs.Prelude.{ℕ, Bool, nat_le, ◌+◌, if◌then◌else◌, List, [], ◌∷◌, ◌++◌, Option, Some, None}
 use Rattle.std.specs.List.{flat_map}
-use Rattle.ap_term.specs.declared.fixed.TheConstants.{TRUE, FAIL, QUERY}
-use Rattle.ap_term.specs.Tree.{Tree, Trees, atom, node, none, more, count_trees}
-use Rattle.ap_term.specs.Builtins.{relation_named}
+use Rattle.ap_term.specs.declared.fixed.TheConstants.{QUERY}
+use Rattle.ap_term.specs.Tree.{Tree, Trees, none, more, count_trees}
 use Rattle.ap_term.specs.Goals.{Part, call, group, Clause, Program}
 use Rattle.ap_sharing.specs.VarSet.{empty}
 use Rattle.ap_absunify.specs.declared.states.State.{State}
@@ -46,12 +46,6 @@ to_call (Some p) s = record { slot = Call p; pattern = s } ∷ []
 abbrev pub to_success : Option Predicate → State → List Given
 to_success None s = []
 to_success (Some p) s = record { slot = Success p; pattern = s } ∷ []
-
--- whether a goal is built in
-abbrev pub is_builtin : Tree → Bool
-is_builtin (atom a) = (a == TRUE) || (a == FAIL)
-is_builtin (node a ts) = (count_trees ts == 2) && is_some (relation_named a)
-is_builtin _ = false
 
 -- the state after a goal
 abbrev pub after_goal : Patterns → State → Tree → State

@@ -1,26 +1,27 @@
 -- Predicates that are put behind others.
-use Rattle.std.proofs.Common.{◌≡◌, ℕ, zero, suc, ◌+◌, ◌<◌, ◌≤◌, ℤ, Bool, true, false, not, ◌||◌, ◌&&◌, ◌==◌, if◌then◌else◌, ◌⊎◌, inl, inr, List, [], ◌∷◌, ◌++◌, map, length, take, slice_get, get_or, nat_le, nat_lt, Option, Some, None, refl, ap, ap₂, sym, ◌∙◌, subst, arith, append_assoc, append-nil, IsTrue}
+use Rattle.std.proofs.Common.{◌≡◌, ℕ, zero, suc, ◌+◌, ◌<◌, ◌≤◌, ℤ, Bool, true, false, ◌||◌, ◌&&◌, ◌==◌, if◌then◌else◌, ◌⊎◌, inl, inr, List, [], ◌∷◌, ◌++◌, map, length, take, slice_get, get_or, nat_le, nat_lt, Option, Some, None, refl, ap, ap₂, sym, ◌∙◌, subst, arith, append_assoc, append-nil, IsTrue}
 use Rattle.std.proofs.Common.{Vec, Global, Bor, cond}
 use Rattle.std.specs.Map.{lookup}
 use Rattle.ap_reach.specs.contracts.called.CalledPartialEq.TheImpl.{eq-value}
 use Rattle.ap_reach.specs.Index.{listed}
-use Rattle.std.specs.List.{All, filter, list_all, list_any}
+use Rattle.std.specs.List.{All, list_all, list_any}
 use Rattle.std.specs.Ordering.{int_eq}
 use Rattle.std.proofs.lemmas.List.{take_more, take-append-le, take_all, map-append}
 use Rattle.std.proofs.lemmas.List.Folds.{list_any-append}
 use Rattle.std.proofs.lemmas.List.Elements.{All-nil, All-append, All-cons, All-head, All-tail, All-more, All-weaker}
-use Rattle.std.proofs.lemmas.Bool.{false≢true, and_parts}
-use Rattle.std.proofs.lemmas.Bool.Decides.{Decides-eqb, Decides-ltb, Decides-int_eq}
+use Rattle.std.proofs.lemmas.Bool.{false≢true}
+use Rattle.std.proofs.lemmas.Bool.Decides.{Decides-eqb, Decides-ltb}
 use Rattle.std.proofs.lemmas.Grind.{flat_map-append}
 use Rattle.ap_term.specs.Tree.{Tree, Trees, var, int, atom, node, none, more, append_trees, count_trees}
 use Rattle.ap_term.specs.declared.terms.Term.{Term}
 use Rattle.ap_term.specs.TermView.{tree_of, trees_of}
 use Rattle.ap_term.specs.Goals.{Part, call, group, Clause, Program, plain_goals}
 use Rattle.ap_term.specs.WellFormed.{callable, all_callable, numbered, numbered_all, numbered_check, well_formed_part}
+use Rattle.ap_term.proofs.Lists.{filter-push, own_key}
 use Rattle.ap_reach.specs.declared.called.Called.{Called}
 use Rattle.ap_reach.specs.declared.called.Called.TheVariants.{All as Whole, Atom, Integer}
-use Rattle.ap_reach.specs.Reached.{is_key, Place, is_place, is_called, has_call, key_of, place_of, is_beside, Extends, heads, argument, argument_of, is_variable, fits, fits_in, heads_open, is_open, is_open_before, is_before, leads, leads_before, is_for, is_closed, answers, clauses_for, all_called, contribution, gathered, is_among, IsAmong, AreAmong, BodyIsAmong, CallsAmong, IsNamed, AreNamed, IsPartNamed}
-use Rattle.ap_reach.proofs.Same.{both, own_key, own_call, same_call}
+use Rattle.ap_reach.specs.Reached.{is_key, Place, is_place, is_called, has_call, place_of, is_beside, Extends, heads, argument, is_variable, fits, heads_open, is_open, is_open_before, is_before, leads, leads_before, is_for, answers, clauses_for, all_called, contribution, gathered, is_among, IsAmong, AreAmong, BodyIsAmong, CallsAmong, IsNamed, AreNamed, IsPartNamed}
+use Rattle.ap_reach.proofs.Same.{own_call, same_call}
 
 pub extends_none : (ks : List Called) → Extends ks ks
 extends_none ks = ([], sym (append-nil ks))
@@ -141,15 +142,6 @@ find_done ks n p at h = subst (λ z. CallsAmong p ks (all_called z p)) (take_all
 gathered_more : (ks ls : List Called) (k : Called) (p : Program) → gathered ks (ls ++ k ∷ []) p ≡ gathered ks ls p ++ contribution ks p k
 gathered_more ks ls k p = flat_map-append (contribution ks p) ls (k ∷ []) ∙ ap (λ z. gathered ks ls p ++ z) (append-nil (contribution ks p k))
 
--- the clauses for one more
-pub gather_turn : (ks ls : List Called) (i : ℕ) (k : Called) (p part new : Program) → i < length ls → k ≡ get_or ls i k → part ≡ gathered ks (take i ls) p → new ≡ part ++ contribution ks p k → new ≡ gathered ks (take (i + 1) ls) p
-gather_turn ks ls i k p part new l e s n =
-    n ∙ ap (λ z. z ++ contribution ks p k) s ∙ sym (gathered_more ks (take i ls) k p)
-    ∙ ap (λ z. gathered ks z p) (ap (λ z. take i ls ++ z ∷ []) e ∙ sym (take_more ls i k l))
-
-pub gather_done : (ks ls : List Called) (i : ℕ) (p part : Program) → length ls ≤ i → part ≡ gathered ks (take i ls) p → part ≡ gathered ks ls p
-gather_done ks ls i p part l s = s ∙ ap (λ z. gathered ks z p) (take_all i ls l)
-
 -- what is put in is among what is called
 some_called : (P : Clause → Type 0) (b : Bool) (cs : Program) → All P cs → All P (if b then [] else cs)
 some_called P true cs h = All-nil P
@@ -194,36 +186,11 @@ heads-count f n ts e = ap (λ m. is_key (f, count_trees ts) (f, m)) e ∙ own_ke
 pub whole-answers : (p : Program) (f : ℕ) (ts : Trees) → answers p (Whole f (count_trees ts)) (node f ts) ≡ true
 whole-answers p f ts = own_key (f, count_trees ts)
 
--- all of its predicate answer what those for a constant do
-pub whole-instead : (p : Program) (k : Called) (t : Tree) → answers p k t ≡ true → answers p (Whole (key_of k).0 (key_of k).1) t ≡ true
-whole-instead p k t h = (and_parts (fits_in k t) (heads (key_of k) t) (and_parts (is_closed p k) (leads k t) h).1).1
-
-pub atom-answers : (p : Program) (f n i a : ℕ) (t : Tree) → is_open ((f, n), i) p ≡ false → heads (f, n) t ≡ true → argument_of t i ≡ Some (atom a) → answers p (Atom f n i a) t ≡ true
-atom-answers p f n i a t o h e =
-    both (not (is_open ((f, n), i) p)) (leads (Atom f n i a) t) (ap not o)
-    (both (fits_in (Atom f n i a) t) (heads (f, n) t) (ap (fits (Atom f n i a)) e ∙ (Decides-eqb a a).1 refl) h)
-
-pub integer-answers : (p : Program) (f n i : ℕ) (z : ℤ) (t : Tree) → is_open ((f, n), i) p ≡ false → heads (f, n) t ≡ true → argument_of t i ≡ Some (int z) → answers p (Integer f n i z) t ≡ true
-integer-answers p f n i z t o h e =
-    both (not (is_open ((f, n), i) p)) (leads (Integer f n i z) t) (ap not o)
-    (both (fits_in (Integer f n i z) t) (heads (f, n) t) (ap (fits (Integer f n i z)) e ∙ (Decides-int_eq z z).1 refl) h)
-
 -- ---- clauses by predicate
-
-filter_push : {A : Type 0} (p : A → Bool) (xs : List A) (x : A) → filter p (xs ++ x ∷ []) ≡ (if p x then filter p xs ++ x ∷ [] else filter p xs)
-filter_push p [] x = refl
-filter_push p (y ∷ xs) x = go (p y) (p x) (filter_push p xs x)
-  where
-    go : (b c : Bool) → filter p (xs ++ x ∷ []) ≡ (if c then filter p xs ++ x ∷ [] else filter p xs)
-        → (if b then y ∷ filter p (xs ++ x ∷ []) else filter p (xs ++ x ∷ [])) ≡ (if c then (if b then y ∷ filter p xs else filter p xs) ++ x ∷ [] else (if b then y ∷ filter p xs else filter p xs))
-    go true true e = ap (λ l. y ∷ l) e
-    go true false e = ap (λ l. y ∷ l) e
-    go false true e = e
-    go false false e = e
 
 clauses_take : (k : Called) (cs : Program) (i : ℕ) (c : Clause) → i < length cs → c ≡ get_or cs i c
     → clauses_for k (take (i + 1) cs) ≡ (if leads k c.head then clauses_for k (take i cs) ++ c ∷ [] else clauses_for k (take i cs))
-clauses_take k cs i c l e = ap (clauses_for k) (take_more cs i c l) ∙ ap (λ d. clauses_for k (take i cs ++ d ∷ [])) (sym e) ∙ filter_push (λ c. leads k c.head) (take i cs) c
+clauses_take k cs i c l e = ap (clauses_for k) (take_more cs i c l) ∙ ap (λ d. clauses_for k (take i cs ++ d ∷ [])) (sym e) ∙ filter-push (λ c. leads k c.head) (take i cs) c
 
 -- one more clause in the index
 pub index_turn : (k : Called) (cs : Program) (i : ℕ) (c : Clause) (old new : Program) → i < length cs → c ≡ get_or cs i c → new ≡ (if leads k c.head then old ++ c ∷ [] else old)

@@ -20,22 +20,13 @@ use Rattle.ap_term.specs.Search.{State, Way, Met, search, start, done, open_stat
 use Rattle.ap_term.proofs.Solvable.{mgu-general}
 use Rattle.ap_term.proofs.TreeLists.{count_trees-instance_all}
 use Rattle.ap_term.proofs.GoalLists.{plain_goals-append, plain_goals-instance, plain_goals-opened}
+use Rattle.ap_term.proofs.Lists.{same_key}
 use Rattle.ap_reach.specs.declared.called.Called.{Called}
 use Rattle.ap_reach.specs.declared.called.Called.TheVariants.{All as Whole, Atom, Integer}
 use Rattle.ap_reach.specs.Reached.{Key, is_key, is_called, has_call, key_of, place_of, is_beside, ArePlaced, heads, argument, argument_of, is_variable, fits, fits_in, heads_open, is_open, leads, is_closed, answers as answers_by, clauses_for, contribution, gathered, IsAmong, AreAmong, BodyIsAmong, CallsAmong, IsReached}
 use Rattle.ap_reach.specs.Laws.{AreSameFor, IsStateAmong}
 
 -- ---- calls
-
-pub same_key : (k l : Key) → is_key k l ≡ true → k ≡ l
-same_key k l e =
-    let b = and_parts (k.0 == l.0) (k.1 == l.1) e in
-    let f : k.0 ≡ l.0 = (Decides-eqb k.0 l.0).0 b.0 in
-    let g : k.1 ≡ l.1 = (Decides-eqb k.1 l.1).0 b.1 in
-    ap (λ n. (n, k.1)) f ∙ ap (λ n. (l.0, n)) g
-
-pub own_key : (k : Key) → is_key k k ≡ true
-own_key k = ap (λ b. b && (k.1 == k.1)) ((Decides-eqb k.0 k.0).1 refl) ∙ (Decides-eqb k.1 k.1).1 refl
 
 pub same_call : (k l : Called) → is_called k l ≡ true → k ≡ l
 same_call (Whole f n) (Whole g m) e =

@@ -1,5 +1,6 @@
 -- The clauses that stand in an index for what is called.
-use Rattle.std.specs.Prelude.{◌≡◌, ℕ, true, List, [], map, Option, Some, None}
+pub use Rattle.ap_term.specs.GoalView.{listed}
+use Rattle.std.specs.Prelude.{◌≡◌, ℕ, true, List, Some}
 use Rattle.std.specs.Borrow.{Bor}
 use Rattle.std.specs.List.{list_any}
 use Rattle.std.proofs.Common.{Vec, Global}
@@ -8,10 +9,6 @@ use Rattle.indexmap.specs.IndexSet.{IndexSet}
 use Rattle.ap_term.specs.Goals.{Clause, Program}
 use Rattle.ap_reach.specs.declared.called.Called.{Called}
 use Rattle.ap_reach.specs.Reached.{Key, is_key, Place, is_place, is_called, has_call, key_of, place_of, is_open, clauses_for}
-
-abbrev pub listed : Option (Vec (Bor Clause) Global) → Program
-listed None = []
-listed (Some v) = map (λ c. c.now) v.items
 
 abbrev pub clauses_at : {S : Type 0} → IndexMap Called (Vec (Bor Clause) Global) S → Called → Program
 clauses_at m k = listed (get is_called m k)

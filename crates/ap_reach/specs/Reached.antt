@@ -1,4 +1,5 @@
 -- What goals call, and a program's clauses for this.
+pub use Rattle.ap_term.specs.Lists.{Key, is_key}
 use Rattle.std.specs.Prelude.{◌≡◌, ℕ, zero, suc, nat_lt, Bool, true, false, not, ◌&&◌, ◌==◌, if◌then◌else◌, List, [], ◌++◌, Option, Some, None, IsTrue}
 use Rattle.std.specs.List.{All, IsDistinct, filter, flat_map, list_any}
 use Rattle.std.specs.Ordering.{int_eq}
@@ -7,13 +8,6 @@ use Rattle.ap_term.specs.Goals.{Part, call, group, Clause, Program, Query, joine
 use Rattle.ap_term.specs.WellFormed.{callable}
 use Rattle.ap_reach.specs.declared.called.Called.{Called}
 use Rattle.ap_reach.specs.declared.called.Called.TheVariants.{All as Whole, Atom, Integer}
-
--- a name with an arity
-abbrev pub Key : Type 0
-Key = ℕ × ℕ
-
-abbrev pub is_key : Key → Key → Bool
-is_key k l = (k.0 == l.0) && (k.1 == l.1)
 
 -- the predicate of an argument, and its place, counted from 0
 abbrev pub Place : Type 0

@@ -6,9 +6,10 @@ use Rattle.ap_lexer.specs.Lexeme.{Text}
 use Rattle.ap_term.specs.declared.clauses.Check.{Check}
 use Rattle.ap_term.specs.declared.fixed.TheConstants.{NECK, COMMA, PARALLEL, CONDITION}
 use Rattle.ap_term.specs.AtomTable.{insert_names, IsAtomTable}
-use Rattle.ap_term.specs.Tree.{Tree, Trees, var, int, atom, node, none, more, append_trees}
+use Rattle.ap_term.specs.Tree.{Tree, Trees, var, int, atom, node, none, more, to_trees}
 use Rattle.ap_term.specs.Substitution.{instance, instance_all}
 use Rattle.ap_term.specs.Goals.{Part, call, group}
+use Rattle.ap_term.proofs.TreeLists.{append_trees-none}
 use Rattle.ap_writer.specs.Text as text
 use Rattle.ap_writer.specs.Text.{numbered_by}
 use Rattle.ap_writer.specs.Writable.{IsWritable, AreWritable}
@@ -31,10 +32,6 @@ use Rattle.ap_readback.proofs.Pieces.{joined_list}
 abbrev pub joined_tree : ℕ → Tree → List Tree → Tree
 joined_tree a t [] = t
 joined_tree a t (u ∷ us) = node a (more t (more (joined_tree a u us) none))
-
-abbrev pub trees_of_list : List Tree → Trees
-trees_of_list [] = none
-trees_of_list (t ∷ ts) = more t (trees_of_list ts)
 
 abbrev pub sign_atom : Sign → ℕ
 sign_atom Neck = NECK
@@ -116,15 +113,11 @@ pub par-body : (t : Tree) (ts : List Tree) → AllSingle (t ∷ ts) → body_in 
 par-body t [] h = single-body t h.0
 par-body t (u ∷ us) h = ap (λ b. parallel b (body_in (joined_tree PARALLEL u us))) (single-body t h.0) ∙ ap (parallel (goal t)) (par-body u us h.1)
 
-append-none : (ts : List Tree) → append_trees (trees_of_list ts) none ≡ trees_of_list ts
-append-none [] = refl
-append-none (t ∷ ts) = ap (more t) (append-none ts)
-
 abbrev pub only_parts : List Part → ℕ → Lifted
 only_parts ps n = record { parts = ps; next = n; clauses = [] }
 
 module _ (f : ℕ → ℕ) (vars line : ℕ) where
-  pub lifted-par : (t u : Tree) (us : List Tree) (cs : List Check) (n : ℕ) → lifted f vars line (par_body t (u ∷ us)) cs n ≡ only_parts (group cs (trees_of_list (t ∷ u ∷ us)) ∷ []) n
+  pub lifted-par : (t u : Tree) (us : List Tree) (cs : List Check) (n : ℕ) → lifted f vars line (par_body t (u ∷ us)) cs n ≡ only_parts (group cs (to_trees (t ∷ u ∷ us)) ∷ []) n
   lifted-par t u [] cs n = refl
   lifted-par t u (v ∷ vs) cs n =
-      ap (grouped cs (only_parts (call t ∷ []) n)) (lifted-par u v vs [] n) ∙ ap (λ ts. only_parts (group cs (more t ts) ∷ []) n) (append-none (u ∷ v ∷ vs))
+      ap (grouped cs (only_parts (call t ∷ []) n)) (lifted-par u v vs [] n) ∙ ap (λ ts. only_parts (group cs (more t ts) ∷ []) n) (append_trees-none (to_trees (u ∷ v ∷ vs)))

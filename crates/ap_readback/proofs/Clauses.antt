@@ -13,9 +13,9 @@ use Rattle.ap_term.specs.Substitution.{instance}
 use Rattle.ap_term.specs.UpToNames.{place}
 use Rattle.ap_term.specs.Blocks.{IsPrefix}
 use Rattle.ap_term.specs.Goals.{Clause}
+use Rattle.ap_term.proofs.Lists.{prefix-refl}
 use Rattle.ap_writer.specs.Text as text
 use Rattle.ap_writer.specs.Text.{numbered_by}
-use Rattle.ap_term.proofs.Lists.{prefix-refl}
 use Rattle.ap_reader.specs.declared.written.TheConstants.{MAX_OPEN}
 use Rattle.ap_reader.specs.declared.depth.TheConstants.{MAX_DEPTH}
 use Rattle.ap_reader.specs.Bracket.{most_open}
@@ -39,6 +39,7 @@ use Rattle.ap_clause.specs.declared.refusal.Refusal.{Refusal}
 use Rattle.ap_clause.specs.declared.refusal.Refusal.TheVariants as refusal
 use Rattle.ap_clause.specs.declared.source.Source.TheVariants as source
 use Rattle.ap_clause.specs.Reads.{Position, Taken, Verdict, Refused, Took, Sentence, IsSentence, fits, table_after, refused_if, refused_outside, refused_past, judged_sentence, judged, JudgesOpen, JudgesBy, Judges}
+use Rattle.ap_clause.proofs.Taken.{took}
 use Rattle.ap_cge.specs.Printed.{line_of}
 use Rattle.ap_cge.proofs.Terms.{AreBytes}
 use Rattle.ap_readback.specs.Unplaced.{words_of, leaves_of}
@@ -77,9 +78,6 @@ sentence-of names p ts front t rules plain s =
     }
 
 -- ---- a sentence that was taken
-
-took : {t u : Taken} → Took t ≡ Took u → t ≡ u
-took e = cc
 
 clash : {t : Taken} {r : Refusal} → Took t ≡ Refused r → ⊥
 clash e = cc

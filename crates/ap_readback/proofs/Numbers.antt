@@ -1,12 +1,11 @@
 -- A clause's variables are numbered anew, each with a number of its own.
 use Rattle.std.proofs.Common.{◌≡◌, ℕ, ◌+◌, ◌≤◌, ◌||◌, Bool, true, false, nat_eq, if◌then◌else◌, List, [], ◌∷◌, length, subst, arith}
 use Rattle.std.proofs.lemmas.Bool.{false≢true}
-use Rattle.std.proofs.lemmas.Bool.Decides.{nat_tests}
 use Rattle.ap_lexer.specs.Lexeme.{Text}
 use Rattle.ap_term.specs.Vars.{has}
 use Rattle.ap_term.specs.UpToNames.{place}
 use Rattle.ap_term.specs.Goals.{Clause}
-use Rattle.ap_term.specs.WellFormed.{in_range}
+use Rattle.ap_term.proofs.WellFormed.{in_range-true}
 use Rattle.ap_writer.proofs.Renamed.{place_apart}
 use Rattle.ap_readback.specs.Readback.{line_vars, IsPrintable}
 use Rattle.ap_readback.specs.Renumbering.{Renumbers}
@@ -20,13 +19,10 @@ place-within (y ∷ ys) x h = go (nat_eq y x) h (place-within ys x)
     go true h ih = (omega arith, omega arith)
     go false h ih = let k = ih h in (omega arith, omega (arith, k.1))
 
-range-is : (n x : ℕ) → 1 ≤ x → x ≤ n → in_range n x ≡ true
-range-is n x h k = grind (arith, nat_tests)
-
 pub renumbers : (names : List Text) (c : Clause) → IsPrintable names c → Renumbers c.vars (place (line_vars names c))
 renumbers names c h =
     let found : List ℕ = line_vars names c in
     record {
-      within = λ x k. let w = place-within found x (h.all x k) in range-is c.vars (place found x) w.0 (subst (λ n. place found x ≤ n) (vars-counted names c h.clause h.all) w.1);
+      within = λ x k. let w = place-within found x (h.all x k) in in_range-true c.vars (place found x) w.0 (subst (λ n. place found x ≤ n) (vars-counted names c h.clause h.all) w.1);
       apart = λ x y k l e. place_apart found x y (h.all x k) (h.all y l) e;
     }

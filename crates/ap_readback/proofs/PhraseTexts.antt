@@ -17,10 +17,11 @@ use Rattle.ap_term.specs.WellFormed.{callable}
 use Rattle.ap_writer.specs.Quoted.{is_word, is_symbol, is_symbols}
 use Rattle.ap_writer.specs.Text as text
 use Rattle.ap_writer.specs.Writable.{IsWritable}
+use Rattle.ap_writer.proofs.Fronts.{stops}
 use Rattle.ap_cge.specs.Again.{is_apart, one_token}
 use Rattle.ap_cge.specs.Printed.{is_operator, is_enclosed}
 use Rattle.ap_cge.specs.TermTokens.{term_tokens}
-use Rattle.ap_cge.proofs.Lexing.{stops, symbols_again}
+use Rattle.ap_cge.proofs.Lexing.{symbols_again}
 use Rattle.ap_cge.proofs.Tokens.{Front, one_front, joined_front, not_parts}
 use Rattle.ap_cge.proofs.Terms.{AreBytes, bytes-behind, Reads, joined, sign_then, behind_close, comma, open_args, term_reads, compound_reads, atom_reads}
 use Rattle.ap_readback.specs.Phrase.{Sign, Neck, Comma, Par, Cond, Phrase, Simple, InParens, Enclosed, Joined, sign_text, sign_touches, sign_tokens, IsPhrase, phrase_text, phrase_tokens}

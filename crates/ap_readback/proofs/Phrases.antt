@@ -11,9 +11,9 @@ use Rattle.ap_term.specs.Tree.{Trees, var, int, atom, node, none, more}
 use Rattle.ap_term.specs.Vars.{add_vars, add_all_vars}
 use Rattle.ap_term.specs.Blocks.{IsPrefix}
 use Rattle.ap_term.specs.WellFormed.{callable}
+use Rattle.ap_term.proofs.Lists.{prefix-refl, prefix-trans}
 use Rattle.ap_writer.specs.Text as text
 use Rattle.ap_writer.specs.Writable.{IsWritable}
-use Rattle.ap_term.proofs.Lists.{prefix-refl, prefix-trans}
 use Rattle.ap_writer.proofs.Numbering.{add_vars-prefix}
 use Rattle.ap_reader.specs.declared.word.Word.{Word}
 use Rattle.ap_reader.specs.declared.word.Word.TheVariants as w

@@ -17,16 +17,17 @@ use Rattle.ap_term.specs.Blocks.{IsPrefix}
 use Rattle.ap_term.specs.Goals.{Part, call, group, Clause}
 use Rattle.ap_term.specs.WellFormed.{callable, all_callable, numbered, numbered_all, numbered_check, well_formed_part}
 use Rattle.ap_term.proofs.NameTable.{table-long}
+use Rattle.ap_term.proofs.Lists.{prefix-refl, prefix-trans}
 use Rattle.ap_writer.specs.Text.{name_at, numbered_by, or_empty, shown_node, all_shown}
 use Rattle.ap_writer.specs.Writable.{IsWritable}
-use Rattle.ap_term.proofs.Lists.{prefix-refl, prefix-trans}
-use Rattle.ap_writer.proofs.Numbering.{add_vars-prefix}
+use Rattle.ap_writer.proofs.Lines.{place-le}
 use Rattle.ap_clause.proofs.CanBe.{fixed_at}
 use Rattle.ap_cge.specs.Printed.{Piece, word, term as a_term, is_enclosed, goal_pieces, check_pieces, parted, condition_pieces, list_of, part_pieces, body_pieces, add_piece_vars, add_pieces_vars, piece_text, pieces_text, line_of}
+use Rattle.ap_cge.proofs.Writing.{add_piece_vars-prefix}
 use Rattle.ap_readback.specs.Printable.{is_functor, has_functors}
 use Rattle.ap_readback.specs.Phrase.{Sign, Neck, Comma, Par, Cond, Phrase, Simple, InParens, Enclosed, Joined, sign_text, sign_rank, left_room, right_room, rank, IsPhrase, phrase_text, phrase_vars}
 use Rattle.ap_readback.specs.Readback.{AreGoals, IsPart, IsPrintable, line_vars}
-use Rattle.ap_readback.proofs.Renaming.{vars-again, writable-again, functors-again, enclosed-again, callable-again, place-few}
+use Rattle.ap_readback.proofs.Renaming.{vars-again, writable-again, functors-again, enclosed-again, callable-again}
 
 -- ---- lists of pieces
 
@@ -34,13 +35,9 @@ pub vars-append : (ps qs : List Piece) (xs : List ℕ) → add_pieces_vars (ps +
 vars-append [] qs xs = refl
 vars-append (p ∷ ps) qs xs = vars-append ps qs (add_piece_vars p xs)
 
-piece-prefix : (p : Piece) (xs : List ℕ) → IsPrefix xs (add_piece_vars p xs)
-piece-prefix (word bytes) xs = prefix-refl xs
-piece-prefix (a_term t) xs = add_vars-prefix t xs
-
 pub pieces-prefix : (ps : List Piece) (xs : List ℕ) → IsPrefix xs (add_pieces_vars ps xs)
 pieces-prefix [] xs = prefix-refl xs
-pieces-prefix (p ∷ ps) xs = prefix-trans xs (add_piece_vars p xs) (add_pieces_vars ps (add_piece_vars p xs)) (piece-prefix p xs) (pieces-prefix ps (add_piece_vars p xs))
+pieces-prefix (p ∷ ps) xs = prefix-trans xs (add_piece_vars p xs) (add_pieces_vars ps (add_piece_vars p xs)) (add_piece_vars-prefix p xs) (pieces-prefix ps (add_piece_vars p xs))
 
 -- ---- what a phrase is made from
 
@@ -164,12 +161,12 @@ module _ (names : List Text) (found : List ℕ) where
     for-check (Ground x) = record {
       text = ap (λ n. (shown_node n (all_shown names (more (var (place found x)) none))).own) ground-name;
       vars = λ xs p. vars-again found (check_term (Ground x)) xs p;
-      rules = ((omega (arith, table-long names table), (omega (arith, place-few found x), tt)), ap (λ n. is_functor n && true) ground-name, refl, refl);
+      rules = ((omega (arith, table-long names table), (omega (arith, place-le found x), tt)), ap (λ n. is_functor n && true) ground-name, refl, refl);
     }
     for-check (Indep x y) = record {
       text = ap (λ n. (shown_node n (all_shown names (more (var (place found x)) (more (var (place found y)) none)))).own) indep-name;
       vars = λ xs p. vars-again found (check_term (Indep x y)) xs p;
-      rules = ((omega (arith, table-long names table), (omega (arith, place-few found x), (omega (arith, place-few found y), tt))), ap (λ n. is_functor n && true) indep-name, refl, refl);
+      rules = ((omega (arith, table-long names table), (omega (arith, place-le found x), (omega (arith, place-le found y), tt))), ap (λ n. is_functor n && true) indep-name, refl, refl);
     }
 
     each-check : (cs : List Check) → ForEach Comma check_pieces (check_phrase names found) cs

@@ -1,5 +1,5 @@
 -- A line's numbering, twice.
-use Rattle.std.proofs.Common.{◌≡◌, ℕ, ◌+◌, ◌<◌, ◌≤◌, ◌^◌, ◌&&◌, ◌||◌, Bool, true, false, nat_eq, if◌then◌else◌, List, [], ◌∷◌, ◌++◌, map, length, refl, ap, subst, ◌∙◌, arith}
+use Rattle.std.proofs.Common.{◌≡◌, ℕ, ◌+◌, ◌<◌, ◌^◌, ◌&&◌, ◌||◌, Bool, true, false, nat_eq, List, [], ◌∷◌, ◌++◌, map, length, refl, ap, subst, ◌∙◌, arith}
 use Rattle.std.specs.Prelude.{nat_le}
 use Rattle.std.proofs.lemmas.Bool.{false≢true, or_right}
 use Rattle.ap_lexer.specs.Lexeme.{Text}
@@ -12,6 +12,7 @@ use Rattle.ap_term.specs.WellFormed.{callable}
 use Rattle.ap_writer.specs.Text.{name_at, numbered_by}
 use Rattle.ap_writer.specs.Writable.{IsWritable, AreWritable}
 use Rattle.ap_writer.proofs.Renamed.{add_vars_kept, place_kept, place_apart}
+use Rattle.ap_writer.proofs.Lines.{place-le}
 use Rattle.ap_cge.specs.Printed.{is_enclosed}
 use Rattle.ap_readback.specs.Printable.{has_functors, have_functors, is_functor}
 
@@ -25,14 +26,6 @@ has-append (z ∷ xs) ys x h = go (nat_eq z x) h (has-append xs ys x)
 
 pub has-prefix : (xs ys : List ℕ) (x : ℕ) → IsPrefix xs ys → has xs x ≡ true → has ys x ≡ true
 has-prefix xs ys x p h = subst (λ l. has l x ≡ true) p.1 (has-append xs p.0 x h)
-
-pub place-few : (found : List ℕ) (x : ℕ) → place found x ≤ length found + 1
-place-few [] x = omega arith
-place-few (y ∷ ys) x = go (nat_eq y x) (place-few ys x)
-  where
-    go : (b : Bool) → place ys x ≤ length ys + 1 → (if b then 1 else place ys x + 1) ≤ length (y ∷ ys) + 1
-    go true h = omega arith
-    go false h = omega (arith, h)
 
 module _ (found : List ℕ) where
   abbrev pub rho : ℕ → ℕ
@@ -70,7 +63,7 @@ module _ (found : List ℕ) where
 
   mutual
     pub writable-again : (names : List Text) (t : Tree) → length found + 1 < 2 ^ 64 → IsWritable names t → IsWritable names (instance (numbered_by found) t)
-    writable-again names (var x) few h = omega (arith, place-few found x)
+    writable-again names (var x) few h = omega (arith, place-le found x)
     writable-again names (int z) few h = h
     writable-again names (atom a) few h = h
     writable-again names (node a ts) few h = (h.0, writables-again names ts few h.1)

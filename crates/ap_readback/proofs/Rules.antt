@@ -8,7 +8,7 @@ use Rattle.ap_term.specs.declared.clauses.Check.{Check}
 use Rattle.ap_term.specs.declared.clauses.Check.TheVariants.{Ground, Indep}
 use Rattle.ap_term.specs.declared.fixed.TheConstants.{NECK, COMMA, PARALLEL, CONDITION}
 use Rattle.ap_term.specs.AtomTable.{IsAtomTable}
-use Rattle.ap_term.specs.Tree.{Tree, Trees, var, int, atom, node, none, more, count_trees}
+use Rattle.ap_term.specs.Tree.{Tree, Trees, var, int, atom, node, none, more, count_trees, to_trees}
 use Rattle.ap_term.specs.Vars.{has, occurs, occurs_all}
 use Rattle.ap_term.specs.Substitution.{instance, instance_all}
 use Rattle.ap_term.specs.UpToNames.{place}
@@ -26,7 +26,7 @@ use Rattle.ap_readback.specs.Phrase.{Comma, Par, Cond, Neck, Phrase, Simple, InP
 use Rattle.ap_readback.specs.Readback.{read_check, read_part, is_single, is_no_rule, AreGoals, IsPart, IsPrintable}
 use Rattle.ap_readback.proofs.Renaming.{instance-again, writable-again}
 use Rattle.ap_readback.proofs.Pieces.{check_term, joined_list, goal_phrase, check_phrase, goals_phrase, conditional_phrase, part_phrase, with_body, clause_phrase, for-check}
-use Rattle.ap_readback.proofs.Bodies.{joined_tree, trees_of_list, term-in, value_of, joined-value, list-value, par_body, AllSingle, single-body, par-body, only_parts, lifted-par}
+use Rattle.ap_readback.proofs.Bodies.{joined_tree, term-in, value_of, joined-value, list-value, par_body, AllSingle, single-body, par-body, only_parts, lifted-par}
 
 same_number : (x y : ℕ) → nat_eq x y ≡ true → y ≡ x
 same_number x y h = grind (arith)
@@ -178,7 +178,7 @@ module _ (names added : List Text) (is_table : IsAtomTable names) (found later :
 
   -- ---- nothing is lifted
 
-  goals-again : (ts : Trees) → trees_of_list (map renew (list_of ts)) ≡ instance_all (numbered_by found) ts
+  goals-again : (ts : Trees) → to_trees (map renew (list_of ts)) ≡ instance_all (numbered_by found) ts
   goals-again none = refl
   goals-again (more t ts) = ap (more (renew t)) (goals-again ts)
 

@@ -1,9 +1,7 @@
 -- Each printed term is read as the term, its variables by first occurrence.
 use Rattle.std.proofs.Common.{◌≡◌, ℕ, suc, ℤ, pos, negsuc, ◌+◌, ◌<◌, ◌≤◌, ◌^◌, ◌==◌, ◌&&◌, ◌||◌, Bool, true, false, cond, if◌then◌else◌, List, [], ◌∷◌, codes, bytes_eq, Option, Some, None, refl, sym, ap, subst, ◌∙◌, le-leb, arith}
-use Rattle.std.specs.Prelude.{nat_lt}
 use Rattle.std.specs.Fmt.{decimal}
-use Rattle.std.proofs.lemmas.Bool.{false≢true, and_parts}
-use Rattle.std.proofs.lemmas.Bool.Decides.{nat_tests}
+use Rattle.std.proofs.lemmas.Bool.{false≢true, and_parts, ltb-true}
 use Rattle.std.proofs.lemmas.Slice.Eq.{bytes_eq-Decides}
 use Rattle.std.proofs.Math.Bool.{or-true}
 use Rattle.ap_lexer.specs.declared.kind.TokenKind.{TokenKind}
@@ -16,9 +14,9 @@ use Rattle.ap_term.specs.Tree.{Trees, var, int, atom, node, none, more}
 use Rattle.ap_term.specs.Vars.{add_vars, add_all_vars}
 use Rattle.ap_term.specs.UpToNames.{place}
 use Rattle.ap_term.specs.Blocks.{IsPrefix}
+use Rattle.ap_term.proofs.Lists.{prefix-trans}
 use Rattle.ap_writer.specs.Text as text
 use Rattle.ap_writer.specs.Writable.{IsWritable, AreWritable}
-use Rattle.ap_term.proofs.Lists.{prefix-trans}
 use Rattle.ap_writer.proofs.Numbering.{add_all_vars-prefix}
 use Rattle.ap_reader.specs.declared.word.Word.TheVariants as w
 use Rattle.ap_reader.specs.Operator.{priority_of}
@@ -56,12 +54,9 @@ sign-is : (at : ℕ) (before : Option TokenKind) → starts before ≡ true → 
 unfolding priority_of
 sign-is at before h = rw h refl
 
-below : (n : ℕ) → nat_lt n (2 ^ 63) ≡ true → n < 2 ^ 63
-below n h = grind (arith, nat_tests)
-
 integer-stands : (z : ℤ) (touches : Bool) (seen : List Text) (before : Option TokenKind) (at : ℕ) (after : List Spelled) → fits z ≡ true → starts before ≡ true → Stands 0 seen (integer_tokens z touches) (Integer z) before at after
 integer-stands (pos n) touches seen before at after h begins =
-    let small : n < 2 ^ 63 = below n h in
+    let small : n < 2 ^ 63 = ltb-true n (2 ^ 63) h in
     let value = (numeral n (omega arith)).value in
     record {
       tree = Positive n;
@@ -73,7 +68,7 @@ integer-stands (pos n) touches seen before at after h begins =
       means = λ all behind h. refl;
     }
 integer-stands (negsuc n) touches seen before at after h begins =
-    let small : n < 2 ^ 63 = below n h in
+    let small : n < 2 ^ 63 = ltb-true n (2 ^ 63) h in
     let value = (numeral (suc n) (omega arith)).value in
     let next : (at + 1) + 1 ≡ at + 2 = omega arith in
     record {

@@ -10,16 +10,13 @@ use Rattle.ap_reader.specs.declared.word.Word.{Word}
 use Rattle.ap_reader.specs.Word.{word_by, words_from}
 use Rattle.ap_reader.specs.Written.{Written, leaf_by, seen_by, leaves, variables}
 use Rattle.ap_readback.specs.Unplaced.{word_of, words_of, leaves_of, variables_of}
+use Rattle.ap_term.proofs.Lists.{nil-push}
 
 heads : {A : Type 0} (x y : A) (xs ys : List A) → x ∷ xs ≡ y ∷ ys → x ≡ y
 heads x y xs ys e = cc
 
 tails : {A : Type 0} (x y : A) (xs ys : List A) → x ∷ xs ≡ y ∷ ys → xs ≡ ys
 tails x y xs ys e = cc
-
-not_none : {A : Type 0} (xs : List A) (x : A) → [] ≡ xs ++ x ∷ [] → ⊥
-not_none [] x e = cc
-not_none (y ∷ xs) x e = cc
 
 -- the word of a token before another, and of the last one
 word-next : (kind : TokenKind) (at : ℕ) (before : Option TokenKind) (t u : Placed) → word_by kind at before t (Some u) ≡ word_of kind at before t.text (Some u.kind) (t.to == u.from)
@@ -40,7 +37,7 @@ as_word at before after t = word_of t.kind at before t.text after t.touches
 pub words-front : (front : List Placed) (last : Placed) (xs : List Spelled) (e : Spelled) (before : Option TokenKind) (at : ℕ) → unplaced (front ++ last ∷ []) ≡ xs ++ e ∷ []
     → words_from before at front ≡ words_of before at xs
 words-front [] last [] e before at h = refl
-words-front [] last (x ∷ xs) e before at h = absurd (not_none xs e (tails (without_place last []) x [] (xs ++ e ∷ []) h))
+words-front [] last (x ∷ xs) e before at h = absurd (nil-push xs e (tails (without_place last []) x [] (xs ++ e ∷ []) h))
 words-front (t ∷ []) last [] e before at h = absurd (cc)
 words-front (t ∷ u ∷ us) last [] e before at h = absurd (cc)
 words-front (t ∷ []) last (x ∷ []) e before at h =
@@ -48,7 +45,7 @@ words-front (t ∷ []) last (x ∷ []) e before at h =
     ap (λ w. w ∷ []) (word-last t.kind at before t (touches_next t.to (last ∷ [])) ∙ ap (as_word at before None) same)
 words-front (t ∷ []) last (x ∷ y ∷ xs) e before at h =
     let others : without_place last [] ∷ [] ≡ y ∷ (xs ++ e ∷ []) = tails (without_place t (last ∷ [])) x _ _ h in
-    absurd (not_none xs e (tails (without_place last []) y [] (xs ++ e ∷ []) others))
+    absurd (nil-push xs e (tails (without_place last []) y [] (xs ++ e ∷ []) others))
 words-front (t ∷ u ∷ us) last (x ∷ []) e before at h =
     let others : without_place u (us ++ last ∷ []) ∷ unplaced (us ++ last ∷ []) ≡ e ∷ [] = tails (without_place t (u ∷ (us ++ last ∷ []))) x _ _ h in
     absurd (some us (tails (without_place u (us ++ last ∷ [])) e _ [] others))
@@ -68,7 +65,7 @@ words-front (t ∷ u ∷ us) last (x ∷ y ∷ xs) e before at h =
 pub leaves-front : (front : List Placed) (last : Placed) (xs : List Spelled) (e : Spelled) (seen : List Text) → unplaced (front ++ last ∷ []) ≡ xs ++ e ∷ []
     → (leaves seen front ≡ leaves_of seen xs) × (variables seen front ≡ variables_of seen xs)
 leaves-front [] last [] e seen h = (refl, refl)
-leaves-front [] last (x ∷ xs) e seen h = absurd (not_none xs e (tails (without_place last []) x [] (xs ++ e ∷ []) h))
+leaves-front [] last (x ∷ xs) e seen h = absurd (nil-push xs e (tails (without_place last []) x [] (xs ++ e ∷ []) h))
 leaves-front (t ∷ front) last [] e seen h = absurd (some front (tails (without_place t (front ++ last ∷ [])) e _ [] h))
   where
     some : (vs : List Placed) → unplaced (vs ++ last ∷ []) ≡ [] → ⊥

@@ -3,7 +3,7 @@ use Rattle.std.proofs.Common.{◌≡◌, ℕ, ◌+◌, ◌<◌, ◌^◌, ◌||�
 use Rattle.std.specs.Prelude.{bytes_eq, nat_eq}
 use Rattle.std.specs.Fmt.{decimal}
 use Rattle.std.specs.List.{AllByRecursion}
-use Rattle.std.proofs.lemmas.Bool.{false≢true}
+use Rattle.std.proofs.lemmas.Bool.{false≢true, eqb-true, eq-eqb}
 use Rattle.std.proofs.lemmas.Slice.Eq.{bytes_eq-Decides}
 use Rattle.ap_lexer.specs.Lexeme.{Text, number}
 use Rattle.ap_lexer.specs.declared.kind.TokenKind.TheVariants as token
@@ -11,8 +11,8 @@ use Rattle.ap_term.specs.Tree.{Tree, Trees, var, int, atom, node, none, more}
 use Rattle.ap_term.specs.Vars.{has, add_vars, add_all_vars}
 use Rattle.ap_term.specs.UpToNames.{place}
 use Rattle.ap_term.specs.Blocks.{IsPrefix}
-use Rattle.ap_writer.specs.Writable.{IsWritable, AreWritable}
 use Rattle.ap_term.proofs.Found.{has-added}
+use Rattle.ap_writer.specs.Writable.{IsWritable, AreWritable}
 use Rattle.ap_writer.proofs.Numbering.{place-prefix}
 use Rattle.ap_reader.specs.Written.{Variable, place_in, known, seen_after, number_after, seen_by, leaf_by}
 use Rattle.ap_cge.proofs.Tokens.{numeral}
@@ -37,12 +37,6 @@ same_digits x y h k e = sym (numeral x h).value ∙ ap number (tail (decimal x) 
     tail : (a b : List ℕ) → 95 ∷ a ≡ 95 ∷ b → a ≡ b
     tail a b e = cc
 
-number_is : (x y : ℕ) → nat_eq x y ≡ true → x ≡ y
-number_is x y h = grind (arith)
-
-number_test : (x y : ℕ) → x ≡ y → nat_eq x y ≡ true
-number_test x y h = grind (arith)
-
 -- names are the same where numbers are
 same_name : (x y : ℕ) → x < 2 ^ 64 → y < 2 ^ 64 → bytes_eq (variable_name x) (variable_name y) ≡ nat_eq x y
 same_name x y h k = go (bytes_eq (variable_name x) (variable_name y)) refl (nat_eq x y) refl
@@ -50,8 +44,8 @@ same_name x y h k = go (bytes_eq (variable_name x) (variable_name y)) refl (nat_
     go : (a : Bool) → bytes_eq (variable_name x) (variable_name y) ≡ a → (b : Bool) → nat_eq x y ≡ b → bytes_eq (variable_name x) (variable_name y) ≡ nat_eq x y
     go true p true q = p ∙ sym q
     go false p false q = p ∙ sym q
-    go true p false q = absurd (false≢true (sym q ∙ number_test x y (same_digits x y h k ((bytes_eq-Decides (variable_name x) (variable_name y)).0 p))))
-    go false p true q = absurd (false≢true (sym p ∙ (bytes_eq-Decides (variable_name x) (variable_name y)).1 (ap variable_name (number_is x y q))))
+    go true p false q = absurd (false≢true (sym q ∙ eq-eqb x y (same_digits x y h k ((bytes_eq-Decides (variable_name x) (variable_name y)).0 p))))
+    go false p true q = absurd (false≢true (sym p ∙ (bytes_eq-Decides (variable_name x) (variable_name y)).1 (ap variable_name (eqb-true x y q))))
 
 -- the place of a name is that of its number
 place-is : (at n : ℕ) (found : List ℕ) (x : ℕ) → at ≡ n + 1 → AreSmall found → x < 2 ^ 64 → place_in at (names_of found) (variable_name x) ≡ cond (has found x) (Some (n + place found x)) None
@@ -81,7 +75,7 @@ seen-variable found x h k = ap (seen_after (names_of found) (variable_name x)) (
     go false = sym (map-push found x)
 
 place-new : (found : List ℕ) (x : ℕ) → has found x ≡ false → place (found ++ x ∷ []) x ≡ length found + 1
-place-new [] x h = let e = number_test x x refl in rw e refl
+place-new [] x h = let e = eq-eqb x x refl in rw e refl
 place-new (y ∷ ys) x h = go (nat_eq y x) h (place-new ys x)
   where
     go : (b : Bool) → (b || has ys x) ≡ false → (has ys x ≡ false → place (ys ++ x ∷ []) x ≡ length ys + 1) → cond b 1 (place (ys ++ x ∷ []) x + 1) ≡ length (y ∷ ys) + 1

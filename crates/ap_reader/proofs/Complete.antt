@@ -85,7 +85,7 @@ comma-is at t (InGroup ∷ s) k = refl
 comma-is at t (Inside head items ∷ s) k = absurd (omega arith)
 comma-is at t (InTail items u ∷ s) k = refl
 
-left-comma : left_max (priority_of false (codes ",")) ≡ 999
+pub left-comma : left_max (priority_of false (codes ",")) ≡ 999
 unfolding left_max priority_of
 left-comma = refl
 

@@ -12,7 +12,7 @@ use Rattle.ap_reader.specs.Machine.{Frame, State, Wants, Signed, Called, Has, St
 use Rattle.ap_reader.specs.Step.{opens, open_of, Holds, Shows, Follows, Finds}
 use Rattle.ap_reader.proofs.Complete.{complete}
 use Rattle.ap_reader.proofs.Sound.{sound}
-use Rattle.ap_reader.proofs.Stack.{nothing_last}
+use Rattle.ap_term.proofs.Lists.{nil-push}
 
 not_some : {t : Tree} → None ≡ Some t → ⊥
 not_some e = cc
@@ -51,7 +51,7 @@ ends words (Has t []) stack out e h =
     let right = sound words t e in
     (λ empty. (t, right.0, right.1, h.out_is), λ full. absurd (full h.stack_is))
 ends words (Has t (f ∷ s)) stack out e h =
-    (λ empty. absurd (nothing_last (opens s) (open_of f) (sym empty ∙ h.stack_is)), λ full. none_spelled words e)
+    (λ empty. absurd (nil-push (opens s) (open_of f) (sym empty ∙ h.stack_is)), λ full. none_spelled words e)
 ends words (Wants s) stack out e h = absurd h
 ends words (Signed sign i s) stack out e h = absurd h
 ends words (Called at i s) stack out e h = absurd h

@@ -17,7 +17,7 @@ use Rattle.ap_reader.specs.Reading.{first_line, EndsAs, Spells, term_of, Parsed,
 use Rattle.ap_reader.specs.Leaves.{texts}
 use Rattle.ap_reader.proofs.Complete.{one}
 
-one_front : (ts a b : List Placed) → EndsAs ts a → EndsAs ts b → a ≡ b
+pub one_front : (ts a b : List Placed) → EndsAs ts a → EndsAs ts b → a ≡ b
 one_front ts a b h k = (same_from_push a b h.0 k.0 (sym h.2 ∙ k.2)).0
 
 -- what was parsed and then built is what is read

@@ -1,5 +1,5 @@
 -- What the machine finds is a term, and is spelled by the words that it went over.
-use Rattle.std.proofs.Common.{◌≡◌, ℕ, ◌^◌, ◌<◌, ◌≤◌, List, [], ◌∷◌, ◌++◌, false, leb, ltb, ◌&&◌, Some, refl, sym, ap, subst, ◌∙◌, append_assoc, codes, arith}
+use Rattle.std.proofs.Common.{◌≡◌, ℕ, ◌^◌, ◌<◌, ◌≤◌, List, [], ◌∷◌, ◌++◌, leb, ltb, ◌&&◌, Some, refl, sym, ap, subst, ◌∙◌, append_assoc, arith}
 use Rattle.std.proofs.lemmas.List.{append-nil}
 use Rattle.std.proofs.lemmas.Bool.{leb-true, ltb-true, and_parts, cond_both}
 use Rattle.std.proofs.lemmas.Option.{same_Some}
@@ -7,7 +7,8 @@ use Rattle.ap_reader.specs.declared.word.Word.{Word}
 use Rattle.ap_reader.specs.declared.word.Word.TheVariants as w
 use Rattle.ap_reader.specs.Grammar.{Tree, Single, Positive, Negative, Prefix, Infix, Begin, Then, infix_rank, prefix_rank, spelled, each, priority, IsTerm, AreItems, IsWhole}
 use Rattle.ap_reader.specs.Machine.{Head, Named, Bracket, Frame, AfterPrefix, AfterInfix, InGroup, Inside, InTail, State, Wants, Signed, Called, Has, Stuck, room, reduced, prefixed, shifted, closed, list_closed, parted, barred, on_want, on_sign, on_call, on_has, over, next, parsed, ended, whole}
-use Rattle.ap_reader.specs.Operator.{priority_of, left_max}
+use Rattle.ap_reader.specs.Operator.{left_max}
+use Rattle.ap_reader.proofs.Complete.{left-comma}
 
 -- the words that a head is, and the words that were read before the next operand
 abbrev pub head_words : Head → List Word
@@ -108,10 +109,6 @@ kept_barred m words (Has t (Inside Bracket items ∷ s)) k =
     let e = sym law ∙ ap (λ x. x ++ w.Bar ∷ []) k.4 in
     ((k.0.0, k.3, k.1, k.0.1), e)
 kept_barred m words _ k = tt
-
-left-comma : left_max (priority_of false (codes ",")) ≡ 999
-unfolding left_max priority_of
-left-comma = refl
 
 kept_parted : (at : ℕ) (words : List Word) (x : State) → Keeps 999 words x → Keeps 0 (words ++ w.Comma at ∷ []) (parted at x)
 kept_parted at words (Has t (Inside h items ∷ s)) k =

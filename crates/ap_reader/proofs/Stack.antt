@@ -12,10 +12,7 @@ use Rattle.ap_reader.specs.Grammar.{Tree, Prefix, Infix, Begin, Then, infix_rank
 use Rattle.ap_reader.specs.Machine.{Named, Bracket, Frame, AfterPrefix, AfterInfix, InGroup, Inside, InTail, Has, reduced}
 use Rattle.ap_reader.specs.Step.{place, postfix, open_of, opens, steps, Holds, Shows, due, Takes}
 use Rattle.ap_reader.proofs.Complete.{reduced-prefix, reduced-infix}
-
-pub nothing_last : {A : Type 0} (xs : List A) (x : A) → [] ≡ xs ++ x ∷ [] → ⊥
-nothing_last [] x e = cc
-nothing_last (a ∷ xs) x e = cc
+use Rattle.ap_term.proofs.Lists.{nil-push}
 
 none_when : {A : Type 0} (b : Bool) (x : A) → cond b (Some x) None ≡ None → b ≡ false
 none_when true x e = absurd (cc)
@@ -41,7 +38,7 @@ took_frame m t (Inside Bracket (Then items u at)) r stack out out' step h k d e 
 took_frame m t (InTail items u) r stack out out' step h k d e = absurd (cc)
 
 pub took : (m : ℕ) (t : Tree) (s : List Frame) (stack stack' : List Open) (out out' : List Step) (top : Open) (step : Step) → Holds t s stack out → stack ≡ stack' ++ top ∷ [] → due m top ≡ Some step → out' ≡ out ++ step ∷ [] → Reduced m t s stack' out'
-took m t [] stack stack' out out' top step h k d e = absurd (nothing_last stack' top (sym h.stack_is ∙ k))
+took m t [] stack stack' out out' top step h k d e = absurd (nil-push stack' top (sym h.stack_is ∙ k))
 took m t (f ∷ r) stack stack' out out' top step h k d e =
     let same = same_from_push (opens r) stack' (open_of f) top (sym h.stack_is ∙ k) in
     took_frame m t f r stack' out out' step h.out_is (sym same.0) (ap (due m) same.1 ∙ d) e

@@ -4,7 +4,7 @@ use Rattle.std.proofs.lemmas.Bool.{cases_lt, lt-ltb, le-ltb}
 use Rattle.std.proofs.lemmas.List.{get_or-take, take_all}
 use Rattle.ap_group.specs.Meets.{IsInstance}
 use Rattle.ap_term.specs.Tuples.{tuple_under}
-use Rattle.ap_term.proofs.TreeLists.{count_trees-instance_all, first-same, rest-same}
+use Rattle.ap_term.proofs.TreeLists.{count_trees-instance_all, first-same, rest-same, count-under}
 use Rattle.ap_term.specs.Tree.{Tree, Trees, var, none, more, count_trees}
 use Rattle.ap_term.specs.Substitution.{instance, instance_all, shift}
 use Rattle.ap_term.proofs.Copies.{instance_all_twice}
@@ -15,20 +15,13 @@ use Rattle.ap_cells.specs.Trees.{tree_at, trees, span}
 use Rattle.ap_cells.specs.Store.{IsStore}
 use Rattle.ap_cells.specs.Walks.{Each}
 use Rattle.ap_cells.proofs.Rounds.{trees-length}
+use Rattle.ap_cells.proofs.Walks.{count-span}
 use Rattle.ap_instr.specs.Runs.{spread}
 use Rattle.ap_match.specs.Fits.{Fits, Agree, Becomes, Answered}
 use Rattle.ap_match.proofs.Inside.{inside}
 use Rattle.ap_match.proofs.Matches.{Becomes-asked}
 
 -- ---- tuples
-
-count-under : (k : ℕ → Tree) (rs : List ℕ) → count_trees (tuple_under k rs) ≡ length rs
-count-under k [] = refl
-count-under k (r ∷ rs) = let e : count_trees (tuple_under k rs) ≡ length rs = count-under k rs in omega arith
-
-count-span : (us : List Tree) (p n : ℕ) → count_trees (span us p n) ≡ n
-count-span us p zero = refl
-count-span us p (suc n) = let e : count_trees (span us (p + 1) n) ≡ n = count-span us (p + 1) n in omega arith
 
 Each-at : (n : ℕ) (rs : List ℕ) → Each (λ r. r < n) rs → (i : ℕ) → i < length rs → get_or rs i 0 < n
 Each-at n [] h i l = absurd (omega arith)

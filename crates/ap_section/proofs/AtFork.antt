@@ -1,5 +1,6 @@
 -- What is read of the frame at which a section stands, and of its machine.
 use Rattle.std.proofs.Common.{◌≡◌, ◌∙◌, ℕ, zero, suc, ◌-◌, ◌<◌, ◌≤◌, List, [], ◌∷◌, length, slice_get, reverse, map, ap, sym, subst, refl, Some, get_or, rules, arith}
+use Rattle.std.proofs.lemmas.Option.{same_Some}
 use Rattle.std.specs.List.{AllByRecursion}
 use Rattle.ap_term.specs.Tuples.{tuple_under}
 use Rattle.ap_term.specs.Tree.{Trees, count_trees}
@@ -113,13 +114,10 @@ cells-at s at = let r = fork-at s at in r.1.cells ∙ sym r.1.cells_shown
 
 -- ---- its goals
 
-pub same-some : {A : Type 0} (a b : A) → Some a ≡ Some b → a ≡ b
-same-some a b e = search rules
-
 known-place : (code : Compiled) (ps : List Pushed) (k : ℕ) (p : Pushed) → AllByRecursion (IsKnownGoal code) ps → slice_get ps k ≡ Some p → IsKnownGoal code p
 known-place code [] zero p h e = search rules
 known-place code [] (suc k) p h e = search rules
-known-place code (q ∷ ps) zero p h e = subst (IsKnownGoal code) (same-some q p e) h.0
+known-place code (q ∷ ps) zero p h e = subst (IsKnownGoal code) (same_Some q p e) h.0
 known-place code (q ∷ ps) (suc k) p h e = known-place code ps k p h.1 e
 
 pub goal-of : (s : Section) (i number : ℕ) → IsAtFrame (view_of s) → ((p : Pushed) × (slice_get (newest_goals (out-Section s).search.older) (i - 1) ≡ Some p) × (p.predicate ≡ number)) → IsGoalOf i (view_of s) number
@@ -130,7 +128,7 @@ known-at code s i number at r h =
     let f = fork-at s at in
     let known = subst (AllByRecursion (IsKnownGoal code)) (sym f.1.goals) (f.1.known code r) in
     let q = known-place code (goals_in (view_of s)) (i - 1) h.0 known h.1 in
-    (q.0, subst (λ n. slice_get code.predicates n ≡ Some q.0) h.2 q.1, λ p e. ap (λ x. length x.arguments) (same-some p h.0 (sym e ∙ h.1)) ∙ q.2)
+    (q.0, subst (λ n. slice_get code.predicates n ≡ Some q.0) h.2 q.1, λ p e. ap (λ x. length x.arguments) (same_Some p h.0 (sym e ∙ h.1)) ∙ q.2)
 
 -- the arguments of a goal of the newest fork are those of a slot's
 pub parcel-of : (s : Section) (i : ℕ) (ts : Trees) → IsAtFrame (view_of s)
@@ -144,7 +142,7 @@ parcel-of s i ts at h =
 place-round : (rd : Round) (i n : ℕ) → IsSlotOf n rd → redone_of rd ≡ Some i → (0 < i) × (i ≤ n)
 place-round First i n h e = search rules
 place-round (Draining k) i n h e = search rules
-place-round (Later j) i n h e = subst (λ k. (0 < k) × (k ≤ n)) (same-some j i e) h
+place-round (Later j) i n h e = subst (λ k. (0 < k) × (k ≤ n)) (same_Some j i e) h
 place-round Closed i n h e = search rules
 
 pub place-redone : (i : ℕ) (s : Section) → IsAtFrame (view_of s) → redone_in (view_of s) ≡ Some i → IsPlaceIn i (view_of s)

@@ -1,7 +1,7 @@
 -- What is left behind an answer at which a section stands.
 use Rattle.std.proofs.Common.{◌≡◌, ◌∙◌, ◌<◌, inl, inr, Bool, true, false, List, [], ◌∷◌, length, reverse, map, ap, sym, subst, refl, rules}
 use Rattle.std.proofs.lemmas.Bool.{false≢true}
-use Rattle.std.proofs.lemmas.List.{length-reverse}
+use Rattle.std.proofs.lemmas.List.{length-reverse, nil_from_length}
 use Rattle.ap_term.specs.Tree.{Trees}
 use Rattle.ap_tracked.specs.Tracked.{Tracked}
 use Rattle.ap_instr.specs.Code.{Compiled}
@@ -31,10 +31,6 @@ no-frames : (gs : List Segment) → stack_now gs [] ≡ bottom
 no-frames [] = refl
 no-frames (g ∷ gs) = refl
 
-no-items : {A : Type 0} (xs : List A) → length xs ≡ 0 → xs ≡ []
-no-items [] e = refl
-no-items (x ∷ xs) e = search rules
-
 reversed-length : {A : Type 0} (xs : List A) → reverse xs ≡ [] → length xs ≡ 0
 reversed-length xs e = sym (length-reverse xs) ∙ ap length e
 
@@ -54,7 +50,7 @@ next-point code s at h = subst (HasNext code) (sym (view_of-out s)) (inr (h (sub
 pub nothing-next : (s : Section) → count_in s ≡ 0 → (out-Section s).search.machine.points ≡ [] → HasNothing (view_of s)
 nothing-next s n h =
     let v = (out-Section s).frames in
-    subst HasNothing (sym (view_of-out s)) (h, ap (λ xs. stack_now (out-Section s).search.older (reverse xs)) (no-items v.items (sym v.ok.0 ∙ n)) ∙ no-frames (out-Section s).search.older)
+    subst HasNothing (sym (view_of-out s)) (h, ap (λ xs. stack_now (out-Section s).search.older (reverse xs)) (nil_from_length v.items (sym v.ok.0 ∙ n)) ∙ no-frames (out-Section s).search.older)
 
 -- its search is ready
 pub search-ready : (code : Compiled) (s : Section) → IsReady code s → IsFor code (out-Section s).search

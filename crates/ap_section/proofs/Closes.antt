@@ -1,10 +1,10 @@
 -- A section whose first frame is closed, forgotten or joined.
 use Rattle.std.proofs.Common.{◌≡◌, ◌∙◌, ◌⊎◌, inl, inr, ℕ, ◌+◌, ◌-◌, ◌<◌, List, [], ◌∷◌, ◌++◌, length, reverse, map, take, ap, ap₂, sym, subst, refl, Bool, true, false, get_or, vec_len, Vec, Global, rules, arith}
 use Rattle.std.specs.Prelude.{IfOk, OnErr, Result, Ok, Err}
-use Rattle.std.proofs.lemmas.List.{reverse-append, set_at, length_push, get_or_at}
-use lib.ListN.{set}
+use Rattle.std.proofs.lemmas.List.{reverse-append, length_push, get_or_at}
 use Rattle.std.specs.Vec.{with_item}
 use Rattle.ap_term.specs.Tree.{Trees}
+use Rattle.ap_term.proofs.Lists.{some_first}
 use Rattle.ap_frames.specs.declared.frame.Frame.{Frame}
 use Rattle.ap_frames.specs.declared.frame.Round.{Round}
 use Rattle.ap_frames.specs.declared.frame.Round.TheVariants.{First, Draining, Later, Closed}
@@ -28,13 +28,9 @@ use Rattle.ap_section.specs.Ready.{Shape, Part, shape_of, parts_of, AreMatched, 
 use Rattle.ap_section.specs.Closes.{HasFrame, IsAtFirst, closed_in, charged_in, IsForgotten, IsBack, IsRejoined, AreShutBehind, AreNearlyReady, IsNearlyReady, IsShut}
 use Rattle.ap_section.proofs.Levels.{slots_now, stack_now, seen_as, view_of-out, view_of-roll}
 use Rattle.ap_section.proofs.Parts.{SlotsReady, FramesReady, parts-out, parts-roll, frames-into, frames-from, ready-roll, shut-out}
-use Rattle.ap_section.proofs.Newest.{Top, view-top, view-newest, put_at, length-rows, frames-join, frames-front, frames-back}
+use Rattle.ap_section.proofs.Newest.{Top, view-top, view-newest, put_at, length-rows, frames-join, frames-front, frames-back, last-of, length-before, set-last}
 
 -- ---- the newest frame
-
-last-of : {A : Type 0} (x : A) (xs : List A) → (before : List A) × (y : A) × (x ∷ xs ≡ before ++ y ∷ [])
-last-of x [] = ([], x, refl)
-last-of x (z ∷ zs) = let r = last-of z zs in (x ∷ r.0, r.1, ap (λ ws. x ∷ ws) r.2)
 
 no-frame : (gs : List Segment) → HasFrame (stack_now gs []) → ⊥
 no-frame [] h = h
@@ -52,18 +48,12 @@ count-first s h =
     let r = newest s h in
     let e = (out-Section s).frames.ok.0 ∙ ap length r.1.items ∙ length_push r.1.before r.0 in search rules
 
-before-length : {A : Type 0} (v : Vec A Global) (xs : List A) (y : A) → v.items ≡ xs ++ y ∷ [] → length xs ≡ vec_len v - 1
-before-length v xs y e = let h = v.ok.0 ∙ ap length e ∙ length_push xs y in search rules
-
 pub top-first : (s : Section) (n : ℕ) (f : Frame Section Trees) → n ≡ count_in s → HasFrame (stack_in (view_of s)) → f ≡ get_or (out-Section s).frames.items (n - 1) f → Top s f
 top-first s n f e h v =
     let r = newest s h in
     let same : f ≡ r.0 = v ∙ ap (λ k. get_or (out-Section s).frames.items (k - 1) f) e ∙ ap (λ xs. get_or xs (count_in s - 1) f) r.1.items
-    ∙ get_or_at r.1.before r.0 [] f (count_in s - 1) (before-length (out-Section s).frames r.1.before r.0 r.1.items) in
+    ∙ get_or_at r.1.before r.0 [] f (count_in s - 1) (length-before (out-Section s).frames r.1.before r.0 r.1.items) in
     record { before = r.1.before; items = r.1.items ∙ ap (λ y. r.1.before ++ y ∷ []) (sym same) }
-
-set-last : {A : Type 0} (v : Vec A Global) (xs : List A) (y z : A) → v.items ≡ xs ++ y ∷ [] → (with_item v (vec_len v - 1) z).items ≡ xs ++ z ∷ []
-set-last v xs y z e = ap (λ ws. set ws (vec_len v - 1) z) e ∙ set_at xs y [] z (vec_len v - 1) (before-length v xs y e)
 
 -- ---- nearly ready
 
@@ -89,7 +79,7 @@ ready-nearly code s h = go (parts_of s) h
     go [] h = h
     go (a ∷ bs) h = (h.0.0, h.0.1, order-behind a.search a.frames h.0.2, h.1)
 
-shut-order : (p : Paused) (fs : List Shape) → AreShut fs → AreInOrder p fs
+pub shut-order : (p : Paused) (fs : List Shape) → AreShut fs → AreInOrder p fs
 shut-order p [] h = tt
 shut-order p (a ∷ bs) h = (inl h.0, h.1)
 
@@ -214,7 +204,7 @@ abbrev pub without_newest : Section → Paused → Vec (Frame Section Trees) Glo
 without_newest s q v = roll-Section (record (out-Section s) { search = q; frames = v })
 
 before-newest : (s : Section) (f : Frame Section Trees) (t : Top s f) → take (vec_len (out-Section s).frames - 1) (out-Section s).frames.items ≡ t.before
-before-newest s f t = ap (take (vec_len (out-Section s).frames - 1)) t.items ∙ ap (λ n. take n (t.before ++ f ∷ [])) (sym (before-length (out-Section s).frames t.before f t.items)) ∙ take-front t.before (f ∷ [])
+before-newest s f t = ap (take (vec_len (out-Section s).frames - 1)) t.items ∙ ap (λ n. take n (t.before ++ f ∷ [])) (sym (length-before (out-Section s).frames t.before f t.items)) ∙ take-front t.before (f ∷ [])
   where
     take-front : (xs ys : List (Frame Section Trees)) → take (length xs) (xs ++ ys) ≡ xs
     take-front [] ys = refl
@@ -294,15 +284,11 @@ back-view s q h k =
     (subst (IsBack (seen_as (out-Section s).search (reverse (out-Section s).frames.items))) (sym (view_of-roll (record (out-Section s) { search = q })))
     (back-all (out-Section s).search q (out-Section s).search.older (reverse (out-Section s).frames.items) refl (subst IsAtFirst (view_of-out s) h).0 k))
 
-some-segment : (gs : List Segment) → 0 < length gs → (g : Segment) × (ks : List Segment) × (gs ≡ g ∷ ks)
-some-segment [] h = absurd (omega arith)
-some-segment (g ∷ gs) h = (g, gs, refl)
-
 -- in each case the forks stay
 pub older-stays : {E : Type 0} (s : Section) (q : Paused) (ts : List Trees) (r : Result Bool E) → IsAtFirst (view_of s)
     → IfOk r (λ met. (g : Segment) (ks : List Segment) → (out-Section s).search.older ≡ g ∷ ks → Rejoined g ts (out-Section s).search q met)
     → OnErr r ((g : Segment) (ks : List Segment) → (out-Section s).search.older ≡ g ∷ ks → IsAtFork g (g ∷ ks) (out-Section s).search q) → q.older ≡ (out-Section s).search.older
-older-stays {E = E} s q ts r h a b = let w = some-segment (out-Section s).search.older (first-older s h) in go r w.0 w.1 w.2 a b
+older-stays {E = E} s q ts r h a b = let w = some_first (out-Section s).search.older (first-older s h) in go r w.0 w.1 w.2 a b
   where
     go : (r : Result Bool E) (g : Segment) (ks : List Segment) → (out-Section s).search.older ≡ g ∷ ks
         → IfOk r (λ met. (g : Segment) (ks : List Segment) → (out-Section s).search.older ≡ g ∷ ks → Rejoined g ts (out-Section s).search q met)

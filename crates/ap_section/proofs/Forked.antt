@@ -16,10 +16,11 @@ use Rattle.ap_machine.specs.View.{Segment, Paused, IsFor}
 use Rattle.ap_machine.specs.Stands.{IsAtGroup}
 use Rattle.ap_machine.specs.Forking.{HasForked, HasPlainWay, HasGonePlain, IsCut, HasGoneOn}
 use Rattle.ap_tie.specs.Sections as seen
-use Rattle.ap_tie.specs.Sections.{section, Slots, Stack, parcall, rows, machine_in}
+use Rattle.ap_tie.specs.Sections.{section, Slots, Stack, parcall, machine_in}
 use Rattle.ap_tie.specs.Settled.{AreClosed, HasFailed}
 use Rattle.ap_tied.specs.Ties.{Goes, IsPlaced, stack_in, ready_slots}
 use Rattle.ap_tied.specs.Reaching.{ReachingLaw}
+use Rattle.ap_tied.proofs.Forgotten.{ready-many}
 use Rattle.ap_section.specs.declared.section.Section.{Section}
 use Rattle.ap_section.specs.declared.section.Section.TheOpen.{Section-F}
 use Rattle.ap_section.specs.declared.section.Section.{roll-Section, out-Section}
@@ -51,10 +52,6 @@ length-fresh (suc n) = ap suc (length-fresh n)
 fresh-ready : (code : Compiled) (n : ℕ) → SlotsReady code (all_fresh Section Trees (replicate n false))
 fresh-ready code zero = tt
 fresh-ready code (suc n) = (tt, fresh-ready code n)
-
-length-ready : (n : ℕ) → length (rows (ready_slots n)) ≡ n
-length-ready zero = refl
-length-ready (suc n) = ap suc (length-ready n)
 
 -- ---- a level after a move
 
@@ -140,7 +137,7 @@ module _ (s : Section-F Section) (p : Paused) (v : Vec (Frame Section Trees) Glo
     fails-there = record { now = h.at_fork.now; returns = h.at_fork.returns; roots_stay = refl; points = h.at_fork.points }
 
     pub forked-due : IsAtDueFrame (seen_now with_frame)
-    forked-due = subst IsAtDueFrame (sym seen-forked) ((fails-there, h.at_fork.cells, length-ready (length h.forked.goals), refl, tt), λ e. absurd (let z : First ≡ Closed = e in cc))
+    forked-due = subst IsAtDueFrame (sym seen-forked) ((fails-there, h.at_fork.cells, ready-many (length h.forked.goals), refl, tt), λ e. absurd (let z : First ≡ Closed = e in cc))
 
     count-of : length f.slots.items ≡ length h.forked.goals
     count-of = ap (λ r. length r.slots) o ∙ length-fresh (length h.forked.goals)

@@ -3,6 +3,7 @@ use Rattle.std.proofs.Common.{◌≡◌, ◌∙◌, ℕ, zero, suc, ◌+◌, ◌
 use Rattle.std.specs.Prelude.{position, IfSome}
 use Rattle.std.specs.List.{list_any, position_or_len}
 use Rattle.std.proofs.lemmas.Bool.{ltb-true, ltb-false}
+use Rattle.std.proofs.lemmas.Option.{same_Some}
 use Rattle.ap_term.specs.Tree.{Trees}
 use Rattle.ap_tie.specs.Sections.{Row, rows}
 use Rattle.ap_frames.specs.declared.frame.Frame.{Frame}
@@ -16,7 +17,6 @@ use Rattle.ap_section.specs.Slots.{IsAtFrame, IsFirstReady, IsReadyAt, HasNoRead
 use Rattle.ap_section.specs.Lending.{count_in}
 use Rattle.ap_section.proofs.Newest.{top-at, slots-at, round-at, startable-row, length-rows}
 use Rattle.ap_section.proofs.Levels.{slots_now}
-use Rattle.ap_section.proofs.AtFork.{same-some}
 use Rattle.ap_section.proofs.Shown.{position-shown}
 
 abbrev first_in : List Row → ℕ
@@ -52,7 +52,7 @@ found-place : (rs : List Row) (k : ℕ) → position is_startable rs ≡ Some k 
 found-place rs k e = go (nat_lt (first_in rs) (length rs)) refl e
   where
     go : (b : Bool) → nat_lt (first_in rs) (length rs) ≡ b → cond b (Some (first_in rs)) None ≡ Some k → (k < length rs) × IsFound rs k
-    go true l h = let i = ltb-true (first_in rs) (length rs) l in subst (λ j. (j < length rs) × IsFound rs j) (same-some (first_in rs) k h) (i, found-first rs i)
+    go true l h = let i = ltb-true (first_in rs) (length rs) l in subst (λ j. (j < length rs) × IsFound rs j) (same_Some (first_in rs) k h) (i, found-first rs i)
     go false l h = absurd (none-some k h)
 
 found-none : (rs : List Row) → position is_startable rs ≡ None → list_any is_startable rs ≡ false

@@ -40,14 +40,14 @@ pub record Top (s : Section) (f : Frame Section Trees) : Type 0 where
   pub before : List (Frame Section Trees)
   pub items : (out-Section s).frames.items ≡ before ++ f ∷ []
 
-last-of : {A : Type 0} (x : A) (xs : List A) → (before : List A) × (y : A) × (x ∷ xs ≡ before ++ y ∷ [])
+pub last-of : {A : Type 0} (x : A) (xs : List A) → (before : List A) × (y : A) × (x ∷ xs ≡ before ++ y ∷ [])
 last-of x [] = ([], x, refl)
 last-of x (z ∷ zs) = let r = last-of z zs in (x ∷ r.0, r.1, ap (λ ws. x ∷ ws) r.2)
 
 pub length-before : {A : Type 0} (v : Vec A Global) (xs : List A) (y : A) → v.items ≡ xs ++ y ∷ [] → length xs ≡ vec_len v - 1
 length-before v xs y e = let h = v.ok.0 ∙ ap length e ∙ length_push xs y in search rules
 
-set-last : {A : Type 0} (v : Vec A Global) (xs : List A) (y z : A) → v.items ≡ xs ++ y ∷ [] → (with_item v (vec_len v - 1) z).items ≡ xs ++ z ∷ []
+pub set-last : {A : Type 0} (v : Vec A Global) (xs : List A) (y z : A) → v.items ≡ xs ++ y ∷ [] → (with_item v (vec_len v - 1) z).items ≡ xs ++ z ∷ []
 set-last v xs y z e = ap (λ ws. set ws (vec_len v - 1) z) e ∙ set_at xs y [] z (vec_len v - 1) (length-before v xs y e)
 
 pub view-top : (s : Section) (f : Frame Section Trees) (t : Top s f) → view_of s ≡ seen_as (out-Section s).search (f ∷ reverse t.before)
@@ -167,7 +167,7 @@ called s n f h i y e at place v r = subst (λ k. Called s (put_at s k h) i y) (s
 
 -- ---- what is read of a slot
 
-length-stack : (p : Paused) (gs : List Segment) (f : Frame Section Trees) (fs : List (Frame Section Trees)) → IsAtFrame (section p.machine p.spent p.budget (stack_now gs (f ∷ fs)))
+pub length-stack : (p : Paused) (gs : List Segment) (f : Frame Section Trees) (fs : List (Frame Section Trees)) → IsAtFrame (section p.machine p.spent p.budget (stack_now gs (f ∷ fs)))
     → slots_in (section p.machine p.spent p.budget (stack_now gs (f ∷ fs))) ≡ slots_now f.slots.items
 length-stack p [] f fs h = absurd h
 length-stack p (g ∷ gs) f fs h = refl

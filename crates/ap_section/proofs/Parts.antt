@@ -3,6 +3,7 @@ use Rattle.std.proofs.Common.{◌≡◌, ◌∙◌, ℕ, List, [], ◌∷◌, �
 use Rattle.std.specs.List.{AllByRecursion}
 use Rattle.std.proofs.lemmas.List.{length-map}
 use Rattle.ap_term.specs.Tree.{Trees}
+use Rattle.ap_term.proofs.Zips.{AllByRecursion-append}
 use Rattle.ap_frames.specs.declared.frame.Frame.{Frame}
 use Rattle.ap_frames.specs.declared.slots.Slot.{Slot}
 use Rattle.ap_frames.specs.declared.slots.Stand.{Stand}
@@ -42,10 +43,6 @@ abbrev pub IsReadyNow : Compiled → Section-F Section → Type 0
 IsReadyNow code s = IsReadyPart code (part_now s) × FramesReady code s.frames.items
 
 -- ---- lists in a row
-
-all-append : {A : Type 0} (P : A → Type 0) (xs ys : List A) → AllByRecursion P xs → AllByRecursion P ys → AllByRecursion P (xs ++ ys)
-all-append P [] ys hs ks = ks
-all-append P (x ∷ xs) ys hs ks = (hs.0, all-append P xs ys hs.1 ks)
 
 all-front : {A : Type 0} (P : A → Type 0) (xs ys : List A) → AllByRecursion P (xs ++ ys) → AllByRecursion P xs
 all-front P [] ys hs = tt
@@ -102,7 +99,7 @@ slots-into code (x ∷ xs) h =
 
 slots-from : (code : Compiled) (xs : List (Slot Section Trees)) → SlotsReady code xs → AllShut code (parts_of_slots (map slot_map xs))
 slots-from code [] h = tt
-slots-from code (x ∷ xs) h = all-append (IsShutPart code) (parts_at (stand_map x.stand)) (parts_of_slots (map slot_map xs)) (stand-from code x.stand h.0) (slots-from code xs h.1)
+slots-from code (x ∷ xs) h = AllByRecursion-append (IsShutPart code) (parts_at (stand_map x.stand)) (parts_of_slots (map slot_map xs)) (stand-from code x.stand h.0) (slots-from code xs h.1)
 
 pub frames-into : (code : Compiled) (fs : List (Frame Section Trees)) → AllShut code (parts_of_frames (map frame_map fs)) → FramesReady code fs
 frames-into code [] h = tt
@@ -111,7 +108,7 @@ frames-into code (f ∷ fs) h =
 
 pub frames-from : (code : Compiled) (fs : List (Frame Section Trees)) → FramesReady code fs → AllShut code (parts_of_frames (map frame_map fs))
 frames-from code [] h = tt
-frames-from code (f ∷ fs) h = all-append (IsShutPart code) (parts_of_slots (map slot_map f.slots.items)) (parts_of_frames (map frame_map fs)) (slots-from code f.slots.items h.0) (frames-from code fs h.1)
+frames-from code (f ∷ fs) h = AllByRecursion-append (IsShutPart code) (parts_of_slots (map slot_map f.slots.items)) (parts_of_frames (map frame_map fs)) (slots-from code f.slots.items h.0) (frames-from code fs h.1)
 
 shape-map : (f : Frame Section Trees) → shape_of (frame_map f) ≡ shape_of f
 shape-map f = ap (λ n. record { rest = f.rest; round = f.round; count = n }) (length-map f.slots.items slot_map)

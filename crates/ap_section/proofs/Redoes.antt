@@ -1,51 +1,27 @@
 -- What is read of the newest frame's slots, and of the one that is redone next.
-use Rattle.std.proofs.Common.{◌≡◌, ◌∙◌, ℕ, zero, suc, ◌+◌, ◌-◌, ◌<◌, ◌≤◌, List, [], ◌∷◌, length, take, ap, ap₂, sym, refl, Some, None, Option, Bool, true, false, ◌||◌, ◌&&◌, get_or, arith}
+use Rattle.std.proofs.Common.{◌≡◌, ◌∙◌, ℕ, zero, suc, ◌-◌, ◌<◌, ◌≤◌, List, [], ◌∷◌, length, take, ap, ap₂, sym, refl, Some, None, Option, true, false, ◌||◌, ◌&&◌, get_or}
 use Rattle.std.specs.List.{list_any, list_all}
 use Rattle.ap_term.specs.Tree.{Trees}
 use Rattle.ap_frames.specs.declared.frame.Frame.{Frame}
 use Rattle.ap_frames.specs.declared.slots.Slot.{Slot}
-use Rattle.ap_frames.specs.declared.slots.Stand.{Stand}
-use Rattle.ap_frames.specs.declared.slots.Stand.TheVariants.{Ready, Waiting, Running, Answered, Replayed, Ended, GivenBack}
-use Rattle.ap_frames.specs.Slots.{stands_answered, more_at, is_running, has_answer, has_more, tuples_of}
-use Rattle.ap_frames.specs.Verdicts.{place_behind, rightmost, next_redo}
+use Rattle.ap_frames.specs.Slots.{is_running, has_answer, has_more}
+use Rattle.ap_frames.specs.Verdicts.{place_behind, next_redo}
 use Rattle.ap_tie.specs.Sections.{Row, rows}
 use Rattle.ap_tie.specs.Settled.{stays}
 use Rattle.ap_frames.specs.declared.frame.Round.{Round}
 use Rattle.ap_frames.specs.declared.frame.Round.TheVariants.{First, Draining, Later, Closed}
+use Rattle.ap_frames.proofs.Failing.{rightmost-inside}
 use Rattle.ap_tied.specs.Settling.{IsRedoable}
 use Rattle.ap_section.specs.declared.section.Section.{Section, out-Section}
-use Rattle.ap_section.specs.Views.{view_of, row_of, bare}
+use Rattle.ap_section.specs.Views.{view_of}
 use Rattle.ap_section.specs.Lending.{count_in}
 use Rattle.ap_section.specs.Slots.{IsAtFrame, slots_in, round_in}
 use Rattle.ap_section.specs.Closes.{stays_by, stays_in}
 use Rattle.ap_section.proofs.Levels.{slots_now}
 use Rattle.ap_section.proofs.Newest.{top-at, slots-at, round-at, running-row}
+use Rattle.ap_section.proofs.Shown.{answer-row, more-row}
 
 -- ---- rows
-
-more-stand : (n : ℕ) (y : Stand Section) → more_at n (bare y) ≡ more_at n y
-more-stand n Ready = refl
-more-stand n Waiting = refl
-more-stand n (Running r) = refl
-more-stand n (Answered a) = refl
-more-stand n (Replayed k) = refl
-more-stand n (Ended e c) = refl
-more-stand n GivenBack = refl
-
-more-row : (x : Slot Section Trees) → has_more (row_of x) ≡ has_more x
-more-row x = more-stand (length (tuples_of x)) x.stand
-
-answer-stand : (y : Stand Section) → stands_answered (bare y) ≡ stands_answered y
-answer-stand Ready = refl
-answer-stand Waiting = refl
-answer-stand (Running r) = refl
-answer-stand (Answered a) = refl
-answer-stand (Replayed k) = refl
-answer-stand (Ended e c) = refl
-answer-stand GivenBack = refl
-
-answer-row : (x : Slot Section Trees) → has_answer (row_of x) ≡ has_answer x
-answer-row x = answer-stand x.stand
 
 pub next-now : (xs : List (Slot Section Trees)) → next_redo (rows (slots_now xs)) ≡ next_redo xs
 next-now [] = refl
@@ -87,17 +63,8 @@ stays-at s n f o e at v k =
 
 -- ---- the slot that is redone next
 
-pub place-of : {A : Type 0} (f : A → Bool) (xs : List A) (i : ℕ) → rightmost f xs ≡ Some i → (0 < i) × (i ≤ length xs)
-place-of f [] i e = absurd (cc)
-place-of f (x ∷ xs) i e = go (rightmost f xs) (place-of f xs) (f x) e
-  where
-    go : (o : Option ℕ) → ((j : ℕ) → o ≡ Some j → (0 < j) × (j ≤ length xs)) → (b : Bool) → place_behind o b ≡ Some i → (0 < i) × (i ≤ length (x ∷ xs))
-    go (Some j) k b e = let h = k j refl in let d : j + 1 ≡ i = cc in (omega (arith, d), omega (arith, d, h.1))
-    go None k true e = let d : 1 ≡ i = cc in (omega (arith, d), omega (arith, d))
-    go None k false e = absurd (cc)
-
 pub next-place : (xs : List (Slot Section Trees)) (i : ℕ) → next_redo xs ≡ Some i → (0 < i) × (i ≤ length xs)
-next-place xs i e = place-of has_more xs i e
+next-place xs i e = rightmost-inside has_more xs i e
 
 pub redoable-some : (s : Section) (n : ℕ) (f : Frame Section Trees) (i : ℕ) → n ≡ count_in s → IsAtFrame (view_of s) → f ≡ get_or (out-Section s).frames.items (n - 1) f → next_redo f.slots.items ≡ Some i
     → list_all has_answer (take (i - 1) f.slots.items) ≡ true → IsRedoable (rows (slots_in (view_of s)))

@@ -1,7 +1,7 @@
 -- Sections all of whose frames are closed.
 use Rattle.std.proofs.Common.{◌≡◌, ◌∙◌, ◌⊎◌, ℕ, zero, suc, ◌+◌, ◌-◌, ◌<◌, ◌≤◌, max, get_or, slice_get, Some, None, List, [], ◌∷◌, ◌++◌, length, reverse, map, ap, sym, subst, refl, inl, inr, arith, rules}
 use Rattle.std.proofs.lemmas.List.{reverse-append}
-use Rattle.std.proofs.lemmas.Option.{slice_get-get_or}
+use Rattle.std.proofs.lemmas.Option.{slice_get-get_or, same_Some}
 use Rattle.ap_term.specs.Tree.{Trees}
 use Rattle.ap_frames.specs.declared.frame.Frame.{Frame}
 use Rattle.ap_frames.specs.declared.frame.Round.{Round}
@@ -54,15 +54,12 @@ shut-closed code s h = closed-stack code s.search.older (reverse s.frames.items)
 
 -- ---- the last frame
 
-some-same : {A : Type 0} (x y : A) → Some x ≡ Some y → x ≡ y
-some-same x y e = cc
-
 suc-same : (a b : ℕ) → suc a ≡ suc b → a ≡ b
 suc-same a b e = omega (arith, e)
 
 last-at : {A : Type 0} (xs : List A) (k : ℕ) (x : A) → length xs ≡ suc k → slice_get xs k ≡ Some x → (before : List A) × (xs ≡ before ++ x ∷ [])
 last-at [] k x e h = absurd (let q : zero ≡ suc k = e in cc)
-last-at (y ∷ []) zero x e h = ([], ap (λ z. z ∷ []) (some-same y x h))
+last-at (y ∷ []) zero x e h = ([], ap (λ z. z ∷ []) (same_Some y x h))
 last-at (y ∷ []) (suc k) x e h = absurd (let q : suc zero ≡ suc (suc k) = e in omega (arith, q))
 last-at (y ∷ z ∷ zs) zero x e h = absurd (let q : suc (suc (length zs)) ≡ suc zero = e in omega (arith, q))
 last-at (y ∷ z ∷ zs) (suc k) x e h = let r = last-at (z ∷ zs) k x (suc-same (length (z ∷ zs)) (suc k) e) h in (y ∷ r.0, ap (λ ws. y ∷ ws) r.1)

@@ -8,10 +8,12 @@ use Rattle.ap_frames.specs.declared.slots.Run.TheVariants.{First}
 use Rattle.ap_frames.specs.Slots.{stands_startable, stands_running, stands_first, is_startable, is_running, may_be_given_back}
 use Rattle.ap_frames.specs.Rows.{of_slot, standing}
 use Rattle.ap_frames.specs.Rounds.{readied, readied_stand}
-use Rattle.ap_tie.specs.Sections.{Row, Section, section, Slots, no_slot, slot, Held, bottom, parcall, rows, machine_in}
+use Rattle.ap_tie.specs.Sections.{Row, Section, section, Slots, no_slot, slot, Held, bottom, parcall, rows}
 use Rattle.ap_tied.specs.SlotCalls.{stood_in, stood, row_in, readied_behind}
-use Rattle.ap_section.specs.Views.{spent_in, budget_in}
-use Rattle.ap_section.specs.Slots.{IsAtFrame, IsPlaceIn, IsSlotOf, told_of, slots_in, goals_in, round_in, redone_in, readied_in}
+use Rattle.ap_tied.proofs.Places.{length-stood}
+use Rattle.ap_tied.proofs.SlotRestarts.{length_behind}
+use Rattle.ap_section.specs.Views.{budget_in}
+use Rattle.ap_section.specs.Slots.{IsAtFrame, IsPlaceIn, IsSlotOf, told_of, slots_in, readied_in}
 
 -- ---- places
 
@@ -58,7 +60,7 @@ pub ready-apart : (i j : ℕ) (s : Section) → told_of is_startable i s ≡ tru
 ready-apart i j s h k e =
     told-apart is_startable is_running (λ x a b. stands-apart x.stand a b) (row_in j (slots_in s)) (subst (λ n. told_of is_startable n s ≡ true) e h) k
 
-row-of : (f : Row → Bool) (o : Option Row) → of_slot f false o ≡ true → (x : Row) × (o ≡ Some x) × (f x ≡ true)
+pub row-of : (f : Row → Bool) (o : Option Row) → of_slot f false o ≡ true → (x : Row) × (o ≡ Some x) × (f x ≡ true)
 row-of f None h = absurd (false≢true h)
 row-of f (Some x) h = (x, refl, h)
 
@@ -72,16 +74,7 @@ told-length f (suc k) [] h = absurd (false≢true h)
 told-length f zero (r ∷ rs) h = search rules
 told-length f (suc k) (r ∷ rs) h = let l = told-length f k rs h in search rules
 
-pub told-place : (f : Row → Bool) (i : ℕ) (s : Section) → 0 < i → told_of f i s ≡ true → IsPlaceIn i s
-told-place f i s above h = let l = told-length f (i - 1) (rows (slots_in s)) h in (above, (let e = one-less i above in search rules))
-
 -- ---- one of them stands otherwise
-
-pub length-stood : (i : ℕ) (e : Stand (Unit {0})) (h : Held) (w : Slots) → length (rows (stood_in i e h w)) ≡ length (rows w)
-length-stood i e h no_slot = refl
-length-stood zero e h (slot x a w) = refl
-length-stood (suc zero) e h (slot x a w) = refl
-length-stood (suc (suc i)) e h (slot x a w) = ap suc (length-stood (suc i) e h w)
 
 pub at-stood : (i : ℕ) (e : Stand (Unit {0})) (a : Held) (v : Section) → IsAtFrame v → IsAtFrame (stood i e a v)
 at-stood i e a (section m c b bottom) h = h
@@ -126,42 +119,19 @@ runs-stood r i a v h = told-here is_running i (Running r) a v (λ x. refl) h
 pub first-stood : (i : ℕ) (a : Held) (v : Section) → IsPlaceIn i v → told_of may_be_given_back i (stood i (Running First) a v) ≡ true
 first-stood i a v h = told-here may_be_given_back i (Running First) a v (λ x. refl) h
 
-pub machine-stood : (i : ℕ) (e : Stand (Unit {0})) (a : Held) (s : Section) → machine_in (stood i e a s) ≡ machine_in s
-machine-stood i e a (section m c b st) = refl
-
-pub spent-stood : (i : ℕ) (e : Stand (Unit {0})) (a : Held) (s : Section) → spent_in (stood i e a s) ≡ spent_in s
-spent-stood i e a (section m c b st) = refl
-
 pub budget-stood : (i : ℕ) (e : Stand (Unit {0})) (a : Held) (s : Section) → budget_in (stood i e a s) ≡ budget_in s
 budget-stood i e a (section m c b st) = refl
 
-pub round-stood : (i : ℕ) (e : Stand (Unit {0})) (a : Held) (s : Section) → round_in (stood i e a s) ≡ round_in s
-round-stood i e a (section m c b bottom) = refl
-round-stood i e a (section m c b (parcall f q rd w qs st)) = refl
-
-pub redone-stood : (i : ℕ) (e : Stand (Unit {0})) (a : Held) (s : Section) → redone_in (stood i e a s) ≡ redone_in s
-redone-stood i e a (section m c b bottom) = refl
-redone-stood i e a (section m c b (parcall f q rd w qs st)) = refl
-
-pub goals-stood : (i : ℕ) (e : Stand (Unit {0})) (a : Held) (s : Section) → goals_in (stood i e a s) ≡ goals_in s
-goals-stood i e a (section m c b bottom) = refl
-goals-stood i e a (section m c b (parcall f q rd w qs st)) = refl
-
 -- ---- those behind one are readied
-
-pub length-readied : (i : ℕ) (w : Slots) → length (rows (readied_behind i w)) ≡ length (rows w)
-length-readied i no_slot = refl
-length-readied zero (slot x h w) = ap suc (length-readied zero w)
-length-readied (suc i) (slot x h w) = ap suc (length-readied i w)
 
 pub at-readied : (i : ℕ) (v : Section) → IsAtFrame v → IsAtFrame (readied_in i v)
 at-readied i (section m c b bottom) h = h
 at-readied i (section m c b (parcall f q rd w qs st)) h =
-    (h.0, h.1, length-readied i w ∙ h.2, h.3, subst (λ n. IsSlotOf n rd) (sym (length-readied i w)) h.4)
+    (h.0, h.1, length_behind i w ∙ h.2, h.3, subst (λ n. IsSlotOf n rd) (sym (length_behind i w)) h.4)
 
 pub place-readied : (i j : ℕ) (v : Section) → IsPlaceIn i v → IsPlaceIn i (readied_in j v)
 place-readied i j (section m c b bottom) h = h
-place-readied i j (section m c b (parcall f q rd w qs st)) h = (h.0, subst (λ n. i ≤ n) (sym (length-readied j w)) h.1)
+place-readied i j (section m c b (parcall f q rd w qs st)) h = (h.0, subst (λ n. i ≤ n) (sym (length_behind j w)) h.1)
 
 told-behind : (f : Row → Bool) → ((x : Row) → f x ≡ true → f (readied x) ≡ true) → (i k : ℕ) (w : Slots) → of_slot f false (slice_get (rows w) k) ≡ true → of_slot f false (slice_get (rows (readied_behind i w)) k) ≡ true
 told-behind f by i k no_slot h = h
@@ -192,30 +162,5 @@ first-on (Replayed k) h = h
 first-on (Ended e c) h = h
 first-on GivenBack h = h
 
--- a slot that runs runs on
-pub runs-readied : (j i : ℕ) (s : Section) → told_of is_running j s ≡ true → told_of is_running j (readied_in i s) ≡ true
-runs-readied j i s h = told-readied is_running (λ x e. runs-on x.stand e) j i s h
-
 pub first-readied : (j i : ℕ) (s : Section) → told_of may_be_given_back j s ≡ true → told_of may_be_given_back j (readied_in i s) ≡ true
 first-readied j i s h = told-readied may_be_given_back (λ x e. first-on x.stand e) j i s h
-
-pub machine-readied : (i : ℕ) (s : Section) → machine_in (readied_in i s) ≡ machine_in s
-machine-readied i (section m c b st) = refl
-
-pub spent-readied : (i : ℕ) (s : Section) → spent_in (readied_in i s) ≡ spent_in s
-spent-readied i (section m c b st) = refl
-
-pub budget-readied : (i : ℕ) (s : Section) → budget_in (readied_in i s) ≡ budget_in s
-budget-readied i (section m c b st) = refl
-
-pub round-readied : (i : ℕ) (s : Section) → round_in (readied_in i s) ≡ round_in s
-round-readied i (section m c b bottom) = refl
-round-readied i (section m c b (parcall f q rd w qs st)) = refl
-
-pub redone-readied : (i : ℕ) (s : Section) → redone_in (readied_in i s) ≡ redone_in s
-redone-readied i (section m c b bottom) = refl
-redone-readied i (section m c b (parcall f q rd w qs st)) = refl
-
-pub goals-readied : (i : ℕ) (s : Section) → goals_in (readied_in i s) ≡ goals_in s
-goals-readied i (section m c b bottom) = refl
-goals-readied i (section m c b (parcall f q rd w qs st)) = refl

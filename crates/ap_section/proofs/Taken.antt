@@ -33,9 +33,10 @@ use Rattle.ap_section.specs.Closes.{IsNearlyReady, IsShut, IsOutcome}
 use Rattle.ap_section.proofs.Outcomes.{to-redo}
 use Rattle.ap_section.proofs.Levels.{held_own, held_now, slots_now, stack_now, seen_as, view_of-out}
 use Rattle.ap_section.proofs.Parts.{HeldReady, StandReady, SlotsReady, FramesReady}
-use Rattle.ap_section.proofs.Newest.{top-at, view-top, view-newest, put_at, slots-at, round-at, length-rows, frames-back}
+use Rattle.ap_section.proofs.Newest.{top-at, view-top, view-newest, put_at, slots-at, round-at, length-rows, frames-back, length-stack}
 use Rattle.ap_section.proofs.Closes.{nearly-out, nearly-ready, ready-nearly, nearly-newest}
 use Rattle.ap_section.proofs.Redoes.{next-at, next-place}
+use Rattle.ap_section.proofs.Stood.{one-less}
 
 -- ---- slots
 
@@ -184,9 +185,6 @@ more-place (x ∷ xs) (suc k) e h = go (next_redo xs) (λ d. more-place xs k d h
     go None m true q = let z : 1 ≡ suc (suc k) = cc in absurd (omega (arith, z))
     go None m false q = absurd (cc)
 
-one-less : (i : ℕ) → 0 < i → suc (i - 1) ≡ i
-one-less i h = omega (arith, h)
-
 one-more : (i : ℕ) → 0 < i → 1 + (i - 1) ≡ i
 one-more i h = omega (arith, h)
 
@@ -207,11 +205,6 @@ at-resumed p (g ∷ gs) fs f h i l k c e at =
     let count : length (rows (slots_now (Taken i 1 (i - 1) f.slots.items))) ≡ length f.slots.items = length-rows (Taken i 1 (i - 1) f.slots.items) ∙ length-taken i 1 (i - 1) f.slots.items in
     subst (λ z. IsAtFrame (section p.machine p.spent p.budget (parcall g.forked z.rest z.round (slots_now z.slots) g.points (stack_now gs fs)))) (sym (resumed-row i (p.budget - p.spent) f h c e))
     (at.0, at.1, count ∙ sym (length-rows f.slots.items) ∙ at.2, refl, (l, subst (λ n. i ≤ n) (sym count) k))
-
-slots-first : (p : Paused) (gs : List Segment) (f : Frame Section Trees) (fs : List (Frame Section Trees)) → IsAtFrame (section p.machine p.spent p.budget (stack_now gs (f ∷ fs)))
-    → slots_in (section p.machine p.spent p.budget (stack_now gs (f ∷ fs))) ≡ slots_now f.slots.items
-slots-first p [] f fs h = absurd h
-slots-first p (g ∷ gs) f fs h = refl
 
 -- what is known of the section whose i-th slot's section a was taken
 pub record TakenFrom (s new a : Section) (i : ℕ) : Type 0 where
@@ -237,7 +230,7 @@ taken-from s a n f h i r e at v c d l o u =
     let at_new : IsAtFrame (seen_as p (h ∷ fs)) = at-resumed p p.older fs f h i place.0 place.1 closed row_is (subst IsAtFrame (view-top s f t) at) in
     let at_frame = subst IsAtFrame (sym new) at_new in
     let slots_new : slots_in (view_of (put_at s n h)) ≡ slots_now (Taken i 1 (i - 1) f.slots.items) =
-    ap slots_in new ∙ slots-first p p.older h fs at_new ∙ ap (λ z. slots_now z.slots) (resumed-row i (p.budget - p.spent) f h closed row_is) in
+    ap slots_in new ∙ length-stack p p.older h fs at_new ∙ ap (λ z. slots_now z.slots) (resumed-row i (p.budget - p.spent) f h closed row_is) in
     record {
       view = new ∙ ap (section p.machine p.spent p.budget) (stack-taken p.older fs f h i (p.budget - p.spent) place.0 closed row_is) ∙ ap (taken_in i) (sym (view-top s f t));
       at_frame = at_frame;

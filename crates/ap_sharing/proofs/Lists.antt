@@ -5,7 +5,7 @@ use Rattle.std.specs.List.{filter, flat_map, AllByRecursion}
 use Rattle.std.specs.List.Sorted.{IsStrictlySortedBy}
 use Rattle.std.specs.declared.cmp.Ordering.TheVariants.{Less, Equal, Greater}
 use Rattle.std.specs.Ordering.{nat_cmp, match_ordering, is_eq}
-use Rattle.ap_term.proofs.Facts.{same_bool}
+use Rattle.ap_term.proofs.Facts.{same_bool, cmp_less}
 use Rattle.ap_sharing.specs.VarSet.{has, union}
 use Rattle.ap_sharing.specs.Sets.{In, Is, IsAscending, listed, insert_set, join_sets, all_of, with_each, pairs, grown, grown_all, too_many}
 use Rattle.ap_sharing.proofs.Elements.{same_test, clash, has-union}
@@ -186,9 +186,6 @@ join-append ss (t ∷ ts) rs = join-append (insert_set ss t) ts rs
 abbrev Below : ℕ → List ℕ → Type 0
 Below x ys = AllByRecursion (λ y. nat_cmp x y ≡ Less) ys
 
-below : (x y : ℕ) → x < y → nat_cmp x y ≡ Less
-below x y h = ap (λ b. cond b Less (cond (nat_eq x y) Equal Greater)) (lt-ltb x y h)
-
 is_below : (x y : ℕ) → nat_cmp x y ≡ Less → x < y
 is_below x y h = go (ltb x y) refl (nat_eq x y) h
   where
@@ -199,7 +196,7 @@ is_below x y h = go (ltb x y) refl (nat_eq x y) h
 
 below_all : (x y : ℕ) (ys : List ℕ) → x < y → Below y ys → Below x ys
 below_all x y [] h b = tt
-below_all x y (z ∷ ys) h b = let l = is_below y z b.0 in (below x z (omega arith), below_all x y ys h b.1)
+below_all x y (z ∷ ys) h b = let l = is_below y z b.0 in (cmp_less x z (omega arith), below_all x y ys h b.1)
 
 All-insert : (P : ℕ → Type 0) (ss : List ℕ) (k : ℕ) → P k → AllByRecursion P ss → AllByRecursion P (insert_set ss k)
 All-insert P [] k p h = (p, tt)
@@ -211,7 +208,7 @@ unfolding IsStrictlySortedBy
 ascending-insert [] k h = (tt, tt)
 ascending-insert (x ∷ xs) k h =
     by_cmp IsAscending k x (k ∷ x ∷ xs) (x ∷ xs) (x ∷ insert_set xs k)
-    (λ l. ((below k x l, below_all k x xs l h.0), h)) (λ e. h) (λ g. (All-insert (λ y. nat_cmp x y ≡ Less) xs k (below x k g) h.0, ascending-insert xs k h.1))
+    (λ l. ((cmp_less k x l, below_all k x xs l h.0), h)) (λ e. h) (λ g. (All-insert (λ y. nat_cmp x y ≡ Less) xs k (cmp_less x k g) h.0, ascending-insert xs k h.1))
 
 pub ascending-join : (ss ts : List ℕ) → IsAscending ss → IsAscending (join_sets ss ts)
 ascending-join ss [] h = h

@@ -1,10 +1,10 @@
 -- The search of a slot's goal, where it begins.
 use Rattle.std.proofs.Common.{◌≡◌, ℕ, suc, ◌+◌, ◌<◌, ◌⊎◌, inl, inr, List, [], ◌∷◌, ◌++◌, Some, None, slice_get, append-nil, refl, ap, sym, ◌∙◌, subst, arith}
 use Rattle.ap_term.specs.Tree.{Tree, Trees, var, int, atom, node, none, more}
-use Rattle.ap_term.specs.Substitution.{instance, instance_all}
 use Rattle.ap_term.specs.UpToNames.{SameUpToNames}
 use Rattle.ap_term.specs.Vars.{Local, LocalAll}
 use Rattle.ap_term.proofs.Locals.{Local-weaken, LocalAll-weaken}
+use Rattle.ap_term.proofs.TreeLists.{LocalAll-arguments, instance-applied}
 use Rattle.ap_laws.specs.Graft.{arguments}
 use Rattle.ap_core.specs.Relation.{Rules}
 use Rattle.ap_tracked.specs.Tracked.{call, Tracked}
@@ -45,19 +45,9 @@ mutual
       let b = bound-trees ts in
       (a.0 + b.0, (Local-weaken (λ x. x < a.0) (λ x. x < a.0 + b.0) (λ x l. omega arith) t a.1, LocalAll-weaken (λ x. x < b.0) (λ x. x < a.0 + b.0) (λ x l. omega arith) ts b.1))
 
-local-arguments : (P : ℕ → Type 0) (g : Tree) → Local P g → LocalAll P (arguments g)
-local-arguments P (var x) h = (h, tt)
-local-arguments P (int z) h = tt
-local-arguments P (atom a) h = tt
-local-arguments P (node a ts) h = h
-
 -- ---- names of variables
 
-instance-applied : (f : ℕ → Tree) (p : ℕ) (ts : Trees) → instance f (applied p ts) ≡ applied p (instance_all f ts)
-instance-applied f p none = refl
-instance-applied f p (more t ts) = refl
-
-called-instances : (name n k : ℕ) (ts us : Trees) → SameUpToNames us ts → (gs t : Trees) → Inst (called name ts n) gs t → Inst (called name us k) gs t
+pub called-instances : (name n k : ℕ) (ts us : Trees) → SameUpToNames us ts → (gs t : Trees) → Inst (called name ts n) gs t → Inst (called name us k) gs t
 called-instances name n k ts us same gs t h =
     let i = instance-same us ts same h.0 in (
       i.0,
@@ -65,11 +55,11 @@ called-instances name n k ts us same gs t h =
       h.2 ∙ sym i.1,
     )
 
-no-points : (code : Compiled) (roots : List ℕ) (qs : List Point) (left : List Tracked) → qs ≡ [] → HoldsPoints code roots qs left → left ≡ []
+pub no-points : (code : Compiled) (roots : List ℕ) (qs : List Point) (left : List Tracked) → qs ≡ [] → HoldsPoints code roots qs left → left ≡ []
 no-points code roots qs left e h = subst (λ ps. HoldsPoints code roots ps left) e h
 
 -- another call of that name whose arguments are the same up to names
-renamed-call : (code : Compiled) (m : Machine) (name n k : ℕ) (ts us : Trees) → m.points ≡ [] → SameUpToNames ts us → LocalAll (λ x. x < k) us → Local (λ x. x < k) (applied name us)
+pub renamed-call : (code : Compiled) (m : Machine) (name n k : ℕ) (ts us : Trees) → m.points ≡ [] → SameUpToNames ts us → LocalAll (λ x. x < k) us → Local (λ x. x < k) (applied name us)
     → Holds code m (called name ts n ∷ []) → Holds code m (called name us k ∷ [])
 renamed-call code m name n k ts us points same below local h =
     let left = no-points code m.roots m.points h.1 points h.6 in
@@ -86,13 +76,13 @@ renamed-call code m name n k ts us points same below local h =
     )
 
 -- the goal alone
-goal-alone : (code : Compiled) (m : Machine) (name n k : ℕ) (ts : Trees) (g : Tree) → m.points ≡ [] → g ≡ applied name (arguments g) → SameUpToNames ts (arguments g) → Local (λ x. x < k) g
+pub goal-alone : (code : Compiled) (m : Machine) (name n k : ℕ) (ts : Trees) (g : Tree) → m.points ≡ [] → g ≡ applied name (arguments g) → SameUpToNames ts (arguments g) → Local (λ x. x < k) g
     → Holds code m (called name ts n ∷ []) → Holds code m (alone g k ∷ [])
 goal-alone code m name n k ts g points named same below h =
-    let c = renamed-call code m name n k ts (arguments g) points same (local-arguments (λ x. x < k) g below) (subst (Local (λ x. x < k)) named below) h in
+    let c = renamed-call code m name n k ts (arguments g) points same (LocalAll-arguments (λ x. x < k) g below) (subst (Local (λ x. x < k)) named below) h in
     subst (λ (t : Tree). Holds code m (record { goals = call t ∷ []; tuple = arguments g; next = k; steps = 0; fault = None } ∷ [])) (sym named) c
 
-kind-of : (code : Compiled) (r : Rules) (q : Predicate) → IsOfClauses code r.program q ⊎ IsOfBuiltin code q → IsApart q ⊎ IsOfBuiltin code q
+pub kind-of : (code : Compiled) (r : Rules) (q : Predicate) → IsOfClauses code r.program q ⊎ IsOfBuiltin code q → IsApart q ⊎ IsOfBuiltin code q
 kind-of code r q (inl h) = inl h.apart
 kind-of code r q (inr h) = inr h
 

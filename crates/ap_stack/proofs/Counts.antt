@@ -53,7 +53,7 @@ plus-none n share h = search rules
 
 -- ---- what all sections owe
 
-le-then : (a b c : ℕ) → a ≤ b → b ≤ c → a ≤ c
+pub le-then : (a b c : ℕ) → a ≤ b → b ≤ c → a ≤ c
 le-then a b c h k = omega arith
 
 pub owed-less : (es : List Open) (m n : ℕ) → m ≤ n → owed_by es m ≤ owed_by es n

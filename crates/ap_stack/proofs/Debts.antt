@@ -22,6 +22,7 @@ use Rattle.ap_frames.specs.Rows.{standing, at_place}
 use Rattle.ap_frames.specs.Rounds.{numbered, without_cost, reset, reset_by, resumed}
 use Rattle.ap_frames.specs.Slots.{has_answer, has_failed, has_more, is_loud_with_more, ends, stands_answered, cost_at}
 use Rattle.ap_frames.specs.Verdicts.{left_edge, leftmost_ending, rightmost, next_redo, charged, by_ending, unless_failed, are_harmless, drains, after_failure, in_first, judged}
+use Rattle.ap_frames.proofs.Failing.{rightmost-inside}
 use Rattle.ap_parcall_laws.specs.Alike.{StandsAs}
 use Rattle.ap_tracked.specs.Tracked.{Tracked}
 use Rattle.ap_instr.specs.Code.{Compiled}
@@ -39,7 +40,6 @@ use Rattle.ap_open.specs.Calling.{MayRedo, with_redone, IsSpent}
 use Rattle.ap_section.specs.Views.{view_of, spent_in, budget_in}
 use Rattle.ap_section.specs.Slots.{IsAtFrame, round_in, slots_in, taken_in, is_held, IsGoneOn}
 use Rattle.ap_section.specs.Owed.{costs_of, open_cost, frame_cost, owed}
-use Rattle.ap_section.proofs.Redoes.{place-of}
 use Rattle.ap_section.proofs.Owed.{edge-least, closed-free}
 use Rattle.ap_post.specs.declared.post.Post.{Post}
 use Rattle.ap_stack.specs.declared.stack.Open.{Open}
@@ -228,7 +228,7 @@ redone-owes code r n (section m c b bottom) z i a tied may = absurd may
 redone-owes code r n (section m c b (parcall f q rd w qs st)) z i a tied may =
     let stack = tied.holds.5 in
     let shut = subst (λ d. IsShutIn d (rows w) stack.2) may.1 stack.8 in
-    let none = costs-taken i q (b - c) w (place-of has_more (rows w) i may.2).0 (shut i may.2).0 in
+    let none = costs-taken i q (b - c) w (rightmost-inside has_more (rows w) i may.2).0 (shut i may.2).0 in
     let closed = held-closed code i w a tied.quiet.3 may.3 in
     (omega (arith, none), alone a (closed-free (stack_in a) closed))
   where

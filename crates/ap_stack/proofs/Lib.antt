@@ -1,4 +1,4 @@
-mod Begun
+pub mod Begun
 mod Calls
 mod Moves
 mod Waiting

@@ -1,23 +1,19 @@
 -- What a move of the newest section, a push, a pop, and one move after another are to a search.
-use Rattle.std.proofs.Common.{◌≡◌, ℕ, suc, ◌+◌, ◌<◌, ◌≤◌, true, false, List, [], ◌∷◌, ◌++◌, Option, Some, None, option_and_then, refl, ap, sym, ◌∙◌, subst, arith}
+use Rattle.std.proofs.Common.{◌≡◌, ℕ, suc, ◌+◌, ◌<◌, ◌≤◌, true, false, List, [], ◌∷◌, ◌++◌, Some, None, refl, ap, sym, ◌∙◌, subst, arith}
 use Rattle.std.proofs.lemmas.Bool.{false≢true}
 use Rattle.std.proofs.lemmas.List.{map-append}
 use Rattle.std.specs.List.{AllByRecursion}
 use Rattle.ap_term.proofs.Zips.{AllByRecursion-append}
-use Rattle.ap_core.specs.Tasks.{Task}
-use Rattle.ap_core.specs.Relation.{Rules}
-use Rattle.ap_core.specs.Reached.{Happening}
-use Rattle.ap_core.specs.Lifting.{at_end}
 use Rattle.ap_frames.specs.declared.slots.Stand.{Stand}
 use Rattle.ap_frames.specs.Slots.{is_startable, may_be_given_back}
 use Rattle.ap_instr.specs.Code.{Compiled}
 use Rattle.ap_tie.specs.Sections as seen
 use Rattle.ap_tie.specs.Sections.{Held}
-use Rattle.ap_tied.specs.Happened.{happened}
 use Rattle.ap_tied.specs.SlotCalls.{stood}
 use Rattle.ap_tied.specs.Ties as tied
 use Rattle.ap_open.specs.Away.{Away, Level, OpenBeside, Carries}
 use Rattle.ap_open.specs.Sharing.{SharingLaw}
+use Rattle.ap_open.proofs.Outcomes.{happened_more}
 use Rattle.ap_section.specs.Views.{view_of}
 use Rattle.ap_section.specs.Ready.{IsReady}
 use Rattle.ap_section.specs.Slots.{IsAtFrame, told_of, readied_in}
@@ -31,29 +27,18 @@ use Rattle.ap_stack.specs.declared.stack.Open.{Open}
 use Rattle.ap_stack.specs.declared.stack.Stack.{Stack}
 use Rattle.ap_stack.specs.Levels.{aways_of, aways_in, level_of, levels_of, IsOut, AreNotAt, AreOut, IsOpen, Rise}
 use Rattle.ap_stack.specs.Stacks.{code_in, levels_in, section_in, away_in, IsGood, Pays, Goes}
-use Rattle.ap_stack.proofs.Counts.{rest-stood, rest-readied, stays-pays}
+use Rattle.ap_stack.proofs.Counts.{rest-stood, rest-readied, stays-pays, le-then}
 
 -- ---- events one after another
 
 refused : {A : Type 0} (u : A) → None ≡ Some u → ⊥
 refused u h = cc
 
-some-is : {A : Type 0} {a b : A} → Some a ≡ Some b → a ≡ b
-some-is e = cc
-
-happened-more : (p : Rules) (es fs : List Happening) (t u : Task) → happened p es t ≡ Some u → happened p (es ++ fs) t ≡ happened p fs u
-happened-more p [] fs t u h = ap (happened p fs) (some-is h)
-happened-more p (e ∷ es) fs t u h = go (at_end p e.0 e.1 t) h (happened-more p es fs)
-  where
-    go : (o : Option Task) → option_and_then (happened p es) o ≡ Some u → ((t u : Task) → happened p es t ≡ Some u → happened p (es ++ fs) t ≡ happened p fs u) → option_and_then (happened p (es ++ fs)) o ≡ happened p fs u
-    go None h rec = absurd (refused u h)
-    go (Some x) h rec = rec x u h
-
 pub carries-then : (code : Compiled) (k l m : List Level) (s t u : seen.Section) (out bs cs : List Away) → Carries code k s out l t bs → Carries code l t bs m u cs → Carries code k s out m u cs
 carries-then code k l m s t u out bs cs first second p o x h =
     let a = first p o x h in
     let b = second p o a.1 a.3 in
-    (a.0 ++ b.0, b.1, happened-more p a.0 b.0 x a.1 a.2 ∙ b.2, b.3)
+    (a.0 ++ b.0, b.1, happened_more p a.0 b.0 x a.1 a.2 ∙ b.2, b.3)
 
 -- ---- all of a list
 
@@ -112,9 +97,6 @@ pub not-at-none : (i : ℕ) (out : List Posted) → out ≡ [] → AreNotAt i ou
 not-at-none i out none = subst (AreNotAt i) (sym none) tt
 
 -- ---- numbers of frames
-
-le-then : (a b c : ℕ) → a ≤ b → b ≤ c → a ≤ c
-le-then a b c h k = omega arith
 
 below-then : (a b c : ℕ) → a < b → b < c → a < c
 below-then a b c h k = omega arith

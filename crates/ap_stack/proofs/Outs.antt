@@ -3,7 +3,7 @@ use Rattle.std.proofs.Common.{◌≡◌, ℕ, not, true, if◌then◌else◌, Li
 use Rattle.std.proofs.lemmas.Bool.{ne_eqb}
 use Rattle.std.proofs.lemmas.List.{map-append}
 use Rattle.std.specs.List.{AllByRecursion}
-use Rattle.ap_term.proofs.Zips.{AllByRecursion-append}
+use Rattle.ap_term.proofs.Zips.{AllByRecursion-append, AllByRecursion-weaken}
 use Rattle.ap_frames.specs.declared.slots.Stand.{Stand}
 use Rattle.ap_frames.specs.declared.slots.Stand.TheVariants.{Running}
 use Rattle.ap_frames.specs.declared.slots.Run.TheVariants.{First}
@@ -28,10 +28,6 @@ all-split P (x ∷ xs) ys h = let r = all-split P xs ys h.1 in ((h.0, r.0), r.1)
 pub all-both : {A : Type 0} (P Q R : A → Type 0) → ((x : A) → P x → Q x → R x) → (xs : List A) → AllByRecursion P xs → AllByRecursion Q xs → AllByRecursion R xs
 all-both P Q R f [] h k = tt
 all-both P Q R f (x ∷ xs) h k = (f x h.0 k.0, all-both P Q R f xs h.1 k.1)
-
-pub all-weaken : {A : Type 0} (P Q : A → Type 0) → ((x : A) → P x → Q x) → (xs : List A) → AllByRecursion P xs → AllByRecursion Q xs
-all-weaken P Q f [] h = tt
-all-weaken P Q f (x ∷ xs) h = (f x h.0, all-weaken P Q f xs h.1)
 
 pub all-less : {A : Type 0} (P : A → Type 0) (before : List A) (a : A) (behind : List A) → AllByRecursion P (before ++ a ∷ behind) → P a × AllByRecursion P (before ++ behind)
 all-less P [] a behind h = (h.0, h.1)
@@ -59,7 +55,7 @@ outs-stood code s i y h ps outs n = record {
 -- one that can be started isn't out
 pub ready-elsewhere : (code : Compiled) (s : Section) (i : ℕ) (ps : List Posted) → told_of is_startable i s ≡ true → AreOut code s ps → AreNotAt i ps
 ready-elsewhere code s i ps ready outs =
-    all-weaken (IsOut code s) (IsNotAt i) (λ a out e. ready-apart i a.away.place s ready (first-runs a.away.place s out.first) (sym e)) ps outs.each
+    AllByRecursion-weaken (IsOut code s) (IsNotAt i) (λ a out e. ready-apart i a.away.place s ready (first-runs a.away.place s out.first) (sym e)) ps outs.each
 
 -- ---- one more is out
 

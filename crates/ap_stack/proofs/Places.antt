@@ -1,6 +1,7 @@
 -- The section that waits at a place among those further out, and where nothing but the first place to look at has changed.
 use Rattle.std.proofs.Common.{◌≡◌, ℕ, zero, suc, ◌<◌, ◌≤◌, List, [], ◌∷◌, ◌++◌, length, get_or, set, take, drop, slice_get, Some, ap, sym, ◌∙◌, subst, arith}
 use Rattle.std.proofs.lemmas.List.{set-get_or, set_split}
+use Rattle.std.proofs.lemmas.Option.{same_Some}
 use Rattle.std.specs.List.{AllByRecursion}
 use Rattle.ap_section.specs.Views.{view_of}
 use Rattle.ap_section.specs.Slots.{IsAtFrame}
@@ -10,13 +11,10 @@ use Rattle.ap_stack.specs.declared.stack.Open.{Open}
 use Rattle.ap_stack.specs.declared.stack.Stack.{Stack}
 use Rattle.ap_stack.specs.Levels.{IsOpen, Rise}
 use Rattle.ap_stack.specs.Stacks.{IsGood, Goes}
-use Rattle.ap_stack.proofs.Outs.{all-weaken}
 use Rattle.ap_stack.proofs.Elsewhere.{rise-at-most}
+use Rattle.ap_term.proofs.Zips.{AllByRecursion-weaken}
 
 -- ---- by its place
-
-pub some-is : {A : Type 0} {a b : A} → Some a ≡ Some b → a ≡ b
-some-is e = cc
 
 less-one : (k n : ℕ) → suc k < suc n → k < n
 less-one k n h = omega arith
@@ -31,12 +29,12 @@ at-place (x ∷ xs) (suc k) e there is = at-place xs k e (less-one k (length xs)
 
 pub all-at : {A : Type 0} (P : A → Type 0) (xs : List A) (k : ℕ) (e : A) → AllByRecursion P xs → slice_get xs k ≡ Some e → P e
 all-at P [] k e all is = cc
-all-at P (x ∷ xs) zero e all is = subst P (some-is is) all.0
+all-at P (x ∷ xs) zero e all is = subst P (same_Some _ _ is) all.0
 all-at P (x ∷ xs) (suc k) e all is = all-at P xs k e all.1 is
 
 pub frame-below : (es : List Open) (lo hi k : ℕ) (e : Open) → Rise lo es hi → slice_get es k ≡ Some e → suc e.frame ≤ hi
 frame-below [] lo hi k e rise is = cc
-frame-below (x ∷ es) lo hi zero e rise is = subst (λ (y : Open). suc y.frame ≤ hi) (some-is is) (rise-at-most es (suc x.frame) hi rise.1)
+frame-below (x ∷ es) lo hi zero e rise is = subst (λ (y : Open). suc y.frame ≤ hi) (same_Some _ _ is) (rise-at-most es (suc x.frame) hi rise.1)
 frame-below (x ∷ es) lo hi (suc k) e rise is = frame-below es (suc x.frame) hi k e rise.1 is
 
 pub number-below : (p : Post) (s : Stack) (k : ℕ) (e : Open) → IsGood p s → slice_get s.outer.items k ≡ Some e → e.frame < p.next
@@ -49,7 +47,7 @@ pub split-at : {A : Type 0} (xs : List A) (k : ℕ) (e : A) → k < length xs �
 split-at xs k e there is = sym (set-get_or xs k e) ∙ ap (set xs k) (sym is) ∙ set_split xs k e there
 
 pub all-at-frame : (code : Compiled) (p : Post) (es : List Open) → AllByRecursion (IsOpen code p) es → AllByRecursion (λ e. IsAtFrame (view_of e.section)) es
-all-at-frame code p es all = all-weaken (IsOpen code p) (λ e. IsAtFrame (view_of e.section)) (λ e is. is.at_frame) es all
+all-at-frame code p es all = AllByRecursion-weaken (IsOpen code p) (λ e. IsAtFrame (view_of e.section)) (λ e is. is.at_frame) es all
 
 -- ---- the first place to look at
 

@@ -1,5 +1,5 @@
 -- What is read of a section, as the laws of open sections want it.
-use Rattle.std.proofs.Common.{◌≡◌, ℕ, zero, suc, ◌-◌, ◌<◌, ◌≤◌, Bool, true, false, inl, inr, ◌∷◌, length, Option, Some, None, slice_get, refl, ap, sym, ◌∙◌, subst, arith}
+use Rattle.std.proofs.Common.{◌≡◌, ℕ, zero, suc, ◌-◌, ◌<◌, ◌≤◌, Bool, true, false, inl, inr, ◌∷◌, Some, slice_get, refl, ap, sym, ◌∙◌, subst, arith}
 use Rattle.std.proofs.lemmas.Bool.{false≢true}
 use Rattle.ap_frames.specs.declared.frame.Round.{Round}
 use Rattle.ap_frames.specs.declared.frame.Round.TheVariants.{First, Draining, Later, Closed}
@@ -11,6 +11,7 @@ use Rattle.ap_frames.specs.Verdicts.{next_redo}
 use Rattle.ap_instr.specs.Code.{Compiled}
 use Rattle.ap_tie.specs.Sections.{Row, Section, section, bottom, parcall, Slots, no_slot, slot, Held, nothing, held, rows}
 use Rattle.ap_tied.specs.SlotCalls.{row_in, held_in, stood_in, stood, answered, gone_on}
+use Rattle.ap_tied.proofs.Places.{length-stood}
 use Rattle.ap_open.specs.Opened.{spent_in, rest_in}
 use Rattle.ap_open.specs.Moving.{HasAnsweredAgain, restarted}
 use Rattle.ap_open.specs.Calling.{MayBegin, MayRedo, with_redone, IsAnswering, HasMore, IsDone, IsSpent}
@@ -19,12 +20,9 @@ use Rattle.ap_section.specs.Ends.{Ends, HasNext, HasNothing, left_behind}
 use Rattle.ap_open.specs.Solving.{past_answer}
 use Rattle.ap_section.specs.Slots.{IsAtFrame, IsPlaceIn, IsFirstReady, told_of, round_in, slots_in, verdict_in, redone_of, redone_in, readied_in, taken_in, is_held, IsGoneOn}
 use Rattle.ap_section.specs.declared.advance.Turn.TheVariants as turn
+use Rattle.ap_section.proofs.Stood.{row-of}
 
 -- ---- slots by their places
-
-told-row : (f : Row → Bool) (o : Option Row) → of_slot f false o ≡ true → (x : Row) × (o ≡ Some x) × (f x ≡ true)
-told-row f None e = absurd (false≢true e)
-told-row f (Some x) e = (x, refl, e)
 
 row-behind : (i : ℕ) (x : Row) (h : Held) (w : Slots) → row_in (suc (suc i)) (slot x h w) ≡ row_in (suc i) w
 row-behind i x h w =
@@ -39,12 +37,6 @@ stood-row (suc (suc i)) e h no_slot x l is = cc
 stood-row (suc (suc i)) e h (slot y a w) x l is =
     row-behind i y a (stood_in (suc i) e h w) ∙ stood-row (suc i) e h w x (omega arith) (sym (row-behind i y a w) ∙ is)
 
-length-stood : (i : ℕ) (e : Stand (Unit {0})) (h : Held) (w : Slots) → length (rows (stood_in i e h w)) ≡ length (rows w)
-length-stood i e h no_slot = refl
-length-stood zero e h (slot y a w) = refl
-length-stood (suc zero) e h (slot y a w) = refl
-length-stood (suc (suc i)) e h (slot y a w) = ap suc (length-stood (suc i) e h w)
-
 pub rest-is : (s : Section) → seen.budget_in s - seen.spent_in s ≡ rest_in s
 rest-is (section m c b st) = refl
 
@@ -55,7 +47,7 @@ spent-is (section m c b st) = refl
 
 pub may-begin : (i : ℕ) (s : Section) → IsAtFrame s → IsFirstReady i s → MayBegin i s
 may-begin i (section m c b bottom) at first = absurd at
-may-begin i (section m c b (parcall f q rd w qs st)) at first = let r = told-row is_startable (row_in i w) first.1 in (at.0, first.3, first.0.0, r.0, r.1, r.2)
+may-begin i (section m c b (parcall f q rd w qs st)) at first = let r = row-of is_startable (row_in i w) first.1 in (at.0, first.3, first.0.0, r.0, r.1, r.2)
 
 redone-later : (rd : Round) (i : ℕ) → redone_of rd ≡ Some i → rd ≡ Later i
 redone-later First i e = cc
@@ -67,13 +59,13 @@ redone-later Closed i e = cc
 pub put-answer : (i cost : ℕ) (more : Bool) (h : Held) (s : Section) → IsPlaceIn i s → told_of is_running i s ≡ true → IsPlaceIn i (stood i (answered cost more) h s) × (told_of has_answer i (stood i (answered cost more) h s) ≡ true)
 put-answer i cost more h (section m c b bottom) place runs = cc
 put-answer i cost more h (section m c b (parcall f q rd w qs st)) place runs =
-    let r = told-row is_running (row_in i w) runs in
+    let r = row-of is_running (row_in i w) runs in
     let stands = stood-row i (answered cost more) h w r.0 place.0 r.1 in
     ((place.0, subst (λ n. i ≤ n) (sym (length-stood i (answered cost more) h w)) place.1), ap (of_slot has_answer false) stands)
 
 pub has-answered : (i : ℕ) (s : Section) → IsPlaceIn i s → told_of has_answer i s ≡ true → redone_in s ≡ Some i → HasAnsweredAgain i s
 has-answered i (section m c b bottom) place has again = cc
-has-answered i (section m c b (parcall f q rd w qs st)) place has again = let r = told-row has_answer (row_in i w) has in (redone-later rd i again, place.0, r.0, r.1, r.2)
+has-answered i (section m c b (parcall f q rd w qs st)) place has again = let r = row-of has_answer (row_in i w) has in (redone-later rd i again, place.0, r.0, r.1, r.2)
 
 pub restarted-is : (i : ℕ) (s : Section) → readied_in i s ≡ restarted i s
 restarted-is i (section m c b bottom) = refl

@@ -3,6 +3,7 @@ use Rattle.std.proofs.Common.{◌≡◌, ℕ, ◌+◌, ◌<◌, List, [], ◌∷
 use Rattle.std.specs.List.{AllByRecursion}
 use Rattle.ap_tracked.specs.Sets.{SameSet, IsSetOf}
 use Rattle.ap_term.specs.Tree.{Tree, Trees, atom, none, append_trees}
+use Rattle.ap_term.proofs.Facts.{funext}
 use Rattle.ap_tracked.specs.Tracked.{Tracked}
 use Rattle.ap_tracked.specs.Instances.{Inst}
 use Rattle.ap_cells.specs.declared.cells.Raw.{Raw}
@@ -19,7 +20,6 @@ use Rattle.ap_resolution.proofs.Unified.{IsSetOf-same}
 use Rattle.ap_steps.specs.Moves.{held, Moves, IsStuck}
 use Rattle.ap_steps.specs.Standing.{Return, Standing, Waits, AtCall, InCode, returning as returning_to}
 use Rattle.ap_steps.proofs.Entry.{calls_are}
-use Rattle.ap_steps.proofs.RegisterMaps.{funext}
 use Rattle.ap_standing.specs.Machine.{Point, calling, inside, returning, failed, Machine, AreWithin}
 use Rattle.ap_standing.specs.Holds.{AtReturn, AtCallOf, SetOf, IsApart, IsOpenAt, AreOpen, HoldsPoints, Holds}
 use Rattle.ap_standing.specs.Laws.{machine}

@@ -5,6 +5,7 @@ use Rattle.ap_tracked.specs.Sets.{SameSet}
 use Rattle.ap_term.specs.Tuples.{tuple_under}
 use Rattle.ap_match.proofs.Tuples.{tuple_under-agree}
 use Rattle.ap_term.specs.Tree.{Tree, Trees, none, more, append_trees}
+use Rattle.ap_term.proofs.Facts.{funext}
 use Rattle.ap_cells.specs.declared.cells.Raw.{Raw}
 use Rattle.ap_cells.specs.Trees.{tree_at, trees}
 use Rattle.ap_instr.specs.Code.{Compiled}
@@ -15,7 +16,6 @@ use Rattle.ap_match.specs.Fits.{Agree}
 use Rattle.ap_match.proofs.Maps.{fits-own}
 use Rattle.ap_steps.specs.Moves.{held, Moves, IsStuck}
 use Rattle.ap_steps.specs.Standing.{Return, Standing, Waits, AtCall, InCode}
-use Rattle.ap_steps.proofs.RegisterMaps.{funext}
 use Rattle.ap_standing.specs.Holds.{AtReturn, AreOpen}
 use Rattle.ap_standing.specs.Machine.{AreWithin}
 

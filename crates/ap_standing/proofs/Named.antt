@@ -36,7 +36,7 @@ pub named-applied : (p : ℕ) (ts : Trees) → IsNamed (applied p ts)
 named-applied p none = tt
 named-applied p (more t ts) = tt
 
-named-moved : (u : ℕ → Tree) (g : Goal) → IsNamedGoal g → IsNamedGoal (moved u g)
+pub named-moved : (u : ℕ → Tree) (g : Goal) → IsNamedGoal g → IsNamedGoal (moved u g)
 named-moved u (call t) h = named-instance u t h
 named-moved u (fork cs ts own now) h = h
 

@@ -1,5 +1,5 @@
 -- A call is one turn of the model, and clauses are taken one after another.
-use Rattle.std.proofs.Common.{◌≡◌, ℕ, zero, suc, ◌+◌, ◌<◌, ◌≤◌, ◌⊎◌, inl, inr, List, [], ◌∷◌, ◌++◌, slice_get, Some, None, refl, ap, ap₂, sym, ◌∙◌, subst, arith}
+use Rattle.std.proofs.Common.{◌≡◌, ℕ, ◌+◌, ◌⊎◌, inl, inr, List, [], ◌∷◌, ◌++◌, slice_get, Some, None, refl, ap, sym, ◌∙◌, subst, arith}
 use Rattle.std.specs.List.{AllZip, AllByRecursion}
 use Rattle.std.proofs.lemmas.List.{append_assoc}
 use Rattle.std.proofs.lemmas.List.Elements.{All-nil, All-cons, All-head, All-tail, All-filter}
@@ -23,6 +23,7 @@ use Rattle.ap_instr.specs.Steps.{steps_from}
 use Rattle.ap_instr.specs.Code.{Compiled}
 use Rattle.ap_instr.specs.Runs.{applied, spread, AsksOpenly}
 use Rattle.ap_instr.specs.StandsFor.{ReadsAt, IsOfClauses, IsOfBuiltin, clauses_of, clause_places, is_head_of}
+use Rattle.ap_instr.proofs.Registers.{spread-agree, count-spread}
 use Rattle.ap_resolution.proofs.Unified.{IsSetOf-same}
 use Rattle.ap_resolution.proofs.Variants.{instances}
 use Rattle.ap_steps.specs.Moves.{held}
@@ -50,18 +51,10 @@ Resolved-same I J c h gs t = (
 
 -- ---- registers of a call
 
-spread-same : (f g : ℕ → Tree) (p n : ℕ) → ((w : ℕ) → p ≤ w → w < p + n → f w ≡ g w) → spread f p n ≡ spread g p n
-spread-same f g p zero h = refl
-spread-same f g p (suc n) h = ap₂ more (h p (omega arith) (omega arith)) (spread-same f g (p + 1) n (λ w a b. h w (omega arith) (omega arith)))
-
-count_spread : (f : ℕ → Tree) (p n : ℕ) → count_trees (spread f p n) ≡ n
-count_spread f p zero = refl
-count_spread f p (suc n) = let e = count_spread f (p + 1) n in omega arith
-
 pub AtCall-registers : (code : Compiled) (st : Standing) (x y : ℕ → ℕ) (p n : ℕ) → SameArguments n x y → SameSet (AtCall code st x p n) (AtCall code st y p n)
 AtCall-registers code st x y p n h gs t = (
-  λ m. (m.0, m.1, m.2, m.3 ∙ ap (λ ts. more (applied p ts) m.1) (spread-same (λ w. m.0 (x w)) (λ w. m.0 (y w)) 1 n (λ w a b. ap m.0 (h w (omega arith) (omega arith)))), m.4),
-  λ m. (m.0, m.1, m.2, m.3 ∙ ap (λ ts. more (applied p ts) m.1) (sym (spread-same (λ w. m.0 (x w)) (λ w. m.0 (y w)) 1 n (λ w a b. ap m.0 (h w (omega arith) (omega arith))))), m.4),
+  λ m. (m.0, m.1, m.2, m.3 ∙ ap (λ ts. more (applied p ts) m.1) (spread-agree (λ w. m.0 (x w)) (λ w. m.0 (y w)) 1 n (λ w a b. ap m.0 (h w (omega arith) (omega arith)))), m.4),
+  λ m. (m.0, m.1, m.2, m.3 ∙ ap (λ ts. more (applied p ts) m.1) (sym (spread-agree (λ w. m.0 (x w)) (λ w. m.0 (y w)) 1 n (λ w a b. ap m.0 (h w (omega arith) (omega arith))))), m.4),
 )
 
 -- ---- predicates
@@ -136,7 +129,7 @@ module _ (code : Compiled) (p : Program) (good : IsProgram p) (q : Predicate) (s
       f = first-call s.goals q.name ts m.1 m.3
 
       ordinary : builtin g ≡ None
-      ordinary = stands.apart ts (count_spread (λ w. m.0 (x w)) 1 q.arity)
+      ordinary = stands.apart ts (count-spread (λ w. m.0 (x w)) 1 q.arity)
 
       calls : (h : Tree) (gs us : Trees) → Inst s (more h gs) us → (vs : Trees) × (count_trees vs ≡ q.arity) × (h ≡ applied q.name vs)
       calls h gs us i =
@@ -144,7 +137,7 @@ module _ (code : Compiled) (p : Program) (good : IsProgram p) (q : Predicate) (s
           let vs : Trees = spread (λ w. c.0 (x w)) 1 q.arity in
           let e : more h gs ≡ more (applied q.name vs) c.1 = c.3 in
           let d : h ≡ applied q.name vs = cc in
-          (vs, count_spread (λ w. c.0 (x w)) 1 q.arity, d)
+          (vs, count-spread (λ w. c.0 (x w)) 1 q.arity, d)
 
 -- ---- clauses that are left
 

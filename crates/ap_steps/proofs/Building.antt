@@ -1,6 +1,7 @@
 -- Arguments of a structure that are pushed one by one.
 use Rattle.std.proofs.Common.{◌≡◌, ℕ, suc, ◌+◌, ◌<◌, List, ◌∷◌, length, refl, ap, sym, ◌∙◌, subst}
 use Rattle.ap_term.specs.Tree.{Tree, Trees}
+use Rattle.ap_term.proofs.Facts.{funext}
 use Rattle.ap_cells.specs.declared.cells.Raw.{Raw}
 use Rattle.ap_cells.specs.declared.cells.Raw.TheVariants.{Same}
 use Rattle.ap_instr.specs.declared.instruction.Slot.{Slot}
@@ -10,7 +11,7 @@ use Rattle.ap_instr.specs.Runs.{Runs, spread, read, set_x, set_y}
 use Rattle.ap_match.specs.Fits.{Fits, cell_tree, Becomes}
 use Rattle.ap_steps.specs.Moves.{held, HoldPlacesBut}
 use Rattle.ap_steps.specs.Arguments.{Built}
-use Rattle.ap_steps.proofs.RegisterMaps.{funext, read-of}
+use Rattle.ap_steps.proofs.RegisterMaps.{read-of}
 use Rattle.ap_steps.proofs.Steps.{Runs-written, Runs-unwritten}
 
 -- a push, by the place that it gives

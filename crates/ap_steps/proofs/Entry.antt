@@ -2,6 +2,7 @@
 use Rattle.std.proofs.Common.{◌≡◌, ℕ, map, refl, ap, sym, ◌∙◌, subst}
 use Rattle.ap_term.specs.Tree.{Tree, Trees, var, int, atom, node, none, more, count_trees, append_trees}
 use Rattle.ap_term.specs.Substitution.{instance, instance_all}
+use Rattle.ap_term.proofs.Facts.{funext}
 use Rattle.ap_tracked.specs.Tracked.{placed}
 use Rattle.ap_tracked.specs.Marks.{marked}
 use Rattle.ap_instr.specs.Steps.{steps_from}
@@ -9,7 +10,6 @@ use Rattle.ap_instr.specs.Runs.{Runs, Asks, applied, arguments, spread, lost}
 use Rattle.ap_tracked.specs.Sets.{Resolved}
 use Rattle.ap_steps.specs.Moves.{held}
 use Rattle.ap_steps.specs.Standing.{AtCall, InCode, IsHead, EntryLaw, CallLaw}
-use Rattle.ap_steps.proofs.RegisterMaps.{funext}
 
 -- ---- heads
 

@@ -1,15 +1,16 @@
 -- Arguments of a structure that is there, taken one by one.
 use Rattle.std.proofs.Common.{◌≡◌, ℕ, ◌+◌, ◌<◌, ◌≤◌, Bool, true, false, List, [], ◌∷◌, length, refl, sym, ◌∙◌, subst, arith}
 use Rattle.ap_term.specs.Tree.{Tree, Trees, more}
+use Rattle.ap_term.proofs.Facts.{funext}
 use Rattle.ap_cells.specs.declared.cells.Raw.{Raw}
 use Rattle.ap_instr.specs.declared.instruction.Slot.{Slot}
 use Rattle.ap_instr.specs.Step.{Step, unify_variable, unify_value, unify_constant}
 use Rattle.ap_instr.specs.Runs.{Runs, spread, read, set_x, set_y}
+use Rattle.ap_instr.proofs.Registers.{spread-agree}
 use Rattle.ap_match.specs.Fits.{Answered}
-use Rattle.ap_match.proofs.Maps.{spread-agree}
 use Rattle.ap_steps.specs.Moves.{held}
 use Rattle.ap_steps.specs.Found.{MovesInside, IsStuckBefore, Matched}
-use Rattle.ap_steps.proofs.RegisterMaps.{funext, read-of}
+use Rattle.ap_steps.proofs.RegisterMaps.{read-of}
 use Rattle.ap_steps.proofs.Steps.{Runs-agree, Runs-written, Runs-unwritten}
 
 -- ---- one argument after another

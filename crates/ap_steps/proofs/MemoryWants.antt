@@ -5,8 +5,8 @@ use Rattle.ap_instr.specs.declared.instruction.Instr.{Instr}
 use Rattle.ap_instr.specs.declared.instruction.Instr.TheVariants.{GetValue, GetStructure}
 use Rattle.ap_needs.specs.Needs.{is_transfer, wants_memory, wants}
 use Rattle.ap_steps.specs.Ways.{NoneOfControl}
-use Rattle.ap_term.proofs.Lists.{drop-here}
 use Rattle.ap_steps.proofs.Places.{plain-transfer}
+use Rattle.ap_term.proofs.Lists.{drop-here}
 
 wants-here : (is : List Instr) (at : ℕ) (i : Instr) → slice_get is at ≡ Some i → is_transfer i ≡ false → wants (drop at is) ≡ wants_memory i (drop (at + 1) is) || wants (drop (at + 1) is)
 wants-here is at i e goes_on = ap wants (drop-here is at i e) ∙ ap (λ b. if b then false else wants_memory i (drop (at + 1) is) || wants (drop (at + 1) is)) goes_on

@@ -1,28 +1,15 @@
 -- The instructions from a place of code on.
-use Rattle.std.proofs.Common.{◌≡◌, ℕ, zero, suc, ◌+◌, ◌-◌, ◌<◌, ◌≤◌, true, false, if◌then◌else◌, List, ◌∷◌, length, take, drop, min, get_or, slice_get, Some, refl, ap, ◌∙◌, subst, arith}
+use Rattle.std.proofs.Common.{◌≡◌, ℕ, zero, suc, ◌+◌, ◌-◌, ◌<◌, ◌≤◌, true, false, if◌then◌else◌, List, length, take, drop, min, get_or, slice_get, Some, refl, ap, ◌∙◌, subst, arith}
 use Rattle.std.proofs.Math.Nat.{le-min}
 use Rattle.std.proofs.lemmas.List.{get_or-drop, get_or-take, length-drop, length-take}
 use Rattle.std.proofs.lemmas.List.Folds.{list_any_kept, list_any_at}
 use Rattle.std.proofs.lemmas.Option.{slice_get_within, get_or_from_slice_get}
 use borrow.Author.Count.{below_more}
 use Rattle.ap_instr.specs.declared.instruction.Instr.{Instr}
-use Rattle.ap_instr.specs.declared.instruction.Instr.TheVariants.{Allocate, Deallocate, Jump}
-use Rattle.ap_instr.specs.Code.{Compiled}
-use Rattle.ap_instr.specs.Step.{step_of}
-use Rattle.ap_instr.specs.Steps.{steps_from, skipped}
-use Rattle.ap_instr.proofs.Steps.{steps_law}
+use Rattle.ap_instr.specs.declared.instruction.Instr.TheVariants.{Allocate, Deallocate}
 use Rattle.ap_needs.specs.Needs.{is_control, is_transfer, is_value, has_value, cells_of, room, HasTargets, AllHaveTargets}
-use Rattle.ap_term.proofs.Lists.{drop-here}
 use Rattle.ap_steps.specs.Ways.{NoneOfControl}
-
--- an instruction that leads to the next one
-pub steps-next : (code : Compiled) (at : ℕ) (i : Instr) → slice_get code.instructions at ≡ Some i → is_transfer i ≡ false → steps_from code at ≡ step_of code i ∷ steps_from code (at + 1)
-steps-next code at i e goes_on =
-    steps_law code at i e ∙ ap (λ m. step_of code i ∷ steps_from code m) (let z : skipped i at ≡ 0 = skips-none i goes_on in let q : at + 1 + skipped i at ≡ at + 1 = omega arith in q)
-  where
-    skips-none : (i : Instr) → is_transfer i ≡ false → skipped i at ≡ 0
-    skips-none (Jump l) e = cc
-    skips-none i e = refl
+use Rattle.ap_term.proofs.Lists.{drop-here}
 
 pub targets-here : (is : List Instr) (at xs ys : ℕ) (i : Instr) → slice_get is at ≡ Some i → AllHaveTargets (drop at is) xs ys → HasTargets i xs ys × (is_control i ≡ false → AllHaveTargets (drop (at + 1) is) xs ys)
 targets-here is at xs ys i e h = subst (λ js. AllHaveTargets js xs ys) (drop-here is at i e) h

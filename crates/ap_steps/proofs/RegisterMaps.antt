@@ -4,13 +4,11 @@ use Rattle.std.proofs.lemmas.Bool.Decides.{Decides-eqb}
 use Rattle.std.proofs.lemmas.Bool.{false≢true}
 use Rattle.std.proofs.lemmas.List.{get_or-set_same, get_or-set_other}
 use Rattle.ap_term.specs.Tree.{Tree}
+use Rattle.ap_term.proofs.Facts.{funext}
 use Rattle.ap_instr.specs.declared.instruction.Slot.{Slot}
 use Rattle.ap_instr.specs.declared.instruction.Slot.TheVariants.{X, Y}
 use Rattle.ap_instr.specs.Runs.{set as set_map, read, set_x, set_y}
 use Rattle.ap_steps.specs.Moves.{held, HoldPlaces, HoldPlacesBut}
-
-pub funext : {A B : Type 0} (f g : A → B) → ((a : A) → f a ≡ g a) → f ≡ g
-funext f g h = λ i. λ a. h a i
 
 pub held-set : (xs : List ℕ) (n p : ℕ) → n < length xs → (w : ℕ) → held (set xs n p) w ≡ set_map (held xs) n p w
 held-set xs n p h w = go (w == n) refl
@@ -19,31 +17,24 @@ held-set xs n p h w = go (w == n) refl
     go true e = let q : w ≡ n = (Decides-eqb w n).0 e in ap (held (set xs n p)) q ∙ get_or-set_same xs n p 0 h
     go false e = get_or-set_other xs n w p 0 (λ q. absurd (false≢true (sym e ∙ (Decides-eqb w n).1 q)))
 
-set_map-of : (k : ℕ → Tree) (r : ℕ → ℕ) (v p : ℕ) → (λ w. k (set_map r v p w)) ≡ set_map (λ w. k (r w)) v (k p)
-set_map-of k r v p = funext (λ w. k (set_map r v p w)) (set_map (λ w. k (r w)) v (k p)) (λ w. go w (w == v))
+pub set-of : (k : ℕ → Tree) (r : ℕ → ℕ) (v p : ℕ) → (λ w. k (set_map r v p w)) ≡ set_map (λ w. k (r w)) v (k p)
+set-of k r v p = funext (λ w. k (set_map r v p w)) (set_map (λ w. k (r w)) v (k p)) (λ w. go w (w == v))
   where
     go : (w : ℕ) (b : Bool) → k (if b then p else r w) ≡ (if b then k p else k (r w))
     go w true = refl
     go w false = refl
 
-pub set-of : (k : ℕ → Tree) (r : ℕ → ℕ) (v p : ℕ) → (λ w. k (set_map r v p w)) ≡ set_map (λ w. k (r w)) v (k p)
-set-of = set_map-of
-
 pub set_x-of : (k : ℕ → Tree) (v : Slot) (p : ℕ) (x : ℕ → ℕ) → (λ w. k (set_x v p x w)) ≡ set_x v (k p) (λ w. k (x w))
-set_x-of k (X n) p x = set_map-of k x n p
+set_x-of k (X n) p x = set-of k x n p
 set_x-of k (Y n) p x = refl
 
 pub set_y-of : (k : ℕ → Tree) (v : Slot) (p : ℕ) (y : ℕ → ℕ) → (λ w. k (set_y v p y w)) ≡ set_y v (k p) (λ w. k (y w))
 set_y-of k (X n) p y = refl
-set_y-of k (Y n) p y = set_map-of k y n p
+set_y-of k (Y n) p y = set-of k y n p
 
 pub read-of : (k : ℕ → Tree) (v : Slot) (x y : ℕ → ℕ) → k (read v x y) ≡ read v (λ w. k (x w)) (λ w. k (y w))
 read-of k (X n) x y = refl
 read-of k (Y n) x y = refl
-
-pub read-inside : (n : ℕ) (v : Slot) (x y : ℕ → ℕ) → ((w : ℕ) → x w < n) → ((w : ℕ) → y w < n) → read v x y < n
-read-inside n (X m) x y hx hy = hx m
-read-inside n (Y m) x y hx hy = hy m
 
 -- ---- registers that hold places, but for one that is to come
 

@@ -1,6 +1,7 @@
 -- Each instruction keeps what code asks for.
 use Rattle.std.proofs.Common.{◌≡◌, ℕ, ◌<◌, ◌≤◌, Bool, true, false, List, ◌∷◌, length, refl, ap, sym, ◌∙◌, subst, arith}
 use Rattle.ap_term.specs.Tree.{Tree, Trees, none}
+use Rattle.ap_term.proofs.Facts.{funext}
 use Rattle.ap_cells.specs.declared.cells.Raw.{Raw}
 use Rattle.ap_instr.specs.declared.instruction.Slot.{Slot}
 use Rattle.ap_instr.specs.Step.{Step, get_variable, get_value, get_constant, put_variable, put_value, put_constant}
@@ -8,7 +9,7 @@ use Rattle.ap_instr.specs.Runs.{Runs, set, read, set_x, set_y}
 use Rattle.ap_match.specs.Fits.{Fits, Agree, Becomes, Answered}
 use Rattle.ap_match.proofs.Maps.{fits-agree, set-here, set-below}
 use Rattle.ap_steps.specs.Moves.{Moves, IsStuck, Taken}
-use Rattle.ap_steps.proofs.RegisterMaps.{funext, set-of, set_x-of, set_y-of, read-of}
+use Rattle.ap_steps.proofs.RegisterMaps.{set-of, set_x-of, set_y-of, read-of}
 
 -- ---- one after another
 

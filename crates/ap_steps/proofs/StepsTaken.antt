@@ -1,6 +1,7 @@
 -- The steps that instructions take, by what their registers hold.
 use Rattle.std.proofs.Common.{◌≡◌, ℕ, ◌+◌, ◌≤◌, Bool, true, false, List, ◌∷◌, length, refl, ap, sym, ◌∙◌, subst, arith}
 use Rattle.ap_term.specs.Tree.{Tree}
+use Rattle.ap_term.proofs.Facts.{funext}
 use Rattle.ap_cells.specs.declared.cells.Raw.{Raw}
 use Rattle.ap_instr.specs.declared.instruction.Slot.{Slot}
 use Rattle.ap_instr.specs.Code.{Compiled}
@@ -14,7 +15,6 @@ use Rattle.ap_match.specs.Fits.{Fits, cell_tree, Becomes}
 use Rattle.ap_steps.specs.Moves.{held, HoldPlaces, Moves, Taken}
 use Rattle.ap_steps.specs.declared.run.Outcome.TheVariants.{On}
 use Rattle.ap_steps.specs.Ways.{came_to, NoneOfControl, StepTaken, CameTo}
-use Rattle.ap_steps.proofs.RegisterMaps.{funext}
 use Rattle.ap_steps.proofs.Steps.{variable-taken, put_value-taken, put_constant-taken, put_variable-taken}
 
 -- a new cell that says which constant its place is

@@ -1,13 +1,13 @@
 -- A structure: its arguments are built and then its own cell, or it is there.
-use Rattle.std.proofs.Common.{◌≡◌, ℕ, zero, suc, ◌+◌, ◌-◌, ◌<◌, ◌≤◌, ◌==◌, Bool, true, false, if◌then◌else◌, List, [], ◌∷◌, length, inl, inr, refl, ap, sym, ◌∙◌, subst, arith}
-use Rattle.std.proofs.lemmas.Bool.Decides.{Decides-eqb}
+use Rattle.std.proofs.Common.{◌≡◌, ℕ, zero, suc, ◌+◌, ◌-◌, ◌<◌, ◌≤◌, true, false, List, [], ◌∷◌, length, inl, inr, refl, ap, sym, ◌∙◌, subst, arith}
 use Rattle.std.proofs.lemmas.Bool.{cases_lt}
 use Rattle.ap_term.specs.Tree.{Tree, Trees, node, none, more, count_trees, size, size_all}
 use Rattle.ap_cells.specs.declared.cells.Raw.{Raw}
 use Rattle.ap_instr.specs.Step.{Step, get_structure, put_structure}
 use Rattle.ap_instr.specs.Runs.{Runs, set, spread}
+use Rattle.ap_instr.proofs.Registers.{spread-agree, set-above, count-spread}
 use Rattle.ap_match.specs.Fits.{Fits, Agree, Answered}
-use Rattle.ap_match.proofs.Maps.{fits-agree, set-here, set-below, spread-agree}
+use Rattle.ap_match.proofs.Maps.{fits-agree, set-here, set-below}
 use Rattle.ap_steps.specs.Moves.{Asked, Moves, IsStuck}
 use Rattle.ap_steps.specs.Arguments.{AskedInside, Built, BuiltOr, BuiltAll, IsStuckInside}
 use Rattle.ap_steps.specs.Found.{MovesInside, IsStuckBefore}
@@ -15,13 +15,6 @@ use Rattle.ap_steps.proofs.RegisterMaps.{set-of}
 use Rattle.ap_steps.proofs.Steps.{same-held, Runs-agree}
 
 -- ---- one argument after another
-
-pub BuiltAll-none : (cs : List Raw) (x y : ℕ → ℕ) (js : List Step) → BuiltAll 0 cs x y js cs x y js
-BuiltAll-none cs x y js = record {
-  longer = omega arith;
-  forth = λ l m total bs e h. let t : total ≡ m = omega arith in let p : length cs ≡ length cs + 0 = omega arith in subst (λ n. AskedInside cs x y js (spread l n m) l bs) p (subst (λ n. AskedInside cs x y js (spread l (length cs) n) l bs) t h);
-  back = λ l m total bs e h. let t : m ≡ total = omega arith in let p : length cs + 0 ≡ length cs = omega arith in subst (λ n. AskedInside cs x y js (spread l (length cs) n) l bs) t (subst (λ n. AskedInside cs x y js (spread l n m) l bs) p h);
-}
 
 pub BuiltAll-more : (count : ℕ) (cs ds es : List Raw) (x y x' y' x'' y'' : ℕ → ℕ) (js is : List Step) (i : Step) → BuiltAll count cs x y js ds x' y' (i ∷ is) → Built ds x' y' i es x'' y'' → BuiltAll (count + 1) cs x y js es x'' y'' is
 BuiltAll-more count cs ds es x y x' y' x'' y'' js is i a b = record {
@@ -68,13 +61,6 @@ unfolding laid
 laid-below k p none w l = refl
 laid-below k p (more t ts) w l = set-below (laid k (p + 1) ts) p w t l ∙ laid-below k (p + 1) ts w (omega arith)
 
-set-above : (k : ℕ → Tree) (n w : ℕ) (t : Tree) → n < w → set k n t w ≡ k w
-set-above k n w t l = go (w == n) refl
-  where
-    go : (b : Bool) → (w == n) ≡ b → (if b then t else k w) ≡ k w
-    go true e = absurd (let q : w ≡ n = (Decides-eqb w n).0 e in omega arith)
-    go false e = refl
-
 spread-laid : (k : ℕ → Tree) (p : ℕ) (ts : Trees) → spread (laid k p ts) p (count_trees ts) ≡ ts
 unfolding laid
 spread-laid k p none = refl
@@ -82,10 +68,6 @@ spread-laid k p (more t ts) =
     ap (spread (laid k p (more t ts)) p) (let e : count_trees ts + 1 ≡ suc (count_trees ts) = omega arith in e)
     ∙ ap (λ u. more u (spread (laid k p (more t ts)) (p + 1) (count_trees ts))) (set-here (laid k (p + 1) ts) p t)
     ∙ ap (more t) (spread-agree (laid k p (more t ts)) (laid k (p + 1) ts) (p + 1) (count_trees ts) (λ w a b. set-above (laid k (p + 1) ts) p w t (omega arith)) ∙ spread-laid k (p + 1) ts)
-
-pub spread-count : (k : ℕ → Tree) (p n : ℕ) → count_trees (spread k p n) ≡ n
-spread-count k p zero = refl
-spread-count k p (suc n) = let e : count_trees (spread k (p + 1) n) ≡ n = spread-count k (p + 1) n in omega arith
 
 -- the trees of a structure's arguments, laid out behind n cells, and the structure behind them
 module _ (k : ℕ → Tree) (cells f n whole : ℕ) (ts : Trees) (is_whole : whole ≡ cells + n) (count : count_trees ts ≡ n) where
@@ -147,7 +129,7 @@ module _ (cs : List Raw) (x y : ℕ → ℕ) (inside_x : (w : ℕ) → x w < len
 
   ended : (l : ℕ → Tree) (bs : Trees) → l whole ≡ node f (spread l (length cs) n) → AskedInside cs (set x a whole) y js (spread l (length cs) n) l bs → Asked cs x y (put_structure f n a ∷ js) l bs
   ended l bs e h =
-      (h.0, (spread l (length cs) n, spread-count l (length cs) n, subst (λ t. Runs js (spread l (length cs) n) (set (λ w. l (x w)) a t) (λ w. l (y w)) bs) e (subst (λ u. Runs js (spread l (length cs) n) u (λ w. l (y w)) bs) (set-of l x a whole) h.1)))
+      (h.0, (spread l (length cs) n, count-spread l (length cs) n, subst (λ t. Runs js (spread l (length cs) n) (set (λ w. l (x w)) a t) (λ w. l (y w)) bs) e (subst (λ u. Runs js (spread l (length cs) n) u (λ w. l (y w)) bs) (set-of l x a whole) h.1)))
 
   -- all arguments have their cells, and the structure has its own behind them
   pub structure-built : (ds es : List Raw) (x' y' : ℕ → ℕ) (is : List Step) → BuiltAll n cs (set x a whole) y js ds x' y' is → length ds ≤ length es
@@ -170,7 +152,7 @@ module _ (cs : List Raw) (x y : ℕ → ℕ) (inside_x : (w : ℕ) → x w < len
 
 module _ (cs : List Raw) (x y : ℕ → ℕ) (f n a : ℕ) (js : List Step) where
   ended-got : (l : ℕ → Tree) (p : ℕ) (bs : Trees) → l (x a) ≡ node f (spread l p n) → AskedInside cs x y js (spread l p n) l bs → Asked cs x y (get_structure f n a ∷ js) l bs
-  ended-got l p bs e h = (h.0, (spread l p n, spread-count l p n, e, h.1))
+  ended-got l p bs e h = (h.0, (spread l p n, count-spread l p n, e, h.1))
 
   -- it is there
   module _ (p : ℕ) (found : (k : ℕ → Tree) → Fits cs k → k (x a) ≡ node f (spread k p n)) where

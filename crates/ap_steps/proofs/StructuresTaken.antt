@@ -1,20 +1,21 @@
 -- The steps that structures take, by the instructions of their arguments.
 use Rattle.std.proofs.Common.{◌≡◌, ℕ, ◌+◌, ◌<◌, ◌≤◌, Bool, true, false, List, ◌∷◌, length, ap, sym, ◌∙◌, subst, arith}
 use Rattle.ap_term.specs.Tree.{Tree, Trees, var, node, count_trees}
+use Rattle.ap_term.proofs.Facts.{funext}
 use Rattle.ap_cells.specs.declared.cells.Raw.{Raw}
 use Rattle.ap_cells.specs.Trees.{tree_at, trees}
 use Rattle.ap_instr.specs.Code.{Compiled}
 use Rattle.ap_instr.specs.Step.{get_structure, put_structure}
 use Rattle.ap_instr.specs.Steps.{steps_from}
 use Rattle.ap_instr.specs.Runs.{set, spread}
+use Rattle.ap_instr.proofs.Registers.{count-spread}
 use Rattle.ap_match.specs.Fits.{Fits, Becomes, Answered}
 use Rattle.ap_steps.specs.Moves.{IsStuck}
 use Rattle.ap_steps.specs.Arguments.{BuiltAll, IsStuckInside, KeepTrees}
 use Rattle.ap_steps.specs.Found.{MatchedAll}
 use Rattle.ap_steps.specs.Ways.{StepTaken}
-use Rattle.ap_steps.proofs.RegisterMaps.{funext}
 use Rattle.ap_steps.proofs.NewCells.{asked-of}
-use Rattle.ap_steps.proofs.StructureSteps.{node-args, node-name, spread-count, structure-built, structure-stuck, structure-found, found-stuck, another-stuck, got-apart, got-built}
+use Rattle.ap_steps.proofs.StructureSteps.{node-args, node-name, structure-built, structure-stuck, structure-found, found-stuck, another-stuck, got-apart, got-built}
 
 module _ (code : Compiled) (at f n a : ℕ) (cs : List Raw) (x y : ℕ → ℕ) where
   -- an argument's term that is there
@@ -27,7 +28,7 @@ module _ (code : Compiled) (at f n a : ℕ) (cs : List Raw) (x y : ℕ → ℕ) 
   another-taken g p m apart found =
       another-stuck cs x y f n a (steps_from code at)
       (λ k ts h e q. let r : node g (spread k p m) ≡ node f ts = sym (found k h) ∙ q in
-      apart (node-name g f (spread k p m) ts r) (sym (spread-count k p m) ∙ ap count_trees (node-args g f (spread k p m) ts r) ∙ e))
+      apart (node-name g f (spread k p m) ts r) (sym (count-spread k p m) ∙ ap count_trees (node-args g f (spread k p m) ts r) ∙ e))
 
   pub no_structure : (t : Tree) → ((ts : Trees) → t ≡ node f ts → ⊥) → ((k : ℕ → Tree) → Fits cs k → k (x a) ≡ t) → IsStuck cs x y (get_structure f n a ∷ steps_from code at)
   no_structure t apart found = another-stuck cs x y f n a (steps_from code at) (λ k ts h e q. apart ts (sym (found k h) ∙ q))

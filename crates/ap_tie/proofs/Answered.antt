@@ -2,6 +2,7 @@
 use Rattle.std.proofs.Common.{◌≡◌, ℕ, ◌-◌, ◌⊎◌, inl, inr, Bool, true, if◌then◌else◌, List, [], ◌∷◌, ◌++◌, Some, None, ap, sym, ◌∙◌, subst}
 use Rattle.std.specs.Prelude.{not, length}
 use Rattle.std.proofs.lemmas.Bool.{false≢true}
+use Rattle.std.proofs.lemmas.Option.{none-some, same_Some}
 use Rattle.ap_term.specs.Tree.{Tree, none, more}
 use Rattle.ap_laws.specs.Graft.{IsOf}
 use Rattle.ap_core.specs.Tasks.{Answer, Task, Progress, idle, stored, busy, held, redone, again, drained}
@@ -18,38 +19,32 @@ use Rattle.ap_tie.specs.Sections.{no_slot, slot, Held, nothing, rows}
 use Rattle.ap_tie.specs.Tied.{AnswersFrom, HoldsSource}
 use Rattle.ap_tie.specs.Answered.{IsSource, AnswerSlotLaw, AlikeLaw}
 
-refused : {A : Type 0} {x : A} → None ≡ Some x → ⊥
-refused h = absurd (cc)
-
-same : {A : Type 0} {x y : A} → Some x ≡ Some y → x ≡ y
-same h = cc
-
 -- the answer that comes first is the slot's
 abbrev Found : Answer → Task → Progress → Type 0
 Found a t y = (m : List Answer) × (c : ℕ) × ((y ≡ held m a t c) ⊎ (y ≡ again m a t c))
 
 made : (k : Bool) (x : Progress) (y : Recorded) (v : Progress) → recorded k (answer_slot x) ≡ Some y → answer_slot x ≡ Some v → y.1 ≡ v
-made k x y v n e = ap (λ (z : Recorded). z.1) (same (sym n ∙ ap (recorded k) e))
+made k x y v n e = ap (λ (z : Recorded). z.1) (same_Some _ _ (sym n ∙ ap (recorded k) e))
 
 found : (k : Bool) (x : Progress) (y : Recorded) (z t : Task) (a : Answer) → running_of x ≡ Some z → answer z ≡ Some (a, t) → recorded k (answer_slot x) ≡ Some y → has_answer y.1 ≡ true → Found a t y.1
-found k (idle i) y z t a h e n d = absurd (refused h)
-found k (stored m) y z t a h e n d = absurd (refused h)
+found k (idle i) y z t a h e n d = absurd (none-some _ h)
+found k (stored m) y z t a h e n d = absurd (none-some _ h)
 found k (busy s u) y z t a h e n d =
     let o = Some-if (is_running s) (Some u) z h in
     let f : answer_slot (busy s u) ≡ Some (held [] a t (spent_by t)) =
-    ap (λ j. if j then mapped (λ (v : Answer × Task). held [] v.0 v.1 (spent_by v.1)) (answer u) else None) o.0 ∙ ap (mapped (λ (v : Answer × Task). held [] v.0 v.1 (spent_by v.1))) (ap answer (same o.1) ∙ e) in
+    ap (λ j. if j then mapped (λ (v : Answer × Task). held [] v.0 v.1 (spent_by v.1)) (answer u) else None) o.0 ∙ ap (mapped (λ (v : Answer × Task). held [] v.0 v.1 (spent_by v.1))) (ap answer (same_Some _ _ o.1) ∙ e) in
     ([], spent_by t, inl (made k (busy s u) y (held [] a t (spent_by t)) n f))
-found k (held m w u c) y z t a h e n d = absurd (refused h)
+found k (held m w u c) y z t a h e n d = absurd (none-some _ h)
 found k (redone m s u i) y z t a h e n d =
     let o = Some-if (is_running s) (Some u) z h in
     let f : answer_slot (redone m s u i) ≡ Some (again m a t (spent_by t - i)) =
-    ap (λ j. if j then mapped (λ (v : Answer × Task). again m v.0 v.1 (spent_by v.1 - i)) (answer u) else None) o.0 ∙ ap (mapped (λ (v : Answer × Task). again m v.0 v.1 (spent_by v.1 - i))) (ap answer (same o.1) ∙ e) in
+    ap (λ j. if j then mapped (λ (v : Answer × Task). again m v.0 v.1 (spent_by v.1 - i)) (answer u) else None) o.0 ∙ ap (mapped (λ (v : Answer × Task). again m v.0 v.1 (spent_by v.1 - i))) (ap answer (same_Some _ _ o.1) ∙ e) in
     (m, spent_by t - i, inr (made k (redone m s u i) y (again m a t (spent_by t - i)) n f))
-found k (again m w u c) y z t a h e n d = absurd (refused h)
+found k (again m w u c) y z t a h e n d = absurd (none-some _ h)
 found k (drained m s u i c) y z t a h e n d =
     let o = Some-if (is_running s) (Some u) z h in
     let f : answer_slot (drained m s u i c) ≡ Some (drained (m ++ a ∷ []) s t i c) =
-    ap (λ j. if j then mapped (λ (v : Answer × Task). drained (m ++ v.0 ∷ []) s v.1 i c) (answer u) else None) o.0 ∙ ap (mapped (λ (v : Answer × Task). drained (m ++ v.0 ∷ []) s v.1 i c)) (ap answer (same o.1) ∙ e) in
+    ap (λ j. if j then mapped (λ (v : Answer × Task). drained (m ++ v.0 ∷ []) s v.1 i c) (answer u) else None) o.0 ∙ ap (mapped (λ (v : Answer × Task). drained (m ++ v.0 ∷ []) s v.1 i c)) (ap answer (same_Some _ _ o.1) ∙ e) in
     absurd (false≢true (sym (ap has_answer (made k (drained m s u i c) y (drained (m ++ a ∷ []) s t i c) n f)) ∙ d))
 
 -- whatever holds the alternatives, a section or what else: it stands for z

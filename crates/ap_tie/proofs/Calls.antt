@@ -8,6 +8,7 @@ use Rattle.ap_term.specs.Goals.{Program}
 use Rattle.ap_term.specs.WellFormed.{IsProgram}
 use Rattle.ap_term.specs.Search as search
 use Rattle.ap_term.specs.Search.{State, by_goals}
+use Rattle.ap_term.proofs.Zips.{AllZip-append}
 use Rattle.ap_core.specs.declared.events.Kind.TheVariants as kinds
 use Rattle.ap_core.specs.Tasks.{task, Alternatives, alternative, Alternative, state, frame}
 use Rattle.ap_core.specs.Conditions.{has_goals}
@@ -27,12 +28,6 @@ use Rattle.ap_tie.specs.Laws.{InferLaw}
 states-before : (us : List State) (xs : List Alternative) (l : Alternatives) → states us (before xs l) ≡ before (map state us ++ xs) l
 states-before [] xs l = refl
 states-before (u ∷ us) xs l = ap (alternative (state u)) (states-before us xs l)
-
-zip-append : {A B : Type 0} (R : A → B → Type 0) (xs us : List A) (ys vs : List B) → AllZip R xs ys → AllZip R us vs → AllZip R (xs ++ us) (ys ++ vs)
-zip-append R [] us [] vs h k = k
-zip-append R (x ∷ xs) us (y ∷ ys) vs h k = (h.0, zip-append R xs us ys vs h.1 k)
-zip-append R [] us (_ ∷ _) vs h k = absurd h
-zip-append R (_ ∷ _) us [] vs h k = absurd h
 
 -- ---- what is shown
 
@@ -85,7 +80,7 @@ infers p o (suc n) r c (s ∷ ss) ts (frame t rd w ∷ xs) l good h turned shown
 infers p o (suc n) r c (s ∷ ss) ts (state t ∷ xs) l good h turned shown =
     let vs = map state (search.children p.program t) in
     let next = infers p o n (r - 1) (c + 1) (children p.program s ++ ss) ts (vs ++ xs) l good (omega (arith, h)) turned.1
-    (zip-append (Shows p.program o) (children p.program s) ss vs xs (children-shown p.program o good s t shown.0) shown.1) in
+    (AllZip-append (Shows p.program o) (children p.program s) ss vs xs (children-shown p.program o good s t shown.0) shown.1) in
     let e = one p r c t xs l (may-call p.program o s t shown.0 turned.0) (omega (arith, h)) in
     let a : (r - 1) - n ≡ r - suc n = omega arith in
     let b : (c + 1) + n ≡ c + suc n = omega arith in

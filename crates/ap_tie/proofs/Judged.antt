@@ -4,6 +4,7 @@ use Rattle.std.specs.List.{AllZip, list_any}
 use Rattle.ap_term.specs.Tree.{Tree, Trees}
 use Rattle.ap_term.specs.Search.{State}
 use Rattle.ap_term.specs.Substitution.{instance_all}
+use Rattle.ap_term.proofs.Lists.{not_nil}
 use Rattle.ap_core.specs.declared.events.Kind.TheVariants.{Join, Break}
 use Rattle.ap_core.specs.declared.tasks.Round.TheVariants as core_round
 use Rattle.ap_core.specs.Tasks as core
@@ -82,9 +83,6 @@ record FrameFirst (p : Rules) (r c q : ℕ) (rd : Round) (xs : List Row) (t : Ta
   are_alike : AreAlike p.loud q xs slots
   rest : IsRest rd q r
 
-some_state : {s : Tracked} {ss : List Tracked} → s ∷ ss ≡ [] → ⊥
-some_state h = absurd (cc)
-
 find_first : (code : Compiled) (p : Rules) (o : Tracked) (m : Machine) (c b : ℕ) (f : Forked) (q : ℕ) (rd : Round) (w : Slots) (qs : List Point) (st : Stack) (t : Task)
     → HasFailed m.roots [] m → HoldsTask code p o (section m c b (parcall f q rd w qs st)) t → FrameFirst p (b - c) c q rd (rows w) t
 find_first code p o m c b f q rd w qs st t fails (ss, xs, l, holds, shown, (s, i, v, sv, ys, k, kept, rest, shut, slots, points, shows, older, z), is) =
@@ -100,7 +98,7 @@ find_first code p o m c b f q rd w qs st t fails (ss, xs, l, holds, shown, (s, i
       rest = rest;
     }
     go [] (y ∷ ys) n h is = absurd h
-    go (s ∷ ss) xs n h is = absurd (some_state n)
+    go (s ∷ ss) xs n h is = absurd (not_nil n)
 
 -- a round with a verdict is open, and was begun with what is left
 begun_with : (rd : Round) (q r : ℕ) (xs : List Row) → (judged q rd xs ≡ Wait → ⊥) → IsRest rd q r → q ≡ r

@@ -2,6 +2,7 @@
 use Rattle.std.proofs.Common.{◌≡◌, ℕ, zero, suc, ◌-◌, inl, inr, true, if◌then◌else◌, List, [], ◌∷◌, ◌++◌, Some, None, refl, ap, sym, ◌∙◌}
 use Rattle.std.specs.List.{AllZip}
 use Rattle.std.proofs.lemmas.Bool.{false≢true}
+use Rattle.std.proofs.lemmas.Option.{none-some}
 use Rattle.ap_term.specs.Tree.{Tree, Trees, none, more}
 use Rattle.ap_term.specs.Search.{State}
 use Rattle.ap_term.specs.Substitution.{instance_all}
@@ -31,14 +32,11 @@ use Rattle.ap_tie.specs.Shows.{Shows, before}
 use Rattle.ap_tie.specs.Tied.{round_of, IsShutIn, HoldsTask, HoldsSlots, HoldsSource}
 use Rattle.ap_tie.specs.Open.{origin_in, origin_of, places_of, LiftLaw, OpenLaw}
 
-refused : {A : Type 0} {x : A} → None ≡ Some x → ⊥
-refused h = absurd (cc)
-
 -- ---- a slot that runs
 
 -- one of these doesn't run
 not_running : (x y : Progress) (z : Task) → x ≡ y → running_of y ≡ None → running_of x ≡ Some z → ⊥
-not_running x y z e n h = refused (sym n ∙ sym (ap running_of e) ∙ h)
+not_running x y z e n h = none-some _ (sym n ∙ sym (ap running_of e) ∙ h)
 
 ended : (e : Ending) (t : Task) → (if is_running (busy_of e) then Some t else None) ≡ None
 ended Failed t = refl
@@ -80,10 +78,10 @@ record Lifted (code : Compiled) (p : Rules) (q r b d : ℕ) (gs : Trees) (w : Sl
 
 lift_slots : (code : Compiled) (p : Rules) (q r b d : ℕ) (gs : Trees) (w : Slots) (v : core.Slots) (k : Kind) (path : List ℕ) (i : ℕ) (z y : Task)
     → HoldsSlots code p q b gs w v → running_in i v ≡ Some z → at_end p k path z ≡ Some y → (u : core.Slots) × Lifted code p q r b d gs w v u k path i y
-lift_slots code p q r b d none no_slot v k path i z y h n e = absurd (refused (sym (ap (running_in i) h) ∙ n))
+lift_slots code p q r b d none no_slot v k path i z y h n e = absurd (none-some _ (sym (ap (running_in i) h) ∙ n))
 lift_slots code p q r b d none (slot x j w) v k path i z y h n e = absurd h
 lift_slots code p q r b d (more g gs) no_slot v k path i z y h n e = absurd h
-lift_slots code p q r b d (more g gs) (slot x j w) v k path zero z y (o, a, u, l, rest, is) n e = absurd (refused (sym (ap (running_in 0) is) ∙ n))
+lift_slots code p q r b d (more g gs) (slot x j w) v k path zero z y (o, a, u, l, rest, is) n e = absurd (none-some _ (sym (ap (running_in 0) is) ∙ n))
 lift_slots code p q r b d (more g gs) (slot x j w) v k path (suc zero) z y (o, a, u, l, rest, is) n e =
     let m : running_of a ≡ Some z = sym (ap (running_in 1) is) ∙ n in
     let f = in_filled p k path r d g o a z y m e in (
@@ -113,7 +111,7 @@ record LiftedTask (code : Compiled) (p : Rules) (o : Tracked) (s : Section) (t u
   origin : origin_of i u ≡ origin_of i t
 
 -- a round with slots that run isn't closed
-shut_open : (rd : Round) (xs : List Row) (v : core.Slots) → is_open (round_of rd) ≡ true → IsShutIn rd xs v
+pub shut_open : (rd : Round) (xs : List Row) (v : core.Slots) → is_open (round_of rd) ≡ true → IsShutIn rd xs v
 shut_open round.First xs v h = tt
 shut_open (round.Draining n) xs v h = tt
 shut_open (round.Later i) xs v h = tt
@@ -136,8 +134,8 @@ lift_frame : (code : Compiled) (p : Rules) (o : Tracked) (i : ℕ) (t z y : Task
 lift_frame code p o i t z y k path (section m c b bottom) (ss, xs, l, holds, shown, stack, is) n e = absurd (none_runs xs ss shown (sym (ap (running_task i) (is ∙ ap (λ v. task (b - c) c (before xs v)) stack)) ∙ n))
   where
     none_runs : (xs : List Alternative) (ss : List Tracked) → AllZip (Shows p.program o) ss xs → running_task i (task (b - c) c (before xs exhausted)) ≡ Some z → ⊥
-    none_runs [] ss h n = refused n
-    none_runs (state a ∷ xs) ss h n = refused n
+    none_runs [] ss h n = none-some _ n
+    none_runs (state a ∷ xs) ss h n = none-some _ n
     none_runs (frame a rd w ∷ xs) [] h n = absurd h
     none_runs (frame a rd w ∷ xs) (s ∷ ss) h n = absurd h.0
 lift_frame code p o i t z y k path (section m c b (parcall f q rd w qs st)) (ss, xs, l, holds, shown, (s, j, v, sv, ys, older, kept, rest, shut, slots, points, shows, stack, whole), is) n e = go ss xs holds shown is
@@ -172,7 +170,7 @@ lift_frame code p o i t z y k path (section m c b (parcall f q rd w qs st)) (ss,
     go [] (x ∷ xs) h shown is = absurd shown
     go (a ∷ ss) [] h shown is = absurd shown
     go (a ∷ ss) (frame x d v ∷ xs) h shown is = absurd shown.0
-    go (a ∷ ss) (state x ∷ xs) h shown is = absurd (refused (sym (ap (running_task i) is) ∙ n))
+    go (a ∷ ss) (state x ∷ xs) h shown is = absurd (none-some _ (sym (ap (running_task i) is) ∙ n))
 
 pub lift : LiftLaw
 lift code p o s i t z y k path h n e = let f = lift_frame code p o i t z y k path s h n e in (f.0, f.1.event, f.1.hold, f.1.runs, f.1.origin)

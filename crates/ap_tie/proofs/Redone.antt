@@ -1,8 +1,10 @@
 -- A slot of the closed frame that comes first is redone.
 use Rattle.std.proofs.Common.{◌≡◌, ℕ, suc, ◌+◌, ◌-◌, ◌<◌, inl, inr, Bool, true, false, if◌then◌else◌, is_some, List, [], ◌∷◌, Option, Some, None, refl, ap, ap₂, sym, ◌∙◌, subst, arith}
+use Rattle.std.proofs.lemmas.Option.{same_Some, none-some}
 use Rattle.std.specs.List.{AllZip}
 use Rattle.ap_term.specs.Tree.{Tree, Trees, none, more}
 use Rattle.ap_term.specs.Substitution.{instance_all}
+use Rattle.ap_term.proofs.Lists.{not_nil}
 use Rattle.ap_core.specs.declared.events.Kind.TheVariants.{Redo}
 use Rattle.ap_core.specs.declared.tasks.Round.TheVariants as core_round
 use Rattle.ap_core.specs.Tasks as core
@@ -28,12 +30,6 @@ use Rattle.ap_tie.specs.Tied.{HoldsTask, HoldsSlots, HoldsSource}
 use Rattle.ap_tie.specs.Redone.{keeping, closed_row, taken, RedoLaw}
 use Rattle.ap_tie.proofs.Answered.{alike}
 
-some_same : {a b : ℕ} → Some a ≡ Some b → a ≡ b
-some_same h = cc
-
-none_some : {i : ℕ} → None ≡ Some i → ⊥
-none_some h = absurd (cc)
-
 -- an answer that is kept comes from the same task
 source_kept : (code : Compiled) (p : Rules) (b : ℕ) (g : Tree) (h : Held) (y : Progress) → HoldsSource code p b g h y → HoldsSource code p b g h (kept y)
 source_kept code p b g nothing y s = tt
@@ -54,7 +50,7 @@ put_away_slots code p q r b (more g gs) (slot x n w) v (z ∷ xs) (k, y, u, l, r
 
 redone_slots : (code : Compiled) (p : Rules) (q r b : ℕ) (gs : Trees) (w : Slots) (v : core.Slots) (xs : List Row) (i : ℕ) → HoldsSlots code p q b gs w v → next_redo (rows w) ≡ Some i
     → AreAlike p.loud r xs (redo_from r v) → HoldsSlots code p r b gs (keeping (i - 1) xs w) (redo_from r v)
-redone_slots code p q r b none no_slot v xs i h e a = absurd (none_some e)
+redone_slots code p q r b none no_slot v xs i h e a = absurd (none-some _ e)
 redone_slots code p q r b none (slot x n w) v xs i h e a = absurd h
 redone_slots code p q r b (more g gs) no_slot v xs i h e a = absurd h
 redone_slots code p q r b (more g gs) (slot x n w) v xs i (k, y, u, l, rest, is) e a =
@@ -72,7 +68,7 @@ redone_slots code p q r b (more g gs) (slot x n w) v xs i (k, y, u, l, rest, is)
     go xs (Some j) c f d a next = left xs (subst (λ s. AreAlike p.loud r xs (way s)) (redoes ∙ ap is_some f) a)
       where
         place : i - 1 ≡ suc (j - 1)
-        place = let e1 : j + 1 ≡ i = some_same (sym (ap₂ place_behind f d) ∙ e) in let e0 : 0 < j = redo-from-one (rows w) j f in omega (arith, e0, e1)
+        place = let e1 : j + 1 ≡ i = same_Some _ _ (sym (ap₂ place_behind f d) ∙ e) in let e0 : 0 < j = redo-from-one (rows w) j f in omega (arith, e0, e1)
 
         shape : redo_from r v ≡ core.slot g k (kept y) (redo_from r u)
         shape = ap (redo_from r) is ∙ ap way (redoes ∙ ap is_some f)
@@ -85,7 +81,7 @@ redone_slots code p q r b (more g gs) (slot x n w) v xs i (k, y, u, l, rest, is)
     go xs None true f d a next = last xs (subst (λ s. AreAlike p.loud r xs (way s)) (redoes ∙ ap is_some f) a)
       where
         place : i - 1 ≡ 0
-        place = let e1 : 1 ≡ i = some_same (sym (ap₂ place_behind f d) ∙ e) in omega (arith, e1)
+        place = let e1 : 1 ≡ i = same_Some _ _ (sym (ap₂ place_behind f d) ∙ e) in omega (arith, e1)
 
         shape : redo_from r v ≡ core.slot g k (restarted_with r y) (all_put_away u)
         shape = ap (redo_from r) is ∙ ap way (redoes ∙ ap is_some f)
@@ -95,10 +91,7 @@ redone_slots code p q r b (more g gs) (slot x n w) v xs i (k, y, u, l, rest, is)
         last (z ∷ zs) (a, s, t) =
             subst (λ m. HoldsSlots code p r b (more g gs) (keeping m (z ∷ zs) (slot x n w)) (redo_from r v)) (sym place)
             (k, restarted_with r y, all_put_away u, (a, s, tt), put_away_slots code p q r b gs w u zs rest t, shape)
-    go xs None false f d a next = absurd (none_some (sym (ap₂ place_behind f d) ∙ e))
-
-some_state : {s : Tracked} {ss : List Tracked} → s ∷ ss ≡ [] → ⊥
-some_state h = absurd (cc)
+    go xs None false f d a next = absurd (none-some _ (sym (ap₂ place_behind f d) ∙ e))
 
 pub redo_section : RedoLaw
 redo_section code p o m c b f q w qs st t i fails (ss, xs, l, holds, shown, (s, j, v, sv, ys, k, kept_so, rest, shut, slots, points, shows, older, z), is) e =
@@ -128,4 +121,4 @@ redo_section code p o m c b f q w qs st t i fails (ss, xs, l, holds, shown, (s, 
     go : (ss : List Tracked) (xs : List Alternative) → ss ≡ [] → Holds code m ss → AllZip (Shows p.program o) ss xs → t ≡ task r c (before xs l) → Result
     go [] [] e n h is = main n is
     go [] (y ∷ ys) e n h is = absurd h
-    go (s ∷ ss) xs e n h is = absurd (some_state e)
+    go (s ∷ ss) xs e n h is = absurd (not_nil e)

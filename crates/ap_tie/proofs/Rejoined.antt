@@ -3,7 +3,7 @@ use Rattle.std.proofs.Common.{◌≡◌, ℕ, ◌<◌, Bool, true, false, List, 
 use Rattle.std.specs.Prelude.{length, slice_get}
 use Rattle.std.specs.List.{AllByRecursion}
 use Rattle.ap_term.specs.Tuples.{tuple_under, arguments}
-use Rattle.ap_term.proofs.TreeLists.{arguments-applied}
+use Rattle.ap_term.proofs.TreeLists.{arguments-applied, instance_all-append_trees}
 use Rattle.ap_match.proofs.Tuples.{tuple_under-agree}
 use Rattle.ap_term.proofs.TreeLists.{first-same, rest-same}
 use Rattle.ap_term.specs.declared.clauses.Check.{Check}
@@ -14,10 +14,11 @@ use Rattle.ap_term.specs.WellFormed.{IsProgram}
 use Rattle.ap_term.proofs.Zips.{AllByRecursion-map}
 use Rattle.ap_cells.specs.declared.cells.Raw.{Raw}
 use Rattle.ap_laws.specs.Graft.{lifted_var, fitted}
-use Rattle.ap_tracked.specs.Tracked.{Goal, call, fork, moved, calls, opened, Tracked}
+use Rattle.ap_tracked.specs.Tracked.{Goal, call, fork, moved, opened, Tracked}
 use Rattle.ap_tracked.specs.Marks.{marked}
 use Rattle.ap_tracked.specs.Instances.{Inst}
 use Rattle.ap_tracked.specs.Kept.{IsKept}
+use Rattle.ap_tracked.proofs.Marks.{marked-calls}
 use Rattle.ap_graft.specs.Variables.{LocalGoal, LocalGoals, IsTrackedBelow}
 use Rattle.ap_graft.specs.Grafts.{behind, put_first, tracked_graft, tracked_grafts}
 use Rattle.ap_graft.specs.Joins.{AreAnswers, AllMet}
@@ -25,13 +26,12 @@ use Rattle.ap_graft.proofs.Joins.{joining}
 use Rattle.ap_graft.proofs.Sets.{joined_set}
 use Rattle.ap_graft.proofs.Variables.{below_from}
 use Rattle.ap_instr.specs.Code.{Compiled}
-use Rattle.ap_instr.specs.Runs.{applied}
 use Rattle.ap_match.specs.Fits.{Fits, Agree, Becomes, Answered}
 use Rattle.ap_steps.specs.Standing.{Waits}
 use Rattle.ap_standing.specs.Machine.{standing, Machine}
 use Rattle.ap_standing.specs.Holds.{AtReturn, SetOf, SetAt, IsOpenAt, AreOpen, IsNamed, AllNamed, IsNamedGoal, AreNamed, IsPlain, Holds, HoldsPoints}
 use Rattle.ap_standing.proofs.Moved.{Waits-agree}
-use Rattle.ap_standing.proofs.Named.{named-opened}
+use Rattle.ap_standing.proofs.Named.{named-opened, named-moved}
 use Rattle.ap_group.specs.Groups.{Pushed, Forked}
 use Rattle.ap_tie.specs.Sections.{Slots}
 use Rattle.ap_tie.specs.Forked.{goal_by, goals_under, IsForked}
@@ -93,27 +93,12 @@ named-all own (more (int z) ts) h = absurd h.0
 named-all own (more (atom a) ts) h = (tt, named-all own ts h.1)
 named-all own (more (node a us) ts) h = (tt, named-all own ts h.1)
 
-marked-calls : (own : ℕ → Tree) (ts : Trees) (gs : List Goal) → marked (calls own ts ++ gs) ≡ append_trees (instance_all own ts) (marked gs)
-marked-calls own none gs = refl
-marked-calls own (more t ts) gs = ap (more (instance own t)) (marked-calls own ts gs)
-
 pub opened-marks : (P : ℕ → Type 0) (cs : List Check) (ts : Trees) (own : ℕ → Tree) (now : List Check) (gs : List Goal) → LocalGoal P (fork cs ts own now)
     → marked (opened (fork cs ts own now ∷ gs)) ≡ append_trees (instance_all own ts) (marked gs)
 opened-marks P cs none own now gs h = absurd h
 opened-marks P cs (more t ts) own now gs h = ap (more (instance own t)) (marked-calls own ts gs)
 
-pub instance-append : (f : ℕ → Tree) (ts us : Trees) → instance_all f (append_trees ts us) ≡ append_trees (instance_all f ts) (instance_all f us)
-instance-append f none us = refl
-instance-append f (more t ts) us = ap (more (instance f t)) (instance-append f ts us)
-
 -- ---- the joined state
-
-named-moved : (u : ℕ → Tree) (g : Goal) → IsNamedGoal g → IsNamedGoal (moved u g)
-named-moved u (call (var x)) h = absurd h
-named-moved u (call (int z)) h = absurd h
-named-moved u (call (atom a)) h = tt
-named-moved u (call (node a ts)) h = tt
-named-moved u (fork cs ts own now) h = h
 
 abbrev IsGood : Tracked → Type 0
 IsGood s = AreNamed s.goals × (s.fault ≡ None)
@@ -167,7 +152,7 @@ module _ (code : Compiled) (p : Program) (o : Tracked) (roots : List ℕ) (f : F
   found gs t z =
       let m = (joined_set p o s x.checks x.goals x.own x.now x.behind answers good below i.kept x.first x.apart i.each gs t).0 (subst (λ v. Inst v gs t) i.same z) in
       let v : ℕ → Tree = m.0 in
-      let a = (x.same (append_trees (instance_all v goals) gs) t).1 (v, ap (append_trees (instance_all v goals)) m.2 ∙ sym (instance-append v goals (marked x.behind)) ∙ ap (instance_all v) (sym marks_are), m.3) in
+      let a = (x.same (append_trees (instance_all v goals) gs) t).1 (v, ap (append_trees (instance_all v goals)) m.2 ∙ sym (instance_all-append_trees v goals (marked x.behind)) ∙ ap (instance_all v) (sym marks_are), m.3) in
       let d = split code a.0 v s.next p f.goals goals answers a.1 gs pushed.known named pushed.many i.each (sym a.4) in
       (a.0, a.2, all-meet code a.0 v f.goals goals answers d.0 m.1, subst (λ qs. Waits code f.returns roots a.0 qs t) d.1 a.3)
 
@@ -182,7 +167,7 @@ module _ (code : Compiled) (p : Program) (o : Tracked) (roots : List ℕ) (f : F
         let c = h.cells.only k here.1 in
         let waits : Waits code f.returns roots k gs t = subst (λ ws. Waits code ws roots k gs t) h.returns (subst (λ rs. Waits code n.returns rs k gs t) h.roots_stay here.2) in
         let inst = (x.same (append_trees (goals_under code k f.goals) gs) t).0 (k, gs, c.0, waits, refl) in
-        let d = split code k inst.0 s.next p f.goals goals answers gs (instance_all inst.0 (marked x.behind)) pushed.known named pushed.many i.each (inst.1 ∙ ap (instance_all inst.0) marks_are ∙ instance-append inst.0 goals (marked x.behind)) in
+        let d = split code k inst.0 s.next p f.goals goals answers gs (instance_all inst.0 (marked x.behind)) pushed.known named pushed.many i.each (inst.1 ∙ ap (instance_all inst.0) marks_are ∙ instance_all-append_trees inst.0 goals (marked x.behind)) in
         subst (λ v. Inst v gs t) (sym i.same)
         ((joined_set p o s x.checks x.goals x.own x.now x.behind answers good below i.kept x.first x.apart i.each gs t).1 (inst.0, meets-all code k inst.0 f.goals goals answers d.0 c.1, d.1, inst.2))
 

@@ -3,6 +3,7 @@ use Rattle.std.proofs.Common.{◌≡◌, ℕ, zero, suc, ◌+◌, ◌-◌, ◌�
 use Rattle.std.specs.Prelude.{is_none, is_some, take}
 use Rattle.std.specs.List.{AllZip, list_all}
 use Rattle.std.proofs.lemmas.Bool.{false≢true}
+use Rattle.std.proofs.lemmas.Option.{none-some, same_Some}
 use Rattle.ap_term.specs.declared.faults.Fault.{Fault}
 use Rattle.ap_term.specs.Tree.{Tree, Trees, none, more}
 use Rattle.ap_term.specs.Substitution.{instance_all}
@@ -45,18 +46,12 @@ use Rattle.ap_tie.specs.Settled.{AllHeld, AreHeld, AreClosed, StoresBehind, MayS
 use Rattle.ap_tie.proofs.Answered.{alike}
 use Rattle.ap_tie.proofs.Calls.{no-goals}
 
-refused : {A : Type 0} {x : A} → None ≡ Some x → ⊥
-refused h = absurd (cc)
-
-same : {A : Type 0} {x y : A} → Some x ≡ Some y → x ≡ y
-same h = cc
-
 -- ---- the answer of a slot's section
 
 -- no frame comes first where a task has an answer
 frame_first : (code : Compiled) (p : Rules) (o : Tracked) (roots : List ℕ) (r c : ℕ) (st : Stack) (l : Alternatives) (y : Answer × Task) → HoldsStack code p o roots r st l → answer (task r c l) ≡ Some y → ⊥
-frame_first code p o roots r c bottom l y h n = refused (sym (ap (λ k. answer (task r c k)) h) ∙ n)
-frame_first code p o roots r c (parcall f q rd w qs st) l y (s, i, v, ss, us, k, h0, h1, hs, h2, h3, h4, h5, z) n = refused (sym (ap (λ k. answer (task r c k)) z) ∙ n)
+frame_first code p o roots r c bottom l y h n = none-some _ (sym (ap (λ k. answer (task r c k)) h) ∙ n)
+frame_first code p o roots r c (parcall f q rd w qs st) l y (s, i, v, ss, us, k, h0, h1, hs, h2, h3, h4, h5, z) n = none-some _ (sym (ap (λ k. answer (task r c k)) z) ∙ n)
 
 done : (gs : List Part) (e : Option Fault) → by_goals gs (is_none e) false ≡ true → (gs ≡ []) × (e ≡ None)
 done [] None h = (refl, refl)
@@ -83,7 +78,7 @@ answer_at code p b g (section m c e st) z t x (ss, xs, l, holds, shown, stack, i
         let d = done y.goals y.fault o.0 in
         let ended : u.goals ≡ [] = no-goals u.goals (sym (ap (λ v. v.goals) q) ∙ d.0) in
         let quiet : u.fault ≡ None = sym (ap (λ v. v.fault) q) ∙ d.1 in
-        let is : plain_answer (record { tuple = y.tuple; next = y.next; steps = y.steps }) ≡ plain_answer x = ap (λ (v : Answer × Task). plain_answer v.0) (same o.1) in
+        let is : plain_answer (record { tuple = y.tuple; next = y.next; steps = y.steps }) ≡ plain_answer x = ap (λ (v : Answer × Task). plain_answer v.0) (same_Some _ _ o.1) in
         record {
           is_answer = record { ended = ended; quiet = quiet; kept = k };
           at = (ss, subst (λ v. Holds code m (v ∷ ss)) (itself u s ended w) h);
@@ -153,12 +148,12 @@ all_taken f (suc n) (x ∷ xs) h = true_taken f n x xs (all_taken f n xs) (f x) 
 
 joined_by_verdict : (x : Verdict) (r c : ℕ) (s : State) (v : core.Slots) (l : Alternatives) (u : Task) → joined_by x r c s v l ≡ Some u
     → (e : ℕ) × (u ≡ task (r - e) (c + e) (alternative (state (with_answers v s.next s)) (alternative (frame s core_round.Closed v) l)))
-joined_by_verdict wait r c s v l u h = absurd (refused h)
-joined_by_verdict (joins e) r c s v l u h = (e, sym (same h))
-joined_by_verdict (breaks e) r c s v l u h = absurd (refused h)
-joined_by_verdict (drains i x) r c s v l u h = absurd (refused h)
-joined_by_verdict (raises n e) r c s v l u h = absurd (refused h)
-joined_by_verdict spends r c s v l u h = absurd (refused h)
+joined_by_verdict wait r c s v l u h = absurd (none-some _ h)
+joined_by_verdict (joins e) r c s v l u h = (e, sym (same_Some _ _ h))
+joined_by_verdict (breaks e) r c s v l u h = absurd (none-some _ h)
+joined_by_verdict (drains i x) r c s v l u h = absurd (none-some _ h)
+joined_by_verdict (raises n e) r c s v l u h = absurd (none-some _ h)
+joined_by_verdict spends r c s v l u h = absurd (none-some _ h)
 
 with_counts : (d b r c : ℕ) (u : Task) (l : Alternatives) → HasCounts d b u → u ≡ task r c l → u ≡ task (b - d) d l
 with_counts d b r c u l h e = e ∙ ap₂ (λ i j. task i j l) (sym (ap rest_of e) ∙ h.rest) (sym (ap spent_by e) ∙ h.spent)
@@ -200,7 +195,7 @@ join code p o m c b f q rd w qs st t u good below all closed stores (ss, xs, l, 
     go (s ∷ ss) [] h is = absurd h
     go [] (y ∷ ys) h is = absurd h
     go (s ∷ ss) (frame y rd w ∷ ys) h is = absurd h.0
-    go (s ∷ ss) (state y ∷ ys) h is = absurd (refused (sym (ap (own p Join) is) ∙ event))
+    go (s ∷ ss) (state y ∷ ys) h is = absurd (none-some _ (sym (ap (own p Join) is) ∙ event))
 
 -- ---- a break
 
@@ -209,12 +204,12 @@ abbrev Leaves : Bool → State → core.Slots → Alternatives → Task → Type
 Leaves b s v l u = (r : ℕ) × (c : ℕ) × (u ≡ task r c (if b then alternative (frame s core_round.Closed v) l else l))
 
 broken_by_verdict : (x : Verdict) (r c : ℕ) (rd : CoreRound) (s : State) (v : core.Slots) (l : Alternatives) (u : Task) → broken_by x r c rd s v l ≡ Some u → (e : ℕ) × (u ≡ task (r - e) (c + e) (after_failure rd s v l))
-broken_by_verdict wait r c rd s v l u h = absurd (refused h)
-broken_by_verdict (joins e) r c rd s v l u h = absurd (refused h)
-broken_by_verdict (breaks e) r c rd s v l u h = (e, sym (same (Some-if (not (some_runs v)) (Some (task (r - e) (c + e) (after_failure rd s v l))) u h).1))
-broken_by_verdict (drains i x) r c rd s v l u h = absurd (refused h)
-broken_by_verdict (raises n e) r c rd s v l u h = absurd (refused h)
-broken_by_verdict spends r c rd s v l u h = absurd (refused h)
+broken_by_verdict wait r c rd s v l u h = absurd (none-some _ h)
+broken_by_verdict (joins e) r c rd s v l u h = absurd (none-some _ h)
+broken_by_verdict (breaks e) r c rd s v l u h = (e, sym (same_Some _ _ (Some-if (not (some_runs v)) (Some (task (r - e) (c + e) (after_failure rd s v l))) u h).1))
+broken_by_verdict (drains i x) r c rd s v l u h = absurd (none-some _ h)
+broken_by_verdict (raises n e) r c rd s v l u h = absurd (none-some _ h)
+broken_by_verdict spends r c rd s v l u h = absurd (none-some _ h)
 
 leaves : (p : Rules) (q r c : ℕ) (rd : Round) (w : Slots) (s : State) (v : core.Slots) (l : Alternatives) (u : Task) → some_has_more v ≡ is_some (next_redo (rows w))
     → own p Break (task r c (alternative (frame s (round_of rd) v) l)) ≡ Some u → Leaves (stays rd (rows w)) s v l u
@@ -223,7 +218,7 @@ leaves p q r c (Draining n) w s v l u redo h = let e = broken_by_verdict (verdic
 leaves p q r c (Later i) w s v l u redo h =
     let e = broken_by_verdict (verdict p.loud core_round.Later r v) r c core_round.Later s v l u h in
     (r - e.0, c + e.0, e.1 ∙ ap (λ b. task (r - e.0) (c + e.0) (if b then alternative (frame s core_round.Closed v) l else l)) redo)
-leaves p q r c Closed w s v l u redo h = (r, c, sym (same (Some-if (not (some_has_more v)) (Some (task r c l)) u h).1))
+leaves p q r c Closed w s v l u redo h = (r, c, sym (same_Some _ _ (Some-if (not (some_has_more v)) (Some (task r c l)) u h).1))
 
 pub nothing_due : (code : Compiled) (roots : List ℕ) (qs : List Point) (n : Machine) (ss : List Tracked) → HasFailed roots qs n → HoldsPoints code roots qs ss → Holds code n ss
 nothing_due code roots qs n ss h k =
@@ -274,7 +269,7 @@ find_broken code p o m c b f q rd w qs st t u (ss, xs, l, holds, shown, (s, i, v
     go (s ∷ ss) [] h is = absurd h
     go [] (y ∷ ys) h is = absurd h
     go (s ∷ ss) (frame y rd w ∷ ys) h is = absurd h.0
-    go (s ∷ ss) (state y ∷ ys) h is = absurd (refused (sym (ap (own p Break) is) ∙ event))
+    go (s ∷ ss) (state y ∷ ys) h is = absurd (none-some _ (sym (ap (own p Break) is) ∙ event))
 
 goes : (code : Compiled) (p : Rules) (o : Tracked) (m n : Machine) (c b d : ℕ) (f : Forked) (q : ℕ) (rd : Round) (w : Slots) (qs : List Point) (st : Stack) (t u : Task)
     → AreClosed st → HoldsTask code p o (section m c b (parcall f q rd w qs st)) t → own p Break t ≡ Some u → stays rd (rows w) ≡ false

@@ -4,13 +4,14 @@ use Rattle.std.specs.Prelude.{slice_get}
 use Rattle.std.specs.List.{All, AllZip, AllByRecursion}
 use Rattle.std.proofs.lemmas.List.Elements.{All-nil, All-cons}
 use Rattle.ap_tracked.specs.Sets.{SameSet}
-use Rattle.ap_term.proofs.TreeLists.{first-same}
+use Rattle.ap_term.proofs.TreeLists.{first-same, same_integer}
 use Rattle.ap_term.specs.declared.clauses.Check.{Check}
 use Rattle.ap_term.specs.declared.clauses.Check.TheVariants.{Ground, Indep}
 use Rattle.ap_term.specs.Tree.{Tree, Trees, var, int, atom, node, none, more, count_trees, append_trees}
 use Rattle.ap_term.specs.Substitution.{instance_all}
 use Rattle.ap_term.specs.Independence.{Holds}
 use Rattle.ap_term.proofs.Zips.{AllByRecursion-append, AllByRecursion-weaken}
+use Rattle.ap_term.proofs.Facts.{funext}
 use Rattle.ap_cells.specs.declared.cells.Raw.{Raw}
 use Rattle.ap_cells.specs.Trees.{tree_at, trees}
 use Rattle.ap_core.specs.Tasks.{Task, task, Alternatives, Alternative, state, frame}
@@ -29,7 +30,6 @@ use Rattle.ap_instr.specs.Runs.{read, IsOpen, AsksOpenly}
 use Rattle.ap_match.proofs.Maps.{fits-own}
 use Rattle.ap_steps.specs.Moves.{held}
 use Rattle.ap_steps.specs.Standing.{Return, Standing, InCode}
-use Rattle.ap_steps.proofs.RegisterMaps.{funext}
 use Rattle.ap_standing.specs.Machine.{inside, Machine, standing, AreWithin}
 use Rattle.ap_standing.specs.Holds.{SetOf, SetAt, IsOpenAt, AreOpen, AreNamed, IsPlain, HoldsPoints}
 use Rattle.ap_standing.proofs.Machines.{a-state, steps-at}
@@ -180,9 +180,6 @@ at-group code p o m c b st t at (ss, xs, l, (here, left, is_set, plain, open_now
 
 -- ---- checks
 
-pub same-number : (m n : ℕ) → int (pos m) ≡ int (pos n) → m ≡ n
-same-number m n e = cc
-
 module _ (code : Compiled) (m : Machine) (u : Tracked) (ts : Trees) (own : ℕ → Tree) (gs : List Goal) where
   -- behind checks that hold the others are left
   abbrev PassedTo : List Check → List Step → Type 0
@@ -207,7 +204,7 @@ module _ (code : Compiled) (m : Machine) (u : Tracked) (ts : Trees) (own : ℕ �
       by : InCode code (standing m) (held m.x) (held m.y) (group n ∷ is) (instance_all var (more (group_mark (count_trees ts)) (append_trees (instance_all own ts) (marked gs)))) (instance_all var u.tuple) → n ≡ count_trees ts
       by (k, bs, qs, fits, (rs, e, r), eq, w) =
           let d : int (pos (count_trees ts + 2)) ≡ int (pos (n + 2)) = first-same (eq ∙ ap (λ b. append_trees b qs) e) in
-          let h = same-number (count_trees ts + 2) (n + 2) d in omega (arith, h)
+          let h = same_integer (count_trees ts + 2) (n + 2) d in omega (arith, h)
 
 -- ---- pushes
 

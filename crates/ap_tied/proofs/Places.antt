@@ -1,5 +1,6 @@
 -- Slots by their places, and what becomes of one of them.
 use Rattle.std.proofs.Common.{◌≡◌, ℕ, zero, suc, ◌-◌, ◌<◌, true, false, List, [], ◌∷◌, Option, Some, None, refl, ap, sym, ◌∙◌, subst, arith}
+use Rattle.std.proofs.lemmas.Option.{none-some, same_Some}
 use Rattle.std.specs.Prelude.{length, slice_get, option_and_then}
 use Rattle.ap_term.specs.Tree.{Tree, Trees, none, more}
 use Rattle.ap_core.specs.declared.events.Kind.{Kind}
@@ -18,12 +19,6 @@ use Rattle.ap_tie.specs.Slots.{put_in, place_in, FitsSlot}
 use Rattle.ap_tie.specs.Tied.{HoldsSlots}
 use Rattle.ap_tied.specs.Ties.{WasRedone, IsRedoneAt, IsSimpleProgress, SlotsAreSimple, HoldsAnswer, AreQuietSlots}
 use Rattle.ap_tied.specs.SlotCalls.{held_in, stood_in, since_in, since_of}
-
-pub refused : {A : Type 0} {x : A} → None ≡ Some x → ⊥
-refused h = absurd (cc)
-
-pub same : {A : Type 0} {x y : A} → Some x ≡ Some y → x ≡ y
-same h = cc
 
 -- ---- lists
 
@@ -44,8 +39,8 @@ get-nth (suc (suc i)) (x ∷ xs) h =
     ap (slice_get (x ∷ xs)) e ∙ ap (slice_get xs) d ∙ get-nth (suc i) xs (omega arith)
 
 pub nth-from-one : {A : Type 0} (i : ℕ) (xs : List A) (x : A) → nth i xs ≡ Some x → 0 < i
-nth-from-one i [] x h = absurd (refused h)
-nth-from-one zero (y ∷ xs) x h = absurd (refused h)
+nth-from-one i [] x h = absurd (none-some _ h)
+nth-from-one zero (y ∷ xs) x h = absurd (none-some _ h)
 nth-from-one (suc i) (y ∷ xs) x h = omega arith
 
 abbrev pub nth_tree : ℕ → Trees → Option Tree
@@ -56,9 +51,9 @@ nth_tree (suc (suc i)) (more t ts) = nth_tree (suc i) ts
 
 -- where one list has an element a list of that length has one
 pub nth-long : {A B : Type 0} (i : ℕ) (xs : List A) (ys : List B) (x : A) → length xs ≡ length ys → nth i xs ≡ Some x → (y : B) × (nth i ys ≡ Some y)
-nth-long i [] ys x l h = absurd (refused h)
+nth-long i [] ys x l h = absurd (none-some _ h)
 nth-long i (z ∷ xs) [] x l h = absurd (cc)
-nth-long zero (z ∷ xs) (y ∷ ys) x l h = absurd (refused h)
+nth-long zero (z ∷ xs) (y ∷ ys) x l h = absurd (none-some _ h)
 nth-long (suc zero) (z ∷ xs) (y ∷ ys) x l h = (y, refl)
 nth-long (suc (suc i)) (z ∷ xs) (y ∷ ys) x l h = nth-long (suc i) xs ys x (cc) h
 
@@ -125,19 +120,19 @@ slot_at code p q b (more g gs) (slot x j w) v (suc (suc i)) (k, y, u, l, rest, i
 
 -- where there is a row there is a goal
 pub place-row : (code : Compiled) (p : Rules) (q b : ℕ) (gs : Trees) (w : Slots) (v : core.Slots) (i : ℕ) (x : Row) → HoldsSlots code p q b gs w v → nth i (rows w) ≡ Some x → place_in i v ≡ None → ⊥
-place-row code p q b none no_slot v i x h r n = refused r
+place-row code p q b none no_slot v i x h r n = none-some _ r
 place-row code p q b none (slot y j w) v i x h r n = absurd h
 place-row code p q b (more g gs) no_slot v i x h r n = absurd h
-place-row code p q b (more g gs) (slot z j w) v zero x (k, y, u, l, rest, is) r n = refused r
-place-row code p q b (more g gs) (slot z j w) v (suc zero) x (k, y, u, l, rest, is) r n = refused (sym n ∙ ap (place_in 1) is)
+place-row code p q b (more g gs) (slot z j w) v zero x (k, y, u, l, rest, is) r n = none-some _ r
+place-row code p q b (more g gs) (slot z j w) v (suc zero) x (k, y, u, l, rest, is) r n = none-some _ (sym n ∙ ap (place_in 1) is)
 place-row code p q b (more g gs) (slot z j w) v (suc (suc i)) x (k, y, u, l, rest, is) r n = place-row code p q b gs w u (suc i) x rest r (sym (ap (place_in (suc (suc i))) is) ∙ n)
 
 -- ---- a slot that stands otherwise
 
 pub stood-put : (i : ℕ) (e : Stand (Unit {0})) (h : Held) (w : Slots) (x : Row) → nth i (rows w) ≡ Some x → stood_in i e h w ≡ put_in i (standing e x) h w
 stood-put i e h no_slot x n = refl
-stood-put zero e h (slot y j w) x n = absurd (refused n)
-stood-put (suc zero) e h (slot y j w) x n = ap (λ z. slot (standing e z) h w) (same n)
+stood-put zero e h (slot y j w) x n = absurd (none-some _ n)
+stood-put (suc zero) e h (slot y j w) x n = ap (λ z. slot (standing e z) h w) (same_Some _ _ n)
 stood-put (suc (suc i)) e h (slot y j w) x n = ap (slot y j) (stood-put (suc i) e h w x n)
 
 pub length-stood : (i : ℕ) (e : Stand (Unit {0})) (h : Held) (w : Slots) → length (rows (stood_in i e h w)) ≡ length (rows w)
@@ -161,17 +156,17 @@ set_in (suc zero) y (core.slot g k x w) = core.slot g k y w
 set_in (suc (suc i)) y (core.slot g k x w) = core.slot g k x (set_in (suc i) y w)
 
 pub place-set : (i : ℕ) (v : core.Slots) (g : Tree) (x y : Progress) → place_in i v ≡ Some (g, (false, x)) → place_in i (set_in i y v) ≡ Some (g, (false, y))
-place-set i core.no_slot g x y h = absurd (refused h)
-place-set zero (core.slot f k z v) g x y h = absurd (refused h)
-place-set (suc zero) (core.slot f k z v) g x y h = ap (λ (c : Tree × Recorded). Some (c.0, (c.1.0, y))) (same h)
+place-set i core.no_slot g x y h = absurd (none-some _ h)
+place-set zero (core.slot f k z v) g x y h = absurd (none-some _ h)
+place-set (suc zero) (core.slot f k z v) g x y h = ap (λ (c : Tree × Recorded). Some (c.0, (c.1.0, y))) (same_Some _ _ h)
 place-set (suc (suc i)) (core.slot f k z v) g x y h = place-set (suc i) v g x y h
 
 pub event-set : (p : Rules) (n : Kind) (r b i : ℕ) (v : core.Slots) (g : Tree) (x y : Progress) → place_in i v ≡ Some (g, (false, x)) → at_slot p n r b g false x ≡ Some (false, y)
     → in_slots p n i [] r b v ≡ Some (set_in i y v)
-event-set p n r b i core.no_slot g x y h e = absurd (refused h)
-event-set p n r b zero (core.slot f k z v) g x y h e = absurd (refused h)
+event-set p n r b i core.no_slot g x y h e = absurd (none-some _ h)
+event-set p n r b zero (core.slot f k z v) g x y h e = absurd (none-some _ h)
 event-set p n r b (suc zero) (core.slot f k z v) g x y h e =
-    let m = same h in
+    let m = same_Some _ _ h in
     ap (mapped (λ (c : Recorded). core.slot f c.0 c.1 v)) (ap (λ (c : Tree × Recorded). at_slot p n r b c.0 c.1.0 c.1.1) m ∙ e) ∙ ap (λ (c : Tree × Recorded). Some (core.slot f c.1.0 y v)) (sym m)
 event-set p n r b (suc (suc i)) (core.slot f k z v) g x y h e = ap (mapped (core.slot f k z)) (event-set p n r b (suc i) v g x y h e)
 
@@ -187,8 +182,8 @@ pub redone-set : (i j : ℕ) (v : core.Slots) (g : Tree) (x y : Progress) → pl
 redone-set i j core.no_slot g x y h m n s = s
 redone-set zero j (core.slot f k z v) g x y h m n s = s
 redone-set (suc i) zero (core.slot f k z v) g x y h m n s = absurd s
-redone-set (suc zero) (suc zero) (core.slot f k z v) g x y h m n s = m (subst WasRedone (ap (λ (c : Tree × Recorded). c.1.1) (same h)) s)
-redone-set (suc zero) (suc (suc j)) (core.slot f k z v) g x y h m n s = (n (sym (ap (λ (c : Tree × Recorded). has_answer c.1.1) (same h)) ∙ s.0), s.1)
+redone-set (suc zero) (suc zero) (core.slot f k z v) g x y h m n s = m (subst WasRedone (ap (λ (c : Tree × Recorded). c.1.1) (same_Some _ _ h)) s)
+redone-set (suc zero) (suc (suc j)) (core.slot f k z v) g x y h m n s = (n (sym (ap (λ (c : Tree × Recorded). has_answer c.1.1) (same_Some _ _ h)) ∙ s.0), s.1)
 redone-set (suc (suc i)) (suc zero) (core.slot f k z v) g x y h m n s = s
 redone-set (suc (suc i)) (suc (suc j)) (core.slot f k z v) g x y h m n s = (s.0, redone-set (suc i) (suc j) v g x y h m n s.1)
 
@@ -201,12 +196,12 @@ set-twice (suc (suc i)) x y (core.slot f k z v) = ap (core.slot f k z) (set-twic
 -- what fits the goal there stands for it
 pub hold-set : (code : Compiled) (p : Rules) (q b : ℕ) (gs : Trees) (w : Slots) (v : core.Slots) (i : ℕ) (e : Row) (h : Held) (g : Tree) (x y : Progress) → HoldsSlots code p q b gs w v → place_in i v ≡ Some (g, (false, x))
     → FitsSlot code p q b g e h y → HoldsSlots code p q b gs (put_in i e h w) (set_in i y v)
-hold-set code p q b none no_slot v i e h g x y l n f = absurd (refused (sym (ap (place_in i) l) ∙ n))
+hold-set code p q b none no_slot v i e h g x y l n f = absurd (none-some _ (sym (ap (place_in i) l) ∙ n))
 hold-set code p q b none (slot z j w) v i e h g x y l n f = absurd l
 hold-set code p q b (more g' gs) no_slot v i e h g x y l n f = absurd l
-hold-set code p q b (more g' gs) (slot z j w) v zero e h g x y (k, a, u, l, rest, is) n f = absurd (refused (sym (ap (place_in 0) is) ∙ n))
+hold-set code p q b (more g' gs) (slot z j w) v zero e h g x y (k, a, u, l, rest, is) n f = absurd (none-some _ (sym (ap (place_in 0) is) ∙ n))
 hold-set code p q b (more g' gs) (slot z j w) v (suc zero) e h g x y (k, a, u, l, rest, is) n f =
-    let goal : g ≡ g' = ap (λ (c : Tree × Recorded). c.0) (sym (same (sym (ap (place_in 1) is) ∙ n))) in
+    let goal : g ≡ g' = ap (λ (c : Tree × Recorded). c.0) (sym (same_Some _ _ (sym (ap (place_in 1) is) ∙ n))) in
     (k, y, u, subst (λ c. FitsSlot code p q b c e h y) goal f, rest, ap (set_in 1 y) is)
 hold-set code p q b (more g' gs) (slot z j w) v (suc (suc i)) e h g x y (k, a, u, l, rest, is) n f =
     (k, a, set_in (suc i) y u, l, hold-set code p q b gs w u (suc i) e h g x y rest (sym (ap (place_in (suc (suc i))) is) ∙ n) f, ap (set_in (suc (suc i)) y) is)

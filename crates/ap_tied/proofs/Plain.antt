@@ -7,6 +7,7 @@ use Rattle.ap_term.specs.declared.clauses.Check.{Check}
 use Rattle.ap_term.specs.declared.clauses.Check.TheVariants.{Ground, Indep}
 use Rattle.ap_term.specs.Tree.{Tree, Trees, none, more, count_trees, append_trees}
 use Rattle.ap_term.specs.Substitution.{instance_all}
+use Rattle.ap_term.proofs.TreeLists.{same_integer}
 use Rattle.ap_cells.specs.declared.cells.Raw.{Raw}
 use Rattle.ap_core.specs.Tasks.{state}
 use Rattle.ap_tracked.specs.Tracked.{Goal, fork, Tracked, untracked}
@@ -36,7 +37,7 @@ use Rattle.ap_tie.specs.Grouping.{MarksLeft, NoMarkLeft}
 use Rattle.ap_tie.proofs.Grouping.{marking}
 use Rattle.ap_tied.specs.Ties.{Goes}
 use Rattle.ap_tied.proofs.Common.{closed_in_order, closed_in_round}
-use Rattle.ap_tied.proofs.Gathered.{AtGroup, at-group, same-number, pass}
+use Rattle.ap_tied.proofs.Gathered.{AtGroup, at-group, pass}
 
 -- ---- marks that are passed over
 
@@ -47,15 +48,15 @@ unmarked-append ms us qs (past_group n) = past_group n
 
 -- what is left without the marks of a group's instance is just its goals
 only-unmarked : (f own : ℕ → Tree) (cs : List Check) (n : ℕ) (ts ms us : Trees) → Unmarked ms us → ms ≡ instance_all f (check_marks own cs (more (group_mark n) ts)) → us ≡ instance_all f ts
-only-unmarked f own [] n ts ms us (past_ground u) e = absurd (let k = same-number 0 (n + 2) (cc) in omega (arith, k))
-only-unmarked f own [] n ts ms us (past_apart u) e = absurd (let k = same-number 1 (n + 2) (cc) in omega (arith, k))
+only-unmarked f own [] n ts ms us (past_ground u) e = absurd (let k = same_integer 0 (n + 2) (cc) in omega (arith, k))
+only-unmarked f own [] n ts ms us (past_apart u) e = absurd (let k = same_integer 1 (n + 2) (cc) in omega (arith, k))
 only-unmarked f own [] n ts ms us (past_group m) e = cc
 only-unmarked f own (Ground v ∷ cs) n ts ms us (past_ground u) e = only-unmarked f own cs n ts _ us u (cc)
-only-unmarked f own (Ground v ∷ cs) n ts ms us (past_apart u) e = absurd (let k = same-number 1 0 (cc) in omega (arith, k))
-only-unmarked f own (Ground v ∷ cs) n ts ms us (past_group m) e = absurd (let k = same-number (m + 2) 0 (cc) in omega (arith, k))
-only-unmarked f own (Indep v w ∷ cs) n ts ms us (past_ground u) e = absurd (let k = same-number 0 1 (cc) in omega (arith, k))
+only-unmarked f own (Ground v ∷ cs) n ts ms us (past_apart u) e = absurd (let k = same_integer 1 0 (cc) in omega (arith, k))
+only-unmarked f own (Ground v ∷ cs) n ts ms us (past_group m) e = absurd (let k = same_integer (m + 2) 0 (cc) in omega (arith, k))
+only-unmarked f own (Indep v w ∷ cs) n ts ms us (past_ground u) e = absurd (let k = same_integer 0 1 (cc) in omega (arith, k))
 only-unmarked f own (Indep v w ∷ cs) n ts ms us (past_apart u) e = only-unmarked f own cs n ts _ us u (cc)
-only-unmarked f own (Indep v w ∷ cs) n ts ms us (past_group m) e = absurd (let k = same-number (m + 2) 1 (cc) in omega (arith, k))
+only-unmarked f own (Indep v w ∷ cs) n ts ms us (past_group m) e = absurd (let k = same_integer (m + 2) 1 (cc) in omega (arith, k))
 
 -- code that comes to a group asks for marks first
 comes-unmarked : (is : List Step) (x y : ℕ → Tree) (bs : Trees) → ComesToGroup is → Runs is none x y bs → (us : Trees) × Unmarked bs us

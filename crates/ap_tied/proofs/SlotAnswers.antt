@@ -1,5 +1,6 @@
 -- Slots that run and come to an answer.
 use Rattle.std.proofs.Common.{◌≡◌, ℕ, ◌-◌, ◌<◌, ◌⊎◌, inl, inr, true, false, List, [], ◌∷◌, Some, refl, ap, sym, ◌∙◌, subst, arith}
+use Rattle.std.proofs.lemmas.Option.{none-some}
 use Rattle.std.specs.Prelude.{not}
 use Rattle.ap_term.specs.Tree.{Tree}
 use Rattle.ap_term.specs.Search.{State}
@@ -29,7 +30,7 @@ use Rattle.ap_tie.specs.Tied.{IsAtAnswer, HoldsTask}
 use Rattle.ap_tie.proofs.Settled.{answer_at}
 use Rattle.ap_tied.specs.Ties.{IsSimple, AreSimple, IsSimpleProgress, stack_in, IsSearched, IsTied}
 use Rattle.ap_tied.specs.SlotCalls.{stood, answered, RunsSlot}
-use Rattle.ap_tied.proofs.Places.{refused, SlotAt}
+use Rattle.ap_tied.proofs.Places.{SlotAt}
 use Rattle.ap_tied.proofs.SlotEvents.{FirstFrame, GoesOn, Runs, none_runs, after, happens, now_tied, goes_busy, goes_redone, run_first, run_open, run_at, run_as, run_origin}
 use Rattle.ap_tied.proofs.SlotGoals.{goal_local}
 
@@ -47,8 +48,8 @@ pub record IsFirst (z : Task) (y : Answer) (v : Task) : Type 0 where
   pub left : task rest spent behind ≡ v
 
 pub first_answer : (z : Task) (y : Answer) (v : Task) → answer z ≡ Some (y, v) → IsFirst z y v
-first_answer (task r c exhausted) y v e = absurd (refused e)
-first_answer (task r c (alternative (frame s rd w) l)) y v e = absurd (refused e)
+first_answer (task r c exhausted) y v e = absurd (none-some _ e)
+first_answer (task r c (alternative (frame s rd w) l)) y v e = absurd (none-some _ e)
 first_answer (task r c (alternative (state s) l)) y v e =
     let h = Some-only_if (is_done s) (record { tuple = s.tuple; next = s.next; steps = s.steps }, task r c l) (y, v) e in
     record { rest = r; spent = c; done = s; behind = l; is = refl; ended = h.0; answer_is = ap (λ (x : Answer × Task). x.0) h.1; left = ap (λ (x : Answer × Task). x.1) h.1 }

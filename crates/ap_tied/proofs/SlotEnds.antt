@@ -2,6 +2,7 @@
 use Rattle.std.proofs.Common.{◌≡◌, ℕ, ◌-◌, ◌⊎◌, inl, inr, true, false, ◌&&◌, List, [], ◌∷◌, Option, Some, refl, ap, sym, ◌∙◌, subst}
 use Rattle.std.specs.Prelude.{length, option_and_then}
 use Rattle.std.proofs.lemmas.Bool.{false≢true}
+use Rattle.std.proofs.lemmas.Option.{same_Some}
 use Rattle.ap_term.specs.Substitution.{instance_all}
 use Rattle.ap_core.specs.declared.events.Kind.TheVariants as kinds
 use Rattle.ap_core.specs.declared.tasks.Busy.{Busy}
@@ -28,7 +29,7 @@ use Rattle.ap_tie.specs.Sections.{Row, Section, section, Stack, bottom, parcall,
 use Rattle.ap_tied.specs.Happened.{happened}
 use Rattle.ap_tied.specs.Ties.{IsUnasked, IsSimpleProgress, WasRedone, IsTied}
 use Rattle.ap_tied.specs.SlotCalls.{row_in, stood, RunsSlot}
-use Rattle.ap_tied.proofs.Places.{same, get-nth, nth-from-one, SlotAt}
+use Rattle.ap_tied.proofs.Places.{get-nth, nth-from-one, SlotAt}
 use Rattle.ap_tied.proofs.SlotEvents.{FirstFrame, GoesOn, Runs, none_runs, after, happens, happens_then, now_tied, goes_busy, goes_redone, run_first, run_open, run_at, run_as}
 
 -- with that end
@@ -66,15 +67,6 @@ stands_ended e x z r d cost (inr (m, h)) k = inr (inl (m, z, d, ap (ended_as (bu
 runs_plainly : (x : Progress) (z : Task) (d : ℕ) → Runs x z d → (x ≡ busy busy_kind.Running z) ⊎ ((m : List Answer) × (x ≡ redone m busy_kind.Running z d))
 runs_plainly x z d (inl (e, f)) = inl e
 runs_plainly x z d (inr e) = inr e
-
-ended_twice : (x y : Busy) (g : Progress) → ended_as y (ended_as x g) ≡ ended_as y g
-ended_twice x y (idle i) = refl
-ended_twice x y (stored m) = refl
-ended_twice x y (busy k t) = refl
-ended_twice x y (core.held m a t c) = refl
-ended_twice x y (redone m k t i) = refl
-ended_twice x y (again m a t c) = refl
-ended_twice x y (drained m k t i e) = refl
 
 -- one that was asked to stop
 stops_asked : (x : Progress) (z : Task) (d : ℕ) → Runs x z d → stopped_slot (ended_as busy_kind.Stopping x) ≡ Some (ended_as busy_kind.Stopped x)
@@ -177,4 +169,4 @@ pub gives_back : (code : Compiled) (p : Rules) (o n : Tracked) (m : Machine) (c 
 gives_back code p o n m c b f q rd w qs st t z i d x tied run row first =
     let at = run_at code p o n m c b f q rd w qs st t z i d tied run in
     let here : Some at.row ≡ Some x = sym at.row_at ∙ sym (get-nth i (rows w) (nth-from-one i (rows w) at.row at.row_at)) ∙ row in
-    gives_back_first code p o n m c b f q rd w qs st t z i d tied run (ap may_be_given_back (same here) ∙ first)
+    gives_back_first code p o n m c b f q rd w qs st t z i d tied run (ap may_be_given_back (same_Some _ _ here) ∙ first)

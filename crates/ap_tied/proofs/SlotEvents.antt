@@ -3,9 +3,11 @@ use Rattle.std.proofs.Common.{◌≡◌, ℕ, ◌-◌, ◌⊎◌, inl, inr, true
 use Rattle.std.specs.Prelude.{length, option_and_then}
 use Rattle.std.specs.List.{AllZip}
 use Rattle.std.proofs.lemmas.Bool.{false≢true}
+use Rattle.std.proofs.lemmas.Option.{none-some, same_Some}
 use Rattle.ap_term.specs.Tree.{Tree, Trees}
 use Rattle.ap_term.specs.Search.{State}
 use Rattle.ap_term.specs.Substitution.{instance_all}
+use Rattle.ap_term.proofs.Lists.{not_nil}
 use Rattle.ap_core.specs.declared.events.Kind.{Kind}
 use Rattle.ap_core.specs.declared.tasks.Busy.{Busy}
 use Rattle.ap_core.specs.declared.tasks.Busy.TheVariants as busy_kind
@@ -31,16 +33,17 @@ use Rattle.ap_standing.specs.Machine.{Point, Machine}
 use Rattle.ap_standing.specs.Holds.{Holds, HoldsPoints}
 use Rattle.ap_standing.proofs.Machines.{failed-points}
 use Rattle.ap_group.specs.Groups.{Forked}
-use Rattle.ap_tie.specs.Sections.{Row, section, Stack, bottom, parcall, Slots, Held, rows}
+use Rattle.ap_tie.specs.Sections.{section, Stack, bottom, parcall, Slots, Held, rows}
 use Rattle.ap_tie.specs.Shows.{Shows, before}
 use Rattle.ap_tie.specs.Forked.{IsForked}
 use Rattle.ap_tie.specs.Open.{origin_of}
 use Rattle.ap_tie.specs.Settled.{HasFailed}
 use Rattle.ap_tie.specs.Slots.{place_in, FitsSlot}
 use Rattle.ap_tie.specs.Tied.{round_of, IsRest, IsShutIn, HoldsTask, HoldsStack, HoldsSlots, HoldsSource}
+use Rattle.ap_tie.proofs.Open.{shut_open}
 use Rattle.ap_tied.specs.Ties.{IsSimple, AreSimple, SlotsAreSimple, IsSimpleProgress, HoldsAnswer, WasRedone, IsRedoneIn, IsInRound, IsTied}
 use Rattle.ap_tied.specs.SlotCalls.{stood, stood_in, since, since_of, RunsSlot}
-use Rattle.ap_tied.proofs.Places.{refused, same, SlotAt, slot_at, running-place, origin-place, since-place, stood-put, length-stood, quiet-stood, set_in, place-set, event-set, simple-set, redone-set, set-twice, hold-set}
+use Rattle.ap_tied.proofs.Places.{SlotAt, slot_at, running-place, origin-place, since-place, stood-put, length-stood, quiet-stood, set_in, place-set, event-set, simple-set, redone-set, set-twice, hold-set}
 
 -- ---- the frame
 
@@ -57,9 +60,6 @@ pub record FirstFrame (code : Compiled) (p : Rules) (o : Tracked) (m : Machine) 
   pub is : t ≡ task (b - c) c (alternative (frame (untracked forked) (round_of rd) slots) behind)
   pub others : (w' : Slots) (v' : core.Slots) → HoldsSlots code p q forked.next (instance_all is_forked.own is_forked.goals) w' v' → IsShutIn rd (rows w') v'
       → HoldsTask code p o (section m c b (parcall f q rd w' qs st)) (task (b - c) c (alternative (frame (untracked forked) (round_of rd) v') behind))
-
-some_state : {s : Tracked} {ss : List Tracked} → s ∷ ss ≡ [] → ⊥
-some_state h = absurd (cc)
 
 module _ (code : Compiled) (p : Rules) (o : Tracked) (m : Machine) (c b : ℕ) (f : Forked) (q : ℕ) (rd : Round) (w : Slots) (qs : List Point) (st : Stack) (t : Task) where
   alone_first : (l : Alternatives) → Holds code m [] → HoldsStack code p o m.roots (b - c) (parcall f q rd w qs st) l → t ≡ task (b - c) c l → FirstFrame code p o m c b f q rd w qs st t
@@ -82,7 +82,7 @@ module _ (code : Compiled) (p : Rules) (o : Tracked) (m : Machine) (c b : ℕ) (
       go : (ss : List Tracked) (xs : List Alternative) → ss ≡ [] → Holds code m ss → AllZip (Shows p.program o) ss xs → t ≡ task (b - c) c (before xs l) → FirstFrame code p o m c b f q rd w qs st t
       go [] [] e n h is = alone_first l n stack is
       go [] (y ∷ ys) e n h is = absurd h
-      go (s ∷ ss) xs e n h is = absurd (some_state e)
+      go (s ∷ ss) xs e n h is = absurd (not_nil e)
 
   pub first_running : (z : Task) (i : ℕ) → HoldsTask code p o (section m c b (parcall f q rd w qs st)) t → running_task i t ≡ Some z → FirstFrame code p o m c b f q rd w qs st t
   first_running z i (ss, xs, l, holds, shown, stack, is) runs = go ss xs holds shown is
@@ -92,14 +92,14 @@ module _ (code : Compiled) (p : Rules) (o : Tracked) (m : Machine) (c b : ℕ) (
       go [] (y ∷ ys) n h is = absurd h
       go (a ∷ ss) [] n h is = absurd h
       go (a ∷ ss) (frame x d u ∷ xs) n h is = absurd h.0
-      go (a ∷ ss) (state x ∷ xs) n h is = absurd (refused (sym (ap (running_task i) is) ∙ runs))
+      go (a ∷ ss) (state x ∷ xs) n h is = absurd (none-some _ (sym (ap (running_task i) is) ∙ runs))
 
 pub none_runs : (code : Compiled) (p : Rules) (o : Tracked) (m : Machine) (c b : ℕ) (t z : Task) (i : ℕ) → HoldsTask code p o (section m c b bottom) t → running_task i t ≡ Some z → ⊥
 none_runs code p o m c b t z i (ss, xs, l, holds, shown, stack, is) runs = go xs ss shown (sym (ap (running_task i) (is ∙ ap (λ v. task (b - c) c (before xs v)) stack)) ∙ runs)
   where
     go : (xs : List Alternative) (ss : List Tracked) → AllZip (Shows p.program o) ss xs → running_task i (task (b - c) c (before xs exhausted)) ≡ Some z → ⊥
-    go [] ss h n = refused n
-    go (state a ∷ xs) ss h n = refused n
+    go [] ss h n = none-some _ n
+    go (state a ∷ xs) ss h n = none-some _ n
     go (frame a rd w ∷ xs) [] h n = absurd h
     go (frame a rd w ∷ xs) (s ∷ ss) h n = absurd h.0
 
@@ -116,12 +116,6 @@ with_event : (p : Rules) (k : Kind) (i r c : ℕ) (s : State) (rd : CoreRound) (
 with_event p k i r c s rd v u l o e =
     ap (λ x. mapped (task r c) (mapped (λ b. alternative b l) x)) (chosen (is_open rd) (mapped (frame s rd) (in_slots p k i [] r s.next v)) o)
     ∙ ap (λ x. mapped (task r c) (mapped (λ b. alternative b l) (mapped (frame s rd) x))) e
-
-shut_open : (rd : Round) (xs : List Row) (v : core.Slots) → is_open (round_of rd) ≡ true → IsShutIn rd xs v
-shut_open round.First xs v h = tt
-shut_open (round.Draining n) xs v h = tt
-shut_open (round.Later i) xs v h = tt
-shut_open round.Closed xs v h = absurd (false≢true h)
 
 -- ---- an event of a slot
 
@@ -189,22 +183,22 @@ abbrev pub Runs : Progress → Task → ℕ → Type 0
 Runs x z d = ((x ≡ busy busy_kind.Running z) × (d ≡ 0)) ⊎ ((m : List Answer) × (x ≡ redone m busy_kind.Running z d))
 
 runs_as : (x : Progress) (z : Task) (d : ℕ) → running_of x ≡ Some z → since_of x ≡ Some d → IsSimpleProgress x → Runs x z d
-runs_as (idle i) z d n e s = absurd (refused n)
+runs_as (idle i) z d n e s = absurd (none-some _ n)
 runs_as (stored m) z d n e s = absurd s
-runs_as (busy busy_kind.Running t) z d n e s = inl (ap (busy busy_kind.Running) (same n), sym (same e))
+runs_as (busy busy_kind.Running t) z d n e s = inl (ap (busy busy_kind.Running) (same_Some _ _ n), sym (same_Some _ _ e))
 runs_as (busy busy_kind.Stopping t) z d n e s = absurd s
-runs_as (busy busy_kind.Failed t) z d n e s = absurd (refused n)
-runs_as (busy busy_kind.Spent t) z d n e s = absurd (refused n)
-runs_as (busy busy_kind.Stopped t) z d n e s = absurd (refused n)
-runs_as (busy (busy_kind.Raised x) t) z d n e s = absurd (refused n)
-runs_as (core.held m a t c) z d n e s = absurd (refused n)
-runs_as (redone m busy_kind.Running t i) z d n e s = inr (m, ap₂ (redone m busy_kind.Running) (same n) (same e))
+runs_as (busy busy_kind.Failed t) z d n e s = absurd (none-some _ n)
+runs_as (busy busy_kind.Spent t) z d n e s = absurd (none-some _ n)
+runs_as (busy busy_kind.Stopped t) z d n e s = absurd (none-some _ n)
+runs_as (busy (busy_kind.Raised x) t) z d n e s = absurd (none-some _ n)
+runs_as (core.held m a t c) z d n e s = absurd (none-some _ n)
+runs_as (redone m busy_kind.Running t i) z d n e s = inr (m, ap₂ (redone m busy_kind.Running) (same_Some _ _ n) (same_Some _ _ e))
 runs_as (redone m busy_kind.Stopping t i) z d n e s = absurd s
-runs_as (redone m busy_kind.Failed t i) z d n e s = absurd (refused n)
-runs_as (redone m busy_kind.Spent t i) z d n e s = absurd (refused n)
-runs_as (redone m busy_kind.Stopped t i) z d n e s = absurd (refused n)
-runs_as (redone m (busy_kind.Raised x) t i) z d n e s = absurd (refused n)
-runs_as (again m a t c) z d n e s = absurd (refused n)
+runs_as (redone m busy_kind.Failed t i) z d n e s = absurd (none-some _ n)
+runs_as (redone m busy_kind.Spent t i) z d n e s = absurd (none-some _ n)
+runs_as (redone m busy_kind.Stopped t i) z d n e s = absurd (none-some _ n)
+runs_as (redone m (busy_kind.Raised x) t i) z d n e s = absurd (none-some _ n)
+runs_as (again m a t c) z d n e s = absurd (none-some _ n)
 runs_as (drained m b t i c) z d n e s = absurd s
 
 pub goes_busy : (x y : Progress) (k : Busy) (z : Task) → x ≡ busy k z → GoesOn x y
@@ -225,7 +219,7 @@ module _ (code : Compiled) (p : Rules) (o n : Tracked) (m : Machine) (c b : ℕ)
   run_open = run_parts.0
 
   pub run_at : SlotAt code p q run_first.forked.next (instance_all run_first.is_forked.own run_first.is_forked.goals) w run_first.slots i
-  run_at = found code p o m c b f q rd w qs st t tied run_first i (λ e. refused (sym (running-place i run_first.slots ∙ ap (option_and_then (λ (z : Tree × Recorded). running_of z.1.1)) e) ∙ run_parts.1))
+  run_at = found code p o m c b f q rd w qs st t tied run_first i (λ e. none-some _ (sym (running-place i run_first.slots ∙ ap (option_and_then (λ (z : Tree × Recorded). running_of z.1.1)) e) ∙ run_parts.1))
 
   pub run_as : Runs run_at.progress z d
   run_as =
@@ -235,4 +229,4 @@ module _ (code : Compiled) (p : Rules) (o n : Tracked) (m : Machine) (c b : ℕ)
       run_at.simple
 
   pub run_origin : n ≡ alone run_at.goal run_first.forked.next
-  run_origin = same (sym run.origin ∙ ap (origin_of i) run_first.is ∙ origin-place i run_first.forked.next run_first.slots ∙ ap (mapped (λ (z : Tree × Recorded). alone z.0 run_first.forked.next)) run_at.place_at)
+  run_origin = same_Some _ _ (sym run.origin ∙ ap (origin_of i) run_first.is ∙ origin-place i run_first.forked.next run_first.slots ∙ ap (mapped (λ (z : Tree × Recorded). alone z.0 run_first.forked.next)) run_at.place_at)

@@ -1,5 +1,6 @@
 -- The goals of a fork, from which sections of slots begin.
 use Rattle.std.proofs.Common.{◌≡◌, ℕ, zero, suc, ◌<◌, inl, inr, List, [], ◌∷◌, Some, refl, ap, ap₂, sym, ◌∙◌, subst, arith}
+use Rattle.std.proofs.lemmas.Option.{none-some, same_Some}
 use Rattle.std.specs.Prelude.{length, slice_get}
 use Rattle.std.specs.List.{AllByRecursion}
 use Rattle.ap_term.specs.Tuples.{tuple_under, arguments}
@@ -34,45 +35,45 @@ use Rattle.ap_tie.specs.Forked.{goal_by, goals_under, IsForked}
 use Rattle.ap_tie.proofs.Rejoined.{opened-marks}
 use Rattle.ap_tied.specs.Ties.{IsKnownGoal, IsPlaced, IsSearched}
 use Rattle.ap_tied.specs.SlotCalls.{IsGoalAt}
-use Rattle.ap_tied.proofs.Places.{refused, same, nth, nth_tree, get-nth, nth-from-one}
+use Rattle.ap_tied.proofs.Places.{nth, nth_tree, get-nth, nth-from-one}
 
 -- ---- lists of goals
 
 -- a goal of an instance is the instance of a goal
 goal-instance : (own : ℕ → Tree) (i : ℕ) (ts : Trees) (g : Tree) → nth_tree i (instance_all own ts) ≡ Some g → (t : Tree) × IsGoalOf t ts × (g ≡ instance own t)
-goal-instance own i none g h = absurd (refused h)
-goal-instance own zero (more t ts) g h = absurd (refused h)
-goal-instance own (suc zero) (more t ts) g h = (t, inl refl, sym (same h))
+goal-instance own i none g h = absurd (none-some _ h)
+goal-instance own zero (more t ts) g h = absurd (none-some _ h)
+goal-instance own (suc zero) (more t ts) g h = (t, inl refl, sym (same_Some _ _ h))
 goal-instance own (suc (suc i)) (more t ts) g h = let r = goal-instance own (suc i) ts g h in (r.0, inr r.1, r.2)
 
 local-nth : (P : ℕ → Type 0) (i : ℕ) (ts : Trees) (g : Tree) → LocalAll P ts → nth_tree i ts ≡ Some g → Local P g
-local-nth P i none g l h = absurd (refused h)
-local-nth P zero (more t ts) g l h = absurd (refused h)
-local-nth P (suc zero) (more t ts) g l h = subst (Local P) (same h) l.0
+local-nth P i none g l h = absurd (none-some _ h)
+local-nth P zero (more t ts) g l h = absurd (none-some _ h)
+local-nth P (suc zero) (more t ts) g l h = subst (Local P) (same_Some _ _ h) l.0
 local-nth P (suc (suc i)) (more t ts) g l h = local-nth P (suc i) ts g l.1 h
 
 nth-append : (i : ℕ) (ts us : Trees) (g : Tree) → nth_tree i ts ≡ Some g → nth_tree i (append_trees ts us) ≡ Some g
-nth-append i none us g h = absurd (refused h)
-nth-append zero (more t ts) us g h = absurd (refused h)
+nth-append i none us g h = absurd (none-some _ h)
+nth-append zero (more t ts) us g h = absurd (none-some _ h)
 nth-append (suc zero) (more t ts) us g h = h
 nth-append (suc (suc i)) (more t ts) us g h = nth-append (suc i) ts us g h
 
 nth-instance : (f : ℕ → Tree) (i : ℕ) (ts : Trees) (g : Tree) → nth_tree i ts ≡ Some g → nth_tree i (instance_all f ts) ≡ Some (instance f g)
-nth-instance f i none g h = absurd (refused h)
-nth-instance f zero (more t ts) g h = absurd (refused h)
-nth-instance f (suc zero) (more t ts) g h = ap (λ u. Some (instance f u)) (same h)
+nth-instance f i none g h = absurd (none-some _ h)
+nth-instance f zero (more t ts) g h = absurd (none-some _ h)
+nth-instance f (suc zero) (more t ts) g h = ap (λ u. Some (instance f u)) (same_Some _ _ h)
 nth-instance f (suc (suc i)) (more t ts) g h = nth-instance f (suc i) ts g h
 
 nth-under : (code : Compiled) (k : ℕ → Tree) (i : ℕ) (ps : List Pushed) (a : Pushed) → nth i ps ≡ Some a → nth_tree i (goals_under code k ps) ≡ Some (goal_by (slice_get code.predicates a.predicate) (tuple_under k a.arguments))
-nth-under code k i [] a h = absurd (refused h)
-nth-under code k zero (x ∷ ps) a h = absurd (refused h)
-nth-under code k (suc zero) (x ∷ ps) a h = ap (λ b. Some (goal_by (slice_get code.predicates b.predicate) (tuple_under k b.arguments))) (same h)
+nth-under code k i [] a h = absurd (none-some _ h)
+nth-under code k zero (x ∷ ps) a h = absurd (none-some _ h)
+nth-under code k (suc zero) (x ∷ ps) a h = ap (λ b. Some (goal_by (slice_get code.predicates b.predicate) (tuple_under k b.arguments))) (same_Some _ _ h)
 nth-under code k (suc (suc i)) (x ∷ ps) a h = nth-under code k (suc i) ps a h
 
 each-nth : {A : Type 0} (P : A → Type 0) (i : ℕ) (xs : List A) (a : A) → AllByRecursion P xs → nth i xs ≡ Some a → P a
-each-nth P i [] a l h = absurd (refused h)
-each-nth P zero (x ∷ xs) a l h = absurd (refused h)
-each-nth P (suc zero) (x ∷ xs) a l h = subst P (same h) l.0
+each-nth P i [] a l h = absurd (none-some _ h)
+each-nth P zero (x ∷ xs) a l h = absurd (none-some _ h)
+each-nth P (suc zero) (x ∷ xs) a l h = subst P (same_Some _ _ h) l.0
 each-nth P (suc (suc i)) (x ∷ xs) a l h = each-nth P (suc i) xs a l.1 h
 
 -- ---- goals and their arguments
@@ -143,14 +144,14 @@ module _ (code : Compiled) (p : Rules) (o : Tracked) (roots : List ℕ) (f : For
       fitting : (k : ℕ → Tree) × Fits f.cells k × (g ≡ applied known.0.name (tuple_under k a.arguments))
       fitting =
           let m = (j.same (marked (opened s.goals)) s.tuple).1 (var, sym (instance_all_var (marked (opened s.goals))), sym (instance_all_var s.tuple)) in
-          (m.0, m.2, same (sym (ap (nth_tree i) marks_are ∙ nth-append i goals (marked j.behind) g here) ∙ ap (nth_tree i) m.4 ∙ goal_under m.0 m.1))
+          (m.0, m.2, same_Some _ _ (sym (ap (nth_tree i) marks_are ∙ nth-append i goals (marked j.behind) g here) ∙ ap (nth_tree i) m.4 ∙ goal_under m.0 m.1))
 
       -- the cells' own trees are an instance of it
       general : (h : ℕ → Tree) × (applied known.0.name (tuple_under cells a.arguments) ≡ instance h g)
       general =
           let w = some-waits code cells f.returns roots j.open_returns in
           let m = (j.same (append_trees (goals_under code cells f.goals) w.0) w.1).0 (cells, w.0, fits-own f.cells, w.2, refl) in
-          (m.0, same (sym (goal_under cells w.0) ∙ ap (nth_tree i) m.1 ∙ goal_of m.0))
+          (m.0, same_Some _ _ (sym (goal_under cells w.0) ∙ ap (nth_tree i) m.1 ∙ goal_of m.0))
 
       arguments_are : arguments g ≡ tuple_under fitting.0 a.arguments
       arguments_are = ap arguments fitting.2 ∙ arguments-applied known.0.name (tuple_under fitting.0 a.arguments)

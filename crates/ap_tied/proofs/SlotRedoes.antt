@@ -7,6 +7,7 @@ use Rattle.std.specs.Ordering.{nat_cmp}
 use Rattle.std.specs.declared.cmp.Ordering.{Ordering}
 use Rattle.std.specs.declared.cmp.Ordering.TheVariants.{Less, Equal, Greater}
 use Rattle.std.proofs.lemmas.Bool.{false≢true, and_parts}
+use Rattle.std.proofs.lemmas.Option.{none-some, same_Some}
 use Rattle.ap_term.specs.Tree.{Tree, Trees, none, more}
 use Rattle.ap_term.specs.Substitution.{instance_all}
 use Rattle.ap_core.specs.declared.events.Kind.TheVariants as kinds
@@ -49,7 +50,7 @@ use Rattle.ap_tie.proofs.Settled.{rest_left}
 use Rattle.ap_tied.specs.Ties.{WasRedone, IsRedoneAt, IsRedoneIn, IsSimple, AreSimple, IsSimpleProgress, SlotsAreSimple, HoldsAnswer, AreQuietSlots, IsQuiet, stack_in, IsSearched, IsTied}
 use Rattle.ap_tied.specs.SlotCalls.{held_in, since, since_of, gone_on, RunsSlot}
 use Rattle.ap_tied.proofs.Common.{closed_in_order, closed_in_round}
-use Rattle.ap_tied.proofs.Places.{refused, same, SlotAt, running-place, origin-place, since-place}
+use Rattle.ap_tied.proofs.Places.{SlotAt, running-place, origin-place, since-place}
 use Rattle.ap_tied.proofs.SlotEvents.{FirstFrame, first_failed, found, simple_parts}
 use Rattle.ap_tied.proofs.Resting.{resting}
 use Rattle.ap_tied.proofs.SlotAnswers.{simple_whole}
@@ -64,11 +65,8 @@ IsNextRedo zero (core.slot g k x w) = ⊥
 IsNextRedo (suc zero) (core.slot g k x w) = (some_has_more w ≡ false) × (conditions.has_more x ≡ true)
 IsNextRedo (suc (suc i)) (core.slot g k x w) = (some_has_more w ≡ true) × (conditions.has_answer x ≡ true) × IsNextRedo (suc i) w
 
-none_some : {i : ℕ} → None ≡ Some i → ⊥
-none_some h = absurd (cc)
-
 next_redone : (code : Compiled) (p : Rules) (q b : ℕ) (gs : Trees) (w : Slots) (v : core.Slots) (i : ℕ) → HoldsSlots code p q b gs w v → next_redo (rows w) ≡ Some i → list_all has_answer (take (i - 1) (rows w)) ≡ true → IsNextRedo i v
-next_redone code p q b none no_slot v i h e a = absurd (none_some e)
+next_redone code p q b none no_slot v i h e a = absurd (none-some _ e)
 next_redone code p q b none (slot x n w) v i h e a = absurd h
 next_redone code p q b (more g gs) no_slot v i h e a = absurd h
 next_redone code p q b (more g gs) (slot x n w) v i (k, y, u, l, rest, is) e a =
@@ -80,7 +78,7 @@ next_redone code p q b (more g gs) (slot x n w) v i (k, y, u, l, rest, is) e a =
     go : (o : Option ℕ) (c : Bool) → next_redo (rows w) ≡ o → has_more x ≡ c → ((j : ℕ) → next_redo (rows w) ≡ Some j → list_all has_answer (take (j - 1) (rows w)) ≡ true → IsNextRedo j u) → IsNextRedo i (core.slot g k y u)
     go (Some zero) c f d next = absurd (let e0 : 0 < 0 = redo-from-one (rows w) 0 f in omega (arith, e0))
     go (Some (suc j)) c f d next =
-        let place : suc j + 1 ≡ i = same (sym (ap₂ place_behind f d) ∙ e) in
+        let place : suc j + 1 ≡ i = same_Some _ _ (sym (ap₂ place_behind f d) ∙ e) in
         let is_place : i ≡ suc (suc j) = omega (arith, place) in
         let left : i - 1 ≡ suc j = omega (arith, place) in
         let inner : suc j - 1 ≡ j = omega arith in
@@ -88,20 +86,20 @@ next_redone code p q b (more g gs) (slot x n w) v i (k, y, u, l, rest, is) e a =
         subst (λ m. IsNextRedo m (core.slot g k y u)) (sym is_place)
         (redoes ∙ ap is_some f, (alike_slots.same q x.stand (_) y l.1).answer ∙ parts.0, next (suc j) f (ap (λ m. list_all has_answer (take m (rows w))) inner ∙ parts.1))
     go None true f d next =
-        let place : 1 ≡ i = same (sym (ap₂ place_behind f d) ∙ e) in
+        let place : 1 ≡ i = same_Some _ _ (sym (ap₂ place_behind f d) ∙ e) in
         subst (λ m. IsNextRedo m (core.slot g k y u)) place (redoes ∙ ap is_some f, (alike_slots.same q x.stand (_) y l.1).more ∙ d)
-    go None false f d next = absurd (none_some (sym (ap₂ place_behind f d) ∙ e))
+    go None false f d next = absurd (none-some _ (sym (ap₂ place_behind f d) ∙ e))
 
 next_place : (i : ℕ) (v : core.Slots) → IsNextRedo i v → place_in i v ≡ None → ⊥
 next_place i core.no_slot h n = absurd h
 next_place zero (core.slot g k x v) h n = absurd h
-next_place (suc zero) (core.slot g k x v) h n = refused (sym n)
+next_place (suc zero) (core.slot g k x v) h n = none-some _ (sym n)
 next_place (suc (suc i)) (core.slot g k x v) h n = next_place (suc i) v h.2 n
 
 next_more : (i : ℕ) (v : core.Slots) (g : Tree) (k : Bool) (x : Progress) → IsNextRedo i v → place_in i v ≡ Some (g, (k, x)) → conditions.has_more x ≡ true
 next_more i core.no_slot g k x h n = absurd h
 next_more zero (core.slot f l y v) g k x h n = absurd h
-next_more (suc zero) (core.slot f l y v) g k x h n = ap (λ (c : Tree × Recorded). conditions.has_more c.1.1) (sym (same n)) ∙ h.1
+next_more (suc zero) (core.slot f l y v) g k x h n = ap (λ (c : Tree × Recorded). conditions.has_more c.1.1) (sym (same_Some _ _ n)) ∙ h.1
 next_more (suc (suc i)) (core.slot f l y v) g k x h n = next_more (suc i) v g k x h.2 n
 
 -- it goes on
@@ -109,7 +107,7 @@ redone_place : (r i : ℕ) (v : core.Slots) (g : Tree) (k : Bool) (x : Progress)
 redone_place r i core.no_slot g k x h n = absurd h
 redone_place r zero (core.slot f l y v) g k x h n = absurd h
 redone_place r (suc zero) (core.slot f l y v) g k x h n =
-    ap (λ c. place_in 1 (if c then core.slot f l (kept y) (redo_from r v) else core.slot f l (restarted_with r y) (all_put_away v))) h.0 ∙ ap (λ (c : Tree × Recorded). Some (c.0, (c.1.0, restarted_with r c.1.1))) (same n)
+    ap (λ c. place_in 1 (if c then core.slot f l (kept y) (redo_from r v) else core.slot f l (restarted_with r y) (all_put_away v))) h.0 ∙ ap (λ (c : Tree × Recorded). Some (c.0, (c.1.0, restarted_with r c.1.1))) (same_Some _ _ n)
 redone_place r (suc (suc i)) (core.slot f l y v) g k x h n =
     ap (λ c. place_in (suc (suc i)) (if c then core.slot f l (kept y) (redo_from r v) else core.slot f l (restarted_with r y) (all_put_away v))) h.0 ∙ redone_place r (suc i) v g k x h.2 n
 
@@ -316,7 +314,7 @@ goes_on code p o (section m c b st) z t y r searched h comes simple quiet closed
     let tied : IsTied code p o (section m c b st) z =
     record { holds = h; simple = simple_whole z y t comes simple; quiet = quiet; in_order = closed_in_order m c b st closed; in_round = closed_in_round m c b st z closed } in
     let k = resting.answered code p o m c b st z searched tied is_at in
-    let left : k.1 ≡ t = ap (λ (x : Answer × Task). x.1) (same (sym k.2 ∙ comes)) in
+    let left : k.1 ≡ t = ap (λ (x : Answer × Task). x.1) (same_Some _ _ (sym k.2 ∙ comes)) in
     with_rest code p o (record m { now = failed }) c b r st t closed (subst (IsTied code p o (section (record m { now = failed }) c b st)) left k.4)
 
 -- ---- the event

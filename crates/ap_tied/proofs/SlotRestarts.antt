@@ -2,6 +2,7 @@
 use Rattle.std.proofs.Common.{◌≡◌, ℕ, zero, suc, ◌-◌, ◌<◌, ◌⊎◌, inl, inr, Bool, true, false, ◌&&◌, ◌||◌, List, [], Some, refl, ap, sym, ◌∙◌, subst}
 use Rattle.std.specs.Prelude.{length}
 use Rattle.std.proofs.lemmas.Bool.{false≢true, or_right}
+use Rattle.std.proofs.lemmas.Option.{none-some, same_Some}
 use Rattle.ap_term.specs.Tree.{Tree, Trees, none, more}
 use Rattle.ap_term.specs.Substitution.{instance_all}
 use Rattle.ap_core.specs.declared.events.Kind.TheVariants as kinds
@@ -32,7 +33,7 @@ use Rattle.ap_tie.specs.Slots.{place_in, FitsSlot}
 use Rattle.ap_tie.specs.Tied.{HoldsSlots, HoldsSource}
 use Rattle.ap_tied.specs.Ties.{WasRedone, IsRedoneAt, IsRedoneIn, AreSimple, IsSimpleProgress, SlotsAreSimple, HoldsAnswer, AreQuietSlots, IsTied}
 use Rattle.ap_tied.specs.SlotCalls.{row_in, readied_behind}
-use Rattle.ap_tied.proofs.Places.{refused, same, nth, get-nth, SlotAt, place-row}
+use Rattle.ap_tied.proofs.Places.{nth, get-nth, SlotAt, place-row}
 use Rattle.ap_tied.proofs.SlotEvents.{FirstFrame, first_failed, found, simple_parts}
 
 -- ---- progress that stays
@@ -141,7 +142,7 @@ quiet_behind code i no_slot t = tt
 quiet_behind code zero (slot x h w) t = (t.0, t.1, answer_readied code x.stand h t.2, quiet_behind code zero w t.3)
 quiet_behind code (suc i) (slot x h w) t = (t.0, t.1, t.2, quiet_behind code i w t.3)
 
-length_behind : (i : ℕ) (w : Slots) → length (rows (readied_behind i w)) ≡ length (rows w)
+pub length_behind : (i : ℕ) (w : Slots) → length (rows (readied_behind i w)) ≡ length (rows w)
 length_behind i no_slot = refl
 length_behind zero (slot x h w) = ap suc (length_behind zero w)
 length_behind (suc i) (slot x h w) = ap suc (length_behind i w)
@@ -151,13 +152,13 @@ length_behind (suc i) (slot x h w) = ap suc (length_behind i w)
 redone_place : (i : ℕ) (v : core.Slots) (g : Tree) (k : Bool) (x : Progress) → place_in i v ≡ Some (g, (k, x)) → IsRedoneAt i v → WasRedone x
 redone_place i core.no_slot g k x h d = absurd d
 redone_place zero (core.slot f l y v) g k x h d = absurd d
-redone_place (suc zero) (core.slot f l y v) g k x h d = subst WasRedone (ap (λ (c : Tree × Recorded). c.1.1) (same h)) d
+redone_place (suc zero) (core.slot f l y v) g k x h d = subst WasRedone (ap (λ (c : Tree × Recorded). c.1.1) (same_Some _ _ h)) d
 redone_place (suc (suc i)) (core.slot f l y v) g k x h d = redone_place (suc i) v g k x h d.1
 
 again_place : (i : ℕ) (v : core.Slots) (g : Tree) (k : Bool) (x : Progress) → place_in i v ≡ Some (g, (k, x)) → is_again x ≡ true → some_is_again v ≡ true
-again_place i core.no_slot g k x h a = absurd (refused h)
-again_place zero (core.slot f l y v) g k x h a = absurd (refused h)
-again_place (suc zero) (core.slot f l y v) g k x h a = ap (λ j. j || some_is_again v) (ap (λ (c : Tree × Recorded). is_again c.1.1) (same h) ∙ a)
+again_place i core.no_slot g k x h a = absurd (none-some _ h)
+again_place zero (core.slot f l y v) g k x h a = absurd (none-some _ h)
+again_place (suc zero) (core.slot f l y v) g k x h a = ap (λ j. j || some_is_again v) (ap (λ (c : Tree × Recorded). is_again c.1.1) (same_Some _ _ h) ∙ a)
 again_place (suc (suc i)) (core.slot f l y v) g k x h a = or_right (is_again y) (some_is_again v) (again_place (suc i) v g k x h a)
 
 is_again_now : (code : Compiled) (r n : ℕ) (e : Stand (Unit {0})) (h : Held) (x : Progress) → stands_answered e ≡ true → HoldsAnswer code e h → StandsAs r e n x → WasRedone x → is_again x ≡ true
@@ -212,7 +213,7 @@ restarts code p o m c b f q i w qs st t x tied place row answered = (
     some_again : some_is_again first.slots ≡ true
     some_again =
         again_place i first.slots at.goal false at.progress at.place_at
-        (is_again_now code q (length (tuples_of at.row)) at.row.stand at.hold at.progress (ap has_answer (same (sym at.row_at ∙ row_at)) ∙ answered) at.quiet at.fits.1 (redone_place i first.slots at.goal false at.progress at.place_at was_redone))
+        (is_again_now code q (length (tuples_of at.row)) at.row.stand at.hold at.progress (ap has_answer (same_Some _ _ (sym at.row_at ∙ row_at)) ∙ answered) at.quiet at.fits.1 (redone_place i first.slots at.goal false at.progress at.place_at was_redone))
 
     u : Task
     u = task (b - c) c (alternative (frame (untracked first.forked) core_round.Later (each_slot relation.readied first.slots)) first.behind)

@@ -2,6 +2,7 @@
 use Rattle.std.proofs.Common.{◌≡◌, ℕ, ◌-◌, ◌<◌, true, false, List, [], ◌∷◌, Some, refl, ap, sym, ◌∙◌, subst}
 use Rattle.std.specs.Prelude.{option_and_then}
 use Rattle.std.proofs.lemmas.Bool.{false≢true}
+use Rattle.std.proofs.lemmas.Option.{same_Some}
 use Rattle.ap_term.specs.Tree.{Tree}
 use Rattle.ap_term.specs.Substitution.{instance_all}
 use Rattle.ap_core.specs.declared.events.Kind.TheVariants as kinds
@@ -32,7 +33,7 @@ use Rattle.ap_tie.specs.Tied.{round_of}
 use Rattle.ap_tied.specs.Reaching.{whole}
 use Rattle.ap_tied.specs.Ties.{WasRedone, IsSearched, IsTied}
 use Rattle.ap_tied.specs.SlotCalls.{row_in, since_of, stood, RunsSlot, IsGoalAt}
-use Rattle.ap_tied.proofs.Places.{same, nth, get-nth, nth-long, SlotAt, place-row, running-place, origin-place, since-place, set_in, place-set}
+use Rattle.ap_tied.proofs.Places.{nth, get-nth, nth-long, SlotAt, place-row, running-place, origin-place, since-place, set_in, place-set}
 use Rattle.ap_tied.proofs.SlotEvents.{FirstFrame, first_failed, found, after, happens, now_tied}
 use Rattle.ap_tied.proofs.SlotGoals.{goal_searched, goal_at}
 
@@ -87,7 +88,7 @@ starts code p o m c b f q rd w qs st t i x searched tied failed not_closed place
     at = found code p o m c b f q rd w qs st t tied first i (place-row code p q first.forked.next (instance_all first.is_forked.own first.is_forked.goals) w first.slots i x first.hold row_at)
 
     start : (k : Idle) × (at.progress ≡ idle k) × ((d b : ℕ) (g : Tree) → start_slot d b g (idle k) ≡ Some (started d b g))
-    start = may_start q (_) at.row.stand at.progress (ap is_startable (same (sym at.row_at ∙ row_at)) ∙ startable) at.fits.1
+    start = may_start q (_) at.row.stand at.progress (ap is_startable (same_Some _ _ (sym at.row_at ∙ row_at)) ∙ startable) at.fits.1
 
     begun : Progress
     begun = busy busy_kind.Running (whole (b - c) (alone at.goal first.forked.next))

@@ -15,30 +15,17 @@ use Rattle.ap_reader.specs.Build.{names}
 use Rattle.ap_reader.specs.Step.{postfix}
 use Rattle.ap_reader.specs.Written.{leaves}
 use Rattle.ap_reader.specs.Reading.{first_line, term_of}
-use Rattle.ap_clause.specs.declared.refusal.What.{What}
 use Rattle.ap_clause.specs.declared.refusal.Refusal.{Refusal}
 use Rattle.ap_clause.specs.declared.source.Source.{Source}
 use Rattle.ap_clause.specs.declared.source.Source.TheVariants as source
 use Rattle.ap_clause.specs.Fresh.{lift_name}
-use Rattle.ap_clause.specs.Reads.{Position, Taken, Verdict, Refused, Took, Sentence, fits, table_after, refused_if, refused_outside, refused_past, judged, JudgesOpen, JudgesBy, beside, AcceptsQuery}
-
-pub clash : (r : Refusal) (t : Taken) → Refused r ≡ Took t → ⊥
-clash r t h = cc
+use Rattle.ap_clause.specs.Reads.{Position, Taken, Verdict, Took, Sentence, fits, table_after, refused_if, judged, JudgesOpen, JudgesBy, beside, AcceptsQuery}
+use Rattle.ap_clause.proofs.RulesRead.{clash}
+use Rattle.ap_clause.proofs.Taken.{took_outside, took_past, took}
 
 pub took_if : (b : Bool) (r : Refusal) (v : Verdict) (t : Taken) → refused_if b r v ≡ Took t → v ≡ Took t
 took_if true r v t h = absurd (clash r t h)
 took_if false r v t h = h
-
-pub took_outside : (o : Option ℕ) (line : ℕ) (v : Verdict) (t : Taken) → refused_outside o line v ≡ Took t → v ≡ Took t
-took_outside None line v t h = h
-took_outside (Some a) line v t h = absurd (clash _ t h)
-
-pub took_past : (o : Option What) (line : ℕ) (v : Verdict) (t : Taken) → refused_past o line v ≡ Took t → v ≡ Took t
-took_past None line v t h = h
-took_past (Some a) line v t h = absurd (clash _ t h)
-
-pub took : {a b : Taken} → Took a ≡ Took b → a ≡ b
-took e = cc
 
 put_one : (table : List Text) (n : Text) → (others : List Text) × (insert_name table n ≡ table ++ others)
 put_one table n = go (is_held table n)

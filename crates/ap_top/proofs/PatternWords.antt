@@ -40,6 +40,7 @@ use Rattle.ap_patterns.specs.Places.{arguments}
 use Rattle.ap_patterns.specs.Table.{predicate_of}
 use Rattle.ap_patterns.specs.Entry.{IsMarked}
 use Rattle.ap_top.specs.Patterns.{table_with, ReadsTokens, ReadsPiece, ReadsText, ReadsWord, mark_of, marks_of, is_of, has_clause, IsEntryOf, IsMarkedBy, AreEntries}
+use Rattle.ap_certify.proofs.Closed.{arity_of}
 
 -- ---- tokens
 
@@ -162,12 +163,6 @@ count_marks (more t ts) ms e = go (mark_of t) (marks_of ts) (λ ns f. count_mark
         let size : length (n ∷ ns) ≡ length ms = ap length same in
         omega (arith, rest, size)
 
-arity_is : (t : Tree) (p : Predicate) → predicate_of t ≡ Some p → p.arity ≡ count_trees (arguments t)
-arity_is (var x) p e = absurd (cc)
-arity_is (int z) p e = absurd (cc)
-arity_is (atom a) p e = let same : record { name = a; arity = 0 } ≡ p = cc in sym (ap (λ q. q.arity) same)
-arity_is (node a ts) p e = let same : record { name = a; arity = count_trees ts } ≡ p = cc in sym (ap (λ q. q.arity) same)
-
 few : (p : Predicate) (head : Tree) → IsTrue (callable head) → IsTrue (is_of p (predicate_of head)) → p.arity ≤ 255
 few p (var x) h k = absurd (false≢true h)
 few p (int z) h k = absurd (false≢true h)
@@ -195,7 +190,7 @@ are-marked (Some word) program table entries.Query w h = absurd h.2
 are-marked (Some word) program table (entries.One e) w h =
     let is = h.2 in
     let size : length e.marks.items ≡ count_trees (arguments h.0) = count_marks (arguments h.0) e.marks.items is.marks in
-    let arity : e.predicate.arity ≡ count_trees (arguments h.0) = arity_is h.0 e.predicate is.predicate in
+    let arity : e.predicate.arity ≡ count_trees (arguments h.0) = arity_of h.0 e.predicate is.predicate in
     let most : e.predicate.arity ≤ 255 = some_few program e.predicate w is.clause in
     (size ∙ sym arity, omega (arith, size, arity, most))
 

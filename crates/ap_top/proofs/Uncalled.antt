@@ -26,21 +26,19 @@ use Rattle.ap_lifting.specs.Lifted.{Lifted, applied, stays, number_inside, check
 use Rattle.ap_clause.specs.Clause.{Halves}
 use Rattle.ap_clause.specs.Fresh.{lift_name, atoms_from, names_by}
 use Rattle.ap_clause.specs.Outside.{is_refused, some_if, or_else, outside_goal, outside_head, outside_body, outside_rest, first_outside}
-use Rattle.ap_clause.specs.declared.refusal.Refusal.{Refusal}
 use Rattle.ap_clause.specs.declared.source.Source.{Source}
 use Rattle.ap_clause.specs.declared.source.Source.TheVariants as source
-use Rattle.ap_clause.specs.Reads.{Position, Taken, Verdict, Refused, Took, Stopped, Whole, Sentence, fits, refused_outside, judged, JudgesOpen, JudgesBy, Judges, Goes, Reads, start, beside, AcceptsProgram, AcceptsQuery}
+use Rattle.ap_clause.specs.Reads.{Position, Taken, Verdict, Refused, Took, Whole, Sentence, fits, refused_outside, judged, JudgesOpen, JudgesBy, Judges, Goes, Reads, start, beside, AcceptsProgram, AcceptsQuery}
+use Rattle.ap_clause.proofs.RulesRead.{clash, whole-is, stopped-whole}
+use Rattle.ap_clause.proofs.Taken.{took_outside, took_past, took}
 use Rattle.ap_graft.specs.Uncalled.{IsOther, AreOthers, BodyIsOther, NeverCalls}
 use Rattle.ap_machine.specs.Started.{HasName, NoneIsFor}
 use Rattle.ap_worker.specs.Sought.{MayBeAsked}
 use Rattle.ap_top.specs.Unasked.{LeavesQuery}
-use Rattle.ap_top.proofs.Grown.{clash, took_if, took_outside, took_past, took, put_behind, by_behind}
+use Rattle.ap_top.proofs.Grown.{took_if, put_behind, by_behind}
+use Rattle.ap_open.proofs.Tracing.{append_other}
 
 -- ---- goals
-
-append-other : (a : ℕ) (ts us : Trees) → AreOthers a ts → AreOthers a us → AreOthers a (append_trees ts us)
-append-other a none us h k = k
-append-other a (more t ts) us h k = (h.0, append-other a ts us h.1 k)
 
 none-some : {A : Type 0} (a : A) → Some a ≡ None → ⊥
 none-some a e = cc
@@ -88,7 +86,7 @@ abbrev IsInside : Lifted → Type 0
 IsInside x = AreOthers QUERY (plain_goals x.parts) × AreAway x.clauses
 
 append-parts : (ps qs : List Part) → AreOthers QUERY (plain_goals ps) → AreOthers QUERY (plain_goals qs) → AreOthers QUERY (plain_goals (ps ++ qs))
-append-parts ps qs h k = subst (AreOthers QUERY) (sym (plain_goals-append ps qs)) (append-other QUERY (plain_goals ps) (plain_goals qs) h k)
+append-parts ps qs h k = subst (AreOthers QUERY) (sym (plain_goals-append ps qs)) (append_other QUERY (plain_goals ps) (plain_goals qs) h k)
 
 append-clauses : (p q : Program) → AreAway p → AreAway q → AreAway (p ++ q)
 append-clauses p q h k = AllByRecursion-append IsAway p q h k
@@ -126,7 +124,7 @@ module _ (names : ℕ → ℕ) (vars line : ℕ) (new : (n : ℕ) → names n �
       let y = raised_unless names vars line (stays true b) x.next (lifted names vars line b [] (number_inside (stays true b) x.next)) in
       let h = raised-inside (stays false a) n (lifted names vars line a [] (number_inside (stays false a) n)) (lifted-inside a [] (number_inside (stays false a) n) s.0) in
       let k = raised-inside (stays true b) x.next (lifted names vars line b [] (number_inside (stays true b) x.next)) (lifted-inside b [] (number_inside (stays true b) x.next) s.1) in
-      (append-other QUERY (append_trees (plain_goals x.parts) (plain_goals y.parts)) none (append-other QUERY (plain_goals x.parts) (plain_goals y.parts) h.0 k.0) tt, append-clauses x.clauses y.clauses h.1 k.1)
+      (append_other QUERY (append_trees (plain_goals x.parts) (plain_goals y.parts)) none (append_other QUERY (plain_goals x.parts) (plain_goals y.parts) h.0 k.0) tt, append-clauses x.clauses y.clauses h.1 k.1)
   lifted-inside (conditional ds b) cs n e = lifted-inside b (checks_of ds) n e
 
   if-inside : (b : Option Body) (n : ℕ) → outside_rest b ≡ None → IsInside (lifted_if names vars line b n)
@@ -198,12 +196,6 @@ by-longer bad s p ts t h le =
     let c = put_behind p.table b.0 in
     let e : length t.after.table ≡ length (p.table ++ c.0) = ap length (b.1 ∙ c.1) in
     omega (arith, length-append p.table c.0)
-
-whole-is : {rules rules' : List Rule} {p p' : Position} → Whole rules p ≡ Whole rules' p' → (rules ≡ rules') × (p ≡ p')
-whole-is e = (cc, cc)
-
-stopped-whole : (r : Refusal) (rules : List Rule) (p : Position) → Whole rules p ≡ Stopped r → ⊥
-stopped-whole r rules p e = cc
 
 reads-inside : (text : Text) (ps : List Piece) (p q : Position) (rules all : List Rule) → Reads text ps p rules (Whole all q) → AllByRecursion (IsInsideRule source.Program) rules → 28 ≤ length p.table
     → AllByRecursion (IsInsideRule source.Program) all × (28 ≤ length q.table)

@@ -1,6 +1,6 @@
 -- Bodies part by part.
-use Rattle.std.proofs.Common.{◌≡◌, ℕ, ◌+◌, ◌-◌, ◌<◌, ◌≤◌, Bool, true, false, ◌||◌, IsTrue, List, [], ◌∷◌, ◌++◌, length, take, drop, get_or, map, refl, ap, sym, ◌∙◌, subst, append_assoc, append-nil, arith}
-use Rattle.std.specs.List.{list_all, list_any}
+use Rattle.std.proofs.Common.{◌≡◌, ℕ, ◌+◌, ◌-◌, ◌<◌, ◌≤◌, Bool, IsTrue, List, [], ◌∷◌, ◌++◌, length, take, drop, get_or, map, refl, ap, sym, ◌∙◌, subst, append_assoc, append-nil, arith}
+use Rattle.std.specs.List.{list_all}
 use Rattle.std.proofs.lemmas.Bool.{and_parts, and_from}
 use Rattle.std.proofs.lemmas.List.{drop-map, drop_all, take_rest, length-map, length-drop, drop-drop}
 use Rattle.ap_term.specs.declared.clauses.Check.{Check}
@@ -11,6 +11,7 @@ use Rattle.ap_term.specs.Tree.{Trees}
 use Rattle.ap_term.specs.GoalView.{part_of}
 use Rattle.ap_term.specs.Goals.{Part, group}
 use Rattle.ap_term.specs.WellFormed.{all_callable, numbered_all}
+use Rattle.ap_term.proofs.GoalLists.{any-turn, any-found, any-done}
 use Rattle.ap_absunify.specs.declared.states.State.{State}
 use Rattle.ap_patterns.specs.Given.{Patterns, after_part}
 use Rattle.ap_fixpoint.specs.Formed.{goals_formed}
@@ -18,7 +19,6 @@ use Rattle.ap_fixpoint.proofs.Turns.{parts-drop_more}
 use Rattle.ap_udg.specs.declared.runs.Rule.{Rule}
 use Rattle.ap_udg.specs.Runs.{goals_of, IsLongestRun}
 use Rattle.ap_udg.specs.Grouped.{group_in, IsNext, Grouped, alone, together, done, next}
-use Rattle.ap_udg.specs.Annotated.{is_group}
 use Rattle.ap_udg.specs.Completed.{completed, behind, completed_body}
 use Rattle.ap_udg.proofs.LongestRuns.{last-formed, run-numbered, run-callable}
 
@@ -113,19 +113,6 @@ completed-done analysed t now ps i body whole l h =
     sym (append-nil body) ∙ ap (λ qs. body ++ completed_body analysed t now (map part_of qs)) (sym (drop_all i ps l)) ∙ h
 
 -- ---- whether a body has groups
-
-pub any-turn : (ps : List code.Part) (i : ℕ) (p : code.Part) (whole : Bool) → i < length ps → p ≡ get_or ps i p → is_group (part_of p) ≡ false
-    → list_any is_group (map part_of (drop i ps)) ≡ whole → list_any is_group (map part_of (drop (i + 1) ps)) ≡ whole
-any-turn ps i p whole l e h k =
-    ap (λ b. b || list_any is_group (map part_of (drop (i + 1) ps))) (sym h) ∙ ap (list_any is_group) (sym (parts-drop_more ps i p l e)) ∙ k
-
-pub any-found : (ps : List code.Part) (i : ℕ) (p : code.Part) (whole : Bool) → i < length ps → p ≡ get_or ps i p → is_group (part_of p) ≡ true
-    → list_any is_group (map part_of (drop i ps)) ≡ whole → true ≡ whole
-any-found ps i p whole l e h k =
-    ap (λ b. b || list_any is_group (map part_of (drop (i + 1) ps))) (sym h) ∙ ap (list_any is_group) (sym (parts-drop_more ps i p l e)) ∙ k
-
-pub any-done : (ps : List code.Part) (i : ℕ) (whole : Bool) → length ps ≤ i → list_any is_group (map part_of (drop i ps)) ≡ whole → false ≡ whole
-any-done ps i whole l k = ap (λ qs. list_any is_group (map part_of qs)) (sym (drop_all i ps l)) ∙ k
 
 pub ruleset rules_of_groups = (any-turn, any-found, any-done)
 

@@ -5,6 +5,7 @@ use Rattle.std.proofs.lemmas.Bool.{false≢true, and_parts, and_from}
 use Rattle.std.proofs.lemmas.List.{take-map, length-map}
 use Rattle.std.proofs.Math.Bool.{and-false}
 use Rattle.ap_term.proofs.TermLists.{count-trees_of}
+use Rattle.ap_term.proofs.TreeLists.{rest-same}
 use Rattle.ap_term.specs.declared.terms.Term.{Term}
 use Rattle.ap_term.specs.declared.clauses.Part as code
 use Rattle.ap_term.specs.declared.clauses.Part.TheVariants.{Call, Group}
@@ -75,9 +76,6 @@ count-goals (call g ∷ ps) (suc n) l h =
     let k : count_trees (goals_of (take n ps)) ≡ n = count-goals ps n (omega arith) (and_parts (is_user_call (call g)) (list_all is_user_call (take n ps)) h).1 in omega arith
 count-goals (group cs gs ∷ ps) (suc n) l h = absurd (false≢true h)
 
-tail_same : (t u : Tree) (ts us : Trees) → more t ts ≡ more u us → ts ≡ us
-tail_same t u ts us e = cc
-
 -- the first n of the goals of more parts
 pub run-goals : (ps : List Part) (k n : ℕ) (ts : List Term) → trees_of ts ≡ goals_of (take k ps) → list_all is_user_call (take k ps) ≡ true → n ≤ k
     → trees_of (take n ts) ≡ goals_of (take n ps)
@@ -87,7 +85,7 @@ run-goals [] (suc k) (suc n) [] e h l = refl
 run-goals [] (suc k) (suc n) (t ∷ ts) e h l = absurd (cc)
 run-goals (call g ∷ ps) (suc k) (suc n) [] e h l = absurd (cc)
 run-goals (call g ∷ ps) (suc k) (suc n) (t ∷ ts) e h l =
-    let tails : trees_of ts ≡ goals_of (take k ps) = tail_same (tree_of t) g (trees_of ts) (goals_of (take k ps)) e in
+    let tails : trees_of ts ≡ goals_of (take k ps) = rest-same e in
     let head : tree_of t ≡ g = cc in
     let r = run-goals ps k n ts tails (and_parts (is_user_call (call g)) (list_all is_user_call (take k ps)) h).1 (omega arith) in
     ap (λ z. more z (trees_of (take n ts))) head ∙ ap (more g) r

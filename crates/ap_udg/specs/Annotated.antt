@@ -1,19 +1,11 @@
 -- A program with the groups that an annotator makes by a table.
+pub use Rattle.ap_term.specs.Goals.{is_group, has_groups}
 use Rattle.std.specs.Prelude.{◌≡◌, Bool, true, false, List, [], ◌∷◌}
-use Rattle.std.specs.List.{list_any}
-use Rattle.ap_term.specs.Goals.{Part, call, group, Clause, Program}
+use Rattle.ap_term.specs.Goals.{Part, Clause, Program}
 use Rattle.ap_patterns.specs.Given.{Patterns, is_analysed}
 use Rattle.ap_udg.specs.declared.runs.Rule.{Rule}
 use Rattle.ap_udg.specs.Completed.{start, completed_body}
 use Rattle.ap_udg.specs.Grouped.{Grouped}
-
-abbrev pub is_group : Part → Bool
-is_group (call g) = false
-is_group (group cs gs) = true
-
--- whether a clause has groups that were written by hand
-abbrev pub has_groups : Clause → Bool
-has_groups c = list_any is_group c.body
 
 -- What becomes of a body. Written groups stay, with the checks that they want; without them the goals are grouped; where
 -- the clause isn't analysed, they aren't.

@@ -1,27 +1,16 @@
 -- The search of a goal that was taken, where it begins.
-use Rattle.std.proofs.Common.{◌≡◌, ℕ, suc, ◌+◌, ◌<◌, ◌⊎◌, inl, inr, List, [], ◌∷◌, ◌++◌, Some, None, append-nil, refl, ap, sym, ◌∙◌, subst, arith}
+use Rattle.std.proofs.Common.{◌≡◌, ℕ, suc, ◌+◌, ◌<◌, [], ◌∷◌, Some, None, refl, ap, sym, subst, arith}
 use Rattle.std.specs.Prelude.{Option}
 use Rattle.ap_term.specs.Tree.{Tree, Trees, var, int, atom, node, none, more}
-use Rattle.ap_term.specs.Substitution.{instance, instance_all}
-use Rattle.ap_term.specs.UpToNames.{SameUpToNames}
 use Rattle.ap_term.specs.Vars.{Local, LocalAll}
 use Rattle.ap_term.proofs.Locals.{Local-weaken, LocalAll-weaken}
-use Rattle.ap_laws.specs.Graft.{arguments}
 use Rattle.ap_core.specs.Relation.{Rules}
-use Rattle.ap_tracked.specs.Tracked.{call, Tracked}
 use Rattle.ap_tracked.specs.Forks.{alone}
-use Rattle.ap_tracked.specs.Instances.{Inst}
-use Rattle.ap_resolution.specs.Instances.{IsSetOf}
 use Rattle.ap_instr.specs.declared.compiled.Predicate.{Predicate}
 use Rattle.ap_instr.specs.Code.{Compiled}
-use Rattle.ap_instr.specs.Runs.{applied}
-use Rattle.ap_instr.specs.StandsFor.{IsOfClauses, IsOfBuiltin}
-use Rattle.ap_standing.specs.Machine.{Point, Machine}
-use Rattle.ap_standing.specs.Holds.{SetOf, IsApart, HoldsPoints, Holds}
-use Rattle.ap_standing.proofs.Named.{named-applied}
+use Rattle.ap_standing.specs.Holds.{Holds}
 use Rattle.ap_machine.specs.View.{Paused}
-use Rattle.ap_machine.specs.Started.{called, Started}
-use Rattle.ap_rejoin.proofs.Names.{instance-same}
+use Rattle.ap_machine.specs.Started.{Started}
 use Rattle.ap_tied.specs.Ties.{IsSearched}
 use Rattle.ap_open.specs.Away.{Key, IsGoalOf, IsSearch}
 use Rattle.ap_open.specs.Sharing.{OutcomeLaw}
@@ -37,6 +26,7 @@ use Rattle.ap_stack.specs.declared.stack.Stack.{Stack}
 use Rattle.ap_stack.specs.Levels.{aways_of, levels_of}
 use Rattle.ap_stack.specs.Stacks.{section_in, IsGood}
 use Rattle.ap_stack.proofs.Counts.{fresh-counts}
+use Rattle.ap_stack.proofs.Begun.{goal-alone, kind-of}
 use Rattle.ap_worker.specs.Workers.{IsTaken}
 
 -- ---- variables
@@ -55,56 +45,7 @@ mutual
       let b = bound-trees ts in
       (a.0 + b.0, (Local-weaken (λ x. x < a.0) (λ x. x < a.0 + b.0) (λ x l. omega arith) t a.1, LocalAll-weaken (λ x. x < b.0) (λ x. x < a.0 + b.0) (λ x l. omega arith) ts b.1))
 
-local-arguments : (P : ℕ → Type 0) (g : Tree) → Local P g → LocalAll P (arguments g)
-local-arguments P (var x) h = (h, tt)
-local-arguments P (int z) h = tt
-local-arguments P (atom a) h = tt
-local-arguments P (node a ts) h = h
-
 -- ---- names of variables
-
-instance-applied : (f : ℕ → Tree) (p : ℕ) (ts : Trees) → instance f (applied p ts) ≡ applied p (instance_all f ts)
-instance-applied f p none = refl
-instance-applied f p (more t ts) = refl
-
-called-instances : (name n k : ℕ) (ts us : Trees) → SameUpToNames us ts → (gs t : Trees) → Inst (called name ts n) gs t → Inst (called name us k) gs t
-called-instances name n k ts us same gs t h =
-    let i = instance-same us ts same h.0 in (
-      i.0,
-      h.1 ∙ ap (λ u. more u none) (instance-applied h.0 name ts ∙ ap (applied name) (sym i.1) ∙ sym (instance-applied i.0 name us)),
-      h.2 ∙ sym i.1,
-    )
-
-no-points : (code : Compiled) (roots : List ℕ) (qs : List Point) (left : List Tracked) → qs ≡ [] → HoldsPoints code roots qs left → left ≡ []
-no-points code roots qs left e h = subst (λ ps. HoldsPoints code roots ps left) e h
-
--- another call of that name whose arguments are the same up to names
-renamed-call : (code : Compiled) (m : Machine) (name n k : ℕ) (ts us : Trees) → m.points ≡ [] → SameUpToNames ts us → LocalAll (λ x. x < k) us → Local (λ x. x < k) (applied name us)
-    → Holds code m (called name ts n ∷ []) → Holds code m (called name us k ∷ [])
-renamed-call code m name n k ts us points same below local h =
-    let left = no-points code m.roots m.points h.1 points h.6 in
-    let here : called name ts n ∷ [] ≡ h.0 = h.7 ∙ ap (λ l. h.0 ++ l) left ∙ append-nil h.0 in
-    let set = subst (IsSetOf (SetOf code m)) (sym here) h.2 in (
-      called name us k ∷ [],
-      [],
-      (λ gs t. (λ i. called-instances name n k ts us (sym same) gs t ((set.0 gs t).0 i), λ i. (set.0 gs t).1 (called-instances name k n us ts same gs t i)), refl),
-      ((((local, tt), below, omega arith, tt), (named-applied name us, tt), refl), tt),
-      h.4,
-      h.5,
-      subst (λ ps. HoldsPoints code m.roots ps []) (sym points) refl,
-      refl,
-    )
-
--- the goal alone
-goal-alone : (code : Compiled) (m : Machine) (name n k : ℕ) (ts : Trees) (g : Tree) → m.points ≡ [] → g ≡ applied name (arguments g) → SameUpToNames ts (arguments g) → Local (λ x. x < k) g
-    → Holds code m (called name ts n ∷ []) → Holds code m (alone g k ∷ [])
-goal-alone code m name n k ts g points named same below h =
-    let c = renamed-call code m name n k ts (arguments g) points same (local-arguments (λ x. x < k) g below) (subst (Local (λ x. x < k)) named below) h in
-    subst (λ (t : Tree). Holds code m (record { goals = call t ∷ []; tuple = arguments g; next = k; steps = 0; fault = None } ∷ [])) (sym named) c
-
-kind-of : (code : Compiled) (r : Rules) (q : Predicate) → IsOfClauses code r.program q ⊎ IsOfBuiltin code q → IsApart q ⊎ IsOfBuiltin code q
-kind-of code r q (inl h) = inl h.apart
-kind-of code r q (inr h) = inr h
 
 -- A search of a key's goal stands for that goal alone, whatever its variables are named.
 pub key-holds : (code : Compiled) (key : Key) (p : Paused) → Started code key.tuple key.predicate key.rest p → (code.query ≡ Some key.predicate → ⊥)

@@ -5,6 +5,7 @@ use Rattle.std.proofs.lemmas.List.{drop_more, drop_all}
 use Rattle.ap_term.specs.declared.clauses.Part as code
 use Rattle.ap_term.specs.GoalView.{part_of}
 use Rattle.ap_term.specs.Goals.{Part, call, group, Clause, Program, Query, joined}
+use Rattle.ap_term.proofs.GoalLists.{any-turn, any-found, any-done}
 use Rattle.ap_open.specs.Ungrouped.{AreCalls, IsUngrouped}
 use Rattle.ap_worker.specs.Grouped.{is_group, is_grouped}
 
@@ -18,18 +19,7 @@ parts-more ps i p l e = ap (λ qs. list_any is_group (map part_of qs)) (drop_mor
 
 -- ---- goals
 
-pub part-turn : (ps : List code.Part) (i : ℕ) (p : code.Part) (whole : Bool) → i < length ps → p ≡ get_or ps i p → is_group (part_of p) ≡ false
-    → list_any is_group (map part_of (drop i ps)) ≡ whole → list_any is_group (map part_of (drop (i + 1) ps)) ≡ whole
-part-turn ps i p whole l e h k = ap (λ b. b || list_any is_group (map part_of (drop (i + 1) ps))) (sym h) ∙ sym (parts-more ps i p l e) ∙ k
-
-pub part-found : (ps : List code.Part) (i : ℕ) (p : code.Part) (whole : Bool) → i < length ps → p ≡ get_or ps i p → is_group (part_of p) ≡ true
-    → list_any is_group (map part_of (drop i ps)) ≡ whole → true ≡ whole
-part-found ps i p whole l e h k = ap (λ b. b || list_any is_group (map part_of (drop (i + 1) ps))) (sym h) ∙ sym (parts-more ps i p l e) ∙ k
-
-pub part-done : (ps : List code.Part) (i : ℕ) (whole : Bool) → length ps ≤ i → list_any is_group (map part_of (drop i ps)) ≡ whole → false ≡ whole
-part-done ps i whole l k = ap (λ qs. list_any is_group (map part_of qs)) (sym (drop_all i ps l)) ∙ k
-
-pub ruleset rules_of_parts = (part-turn, part-found, part-done)
+pub ruleset rules_of_parts = (any-turn, any-found, any-done)
 
 -- ---- clauses
 

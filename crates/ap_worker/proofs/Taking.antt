@@ -16,6 +16,7 @@ use Rattle.ap_stack.specs.Levels.{aways_of}
 use Rattle.ap_stack.proofs.Elsewhere.{rise-at-most, levels-elsewhere, good-elsewhere}
 use Rattle.ap_worker.specs.declared.taken.Taken.{Taken}
 use Rattle.ap_worker.specs.Workers.{IsTaken, IsTakenAs, AreTaken}
+use Rattle.ap_term.proofs.Lists.{nil-push}
 
 -- ---- one search
 
@@ -66,15 +67,11 @@ as-fits p s j o out h = (
 
 -- ---- rows
 
-not-nil : {X : Type 0} (xs : List X) (x : X) → [] ≡ xs ++ x ∷ [] → ⊥
-not-nil [] x e = cc
-not-nil (y ∷ ys) x e = cc
-
 -- two rows with one more at the end of each
 pub same-last : {X : Type 0} (xs ys : List X) (x y : X) → xs ++ x ∷ [] ≡ ys ++ y ∷ [] → (xs ≡ ys) × (x ≡ y)
 same-last [] [] x y e = (refl, (cc))
-same-last [] (b ∷ ys) x y e = let n : [] ≡ ys ++ y ∷ [] = cc in absurd (not-nil ys y n)
-same-last (a ∷ xs) [] x y e = let n : [] ≡ xs ++ x ∷ [] = cc in absurd (not-nil xs x n)
+same-last [] (b ∷ ys) x y e = let n : [] ≡ ys ++ y ∷ [] = cc in absurd (nil-push ys y n)
+same-last (a ∷ xs) [] x y e = let n : [] ≡ xs ++ x ∷ [] = cc in absurd (nil-push xs x n)
 same-last (a ∷ xs) (b ∷ ys) x y e =
     let tails : xs ++ x ∷ [] ≡ ys ++ y ∷ [] = cc in
     let heads : a ≡ b = cc in

@@ -1,8 +1,8 @@
 use Rattle.std.proofs.Common.{◌≡◌, ◌<◌, rules, ap, sym, arith}
 use Rattle.ap_term.specs.Tree.{size, size_all, push_tree}
 use Rattle.ap_term.specs.TermView.{tree_of, trees_of}
-use Rattle.ap_term.proofs.TermLists.{item_smaller, size_all-push}
-use Rattle.ap_absunify.proofs.Parts.{parts-last, last-smaller, numbered-front, numbered-item, numbered-node, parts_all-turn}
+use Rattle.ap_term.proofs.TermLists.{item_smaller, size_all-push, last_smaller}
+use Rattle.ap_absunify.proofs.Parts.{parts-last, numbered-front, numbered-item, numbered-node, parts_all-turn}
 use Rattle.ap_absunify.proofs.equations.+after_equal.Goals as goal
 
 pub after_each_equal-after_equal-requires : goal.after_each_equal-after_equal-requires
@@ -46,5 +46,5 @@ after_equal-loop-left-preserved t c =
           c.in_ok-state-in-Some-Some.ensures whole;
       left_numbers = (numbered-front 255 c.in-Node-Node.ts _ _ c.in-Some-Some.ensures (numbered-node 255 _ c.in-Node-Node.a c.in-Node-Node.ts c.in-Node-Node.is-0 c.loop-left.invariant.left_numbers)).1;
       right_numbers = (numbered-front 255 c.in-Node-Node.us _ _ c.in-Some-Some.ensures' (numbered-node 255 _ c.in-Node-Node.b c.in-Node-Node.us c.in-Node-Node.is-1 c.loop-left.invariant.right_numbers)).1;
-      smaller = last-smaller c.in-Node-Node.a _ _ _ _ c.in-Some-Some.ensures smaller;
+      smaller = last_smaller c.in-Node-Node.a _ _ _ _ c.in-Some-Some.ensures smaller;
     }

@@ -1,6 +1,7 @@
 use Rattle.std.proofs.Common.{◌≤◌, arith}
+use Rattle.std.proofs.lemmas.Result.{on_ok_weaker}
 use Rattle.ap_codecheck.proofs.Ways.{place_below}
-use Rattle.ap_codecheck.proofs.Tried.{retry-behind, trust-behind, begins-other, retry-first, trust-first, trying-awaited, trying-last, trying-next, trying-stray, no_alternative, ok_more}
+use Rattle.ap_codecheck.proofs.Tried.{retry-behind, trust-behind, begins-other, retry-first, trust-first, trying-awaited, trying-last, trying-next, trying-stray, no_alternative}
 use Rattle.ap_codecheck.proofs.paths.check_others.Goals as goal
 
 pub check_begun-requires-clause-behind : goal.check_begun-requires-clause-behind
@@ -27,11 +28,11 @@ pub returns-in-Trust-clause-awaited : goal.returns-in-Trust-clause-awaited
 returns-in-Trust-clause-awaited c =
     let behind : c.args.p.now.start ≤ c.loop-at.at = omega (arith, c.loop-at.invariant.behind) in
     let place = place_below c.args.code.now c.args.p.now c.loop-at.at _ _ behind c.loop-at-test.true c.min-end.ensures c.instructions.ensures in
-    ok_more _ _ _ (λ _. trying-awaited c.args.code.now c.args.p.now c.loop-at.at c.in-Trust.l c.loop-at.invariant place c.in-Trust.ensures) c.check_begun-in-Trust.ensures.ok
+    on_ok_weaker _ (λ _. trying-awaited c.args.code.now c.args.p.now c.loop-at.at c.in-Trust.l c.loop-at.invariant place c.in-Trust.ensures) c.check_begun-in-Trust.ensures.ok
 
 pub returns-in-Trust-clause-clauses : goal.returns-in-Trust-clause-clauses
 returns-in-Trust-clause-clauses c =
-    ok_more _ _ _ (trying-last c.args.code.now c.args.p.now c.loop-at.at c.in-Trust.l c.loop-at.invariant c.in-Trust.ensures) c.check_begun-in-Trust.ensures.ok
+    on_ok_weaker _ (trying-last c.args.code.now c.args.p.now c.loop-at.at c.in-Trust.l c.loop-at.invariant c.in-Trust.ensures) c.check_begun-in-Trust.ensures.ok
 
 pub loop-at-preserved : goal.loop-at-preserved
 loop-at-preserved c =

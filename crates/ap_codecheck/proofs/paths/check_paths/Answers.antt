@@ -1,6 +1,7 @@
 use Rattle.std.proofs.Common.{rules, arith}
+use Rattle.std.proofs.lemmas.Result.{on_ok_weaker}
 use Rattle.ap_codecheck.specs.Paths.{IsPlaceOf}
-use Rattle.ap_codecheck.proofs.Tried.{try-behind, begins-first, begins-one, paths-tried, paths-none, paths-one, ok_more, ok_both}
+use Rattle.ap_codecheck.proofs.Tried.{try-behind, begins-first, begins-one, paths-tried, paths-none, paths-one, ok_both}
 use Rattle.ap_codecheck.proofs.paths.check_paths.Goals as goal
 
 pub check_begun-requires-clause-behind : goal.check_begun-requires-clause-behind
@@ -32,6 +33,6 @@ pub returns-in_default : goal.returns-in_default
 returns-in_default c =
     let place : IsPlaceOf c.args.code.now c.args.p.now c.args.p.now.start = search rules in
     record {
-      ok = ok_more _ _ _ (paths-one c.args.code.now c.args.p.now c.instruction_at.result place c.instruction_at.ensures c.in_default.not-Try c.in_default.not-Fail) c.check_begun-in_default.ensures.ok;
+      ok = on_ok_weaker _ (paths-one c.args.code.now c.args.p.now c.instruction_at.result place c.instruction_at.ensures c.in_default.not-Try c.in_default.not-Fail) c.check_begun-in_default.ensures.ok;
       bad = c.check_begun-in_default.ensures.bad;
     }

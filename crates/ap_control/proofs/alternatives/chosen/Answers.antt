@@ -5,9 +5,9 @@ use Rattle.ap_instr.specs.declared.instruction.Instr.{Instr}
 use Rattle.ap_instr.specs.declared.instruction.Instr.TheVariants.{Try}
 use Rattle.ap_instr.specs.StandsFor.{tried}
 use Rattle.ap_index.specs.Index.{named}
-use Rattle.ap_term.proofs.Lists.{drop-here}
 use Rattle.ap_control.proofs.Choices.{named-other}
 use Rattle.ap_control.proofs.alternatives.chosen.Goals as goal
+use Rattle.ap_term.proofs.Lists.{drop-here}
 
 pub returns-in-Try-clause-some : goal.returns-in-Try-clause-some
 returns-in-Try-clause-some c =

@@ -2,9 +2,9 @@ use Rattle.std.proofs.Common.{◌≡◌, ◌+◌, Some, drop, slice_get, ap, sym
 use Rattle.ap_instr.specs.declared.instruction.Instr.{Instr}
 use Rattle.ap_instr.specs.declared.instruction.Instr.TheVariants.{Try, Fail}
 use Rattle.ap_instr.specs.StandsFor.{alternatives}
-use Rattle.ap_term.proofs.Lists.{drop-here}
-use Rattle.ap_control.proofs.Choices.{drop-past, alternatives-other}
 use Rattle.ap_control.proofs.alternatives.first.Goals as goal
+use Rattle.ap_term.proofs.Lists.{drop-here, drop-past}
+use Rattle.ap_codecheck.proofs.Tried.{alternatives_one}
 
 pub returns-in-None-clause-some : goal.returns-in-None-clause-some
 returns-in-None-clause-some c = ap (alternatives c.args.predicate.now.start) (drop-past c.args.code.now.instructions c.args.predicate.now.start (sym c.in-None.ensures))
@@ -29,5 +29,5 @@ returns-in_default c =
     let at = c.args.predicate.now.start in
     record {
       none = λ n. absurd (let z : ⊥ = cc in z);
-      some = ap (alternatives at) (drop-here is at c.in-Some.instr (sym c.in-Some.ensures)) ∙ alternatives-other at c.in-Some.instr (drop (at + 1) is) c.in_default.not-Try c.in_default.not-Fail;
+      some = ap (alternatives at) (drop-here is at c.in-Some.instr (sym c.in-Some.ensures)) ∙ alternatives_one at c.in-Some.instr (drop (at + 1) is) c.in_default.not-Try c.in_default.not-Fail;
     }

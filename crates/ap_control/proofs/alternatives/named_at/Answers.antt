@@ -2,9 +2,9 @@ use Rattle.std.proofs.Common.{◌≡◌, ◌+◌, Some, length, drop, slice_get,
 use Rattle.ap_instr.specs.declared.instruction.Instr.{Instr}
 use Rattle.ap_instr.specs.declared.instruction.Instr.TheVariants.{Retry, Trust}
 use Rattle.ap_instr.specs.StandsFor.{tried}
-use Rattle.ap_term.proofs.Lists.{drop-here}
-use Rattle.ap_control.proofs.Choices.{drop-past, drop-beyond, tried-other}
+use Rattle.ap_control.proofs.Choices.{drop-beyond, tried-other}
 use Rattle.ap_control.proofs.alternatives.named_at.Goals as goal
+use Rattle.ap_term.proofs.Lists.{drop-here, drop-past}
 
 pub returns-then-at-instructions-clause-none : goal.returns-then-at-instructions-clause-none
 returns-then-at-instructions-clause-none c = λ n. ap tried (drop-beyond c.args.code.now.instructions c.args.at (let l = ap length c.instructions.ensures in omega arith))

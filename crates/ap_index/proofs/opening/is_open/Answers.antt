@@ -4,7 +4,7 @@ use Rattle.ap_instr.specs.Steps.{steps_from, skipped}
 use Rattle.ap_instr.proofs.Steps.{steps_law}
 use Rattle.ap_instr.specs.Runs.{IsOpen, AsksOpenly}
 use Rattle.ap_needs.specs.Needs.{is_transfer}
-use Rattle.ap_index.proofs.Openness.{steps-next}
+use Rattle.ap_needs.proofs.Places.{steps-next}
 use Rattle.ap_index.specs.declared.opening.Way.TheVariants.{On, Structure}
 use Rattle.ap_index.specs.Opening.{IsOpenInside, LeadsBy}
 use Rattle.ap_index.proofs.Building.{inside-none, inside-open}

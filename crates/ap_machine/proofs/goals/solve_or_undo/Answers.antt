@@ -1,7 +1,9 @@
 use Rattle.std.proofs.Common.{◌≤◌, length, ap, arith}
-use Rattle.ap_control.proofs.Marks.{Keeps-trans, back-to}
-use Rattle.ap_machine.proofs.Marked.{Keeps-same, no-fewer}
+use Rattle.ap_control.proofs.Marks.{back-to}
+use Rattle.ap_machine.proofs.Marked.{no-fewer}
 use Rattle.ap_machine.proofs.goals.solve_or_undo.Goals as goal
+use Rattle.ap_cells.proofs.Stores.{Keeps-trans}
+use Rattle.ap_copy.proofs.Moves.{Keeps-same}
 
 pub undo_to-requires : goal.undo_to-requires
 undo_to-requires c = c.solve.ensures.keeps.stays c.mark-mark.result.cells c.mark-mark.result.trail c.mark-mark.ensures.is_mark

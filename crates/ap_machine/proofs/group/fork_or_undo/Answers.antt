@@ -1,9 +1,9 @@
 use Rattle.ap_control.proofs.Marks.{back-to}
-use Rattle.ap_machine.proofs.Ran.{longer}
 use Rattle.ap_machine.proofs.group.fork_or_undo.Goals as goal
+use Rattle.ap_machine.proofs.Marked.{no-fewer}
 
 pub returns-in-Ok-clause-longer : goal.returns-in-Ok-clause-longer
-returns-in-Ok-clause-longer c = longer c.args.cells.now c.gather.new.cells c.mark-mark.result.cells c.mark-mark.result.trail c.is_store.ensures.is_trail c.mark-mark.ensures.is_mark c.mark-mark.ensures.leads c.gather.ensures.keeps
+returns-in-Ok-clause-longer c = no-fewer c.args.cells.now c.gather.new.cells c.mark-mark.result.cells c.mark-mark.result.trail c.is_store.ensures.is_trail c.mark-mark.ensures.is_mark c.mark-mark.ensures.leads c.gather.ensures.keeps
 
 pub undo_to-requires : goal.undo_to-requires
 undo_to-requires c = c.gather.ensures.keeps.stays c.mark-mark.result.cells c.mark-mark.result.trail c.mark-mark.ensures.is_mark

@@ -4,9 +4,9 @@ use Rattle.ap_environments.specs.Kept.{Forked}
 use Rattle.ap_environments.specs.declared.environments.Fork.{Fork}
 use Rattle.ap_group.specs.Groups.{Pushed}
 use Rattle.ap_machine.specs.Sane.{HasFrames}
-use Rattle.ap_machine.proofs.Parting.{some-at}
 use Rattle.ap_machine.proofs.Rejoining.{listed-more}
 use Rattle.ap_machine.proofs.rejoin.list_goals.Goals as goal
+use Rattle.ap_term.proofs.Lists.{slice_get-inside}
 
 pub unreachable-requires : goal.unreachable-requires
 unreachable-requires c =
@@ -15,7 +15,7 @@ unreachable-requires c =
     let same = ap (λ (u : Fork). u.goals) s.4 in
     let here : c.loop-i.i < c.in-Some.fork.goals = c.loop-i-test.true in
     let n : f.fork.goals ≤ length f.returns = (subst (AllByRecursion HasFrames) s.3 c.requires.frames).0.enough in
-    some-at f.returns c.loop-i.i (omega arith) (c.goal.ensures.none c.in-None.is f s.2 s.3 (omega arith))
+    slice_get-inside f.returns c.loop-i.i (omega arith) (c.goal.ensures.none c.in-None.is f s.2 s.3 (omega arith))
 
 pub loop-i-preserved : goal.loop-i-preserved
 loop-i-preserved c = λ f fs e.

@@ -2,9 +2,9 @@ use Rattle.std.proofs.Common.{◌≡◌, None, sym, ap, ◌∙◌}
 use Rattle.std.specs.Option.{option_copied}
 use Rattle.indexmap.specs.IndexMap.{get}
 use Rattle.ap_reach.specs.Reached.{is_key}
-use Rattle.ap_reach.proofs.Same.{same_key}
 use Rattle.ap_reach.proofs.Naming.{place_kept}
 use Rattle.ap_reach.proofs.called.place_constant.Goals as goal
+use Rattle.ap_term.proofs.Lists.{same_key}
 
 pub returns-in_ok-insert-in-None-clause-kept : goal.returns-in_ok-insert-in-None-clause-kept
 returns-in_ok-insert-in-None-clause-kept c k i e =

@@ -2,9 +2,9 @@ use Rattle.std.proofs.Common.{sym, ap, ◌∙◌}
 use Rattle.std.proofs.lemmas.Result.{on_ok_weaker}
 use Rattle.ap_term.specs.Tree.{Tree, atom, node}
 use Rattle.ap_term.specs.TermView.{tree_of, trees_of}
+use Rattle.ap_term.proofs.Lists.{own_key}
 use Rattle.ap_reach.specs.declared.called.Called.TheVariants.{All as Whole}
 use Rattle.ap_reach.specs.Reached.{answers}
-use Rattle.ap_reach.proofs.Same.{own_key}
 use Rattle.ap_reach.proofs.calls.add_goal.Goals as goal
 
 pub returns-in-Atom-clause-named : goal.returns-in-Atom-clause-named

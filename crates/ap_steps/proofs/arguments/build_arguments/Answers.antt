@@ -6,10 +6,11 @@ use Rattle.ap_instr.specs.Step.{step_of}
 use Rattle.ap_instr.specs.Steps.{steps_from, skipped}
 use Rattle.ap_instr.proofs.Steps.{steps_law, steps-past}
 use Rattle.ap_needs.specs.Needs.{HasTargets, is_value, has_value}
+use Rattle.ap_needs.proofs.Places.{steps-next}
 use Rattle.ap_steps.specs.Moves.{held}
 use Rattle.ap_steps.specs.declared.arguments.Parts.TheVariants.{Fresh, Values}
 use Rattle.ap_steps.specs.Arguments.{BuiltOr, BuiltAll, are_built, StandApart}
-use Rattle.ap_steps.proofs.Places.{steps-next, plain-transfer, targets-here, none-more, none-targets, value-kept, value-among}
+use Rattle.ap_steps.proofs.Places.{plain-transfer, targets-here, none-more, none-targets, value-kept, value-among}
 use Rattle.ap_steps.proofs.NewCells.{KeepTrees-trans, StandApart-trans}
 use Rattle.ap_steps.proofs.StructureSteps.{BuiltAll-more, BuiltAll-stuck, BuiltAll-end}
 use Rattle.ap_steps.proofs.arguments.build_arguments.Goals as goal

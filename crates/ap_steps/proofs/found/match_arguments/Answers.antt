@@ -6,9 +6,10 @@ use Rattle.ap_instr.specs.Step.{step_of}
 use Rattle.ap_instr.specs.Steps.{steps_from, skipped}
 use Rattle.ap_instr.proofs.Steps.{steps_law, steps-past}
 use Rattle.ap_needs.specs.Needs.{HasTargets, has_value}
+use Rattle.ap_needs.proofs.Places.{steps-next}
 use Rattle.ap_steps.specs.Moves.{held}
 use Rattle.ap_steps.specs.Found.{MovesInside, Matched}
-use Rattle.ap_steps.proofs.Places.{steps-next, plain-transfer, targets-here, none-more, none-targets, value-among}
+use Rattle.ap_steps.proofs.Places.{plain-transfer, targets-here, none-more, none-targets, value-among}
 use Rattle.ap_steps.proofs.Finding.{MovesInside-refl, MovesInside-trans, MovesInside-stuck, MovesInside-end}
 use Rattle.ap_steps.proofs.found.match_arguments.Goals as goal
 

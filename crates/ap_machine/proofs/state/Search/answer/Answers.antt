@@ -4,13 +4,14 @@ use Rattle.std.specs.Prelude.{IfOk}
 use Rattle.ap_tracked.specs.Tracked.{Tracked}
 use Rattle.ap_term.specs.Tree.{Trees}
 use Rattle.ap_term.specs.UpToNames.{SameUpToNames}
+use Rattle.ap_term.proofs.TreeLists.{count-under}
 use Rattle.ap_cells.specs.Trees.{tree_at, trees}
 use Rattle.ap_copy.specs.Copies.{tuple_at}
 use Rattle.ap_instr.specs.Code.{Compiled}
 use Rattle.ap_standing.specs.Holds.{Holds}
 use Rattle.ap_machine.specs.Stands.{IsAtAnswer, tuple_of}
 use Rattle.ap_machine.specs.View.{Paused}
-use Rattle.ap_machine.proofs.Tuples.{tuple_at-under, count-same, count-under}
+use Rattle.ap_machine.proofs.Tuples.{tuple_at-under, count-same}
 use Rattle.ap_machine.proofs.Resting.{roots-inside, answer-first}
 use Rattle.ap_machine.proofs.state.Search.answer.Goals as goal
 

@@ -4,6 +4,7 @@ use Rattle.std.proofs.lemmas.Result.{IfOk-weaker}
 use Rattle.ap_term.specs.Tuples.{tuple_under}
 use Rattle.ap_term.specs.Tree.{Trees, count_trees}
 use Rattle.ap_term.specs.UpToNames.{SameUpToNames}
+use Rattle.ap_term.proofs.TreeLists.{count-under}
 use Rattle.ap_cells.specs.Trees.{tree_at, trees}
 use Rattle.ap_cells.specs.Walks.{Each}
 use Rattle.ap_copy.specs.Copies.{tuple_at}
@@ -11,7 +12,7 @@ use Rattle.ap_group.specs.Groups.{Pushed}
 use Rattle.ap_machine.specs.View.{Paused, pushed_of}
 use Rattle.ap_machine.specs.Forks.{newest_goals}
 use Rattle.ap_machine.proofs.Parting.{no-moment, no-frame, goal-at, goal-inside, each-held}
-use Rattle.ap_machine.proofs.Tuples.{tuple_at-under, count-same, count-under}
+use Rattle.ap_machine.proofs.Tuples.{tuple_at-under, count-same}
 use Rattle.ap_machine.proofs.state.Search.parcel.Goals as goal
 
 pub goal-requires : goal.goal-requires

@@ -2,17 +2,17 @@ use Rattle.std.proofs.Common.{◌≡◌, ℕ, true, false, List, length, ap, sym
 use Rattle.std.specs.Prelude.{IfOk}
 use Rattle.ap_cells.specs.Store.{Keeps}
 use Rattle.ap_cells.specs.declared.cells.Raw.{Raw}
+use Rattle.ap_cells.proofs.Stores.{Keeps-trans}
 use Rattle.ap_control.specs.Taking.{CanTake}
-use Rattle.ap_control.proofs.Marks.{Keeps-trans}
 use Rattle.ap_steps.specs.Moves.{held, IsStuck}
 use Rattle.ap_instr.specs.Steps.{steps_from}
 use Rattle.ap_machine.specs.View.{Paused}
 use Rattle.ap_machine.specs.Back.{CanGoBack}
-use Rattle.ap_machine.proofs.Marked.{Keeps-same}
 use Rattle.ap_machine.proofs.Alternatives.{written}
 use Rattle.ap_machine.proofs.Sanity.{Sane-keeps}
 use Rattle.ap_machine.proofs.Returning.{can-return, Sane-written, returned-written}
 use Rattle.ap_machine.proofs.state.Search.try_clause.Goals as goal
+use Rattle.ap_copy.proofs.Moves.{Keeps-same}
 
 pub invariant_of-self : goal.invariant_of-self
 invariant_of-self c =

@@ -1,5 +1,6 @@
 use Rattle.std.proofs.Common.{suc, take, drop, refl, sym, ◌∙◌, subst}
 use Rattle.std.proofs.lemmas.List.{set_split}
+use Rattle.std.proofs.lemmas.Option.{same_Some}
 use Rattle.ap_open.specs.Sharing.{IsKeyOf}
 use Rattle.ap_section.specs.Views.{view_of}
 use Rattle.ap_post.specs.Posted.{Posted, posted_at}
@@ -7,7 +8,7 @@ use Rattle.ap_post.specs.Posts.{IsMore}
 use Rattle.ap_stack.specs.declared.stack.Open.{Open}
 use Rattle.ap_stack.specs.Levels.{IsOpen}
 use Rattle.ap_stack.proofs.Offers.{offered-below}
-use Rattle.ap_stack.proofs.Places.{some-is, at-place, all-at, number-below, split-at}
+use Rattle.ap_stack.proofs.Places.{at-place, all-at, number-below, split-at}
 use Rattle.ap_stack.proofs.Returns.{posted-goes}
 use Rattle.ap_stack.proofs.stack.Stack.offer_outer.Goals as goal
 
@@ -38,8 +39,8 @@ returns-clause-goes c =
     let d : Open = record { section = c.start_slot.new.self; place = e.place; since = e.since; frame = e.frame; turn = e.turn } in
     let a : Posted = posted_at c.in-Some.job.place c.in-Some.job in
     let e-at = at-place items k e c.requires.there c.index_mut.ensures.value in
-    let asked = some-is (sym (at-place items k c.index.result.now c.requires.there c.index.ensures) ∙ e-at) in
-    let told = some-is (sym (at-place items k c.index-2.result.now c.requires.there c.index-2.ensures) ∙ e-at) in
+    let asked = same_Some _ _ (sym (at-place items k c.index.result.now c.requires.there c.index.ensures) ∙ e-at) in
+    let told = same_Some _ _ (sym (at-place items k c.index-2.result.now c.requires.there c.index-2.ensures) ∙ e-at) in
     let key = rw c.in-Some.is at c.in_ok-job.ensures in
     let more = subst (λ (x : Open). IsMore x.frame a p q) told c.if-not-offer.ensures.told in
     let key' = subst (λ (x : Open). IsKeyOf s.sound.now c.args.i (view_of x.section) a.away.key) asked key.0 in
