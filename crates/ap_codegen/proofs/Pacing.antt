@@ -15,7 +15,7 @@ use Rattle.ap_codecheck.specs.Rules.{ArgumentsSet, IsRoomFor}
 use Rattle.ap_codegen.specs.Permanent.{see, see_all, inner, place, fill, fills, see_built, see_nested, build, nested, puts, see_puts, goal_code, see_taken, see_opened, take, takes, get, opens, gets}
 use Rattle.ap_codegen.specs.Paces.{IsSlot, PacesTo}
 use Rattle.ap_codegen.proofs.Registers.{set_here, set_other}
-use Rattle.ap_codegen.proofs.PermanentReads.{has-push, place_below, place_apart, goal_sees, taken_sees}
+use Rattle.ap_codegen.proofs.PermanentReads.{has-pushed, place_below, place_apart, goal_sees, taken_sees}
 
 -- outside of structures, in an environment for n variables
 pub record Fine (n : ℕ) (s : Shape) : Type 0 where
@@ -77,7 +77,7 @@ set_twice x a w b e = go (w == a)
     go false = e
 
 pub sees_more : (seen : List ℕ) (y : ℕ → Bool) (v : ℕ) → Sees seen y → Sees (seen ++ v ∷ []) (set y v true)
-sees_more seen y v s w h = elim (has-push seen v w h) [ inl p ↦ set_true y v w (s w p) | inr p ↦ ap (set y v true) (sym p) ∙ set_here y v true ]
+sees_more seen y v s w h = elim (has-pushed seen v w h) [ inl p ↦ set_true y v w (s w p) | inr p ↦ ap (set y v true) (sym p) ∙ set_here y v true ]
 
 not_one : (c : ℕ) → (c + 1 + 1 == 1) ≡ false
 not_one c = go (c + 1 + 1 == 1) refl

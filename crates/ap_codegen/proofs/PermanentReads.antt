@@ -98,12 +98,12 @@ reassoc_back a b c ts x y bs r = subst (λ q. Runs q ts x y bs) (sym (append_ass
 abbrev pub AgreeOn : List ℕ → (ℕ → Tree) → (ℕ → Tree) → Type 0
 AgreeOn seen y h = (v : ℕ) → has seen v ≡ true → y v ≡ h v
 
-pub has-push : (xs : List ℕ) (v w : ℕ) → has (xs ++ v ∷ []) w ≡ true → (has xs w ≡ true) ⊎ (v ≡ w)
-has-push [] v w h = elim (or_cases (nat_eq v w) false h) [ inl p ↦ inr (same_var v w p) | inr p ↦ absurd (false≢true p) ]
-has-push (x ∷ xs) v w h =
+pub has-pushed : (xs : List ℕ) (v w : ℕ) → has (xs ++ v ∷ []) w ≡ true → (has xs w ≡ true) ⊎ (v ≡ w)
+has-pushed [] v w h = elim (or_cases (nat_eq v w) false h) [ inl p ↦ inr (same_var v w p) | inr p ↦ absurd (false≢true p) ]
+has-pushed (x ∷ xs) v w h =
     elim (or_cases (nat_eq x w) (has (xs ++ v ∷ []) w) h) [
       | inl p ↦ inl (or_left (nat_eq x w) (has xs w) p)
-      | inr p ↦ elim (has-push xs v w p) [ inl q ↦ inl (or_right (nat_eq x w) (has xs w) q) | inr q ↦ inr q ]
+      | inr p ↦ elim (has-pushed xs v w p) [ inl q ↦ inl (or_right (nat_eq x w) (has xs w) q) | inr q ↦ inr q ]
     ]
 
 -- a variable that was not seen may be set
@@ -115,7 +115,7 @@ push_agrees seen y h v a w o = go (w == v) refl
   where
     go : (b : Bool) → (w == v) ≡ b → (if b then h v else y w) ≡ h w
     go true e = ap h (sym (same_var w v e))
-    go false e = elim (has-push seen v w o) [ inl p ↦ a w p | inr p ↦ absurd (false≢true (sym e ∙ same_test w v (sym p))) ]
+    go false e = elim (has-pushed seen v w o) [ inl p ↦ a w p | inr p ↦ absurd (false≢true (sym e ∙ same_test w v (sym p))) ]
 
 -- maps that agree on what was seen of a tree make the same of it
 pub seen_same : (t : Tree) (seen : List ℕ) (y h : ℕ → Tree) → AgreeOn (add_vars t seen) y h → instance y t ≡ instance h t
@@ -162,7 +162,7 @@ mutual
     where
       go : (b : Bool) → has (if b then seen else seen ++ v ∷ []) w ≡ true → (has seen w ≡ true) ⊎ (nat_eq w v ≡ true)
       go true h = inl h
-      go false h = elim (has-push seen v w h) [ inl p ↦ inl p | inr q ↦ inr (same_test w v (sym q)) ]
+      go false h = elim (has-pushed seen v w h) [ inl p ↦ inl p | inr q ↦ inr (same_test w v (sym q)) ]
   add_vars-has w (int z) seen h = inl h
   add_vars-has w (atom a) seen h = inl h
   add_vars-has w (node a ts) seen h = add_all_vars-has w ts seen h
