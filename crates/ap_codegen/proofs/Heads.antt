@@ -20,17 +20,17 @@ use Rattle.ap_codegen.specs.Permanent.{is_builtin_key}
 
 -- ---- keys
 
-same_key : (k l : Key) → is_key k l ≡ true → k ≡ l
+pub same_key : (k l : Key) → is_key k l ≡ true → k ≡ l
 same_key k l e =
     let b = and_parts (k.0 == l.0) (k.1 == l.1) e in
     let f : k.0 ≡ l.0 = (Decides-eqb k.0 l.0).0 b.0 in
     let g : k.1 ≡ l.1 = (Decides-eqb k.1 l.1).0 b.1 in
     ap (λ n. (n, k.1)) f ∙ ap (λ n. (l.0, n)) g
 
-own_key : (k : Key) → is_key k k ≡ true
+pub own_key : (k : Key) → is_key k k ≡ true
 own_key k = ap (λ b. b && (k.1 == k.1)) ((Decides-eqb k.0 k.0).1 refl) ∙ (Decides-eqb k.1 k.1).1 refl
 
-turned_key : (k l : Key) → is_key k l ≡ is_key l k
+pub turned_key : (k l : Key) → is_key k l ≡ is_key l k
 turned_key k l = go (is_key k l) (is_key l k) refl refl
   where
     go : (b c : Bool) → is_key k l ≡ b → is_key l k ≡ c → b ≡ c
@@ -159,7 +159,7 @@ still_lacked ks k (l ∷ ps) h = go (is_key k l) refl (still_lacked ks k ps h)
     go false d e = ap (λ ps. if lacks ks l then l ∷ ps else ps) e
 
 -- the table has its keys, and then those of the clauses that it lacks
-heads_behind : (ks : List Key) (cs : Program) → with_heads ks cs ≡ ks ++ filter (lacks ks) (predicates_of cs)
+pub heads_behind : (ks : List Key) (cs : Program) → with_heads ks cs ≡ ks ++ filter (lacks ks) (predicates_of cs)
 heads_behind ks [] = sym (append_nil ks)
   where
     append_nil : (xs : List Key) → xs ++ [] ≡ xs
@@ -203,7 +203,7 @@ one_found k (l ∷ ks) h = go (is_key k l) refl h (λ h. one_found k ks h)
     go true e h ih = inl (same_key k l e)
     go false e h ih = inr (ih h)
 
-one_filtered : (f : Key → Bool) (k : Key) (ks : List Key) → IsOneOf k (filter f ks) → IsOneOf k ks
+pub one_filtered : (f : Key → Bool) (k : Key) (ks : List Key) → IsOneOf k (filter f ks) → IsOneOf k ks
 one_filtered f k [] h = absurd h
 one_filtered f k (l ∷ ks) h = go (f l) h (λ h. one_filtered f k ks h)
   where
@@ -220,11 +220,11 @@ key_stays k ks (Some l) h = go (list_any (is_key l) ks)
     go true = h
     go false = one_append k ks (l ∷ []) h
 
-heads_stay : (k : Key) (ks : List Key) (cs : Program) → IsOneOf k ks → IsOneOf k (with_heads ks cs)
+pub heads_stay : (k : Key) (ks : List Key) (cs : Program) → IsOneOf k ks → IsOneOf k (with_heads ks cs)
 heads_stay k ks [] h = h
 heads_stay k ks (c ∷ cs) h = heads_stay k (with_key ks (head_key c.head)) cs (key_stays k ks (head_key c.head) h)
 
-key_there : (k : Key) (ks : List Key) → IsOneOf k (with_key ks (Some k))
+pub key_there : (k : Key) (ks : List Key) → IsOneOf k (with_key ks (Some k))
 key_there k ks = go (list_any (is_key k) ks) refl
   where
     go : (b : Bool) → list_any (is_key k) ks ≡ b → IsOneOf k (if b then ks else ks ++ k ∷ [])
@@ -240,7 +240,7 @@ heads_there k ks (c ∷ cs) h = go (head_key c.head) h (λ ks h. heads_there k k
     go (Some l) (inl e) ih = heads_stay k (with_key ks (Some l)) cs (subst (λ l. IsOneOf k (with_key ks (Some l))) e (key_there k ks))
     go (Some l) (inr h) ih = ih (with_key ks (Some l)) (one_filtered (λ m. not (is_key l m)) k (predicates_of cs) h)
 
-one_at : {A : Type 0} (x : A) (xs : List A) → IsOneOf x xs → (i : ℕ) × (slice_get xs i ≡ Some x)
+pub one_at : {A : Type 0} (x : A) (xs : List A) → IsOneOf x xs → (i : ℕ) × (slice_get xs i ≡ Some x)
 one_at x [] h = absurd h
 one_at x (y ∷ xs) (inl e) = (0, ap Some (sym e))
 one_at x (y ∷ xs) (inr h) = let r = one_at x xs h in (suc r.0, r.1)
@@ -253,7 +253,7 @@ at_one x (y ∷ xs) (suc i) e = inr (at_one x xs i e)
 pub one_kept : {A : Type 0} (x : A) (xs ys : List A) → Keeps xs ys → IsOneOf x xs → IsOneOf x ys
 one_kept x xs ys k h = let r = one_at x xs h in at_one x ys r.0 (k r.0 x r.1)
 
-none_there : {A : Type 0} (x : A) (n : ℕ) → slice_get [] n ≡ Some x → ⊥
+pub none_there : {A : Type 0} (x : A) (n : ℕ) → slice_get [] n ≡ Some x → ⊥
 none_there x zero e = cc
 none_there x (suc n) e = cc
 

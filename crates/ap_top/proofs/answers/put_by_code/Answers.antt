@@ -1,0 +1,24 @@
+use Rattle.std.proofs.Common.{◌≡◌, subst}
+use Rattle.ap_term.specs.WellFormed.{IsProgram}
+use Rattle.ap_top.proofs.Grouped.{grouped-read, grouped-asked, grouped-safe}
+use Rattle.ap_top.proofs.Parts.{part-asked, part-finishes}
+use Rattle.ap_top.proofs.answers.put_by_code.Goals as goal
+
+pub solve_with_pads-requires-clause-asked : goal.solve_with_pads-requires-clause-asked
+solve_with_pads-requires-clause-asked g c κs within =
+    let p = c.args.program.now in
+    let q = c.args.query.now in
+    let r = c.args.part.now in
+    grouped-asked _ r q c.args.grouped.now c.args.grouped_query.now c.requires.groups (part-asked p q r c.requires.reached c.requires.asked)
+
+pub solve_with_pads-requires-clause-safe : goal.solve_with_pads-requires-clause-safe
+solve_with_pads-requires-clause-safe g c κs within = grouped-safe _ c.args.part.now c.args.query.now c.args.grouped.now c.args.grouped_query.now c.requires.groups
+
+pub returns-clause-lines : goal.returns-clause-lines
+returns-clause-lines g c =
+    let p = c.args.program.now in
+    let q = c.args.query.now in
+    let r = c.args.part.now in
+    let good : IsProgram p = subst IsProgram c.program.ensures c.as_slice-whole.ensures.kept in
+    part-finishes c.args.bounds.budget c.args.bounds.answers p c.args.atoms.now q r good c.requires.reached _ _ c.solve_with_pads.result
+    (c.solve_with_pads.ensures.lines r q c.as_slice-good.ensures.kept c.question-asked.ensures.kept (grouped-read _ r q c.args.grouped.now c.args.grouped_query.now c.requires.groups))
