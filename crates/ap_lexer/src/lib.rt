@@ -11,6 +11,7 @@
 mod ahead;
 mod bytes;
 mod cut;
+mod cutter;
 mod digits;
 mod error;
 mod kind;
@@ -19,6 +20,7 @@ mod recognize;
 mod split;
 
 pub use cut::{Piece, pieces};
+pub use cutter::Cutter;
 pub use digits::number;
 pub use error::{LexErr, NoMemory};
 pub use kind::{LexemeKind, TokenKind};
