@@ -1,5 +1,5 @@
 -- What is picked from the numbers, one number after another.
-use Rattle.std.proofs.Common.{◌≡◌, ℕ, ◌+◌, Bool, true, false, if◌then◌else◌, List, [], ◌∷◌, ◌++◌, map, append-nil, add-one, refl, ap, ap₂, sym, ◌∙◌}
+use Rattle.std.proofs.Common.{◌≡◌, ℕ, zero, suc, ◌+◌, ◌-◌, ◌<◌, ◌≤◌, Bool, true, false, if◌then◌else◌, List, [], ◌∷◌, ◌++◌, map, append-nil, add-one, arith, refl, ap, ap₂, sym, ◌∙◌}
 use Rattle.std.specs.List.{filter, flat_map}
 use Rattle.std.proofs.lemmas.List.Elements.{filter-append}
 use Rattle.std.proofs.lemmas.Grind.{flat_map-append}
@@ -37,3 +37,30 @@ filter_none p (x ∷ xs) h = ap₂ (λ b l. if b then x ∷ l else l) (h x) (fil
 pub joined_same : {A B : Type 0} (f g : A → List B) (xs : List A) → ((x : A) → f x ≡ g x) → flat_map f xs ≡ flat_map g xs
 joined_same f g [] h = refl
 joined_same f g (x ∷ xs) h = ap₂ (λ a b. a ++ b) (h x) (joined_same f g xs h)
+
+-- ---- what isn't picked above a number
+
+picked_up_to : {B : Type 0} (g : ℕ → B) (p : ℕ → Bool) (m n : ℕ) → ((x : ℕ) → m < x → x ≤ m + n → p x ≡ false) → map g (filter p (numbers (m + n))) ≡ map g (filter p (numbers m))
+picked_up_to g p m zero none = let same : m + 0 ≡ m = omega arith in ap (λ k. map g (filter p (numbers k))) same
+picked_up_to g p m (suc n) none =
+    let next : m + suc n ≡ m + n + 1 = omega arith in
+    let off : p (m + n + 1) ≡ false = none (m + n + 1) (omega arith) (omega arith) in
+    ap (λ k. map g (filter p (numbers k))) next ∙ picked-more g p (m + n) ∙ ap (λ b. map g (filter p (numbers (m + n))) ++ (if b then g (m + n + 1) ∷ [] else [])) off
+    ∙ append-nil (map g (filter p (numbers (m + n)))) ∙ picked_up_to g p m n (λ x h k. none x h (omega (arith, k)))
+
+pub picked_below : {B : Type 0} (g : ℕ → B) (p : ℕ → Bool) (m n : ℕ) → m ≤ n → ((x : ℕ) → m < x → x ≤ n → p x ≡ false) → map g (filter p (numbers m)) ≡ map g (filter p (numbers n))
+picked_below g p m n h none =
+    let same : m + (n - m) ≡ n = omega (arith, h) in
+    sym (picked_up_to g p m (n - m) (λ x k l. none x k (omega (arith, h, l)))) ∙ ap (λ k. map g (filter p (numbers k))) same
+
+joined_up_to : {B : Type 0} (f : ℕ → List B) (m n : ℕ) → ((x : ℕ) → m < x → x ≤ m + n → f x ≡ []) → flat_map f (numbers (m + n)) ≡ flat_map f (numbers m)
+joined_up_to f m zero none = let same : m + 0 ≡ m = omega arith in ap (λ k. flat_map f (numbers k)) same
+joined_up_to f m (suc n) none =
+    let next : m + suc n ≡ m + n + 1 = omega arith in
+    ap (λ k. flat_map f (numbers k)) next ∙ joined-more f (m + n) ∙ ap (λ l. flat_map f (numbers (m + n)) ++ l) (none (m + n + 1) (omega arith) (omega arith))
+    ∙ append-nil (flat_map f (numbers (m + n))) ∙ joined_up_to f m n (λ x h k. none x h (omega (arith, k)))
+
+pub joined_below : {B : Type 0} (f : ℕ → List B) (m n : ℕ) → m ≤ n → ((x : ℕ) → m < x → x ≤ n → f x ≡ []) → flat_map f (numbers m) ≡ flat_map f (numbers n)
+joined_below f m n h none =
+    let same : m + (n - m) ≡ n = omega (arith, h) in
+    sym (joined_up_to f m (n - m) (λ x k l. none x k (omega (arith, h, l)))) ∙ ap (λ k. flat_map f (numbers k)) same

@@ -1,17 +1,17 @@
 -- The sets of a group's goals say which variables its goals share.
-use Rattle.std.proofs.Common.{◌≡◌, ℕ, ◌+◌, ◌<◌, Bool, true, false, not, ◌||◌, ◌&&◌, nat_lt, if◌then◌else◌, ◌⊎◌, inl, inr, List, [], ◌∷◌, ◌++◌, map, take, drop, get_or, length, append_assoc, append-nil, refl, ap, ap₂, sym, ◌∙◌}
+use Rattle.std.proofs.Common.{◌≡◌, ℕ, ◌+◌, ◌<◌, Bool, true, false, not, ◌||◌, ◌&&◌, nat_lt, if◌then◌else◌, ◌⊎◌, inl, inr, List, [], ◌∷◌, ◌++◌, map, take, drop, get_or, length, append_assoc, append-nil, arith, refl, ap, ap₂, sym, ◌∙◌}
 use Rattle.std.proofs.Math.Bool.{or-false, and-false}
 use Rattle.std.specs.List.{filter, flat_map}
 use Rattle.std.proofs.lemmas.List.{drop_more}
-use Rattle.std.proofs.lemmas.Bool.{false≢true}
+use Rattle.std.proofs.lemmas.Bool.{false≢true, ne_eqb}
 use Rattle.std.proofs.lemmas.List.Folds.{list_any-append}
 use Rattle.ap_term.specs.declared.clauses.Check.TheVariants.{Ground, Indep}
 use Rattle.ap_term.specs.Tree.{Trees, none, more}
 use Rattle.ap_term.specs.Vars.{occurs, occurs_all}
 use Rattle.ap_term.specs.Independence.{shared, of_two_goals}
 use Rattle.ap_term.proofs.TermLists.{trees_of-drop_more}
-use Rattle.ap_sharing.specs.VarSet.{has, empty, union, both}
-use Rattle.ap_sharing.proofs.Elements.{has-empty, has-union, has-both, union_assoc, empty-union}
+use Rattle.ap_sharing.specs.VarSet.{has, empty, just, union, both, without}
+use Rattle.ap_sharing.proofs.Elements.{has-empty, has-union, has-both, has-without, has-just, union_assoc, empty-union}
 use Rattle.ap_absunify.specs.TermSets.{var_set}
 use Rattle.ap_absunify.proofs.TermSets.{has-var_set}
 use Rattle.ap_absunify.proofs.Vars.{or_cases, and_both, or_none}
@@ -20,6 +20,17 @@ use Rattle.ap_conditions.specs.GoalSets.{goal_sets, in_one, in_two, others, inde
 use Rattle.ap_conditions.proofs.Numbers.{filter_same, filter_none, joined_same}
 
 pub ruleset rules_of_sets = (trees_of-drop_more, append_assoc, append-nil)
+
+-- what is taken away below a number changes nothing above
+pub kept_above : (s x y : ℕ) → x < y → has (without s (just x)) y ≡ has s y
+kept_above s x y h = has-without s (just x) y ∙ ap (λ b. has s y && not b) (has-just x y ∙ ne_eqb y x (other h)) ∙ go (has s y)
+  where
+    other : x < y → y ≡ x → ⊥
+    other h e = omega (arith, h, e)
+
+    go : (b : Bool) → (b && true) ≡ b
+    go true = refl
+    go false = refl
 
 -- ---- one set more
 

@@ -1,6 +1,6 @@
 //! A group's full condition.
 
-ghost use Rattle.std.specs.Prelude.{◌≡◌, ◌++◌, ◌∷◌, [], ℕ, map, not, nat_lt, ◌&&◌, if◌then◌else◌, IfOk, OnOk, IsTrue};
+ghost use Rattle.std.specs.Prelude.{◌≡◌, ◌<◌, ◌≤◌, ◌++◌, ◌∷◌, [], ℕ, false, map, not, nat_lt, ◌&&◌, if◌then◌else◌, IfOk, OnOk, IsTrue};
 ghost use Rattle.std.specs.List.{filter, flat_map};
 ghost use Rattle.ap_term.specs.TermView.{trees_of};
 ghost use Rattle.ap_term.specs.WellFormed.{numbered_all};
@@ -68,10 +68,26 @@ fn push_if(test: bool, check: Check, out: &mut Checks) -> Result<(), NoMemory>
     Ok(())
 }
 
+/// A number above which the set has none up to 255; the least one, where it has not 0.
+fn last_of(s: VarSet) -> u64
+    ensures few { result ≤ 255 }
+    ensures above { (x : ℕ) → result < x → x ≤ 255 → has s x ≡ false }
+{
+    let mut left = s;
+    for x in 0..255 {
+        if left.is_empty() {
+            return x;
+        }
+        left.remove(x + 1);
+    }
+    255
+}
+
 fn add_grounds(shared: VarSet, out: &mut Checks) -> Result<(), NoMemory>
     ensures { OnOk result (out.new ≡ out.old ++ map Ground (filter (λ x. has shared x) (numbers 255))) }
 {
-    for x in 0..255 {
+    let most = last_of(shared);
+    for x in 0..most {
         push_if(shared.contains(x + 1), Check::Ground(x + 1), out)?;
     }
     Ok(())
@@ -86,7 +102,8 @@ fn is_partner_above(partners: VarSet, x: u64, y: u64) -> bool
 fn add_indeps_with(partners: VarSet, x: u64, out: &mut Checks) -> Result<(), NoMemory>
     ensures { OnOk result (out.new ≡ out.old ++ indeps_with partners x) }
 {
-    for y in 0..255 {
+    let most = last_of(partners);
+    for y in 0..most {
         push_if(
             is_partner_above(partners, x, y + 1),
             Check::Indep(x, y + 1),
@@ -99,7 +116,8 @@ fn add_indeps_with(partners: VarSet, x: u64, out: &mut Checks) -> Result<(), NoM
 fn add_indeps(sets: &[VarSet], alone: VarSet, out: &mut Checks) -> Result<(), NoMemory>
     ensures { OnOk result (out.new ≡ out.old ++ flat_map (indeps_among sets.now alone) (numbers 255)) }
 {
-    for x in 0..255 {
+    let most = last_of(alone);
+    for x in 0..most {
         if alone.contains(x + 1) {
             let partners = others(sets, x + 1).both(alone);
             add_indeps_with(partners, x + 1, out)?;

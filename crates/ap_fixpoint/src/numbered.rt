@@ -20,14 +20,15 @@ fn key_of(predicate: &Predicate) -> (u32, u64)
     (predicate.name.number(), predicate.arity)
 }
 
-/// One more number at a key. Those that are there are taken out and put back.
+/// One more number at a key.
 fn add_at(alloc: Global, lists: &mut Lists, key: (u32, u64), n: usize) -> Result<(), NoMemory>
     ensures { OnOk result ((k : ℕ × ℕ) → numbers_at lists.new k ≡ (if is_key key k then numbers_at lists.old k ++ n ∷ [] else numbers_at lists.old k)) }
 {
-    let mut own = match lists.remove(&key) {
-        Some(held) => held,
-        None => Vec::new(alloc),
-    };
+    if let Some(held) = lists.get_mut(&key) {
+        held.push(n)?;
+        return Ok(());
+    }
+    let mut own = Vec::new(alloc);
     own.push(n)?;
     lists.insert(key, own)?;
     Ok(())

@@ -1,6 +1,6 @@
 //! One round: each pattern of a table united with what is given to it.
 
-ghost use Rattle.std.specs.Prelude.{◌≡◌, ◌++◌, IfOk, OnOk, MatchOption};
+ghost use Rattle.std.specs.Prelude.{◌≡◌, ◌++◌, false, IfOk, OnOk, MatchOption};
 ghost use Rattle.ap_absunify.specs.declared.states.State.TheVariants.{Unreachable};
 ghost use Rattle.ap_patterns.specs.Given.{patterns};
 ghost use Rattle.ap_fixpoint.specs.Rounds.{put, step, steps, changed, changed_slot, places_from, IsGrouped};
@@ -24,13 +24,22 @@ fn put(table: &mut Table, slot: Slot, pattern: Pattern) -> Result<(), NoMemory>
     }
 }
 
-/// What is given, by slots.
+/// Whether there is anything to unite.
+fn is_reachable(pattern: &Pattern) -> bool
+    ensures { result ≡ false → pattern.now ≡ Unreachable }
+{
+    matches!(pattern, State::Reachable { .. })
+}
+
+/// What is given, by slots; what is unreachable adds nothing.
 fn grouped(alloc: Global, given: &[Given]) -> Result<Numbered, NoMemory>
     ensures { IfOk result (λ r. IsGrouped given.now (numbers_of r)) }
 {
     let mut groups = Numbered::new(alloc);
     for i in 0..given.len() {
-        groups.add(alloc, given[i].slot, i)?;
+        if is_reachable(&given[i].pattern) {
+            groups.add(alloc, given[i].slot, i)?;
+        }
     }
     Ok(groups)
 }
@@ -48,6 +57,9 @@ fn unite(
     ensures changed { OnOk result (changed.new.items ≡ changed.old.items ++ changed_slot g.now (patterns table.old)) }
     ensures table { OnOk result (patterns table.new ≡ step given.now g.now (patterns table.old)) }
 {
+    if !is_reachable(&g.pattern) {
+        return Ok(());
+    }
     let unreachable = State::Unreachable;
     let was = pattern_at(table, g.slot, &unreachable);
     if is_covered(&g.pattern, was) {

@@ -1,9 +1,9 @@
-use Rattle.std.proofs.Common.{◌+◌, ◌∙◌, ◌++◌, [], if◌then◌else◌, append_assoc, append-nil, ap, ap₂, sym}
+use Rattle.std.proofs.Common.{◌+◌, ◌∙◌, ◌++◌, [], if◌then◌else◌, append_assoc, append-nil, ap, ap₂, sym, arith}
 use Rattle.std.specs.List.{flat_map}
 use Rattle.ap_sharing.specs.VarSet.{both}
 use Rattle.ap_conditions.specs.FullCondition.{numbers}
 use Rattle.ap_conditions.specs.GoalSets.{others, indeps_with, indeps_among}
-use Rattle.ap_conditions.proofs.Numbers.{joined-more}
+use Rattle.ap_conditions.proofs.Numbers.{joined-more, joined_below}
 use Rattle.ap_conditions.proofs.conditions.add_indeps.Goals as goal
 use Rattle.ap_conditions.proofs.conditions.add_indeps.Goals.{then-contains+in_ok-add_indeps_with, else-contains}
 
@@ -27,3 +27,10 @@ loop-x-preserved c =
           ∙ append_assoc c.args.out.now old (indeps_among c.args.sets.now c.args.alone (c.loop-x.x + 1))
           ∙ ap (λ l. c.args.out.now ++ l) (sym (joined-more (indeps_among c.args.sets.now c.args.alone) c.loop-x.x))
     ]
+
+pub returns : goal.returns
+returns c =
+    c.loop-x.invariant
+    ∙ ap (λ l. c.args.out.now ++ l)
+    (joined_below (indeps_among c.args.sets.now c.args.alone) c.loop-x.x 255 (omega (arith, c.last_of-most.ensures.few))
+    (λ x h k. ap (λ b. if b then indeps_with (both (others c.args.sets.now x) c.args.alone) x else []) (c.last_of-most.ensures.above x (omega (arith, h)) k)))
