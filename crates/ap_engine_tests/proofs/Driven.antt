@@ -24,7 +24,7 @@ pub answer-closed : (code : Compiled) (n : ℕ) (s t : Section) (r : Result Turn
 answer-closed code n s (section m c b st) r h e = (ended code n s (section m c b st) r Answer e h).1
 
 pub fork-framed : (code : Compiled) (n : ℕ) (s t : Section) (r : Result Turn NoMemory) → IfOk r (λ turn. Ends code n s t turn) → r ≡ Ok Fork → IsAtFrame t
-fork-framed code n s (section m c b st) r h e = ended code n s (section m c b st) r Fork e h
+fork-framed code n s (section m c b st) r h e = (ended code n s (section m c b st) r Fork e h).0
 
 -- what a section asks for where a slot of its frame is redone
 pub record Redoes (i : ℕ) (t : Section) : Type 0 where

@@ -62,11 +62,12 @@ fn arguments(alloc: Global, count: usize, tuple: Roots) -> Result<Vec<u32>, NoMe
     Ok(x)
 }
 
-/// Cells of which the first is an atom.
-fn with_bottom(alloc: Global) -> Result<Cells, NoMemory>
+/// Cells of which the first is an atom, with room for so many.
+fn with_bottom(alloc: Global, room: usize) -> Result<Cells, NoMemory>
     ensures { IfOk result (λ cells. HasBottom cells) }
 {
     let mut cells = Cells::new(alloc);
+    cells.reserve(room)?;
     cells.reserve(1)?;
     cells.push(Cell::Atom(Atom::at(0)));
     Ok(cells)
@@ -147,7 +148,9 @@ impl Search {
     {
         let code = sound.code();
         let widths = sound.widths();
-        let mut cells = with_bottom(alloc)?;
+        // What the first run needs, too: so that the lists are made once.
+        let room = sound.room().cells.saturating_add(tuple.len());
+        let mut cells = with_bottom(alloc, room.saturating_add(1))?;
         let copied = copy_in(&mut cells, tuple)?;
         let _few = cells.len();
         let x = arguments(alloc, widths.x, copied)?;

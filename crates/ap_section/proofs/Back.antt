@@ -1,5 +1,5 @@
 -- A section that comes back to its newest frame, all of whose frames are closed.
-use Rattle.std.proofs.Common.{◌≡◌, ◌∙◌, ℕ, ◌-◌, List, [], ◌∷◌, ◌++◌, length, reverse, map, ap, sym, subst, refl, Option, Some, None, is_some, false, take, vec_len, Vec, Global}
+use Rattle.std.proofs.Common.{◌≡◌, ◌∙◌, ℕ, ◌-◌, List, [], ◌∷◌, ◌++◌, length, reverse, map, ap, sym, subst, refl, Option, Some, None, is_some, true, false, take, vec_len, Vec, Global}
 use Rattle.std.proofs.lemmas.List.{reverse-append}
 use Rattle.ap_term.specs.Tree.{Trees}
 use Rattle.ap_frames.specs.declared.frame.Frame.{Frame}
@@ -23,11 +23,11 @@ use Rattle.ap_section.specs.declared.advance.Turn.TheVariants.{Failed}
 use Rattle.ap_section.specs.Ends.{Ends}
 use Rattle.ap_section.specs.Views.{view_of}
 use Rattle.ap_section.specs.Ready.{Shape, shape_of, AreMatched, AreShut}
-use Rattle.ap_section.specs.Slots.{IsAtFrame, IsSlotOf}
+use Rattle.ap_section.specs.Slots.{IsAtFrame, IsAtDueFrame, IsSlotOf}
 use Rattle.ap_section.specs.Moving.{IsShut, IsRested}
 use Rattle.ap_section.proofs.Levels.{slots_now, stack_now, view_of-roll, view_of-out}
 use Rattle.ap_section.proofs.Parts.{FramesReady, IsShutNow, part_now, shut-out}
-use Rattle.ap_section.proofs.Newest.{Top, frames-front, length-rows, length-before}
+use Rattle.ap_section.proofs.Newest.{Top, frames-front, length-rows, length-before, slots-at}
 use Rattle.ap_section.proofs.Shown.{redo-shown}
 use Rattle.ap_section.proofs.Owed.{owes-closed}
 use Rattle.ap_section.proofs.Shut.{seen_now, shut-now-ready, shut-closed, same-most}
@@ -183,8 +183,14 @@ module _ (law : ReachingLaw) (code : Compiled) (s : Section) (p : Paused) (shut 
     pub back-came : Came code s (searching s p)
     back-came = came code s (record (out-Section s) { search = p }) both-back.0
 
-    pub back-framed : IsAtFrame (view_of (searching s p))
+    back-framed : IsAtFrame (view_of (searching s p))
     back-framed = subst IsAtFrame (sym (view_of-roll (record (out-Section s) { search = p }))) both-back.1
+
+    -- a slot of the frame can be redone still
+    pub back-due : is_some (next_redo f.slots.items) ≡ true → IsAtDueFrame (view_of (searching s p))
+    back-due more =
+        let top : Top (searching s p) f = record { before = t.before; items = ap (λ z. z.frames.items) (out-roll-Section (record (out-Section s) { search = p })) ∙ t.items } in
+        (back-framed, λ closed. ap (λ w. is_some (next_redo (rows w))) (slots-at (searching s p) f top back-framed) ∙ ap is_some (redo-shown f.slots.items) ∙ more)
 
   module _ (v : Vec (Frame Section Trees) Global) (rest : v.items ≡ take (vec_len (out-Section (searching s p)).frames - 1) (out-Section (searching s p)).frames.items) (none : next_redo f.slots.items ≡ None)
       (come : (g : Segment) (gs : List Segment) → (out-Section s).search.older ≡ g ∷ gs → IsBehindFork g gs (out-Section s).search p) where

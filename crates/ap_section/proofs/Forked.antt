@@ -4,7 +4,7 @@ use Rattle.std.specs.List.{AllByRecursion}
 use Rattle.std.proofs.lemmas.List.{reverse-append}
 use Rattle.ap_term.specs.Tree.{Trees}
 use Rattle.ap_frames.specs.declared.frame.Frame.{Frame}
-use Rattle.ap_frames.specs.declared.frame.Round.TheVariants.{First}
+use Rattle.ap_frames.specs.declared.frame.Round.TheVariants.{First, Closed}
 use Rattle.ap_frames.specs.Rows.{all_fresh}
 use Rattle.ap_cells.specs.Walks.{Each}
 use Rattle.ap_instr.specs.Code.{Compiled}
@@ -29,7 +29,7 @@ use Rattle.ap_frames.specs.declared.slots.Stand.TheVariants.{Ready}
 use Rattle.ap_frames.specs.declared.slots.Recording.TheVariants.{Growing}
 use Rattle.std.proofs.Common.{None}
 use Rattle.ap_section.specs.Ready.{shape_of, IsReadyPart, AreMatched, AreInOrder, IsAtNewest, IsReady}
-use Rattle.ap_section.specs.Slots.{IsAtFrame, IsSlotOf}
+use Rattle.ap_section.specs.Slots.{IsAtDueFrame, IsSlotOf}
 use Rattle.ap_section.specs.Moving.{IsShut, HasMoved, IsOpened}
 use Rattle.ap_section.specs.Owed.{frame_cost}
 use Rattle.ap_section.proofs.Levels.{slots_now, stack_now, seen_as, view_of-roll, view_of-out}
@@ -139,8 +139,8 @@ module _ (s : Section-F Section) (p : Paused) (v : Vec (Frame Section Trees) Glo
     fails-there : HasFailed p.machine.roots [] p.machine
     fails-there = record { now = h.at_fork.now; returns = h.at_fork.returns; roots_stay = refl; points = h.at_fork.points }
 
-    pub forked-at : IsAtFrame (seen_now with_frame)
-    forked-at = subst IsAtFrame (sym seen-forked) (fails-there, h.at_fork.cells, length-ready (length h.forked.goals), refl, tt)
+    pub forked-due : IsAtDueFrame (seen_now with_frame)
+    forked-due = subst IsAtDueFrame (sym seen-forked) ((fails-there, h.at_fork.cells, length-ready (length h.forked.goals), refl, tt), λ e. absurd (let z : First ≡ Closed = e in cc))
 
     count-of : length f.slots.items ≡ length h.forked.goals
     count-of = ap (λ r. length r.slots) o ∙ length-fresh (length h.forked.goals)
@@ -302,5 +302,5 @@ module _ (law : ReachingLaw) (code : Compiled) (s : Section) (r : Vec (Frame Sec
         last-came = subst (Came code s) (sym is-last)
             (came code s last (forked-leads (out-Section s) p v f with-it code forked (opened_for p forked) law (shut-out code s shut) at-group is_for))
 
-        pub last-at : IsAtFrame (view_of (with_last s r p v))
-        last-at = subst (λ t. IsAtFrame (view_of t)) (sym is-last) (subst IsAtFrame (sym (view_of-roll last)) (forked-at (out-Section s) p v f with-it code forked (opened_for p forked)))
+        pub last-due : IsAtDueFrame (view_of (with_last s r p v))
+        last-due = subst (λ t. IsAtDueFrame (view_of t)) (sym is-last) (subst IsAtDueFrame (sym (view_of-roll last)) (forked-due (out-Section s) p v f with-it code forked (opened_for p forked)))

@@ -19,11 +19,11 @@ use Rattle.ap_section.specs.declared.section.Section.{Section, out-Section}
 use Rattle.ap_section.specs.declared.section.Section.TheOpen.{Section-F}
 use Rattle.ap_section.specs.Views.{view_of, spent_in}
 use Rattle.ap_section.specs.Ready.{Shape, shape_of, AreMatched, AreShut, AreInOrder, IsAtNewest, IsReady}
-use Rattle.ap_section.specs.Slots.{IsAtFrame, IsSlotOf}
+use Rattle.ap_section.specs.Slots.{IsAtFrame, IsAtDueFrame, IsSlotOf}
 use Rattle.ap_section.specs.Moving.{IsShut, HasMoved}
 use Rattle.ap_section.proofs.Levels.{slots_now, stack_now, seen_as, view_of-out}
 use Rattle.ap_section.proofs.Parts.{FramesReady, IsReadyNow, IsShutNow, part_now, ready-out, shut-out, out-shut, out-ready}
-use Rattle.ap_section.proofs.Newest.{Top, view-top, length-rows}
+use Rattle.ap_section.proofs.Newest.{Top, view-top, length-rows, round-at}
 use Rattle.ap_section.proofs.Owed.{owes-same, owes-closed, AreClosedBehind}
 
 -- a level as its view has it
@@ -108,11 +108,14 @@ open-now code p (g ∷ gs) f fs n h (inl e) = absurd (n e)
 open-now code p (g ∷ gs) f fs n h (inr k) =
     (k.0, k.1, length-rows f.slots.items ∙ h.0, is-rest f.round f.rest (p.budget - p.spent) k.2, subst (λ c. IsSlotOf c f.round) (sym (length-rows f.slots.items)) k.3)
 
-pub open-at : (code : Compiled) (s : Section) (f : Frame Section Trees) → Top s f → (f.round ≡ Closed → ⊥) → IsReady code s → IsAtFrame (view_of s)
+open-at : (code : Compiled) (s : Section) (f : Frame Section Trees) → Top s f → (f.round ≡ Closed → ⊥) → IsReady code s → IsAtFrame (view_of s)
 open-at code s f t n r =
     let k = ready-out code s r in
     let p = (out-Section s).search in
     subst IsAtFrame (sym (view-top s f t)) (open-now code p p.older f (reverse t.before) n (subst (AreMatched code p.older) (shapes-top s f t) k.0.1) (subst (AreInOrder p) (shapes-top s f t) k.0.2).0)
+
+pub open-due : (code : Compiled) (s : Section) (f : Frame Section Trees) → Top s f → (f.round ≡ Closed → ⊥) → IsReady code s → IsAtDueFrame (view_of s)
+open-due code s f t n r = let at = open-at code s f t n r in (at, λ e. absurd (n (sym (round-at s f t at) ∙ e)))
 
 -- ---- moves of the view
 

@@ -13,7 +13,7 @@ use Rattle.ap_tie.specs.Tied.{IsAtAnswer}
 use Rattle.ap_tied.specs.Settling.{HasGoals}
 use Rattle.ap_section.specs.declared.advance.Turn.{Turn}
 use Rattle.ap_section.specs.declared.advance.Turn.TheVariants.{Answer, Failed, Spent, More, Stopped, Fork}
-use Rattle.ap_section.specs.Slots.{IsAtFrame}
+use Rattle.ap_section.specs.Slots.{IsAtDueFrame}
 
 -- a search of that predicate's call on that tuple, and no frame
 abbrev pub Begins : Compiled → Trees → ℕ → ℕ → Section → Type 0
@@ -24,14 +24,14 @@ abbrev pub IsCallNext : Compiled → Machine → Type 0
 IsCallNext code m = (ss : List Tracked) → Holds code m ss → HasGoals ss
 
 -- It stands at an answer; nothing is left; another call is due, and the budget is spent, or as many calls were made as were
--- asked for; it stands at a frame. Where it was stopped it may stand anywhere.
+-- asked for; it stands at a frame with which something is left to do. Where it was stopped it may stand anywhere.
 abbrev pub Ends : Compiled → ℕ → Section → Section → Turn → Type 0
 Ends code inferences s (section m c b st) Answer = IsAtAnswer m × AreClosed st
 Ends code inferences s (section m c b st) Failed = (m.now ≡ failed) × (m.points ≡ []) × (st ≡ bottom)
 Ends code inferences s (section m c b st) Spent = IsCallNext code m × (b ≤ c)
 Ends code inferences (section n d e su) (section m c b st) More = IsCallNext code m × (c < b) × (c ≡ d + inferences)
 Ends code inferences s t Stopped = Unit {0}
-Ends code inferences s t Fork = IsAtFrame t
+Ends code inferences s t Fork = IsAtDueFrame t
 
 -- at an answer, behind which there is another one
 abbrev pub HasNext : Compiled → Section → Type 0

@@ -1,5 +1,5 @@
 -- What is read of the frame that comes first, and what becomes of it.
-use Rattle.std.specs.Prelude.{◌≡◌, ℕ, ◌-◌, ◌<◌, ◌≤◌, ◌⊎◌, Bool, true, false, List, [], length, slice_get, take, Option, Some, None}
+use Rattle.std.specs.Prelude.{◌≡◌, ℕ, ◌-◌, ◌<◌, ◌≤◌, ◌⊎◌, Bool, true, false, List, [], length, slice_get, take, Option, Some, None, is_some}
 use Rattle.std.specs.List.{list_any}
 use Rattle.ap_term.specs.Tuples.{tuple_under}
 use Rattle.ap_term.specs.Tree.{Trees, count_trees}
@@ -12,7 +12,7 @@ use Rattle.ap_frames.specs.declared.verdict.Verdict.{Verdict}
 use Rattle.ap_frames.specs.declared.verdict.Verdict.TheVariants.{Wait}
 use Rattle.ap_frames.specs.Slots.{is_startable}
 use Rattle.ap_frames.specs.Rows.{of_slot}
-use Rattle.ap_frames.specs.Verdicts.{judged}
+use Rattle.ap_frames.specs.Verdicts.{judged, next_redo}
 use Rattle.ap_instr.specs.declared.compiled.Predicate.{Predicate}
 use Rattle.ap_instr.specs.Code.{Compiled}
 use Rattle.ap_group.specs.Groups.{Pushed}
@@ -69,6 +69,10 @@ round_in s = round_at (stack_in s)
 
 abbrev pub verdict_in : Section → Verdict
 verdict_in s = judged_at (stack_in s)
+
+-- at a frame with which something is left to do: its round is open, or a slot of it can be redone
+abbrev pub IsAtDueFrame : Section → Type 0
+IsAtDueFrame s = IsAtFrame s × (round_in s ≡ Closed → is_some (next_redo (rows (slots_in s))) ≡ true)
 
 -- what is told of slot i
 abbrev pub told_of : (Row → Bool) → ℕ → Section → Bool

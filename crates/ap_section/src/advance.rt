@@ -11,7 +11,7 @@ ghost use Rattle.ap_tied.specs.Ties.{Goes};
 ghost use Rattle.ap_section.specs.Views.{view_of, spent_in, budget_in};
 ghost use Rattle.ap_section.specs.declared.section.Section.{out-Section};
 ghost use Rattle.ap_section.specs.Ready.{IsReady};
-ghost use Rattle.ap_section.specs.Slots.{IsAtFrame};
+ghost use Rattle.ap_section.specs.Slots.{IsAtDueFrame};
 ghost use Rattle.ap_section.specs.Moving.{IsShut, HasMoved, IsOpened, IsEndedBy, IsRested};
 ghost use Rattle.ap_section.specs.Ends.{Ends};
 ghost use Rattle.ap_section.specs.Owed.{owed};
@@ -65,7 +65,7 @@ fn quiet_goals(alloc: Global, count: usize) -> Result<Vec<bool>, NoMemory>
 impl Section {
     /// Whether the newest frame's round is open.
     fn is_open(&self) -> bool
-        ensures open { result ≡ true → (code : Compiled) → IsReady code self.now → IsAtFrame (view_of self.now) }
+        ensures open { result ≡ true → (code : Compiled) → IsReady code self.now → IsAtDueFrame (view_of self.now) }
         ensures shut { result ≡ false → (code : Compiled) → IsReady code self.now → IsShut code self.now }
     {
         match self.frames.last() {
@@ -91,7 +91,7 @@ impl Section {
         ensures moved { HasMoved sound.now (view_of self.old) (view_of self.new) }
         ensures spent { spent_in (view_of self.new) ≡ spent_in (view_of self.old) }
         ensures ready { IsReady sound.now self.new }
-        ensures forked { result ≡ Ok true → IsAtFrame (view_of self.new) }
+        ensures forked { result ≡ Ok true → IsAtDueFrame (view_of self.new) }
     {
         reaching_law();
         let frame = self.open_frame(sound)?;
@@ -111,7 +111,7 @@ impl Section {
         ensures moved { HasMoved sound.now (view_of self.old) (view_of self.new) }
         ensures spent { spent_in (view_of self.new) ≡ spent_in (view_of self.old) }
         ensures ready { IsReady sound.now self.new }
-        ensures forked { result ≡ Ok true → IsAtFrame (view_of self.new) }
+        ensures forked { result ≡ Ok true → IsAtDueFrame (view_of self.new) }
         ensures unwanted { wanted ≡ false → result ≡ Ok true → IsAtUnchecked sound.now (machine_in (view_of self.old)) }
     {
         if wanted {

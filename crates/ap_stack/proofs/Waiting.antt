@@ -106,8 +106,8 @@ gone-on-spent r (section m c b st) = refl
 -- ---- where a section comes to rest
 
 pub at-frame : (code : Compiled) (n : ℕ) (s t : Section) → Ends code n s t turn.Fork → IsAtFrame t
-at-frame code n s (section m c b bottom) e = e
-at-frame code n s (section m c b (parcall f q rd w qs st)) e = e
+at-frame code n s (section m c b bottom) e = e.0
+at-frame code n s (section m c b (parcall f q rd w qs st)) e = e.0
 
 pub has-more : (code : Compiled) (s : Section) (more : Bool) → (more ≡ false → HasNothing s) → (more ≡ true → HasNext code s) → HasMore code s more
 has-more code (section m c b st) more none some = record { none = none; some = some }

@@ -1,6 +1,6 @@
-use Rattle.std.proofs.Common.{◌∙◌, sym}
+use Rattle.std.proofs.Common.{◌∙◌, ap, sym, is_some}
 use Rattle.ap_section.proofs.Shut.{top-last, none-last}
-use Rattle.ap_section.proofs.Back.{none-rested, not-some, back-came, back-framed, fewer-came}
+use Rattle.ap_section.proofs.Back.{none-rested, not-some, back-came, back-due, fewer-came}
 use Rattle.ap_section.proofs.section.Section.come_back.Goals as goal
 
 pub returns-in_default-clause-end : goal.returns-in_default-clause-end
@@ -16,7 +16,8 @@ pub returns-then-is_some-clause-ready : goal.returns-then-is_some-clause-ready
 returns-then-is_some-clause-ready c = λ code shut. (back-came c.reaching_law.ensures code c.args.self.now c.come_to_fork.new.self shut c.requires.end (c.come_to_fork.ensures.is_for code) c.in-Some.frame.now (top-last c.args.self.now c.in-Some.frame.now c.deref.result.now c.deref.ensures.value c.in-Some.ensures.value) c.come_to_fork.ensures.some).ready
 
 pub returns-then-is_some-clause-end : goal.returns-then-is_some-clause-end
-returns-then-is_some-clause-end c = λ code shut n u. back-framed c.reaching_law.ensures code c.args.self.now c.come_to_fork.new.self shut c.requires.end (c.come_to_fork.ensures.is_for code) c.in-Some.frame.now (top-last c.args.self.now c.in-Some.frame.now c.deref.result.now c.deref.ensures.value c.in-Some.ensures.value) c.come_to_fork.ensures.some
+returns-then-is_some-clause-end c = λ code shut n u. back-due c.reaching_law.ensures code c.args.self.now c.come_to_fork.new.self shut c.requires.end (c.come_to_fork.ensures.is_for code) c.in-Some.frame.now (top-last c.args.self.now c.in-Some.frame.now c.deref.result.now c.deref.ensures.value c.in-Some.ensures.value) c.come_to_fork.ensures.some
+    (ap is_some (sym c.next_redo.ensures) ∙ sym c.is_some.ensures ∙ c.if-is_some.true)
 
 pub returns-clause-moved : goal.returns-clause-moved
 returns-clause-moved c = λ code shut. (fewer-came c.reaching_law.ensures code c.args.self.now c.forget_fork.new.self shut c.requires.end (c.forget_fork.ensures.is_for code) c.in-Some.frame.now (top-last c.args.self.now c.in-Some.frame.now c.deref.result.now c.deref.ensures.value c.in-Some.ensures.value)

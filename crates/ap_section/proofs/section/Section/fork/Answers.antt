@@ -1,5 +1,5 @@
 use Rattle.std.proofs.Common.{ap, Ok}
-use Rattle.ap_section.proofs.Forked.{room-came, same-came, past-came, last-came, last-at}
+use Rattle.ap_section.proofs.Forked.{room-came, same-came, past-came, last-came, last-due}
 use Rattle.ap_section.proofs.section.Section.fork.Goals as goal
 
 pub returns-in_err-reserve-clause-moved : goal.returns-in_err-reserve-clause-moved
@@ -33,7 +33,7 @@ returns-then-forked-clause-ready c = (last-came c.reaching_law.ensures c.args.so
     c.push_reserved.new.self c.in_ok-frame.frame c.push_reserved.ensures.items c.in_ok-frame.ensures (c.in_ok-forked.ensures.forked (ap Ok c.if-forked.true))).ready
 
 pub returns-then-forked-clause-forked : goal.returns-then-forked-clause-forked
-returns-then-forked-clause-forked c = λ e. (last-at c.reaching_law.ensures c.args.sound.now c.args.self.now c.reserve.new.self c.reserve.ensures.items c.requires.shut c.fork.new.self c.requires.here c.in_ok-forked.ensures.is_for
+returns-then-forked-clause-forked c = λ e. (last-due c.reaching_law.ensures c.args.sound.now c.args.self.now c.reserve.new.self c.reserve.ensures.items c.requires.shut c.fork.new.self c.requires.here c.in_ok-forked.ensures.is_for
     c.push_reserved.new.self c.in_ok-frame.frame c.push_reserved.ensures.items c.in_ok-frame.ensures (c.in_ok-forked.ensures.forked (ap Ok c.if-forked.true)))
 
 pub returns-else-forked-clause-moved : goal.returns-else-forked-clause-moved
