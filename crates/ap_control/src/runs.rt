@@ -40,6 +40,7 @@ pub fn run_to_transfer(
     y: &mut [u32],
     code: &Code,
     at: usize,
+    stop: usize,
     work: &mut Work,
 ) -> Result<Option<usize>, NoMemory>
     requires room { room (drop at code.now.instructions) ≤ cells.old.spare }
@@ -58,6 +59,9 @@ pub fn run_to_transfer(
     let places = instructions.len();
     let mut place = at;
     'run: while let Some(instr) = instruction_in(instructions, place) {
+        if place == stop {
+            return Ok(Some(place));
+        }
         prove!(place < places);
         let outcome = step(cells, x, y, code, place + 1, instr, work)?;
         match outcome {

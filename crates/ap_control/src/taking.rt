@@ -56,7 +56,7 @@ pub fn can_take(
     ensures y_len { length y.new ≡ length y.old }
     ensures keeps { Keeps cells.old cells.new }
 {
-    match run_to_transfer(cells, x, y, code, at, work)? {
+    match run_to_transfer(cells, x, y, code, at, usize::MAX, work)? {
         Some(to) => Ok(leads_on(code, to)),
         None => Ok(false),
     }

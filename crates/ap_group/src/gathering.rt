@@ -108,7 +108,7 @@ fn push_goals(
     let mut place = from;
     for _ in 0..places {
         cells.reserve(sound.room().cells)?;
-        let Some(to) = run_to_transfer(cells, x, y, code, place, work)? else {
+        let Some(to) = run_to_transfer(cells, x, y, code, place, usize::MAX, work)? else {
             return Ok(None);
         };
         let Some(instr) = instruction_at(code, to) else {

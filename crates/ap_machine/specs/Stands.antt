@@ -12,10 +12,10 @@ use Rattle.ap_instr.specs.Code.{Compiled}
 use Rattle.ap_group.specs.Gathers.{IsGroupAt}
 use Rattle.ap_standing.specs.Machine.{Now, calling, inside, returning, failed, Machine}
 
--- a call of a predicate of the table, or a built-in goal
+-- a call of a predicate of the table, or a built-in goal, which stands there or is put first
 abbrev pub IsCallDue : Compiled → Now → Type 0
 IsCallDue code (calling number) = (q : Predicate) × (slice_get code.predicates number ≡ Some q)
-IsCallDue code (inside at) = (builtin : Builtin) × (slice_get code.instructions at ≡ Some (builtin_instr builtin))
+IsCallDue code (inside at) = ((builtin : Builtin) × (slice_get code.instructions at ≡ Some (builtin_instr builtin))) ⊎ ((d : Direct) × AsksFirst code at d)
 IsCallDue code returning = ⊥
 IsCallDue code failed = ⊥
 

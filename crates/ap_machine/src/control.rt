@@ -87,6 +87,7 @@ fn run_or_undo(
     y: &mut [u32],
     code: &Code,
     at: usize,
+    stop: usize,
     work: &mut Work,
 ) -> Result<Option<usize>, NoMemory>
     requires room { room (drop at code.now.instructions) ≤ cells.old.spare }
@@ -105,7 +106,7 @@ fn run_or_undo(
 {
     cells.is_store();
     let mark = cells.mark();
-    match run_to_transfer(cells, x, y, code, at, work) {
+    match run_to_transfer(cells, x, y, code, at, stop, work) {
         Ok(Some(to)) => Ok(Some(to)),
         Ok(None) => {
             cells.undo_to(mark);
@@ -127,6 +128,7 @@ impl Search {
         code: &Code,
         room: &Room,
         at: usize,
+        stop: usize,
     ) -> Result<Option<usize>, NoMemory>
         requires here { self.old.machine.now ≡ inside at }
         requires is_for { IsFor code.now self.old }
@@ -148,6 +150,7 @@ impl Search {
             &mut self.y,
             code,
             at,
+            stop,
             &mut self.work,
         ) {
             Ok(Some(to)) => {
@@ -176,6 +179,7 @@ impl Search {
         code: &Code,
         room: &Room,
         at: usize,
+        stop: usize,
     ) -> Result<Option<usize>, NoMemory>
         requires here { self.old.machine.now ≡ inside at }
         requires is_for { IsFor code.now self.old }
@@ -188,7 +192,7 @@ impl Search {
     {
         let mut place = at;
         'jumps: loop {
-            let Some(to) = self.run(code, room, place)? else {
+            let Some(to) = self.run(code, room, place, stop)? else {
                 return Ok(None);
             };
             let Some(next) = jump_from(code, to) else {

@@ -1,0 +1,5 @@
+mod Uses
+mod Puts
+mod Steps
+mod Asked
+pub mod Found

@@ -1,0 +1,4 @@
+pub mod Goals
+pub mod Unread
+pub mod Puts
+pub mod Table

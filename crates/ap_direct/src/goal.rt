@@ -1,0 +1,36 @@
+//! Goals of arithmetic on registers.
+
+use ap_instr::Slot;
+use ap_term::{Op, Operation};
+
+/// An operand: what a register holds, or an integer.
+#[derive(Clone, Copy)]
+pub enum Operand {
+    Register(Slot),
+    Integer(i64),
+}
+
+/// An expression of one operation at most.
+#[derive(Clone, Copy)]
+pub enum Part {
+    Operand(Operand),
+    Operation(Operation, Operand, Operand),
+}
+
+/// A goal on registers.
+#[derive(Clone, Copy)]
+pub enum Goal {
+    /// The values of two expressions compare so.
+    Compare(Op, Part, Part),
+    /// What a register holds is the value of an expression.
+    Match(Slot, Part),
+    /// A new variable, which a register gets, is the value of an expression.
+    Give(Slot, Part),
+}
+
+/// A goal, and the place behind it.
+#[derive(Clone, Copy)]
+pub struct Direct {
+    pub goal: Goal,
+    pub to: usize,
+}

@@ -1,0 +1,2 @@
+mod Turn
+pub mod Values
