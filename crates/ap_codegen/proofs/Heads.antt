@@ -41,9 +41,6 @@ named : (o : Option Relation) (t u : Tree) → is_none (named_answer o t u) ≡ 
 named None t u = refl
 named (Some r) t u = refl
 
-abbrev pub some_key : ℕ → ℕ → Option Key
-some_key a n = Some (a, n)
-
 -- ---- keys that are put into a table
 
 pub heads_turn : (ks new : List Key) (cs : Program) (i : ℕ) (c : Clause) (w : List Key) → i < length cs → c ≡ get_or cs i c → new ≡ with_key ks (head_key c.head)

@@ -14,12 +14,6 @@ by_set ns p n w l = go (w == p) refl
     go true e = ap (by (set_at ns p n)) ((Decides-eqb w p).0 e) ∙ get_or-set_same ns p n 0 l
     go false e = let d : w ≢ p = λ k. false≢true (sym e ∙ (Decides-eqb w p).1 k) in get_or-set_other ns p w n 0 d
 
-pub by_beyond : (ns : List ℕ) (p : ℕ) → length ns ≤ p → by ns p ≡ 0
-by_beyond [] zero l = refl
-by_beyond [] (suc p) l = refl
-by_beyond (n ∷ ns) zero l = absurd (omega arith)
-by_beyond (n ∷ ns) (suc p) l = by_beyond ns p (omega arith)
-
 -- of a list those numbers are left up to a place that are fine, and all from there on
 pub record IsLeft (old now : List ℕ) (i : ℕ) (P : ℕ → ℕ → Type 0) : Type 0 where
   pub count : length now ≡ length old

@@ -39,6 +39,7 @@ use Rattle.ap_standing.specs.Machine.{Point, inside, AreWithin}
 use Rattle.ap_standing.specs.Holds.{SetOf, IsOpenAt, AreOpen, Holds, Turned}
 use Rattle.ap_standing.specs.Laws.{machine}
 use Rattle.ap_standing.proofs.Children.{plain-children, no-state}
+use Rattle.ap_standing.proofs.Builtins.{Behind-same, Valued-same}
 use Rattle.ap_standing.proofs.Moved.{Waits-agree, some-waits}
 use Rattle.ap_standing.proofs.FirstGoals.{first-call}
 use Rattle.ap_standing.proofs.Turns.{SameSet-trans, SameSet-sym, relation-answered}
@@ -83,15 +84,6 @@ module _ (f : ℕ → Tree) (X' Y' : ℕ → Tree) where
   instance-goal g t = ap₂ (λ u v. node (goal_name g) (pair u v)) (instance-left g t) (instance-right g)
 
 -- ---- the set of what is asked at the goal
-
-Behind-same : (I J : Trees → Trees → Type 0) → SameSet I J → SameSet (Behind I) (Behind J)
-Behind-same I J h gs t = (λ b. (b.0, (h (more b.0 gs) t).0 b.1), λ b. (b.0, (h (more b.0 gs) t).1 b.1))
-
-Valued-same : (I J : Trees → Trees → Type 0) (z : ℤ) → SameSet I J → SameSet (Valued I z) (Valued J z)
-Valued-same I J z h gs t = (
-  λ b. (b.0, (h (more (node IS (more (int z) (more b.0 none))) gs) t).0 b.1),
-  λ b. (b.0, (h (more (node IS (more (int z) (more b.0 none))) gs) t).1 b.1),
-)
 
 module _ (code : Compiled) (cs : List Raw) (ws : List Return) (roots : List ℕ) (x y : List ℕ) (is : List Step) where
   abbrev st : List Raw → Standing

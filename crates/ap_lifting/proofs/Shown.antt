@@ -1,6 +1,5 @@
 -- What stands for a body, under instances.
 use Rattle.std.proofs.Common.{◌≡◌, ℕ, Bool, true, false, List, [], ◌∷◌, ◌++◌, map, refl, ap, sym, ◌∙◌, subst, Option, Some, None}
-use Rattle.std.proofs.lemmas.List.{map-append}
 use Rattle.ap_term.specs.Tree.{Tree, Trees, none, more, append_trees}
 use Rattle.ap_term.specs.Substitution.{instance, instance_all}
 use Rattle.ap_term.specs.Goals.{Program, plain_goals}
@@ -21,27 +20,6 @@ stays-instance l f (conjunction a b) = refl
 stays-instance l f (disjunction a b) = refl
 stays-instance l f (parallel a b) = refl
 stays-instance l f (conditional cs b) = refl
-
-operand_items-instance : (f : ℕ → Tree) (s : Bool) (b : Body) (is : List Item) → operand_items s (instance_body f b) (map (instance_item f) is) ≡ map (instance_item f) (operand_items s b is)
-operand_items-instance f true b is = refl
-operand_items-instance f false b is = refl
-
-pub items-instance : (f : ℕ → Tree) (b : Body) → items (instance_body f b) ≡ map (instance_item f) (items b)
-items-instance f (goal t) = refl
-items-instance f (conjunction a b) =
-    ap (λ l. l ++ items (instance_body f b)) (items-instance f a) ∙ ap (λ l. map (instance_item f) (items a) ++ l) (items-instance f b)
-    ∙ sym (map-append (instance_item f) (items a) (items b))
-items-instance f (disjunction a b) = refl
-items-instance f (parallel a b) =
-    let one : (l : Bool) (c : Body) → items (instance_body f c) ≡ map (instance_item f) (items c)
-    → operand_items (stays l (instance_body f c)) (instance_body f c) (items (instance_body f c)) ≡ map (instance_item f) (operand_items (stays l c) c (items c))
-    = λ l c e. ap (λ s. operand_items s (instance_body f c) (items (instance_body f c))) (stays-instance l f c)
-    ∙ ap (operand_items (stays l c) (instance_body f c)) e ∙ operand_items-instance f (stays l c) c (items c)
-    in
-    ap (λ l. l ++ operand_items (stays true (instance_body f b)) (instance_body f b) (items (instance_body f b))) (one false a (items-instance f a))
-    ∙ ap (λ l. map (instance_item f) (operand_items (stays false a) a (items a)) ++ l) (one true b (items-instance f b))
-    ∙ sym (map-append (instance_item f) (operand_items (stays false a) a (items a)) (operand_items (stays true b) b (items b)))
-items-instance f (conditional cs b) = items-instance f b
 
 -- ---- what stands for them
 

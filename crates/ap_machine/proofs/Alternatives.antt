@@ -13,12 +13,7 @@ use Rattle.ap_control.specs.Heads.{IsShut, PassesOver}
 use Rattle.ap_machine.specs.Live.{AreLive}
 use Rattle.ap_machine.specs.View.{Paused, AreLiveAt, IsFor}
 use Rattle.ap_machine.specs.Choices.{Stays, AtNewest, Returned, LeavesOut}
-
-pub Stays-trans : (s t u : Paused) → Stays s t → Stays t u → Stays s u
-Stays-trans s t u h k = record { x = k.x ∙ h.x; y = k.y ∙ h.y; roots = k.roots ∙ h.roots; spent = k.spent ∙ h.spent; budget = k.budget ∙ h.budget; older = k.older ∙ h.older }
-
-pub Stays-refl : (s : Paused) → Stays s s
-Stays-refl s = record { x = refl; y = refl; roots = refl; spent = refl; budget = refl; older = refl }
+use Rattle.ap_machine.proofs.Progress.{Stays-refl, Stays-trans}
 
 pub Returned-trans : (s t u : Paused) → Returned s t → Returned t u → Returned s u
 Returned-trans s t u h k = record { stays = Stays-trans s t u h.stays k.stays; points = k.points ∙ h.points; now = k.now ∙ h.now; at = k.at }

@@ -2,7 +2,7 @@
 use Rattle.std.proofs.Common.{◌≡◌, ℕ, ◌+◌, ◌-◌, ◌^◌, ◌<◌, ◌≤◌, min, List, ◌++◌, length, take, drop, ap, append_assoc, sym, ◌∙◌, arith, Option, None, Some, IfSome, option_map}
 use Rattle.std.proofs.lemmas.Grind.{common_steps}
 use Rattle.std.proofs.lemmas.List.{drop-take, take-append-drop}
-use Rattle.std.specs.Io.KnownBytes.{Appends, Consumes, Keeps}
+use Rattle.std.specs.Io.KnownBytes.{Appends}
 
 -- what was cut one behind a limit and is within it is all
 pub all_within : (limit : ℕ) (known : Option (List ℕ)) (items : List ℕ) → IfSome (option_map (take (min (limit + 1) (2 ^ 64 - 1))) known) (λ bytes. items ≡ bytes) →
@@ -14,18 +14,6 @@ all_within limit (Some bytes) items cut within short =
     let whole : take n bytes ≡ bytes = grind (arith, common_steps, cut, more) in
     cut ∙ whole
 
-pub keeps_then : (a b c : Option (List ℕ)) → Keeps a b → Keeps b c → Keeps a c
-keeps_then None b c f g = tt
-keeps_then (Some xs) None c f g = absurd f
-keeps_then (Some xs) (Some ys) None f g = g
-keeps_then (Some xs) (Some ys) (Some zs) f g = g ∙ f
-
-pub keeps_consumes : (a b c : Option (List ℕ)) (bytes : List ℕ) → Keeps a b → Consumes b c bytes → Consumes a c bytes
-keeps_consumes None b c bytes f g = tt
-keeps_consumes (Some xs) None c bytes f g = absurd f
-keeps_consumes (Some xs) (Some ys) None bytes f g = g
-keeps_consumes (Some xs) (Some ys) (Some zs) bytes f g = rw (← f) g
-
 -- a piece's next bytes are written behind those before them
 pub appends_more : (a b c : Option (List ℕ)) (piece : List ℕ) (n k : ℕ) → Appends a b (take n piece) → Appends b c (take k (drop n piece)) → Appends a c (take (n + k) piece)
 appends_more None b c piece n k f g = tt
@@ -36,9 +24,3 @@ appends_more (Some xs) (Some ys) (Some zs) piece n k f g =
     let whole : take n piece ++ take k (drop n piece) ≡ take (n + k) piece =
     ap (λ bytes. bytes ++ take k (drop n piece)) (sym front) ∙ ap (λ bytes. take n (take (n + k) piece) ++ bytes) (sym (drop-take n k piece)) ∙ take-append-drop n (take (n + k) piece) in
     g ∙ ap (λ front. front ++ take k (drop n piece)) f ∙ append_assoc xs (take n piece) (take k (drop n piece)) ∙ ap (λ more. xs ++ more) whole
-
-pub appends_failed : (a b c : Option (List ℕ)) (bytes : List ℕ) → Appends a b bytes → Keeps b c → Appends a c bytes
-appends_failed None b c bytes f g = tt
-appends_failed (Some xs) None c bytes f g = absurd f
-appends_failed (Some xs) (Some ys) None bytes f g = g
-appends_failed (Some xs) (Some ys) (Some zs) bytes f g = g ∙ f

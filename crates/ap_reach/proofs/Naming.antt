@@ -139,9 +139,6 @@ find_turn ks ls n k p g at h a =
 pub find_done : (ks : List Called) (n : ℕ) (p : Program) → slice_get ks n ≡ None → CallsAmong p ks (all_called (take n ks) p) → CallsAmong p ks (all_called ks p)
 find_done ks n p at h = subst (λ z. CallsAmong p ks (all_called z p)) (take_all n ks (beyond ks n at)) h
 
-gathered_more : (ks ls : List Called) (k : Called) (p : Program) → gathered ks (ls ++ k ∷ []) p ≡ gathered ks ls p ++ contribution ks p k
-gathered_more ks ls k p = flat_map-append (contribution ks p) ls (k ∷ []) ∙ ap (λ z. gathered ks ls p ++ z) (append-nil (contribution ks p k))
-
 -- what is put in is among what is called
 some_called : (P : Clause → Type 0) (b : Bool) (cs : Program) → All P cs → All P (if b then [] else cs)
 some_called P true cs h = All-nil P

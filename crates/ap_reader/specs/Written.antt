@@ -9,9 +9,8 @@ use Rattle.ap_reader.specs.declared.leaf.Quote.{Quote}
 use Rattle.ap_reader.specs.declared.leaf.Quote.TheVariants as quote
 use Rattle.ap_reader.specs.declared.leaf.Leaf.{Leaf}
 use Rattle.ap_reader.specs.declared.leaf.Leaf.TheVariants as leaf
-use Rattle.ap_reader.specs.Grammar.{Tree, Single, Positive, Negative, Prefix, Infix, Group, Compound, Empty, Listed, Tailed, Items, Begin, Then, spelled, IsWhole}
+use Rattle.ap_reader.specs.Grammar.{Tree, Single, Positive, Negative, Prefix, Infix, Group, Compound, Empty, Listed, Tailed, Items, Begin, Then}
 use Rattle.ap_reader.specs.Step.{place}
-use Rattle.ap_reader.specs.Word.{words}
 
 -- a term, with the parentheses that were written; variables are numbered from 1 by first occurrence
 mutual
@@ -128,13 +127,6 @@ abbrev mutual
   pub listed : List Written → Items → Written → Written
   listed xs Begin rest = rest
   listed xs (Then items t at) rest = listed xs items (cell (meaning xs t) rest)
-
--- the tokens spell the tree, and the tree is that term
-pub record IsTermOf (ts : List Placed) (t : Tree) (x : Written) : Type 0 where
-  pub text : AreText ts
-  pub rules : IsWhole t
-  pub spelling : spelled t ≡ words ts
-  pub means : meaning (leaves [] ts) t ≡ x
 
 -- a leaf of the code
 abbrev pub leaf_of : Leaf → Written

@@ -2,14 +2,11 @@
 use Rattle.std.proofs.Common.{◌≡◌, ◌∙◌, ℕ, zero, suc, ◌-◌, ◌<◌, ◌≤◌, List, [], ◌∷◌, length, slice_get, reverse, map, ap, sym, subst, refl, Some, get_or, rules, arith}
 use Rattle.std.proofs.lemmas.Option.{same_Some}
 use Rattle.std.specs.List.{AllByRecursion}
-use Rattle.ap_term.specs.Tuples.{tuple_under}
-use Rattle.ap_term.specs.Tree.{Trees, count_trees}
-use Rattle.ap_term.specs.UpToNames.{SameUpToNames}
-use Rattle.ap_cells.specs.Trees.{tree_at, trees}
+use Rattle.ap_term.specs.Tree.{Trees}
 use Rattle.ap_instr.specs.Code.{Compiled}
 use Rattle.ap_group.specs.Groups.{Pushed}
 use Rattle.ap_tie.specs.Sections as seen
-use Rattle.ap_tie.specs.Sections.{section, Stack, bottom, parcall, rows}
+use Rattle.ap_tie.specs.Sections.{section, bottom, parcall, rows}
 use Rattle.ap_tie.specs.Settled.{HasFailed}
 use Rattle.ap_tied.specs.Ties.{IsKnownGoal, stack_in}
 use Rattle.ap_frames.specs.declared.frame.Frame.{Frame}
@@ -21,7 +18,7 @@ use Rattle.ap_machine.specs.Forks.{newest_goals}
 use Rattle.ap_section.specs.declared.section.Section.{Section, out-Section}
 use Rattle.ap_section.specs.Views.{view_of}
 use Rattle.ap_section.specs.Ready.{shape_of, AreMatched, IsReady}
-use Rattle.ap_section.specs.Slots.{IsAtFrame, IsPlaceIn, IsSlotOf, IsKnownAt, IsParcelOf, IsGoalOf, goals_in, cells_at, verdict_in, redone_of, redone_in}
+use Rattle.ap_section.specs.Slots.{IsAtFrame, IsPlaceIn, IsSlotOf, IsKnownAt, IsGoalOf, goals_in, cells_at, verdict_in, redone_of, redone_in}
 use Rattle.ap_section.specs.Lending.{count_in}
 use Rattle.ap_section.proofs.Levels.{stack_now, view_of-out}
 use Rattle.ap_section.proofs.Parts.{ready-out}
@@ -109,9 +106,6 @@ place-goal s i at k = let r = fork-at s at in subst (λ gs. i - 1 < length (newe
 pub goals-at : (s : Section) → IsAtFrame (view_of s) → newest_goals (out-Section s).search.older ≡ goals_in (view_of s)
 goals-at s at = let r = fork-at s at in ap newest_goals r.1.older ∙ sym r.1.goals
 
-pub cells-at : (s : Section) → IsAtFrame (view_of s) → (out-Section s).search.machine.cells ≡ cells_at (stack_in (view_of s))
-cells-at s at = let r = fork-at s at in r.1.cells ∙ sym r.1.cells_shown
-
 -- ---- its goals
 
 known-place : (code : Compiled) (ps : List Pushed) (k : ℕ) (p : Pushed) → AllByRecursion (IsKnownGoal code) ps → slice_get ps k ≡ Some p → IsKnownGoal code p
@@ -129,13 +123,6 @@ known-at code s i number at r h =
     let known = subst (AllByRecursion (IsKnownGoal code)) (sym f.1.goals) (f.1.known code r) in
     let q = known-place code (goals_in (view_of s)) (i - 1) h.0 known h.1 in
     (q.0, subst (λ n. slice_get code.predicates n ≡ Some q.0) h.2 q.1, λ p e. ap (λ x. length x.arguments) (same_Some p h.0 (sym e ∙ h.1)) ∙ q.2)
-
--- the arguments of a goal of the newest fork are those of a slot's
-pub parcel-of : (s : Section) (i : ℕ) (ts : Trees) → IsAtFrame (view_of s)
-    → ((p : Pushed) × (slice_get (newest_goals (out-Section s).search.older) (i - 1) ≡ Some p) × SameUpToNames ts (tuple_under (tree_at (trees (out-Section s).search.machine.cells)) p.arguments) × (count_trees ts ≡ length p.arguments))
-    → IsParcelOf i (view_of s) ts
-parcel-of s i ts at h =
-    (h.0, subst (λ ps. slice_get ps (i - 1) ≡ Some h.0) (goals-at s at) h.1, subst (λ cs. SameUpToNames ts (tuple_under (tree_at (trees cs)) h.0.arguments)) (cells-at s at) h.2, h.3)
 
 -- ---- the slot that is redone is a place
 

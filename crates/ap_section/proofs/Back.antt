@@ -22,12 +22,12 @@ use Rattle.ap_section.specs.declared.section.Section.TheViews.{out-roll-Section}
 use Rattle.ap_section.specs.declared.advance.Turn.TheVariants.{Failed}
 use Rattle.ap_section.specs.Ends.{Ends}
 use Rattle.ap_section.specs.Views.{view_of}
-use Rattle.ap_section.specs.Ready.{Shape, shape_of, AreMatched, AreShut}
+use Rattle.ap_section.specs.Ready.{Shape, shape_of, AreMatched, AreShut, IsShut}
 use Rattle.ap_section.specs.Slots.{IsAtFrame, IsAtDueFrame, IsSlotOf}
-use Rattle.ap_section.specs.Moving.{IsShut, IsRested}
+use Rattle.ap_section.specs.Moving.{IsRested}
 use Rattle.ap_section.proofs.Levels.{slots_now, stack_now, view_of-roll, view_of-out}
 use Rattle.ap_section.proofs.Parts.{FramesReady, IsShutNow, part_now, shut-out}
-use Rattle.ap_section.proofs.Newest.{Top, frames-front, length-rows, length-before, slots-at}
+use Rattle.ap_section.proofs.Newest.{Top, searching, frames-front, length-rows, length-before, slots-at}
 use Rattle.ap_section.proofs.Shown.{redo-shown}
 use Rattle.ap_section.proofs.Owed.{owes-closed}
 use Rattle.ap_section.proofs.Shut.{seen_now, shut-now-ready, shut-closed, same-most}
@@ -158,9 +158,6 @@ none-rested code s e end shut n u =
 pub not-some : {A : Type 0} (o : Option A) → is_some o ≡ false → o ≡ None
 not-some None h = refl
 not-some (Some x) h = cc
-
-abbrev pub searching : Section → Paused → Section
-searching s p = roll-Section (record (out-Section s) { search = p })
 
 abbrev pub with_fewer : Section → Paused → Vec (Frame Section Trees) Global → Section
 with_fewer s p v = roll-Section (record (out-Section (searching s p)) { frames = v })

@@ -24,11 +24,11 @@ use Rattle.ap_section.specs.declared.section.Section.TheOpen.{Section-F}
 use Rattle.ap_section.specs.Views.{view_of}
 use Rattle.ap_section.specs.Lending.{count_in, with_newest}
 use Rattle.ap_section.specs.Slots.{IsAtFrame, IsSlotOf, closed_stack}
-use Rattle.ap_section.specs.Ready.{Shape, Part, shape_of, parts_of, AreMatched, AreShut, AreInOrder, IsAtNewest, AreReady, IsReady}
-use Rattle.ap_section.specs.Closes.{HasFrame, IsAtFirst, closed_in, charged_in, IsForgotten, IsBack, IsRejoined, AreShutBehind, AreNearlyReady, IsNearlyReady, IsShut}
+use Rattle.ap_section.specs.Ready.{Shape, Part, shape_of, parts_of, AreMatched, AreShut, AreInOrder, IsAtNewest, AreReady, IsReady, IsShut}
+use Rattle.ap_section.specs.Closes.{HasFrame, IsAtFirst, closed_in, charged_in, IsForgotten, IsBack, IsRejoined, AreShutBehind, AreNearlyReady, IsNearlyReady}
 use Rattle.ap_section.proofs.Levels.{slots_now, stack_now, seen_as, view_of-out, view_of-roll}
 use Rattle.ap_section.proofs.Parts.{SlotsReady, FramesReady, parts-out, parts-roll, frames-into, frames-from, ready-roll, shut-out}
-use Rattle.ap_section.proofs.Newest.{Top, view-top, view-newest, put_at, length-rows, frames-join, frames-front, frames-back, last-of, length-before, set-last}
+use Rattle.ap_section.proofs.Newest.{Top, searching, view-top, view-newest, put_at, length-rows, frames-join, frames-front, frames-back, last-of, length-before, set-last}
 
 -- ---- the newest frame
 
@@ -323,10 +323,6 @@ going-ready code s q e f h =
     ((f k.0.0, subst (λ gs. AreMatched code gs (map shape_of (reverse (out-Section s).frames.items))) (sym e) k.0.1, shut-order q (map shape_of (reverse (out-Section s).frames.items)) k.0.2), k.1)
 
 -- ---- its search changes, and then its frames or its search again
-
--- with another search
-abbrev pub searching : Section → Paused → Section
-searching s q = roll-Section (record (out-Section s) { search = q })
 
 pub forgot-view : (s : Section) (q : Paused) (v : Vec (Frame Section Trees) Global) → IsAtFirst (view_of s) → ((g : Segment) (ks : List Segment) → (out-Section s).search.older ≡ g ∷ ks → IsBehindFork g ks (out-Section s).search q)
     → v.items ≡ take (vec_len (out-Section (searching s q)).frames - 1) (out-Section (searching s q)).frames.items → IsForgotten (view_of s) (view_of (roll-Section (record (out-Section (searching s q)) { frames = v })))

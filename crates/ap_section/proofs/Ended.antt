@@ -39,12 +39,6 @@ search-ends code left q p su st searching.Group h k = h
 pub answer-ends : (code : Compiled) (left : ℕ) (u v : seen.Section) → AreClosed (stack_in v) → IsEndedBy code left u v searching.Answer → Ends code left u v Answer
 answer-ends code left u (section m c b st) h k = (k, h)
 
-pub spent-ends : (code : Compiled) (left : ℕ) (u v : seen.Section) → IsEndedBy code left u v searching.Spent → Ends code left u v Spent
-spent-ends code left u (section m c b st) k = k
-
-pub more-ends : (code : Compiled) (left : ℕ) (u v : seen.Section) → IsEndedBy code left u v searching.More → Ends code left u v More
-more-ends code left (section n d e su) (section m c b st) k = k
-
 pub both-ok : {A E : Type 0} (r : Result A E) (P Q R : A → Type 0) → ((x : A) → P x → Q x → R x) → IfOk r P → IfOk r Q → IfOk r R
 both-ok (Ok x) P Q R f h k = f x h k
 both-ok (Err e) P Q R f h k = h

@@ -29,9 +29,9 @@ use Rattle.ap_section.specs.Views.{view_of, spent_in}
 use Rattle.ap_frames.specs.declared.slots.Stand.TheVariants.{Ready}
 use Rattle.ap_frames.specs.declared.slots.Recording.TheVariants.{Growing}
 use Rattle.std.proofs.Common.{None}
-use Rattle.ap_section.specs.Ready.{shape_of, IsReadyPart, AreMatched, AreInOrder, IsAtNewest, IsReady}
+use Rattle.ap_section.specs.Ready.{shape_of, IsReadyPart, AreMatched, AreInOrder, IsAtNewest, IsReady, IsShut}
 use Rattle.ap_section.specs.Slots.{IsAtDueFrame, IsSlotOf}
-use Rattle.ap_section.specs.Moving.{IsShut, HasMoved, IsOpened}
+use Rattle.ap_section.specs.Moving.{HasMoved, IsOpened}
 use Rattle.ap_section.specs.Owed.{frame_cost}
 use Rattle.ap_section.proofs.Levels.{slots_now, stack_now, seen_as, view_of-roll, view_of-out}
 use Rattle.ap_section.proofs.Parts.{SlotsReady, FramesReady, IsReadyNow, IsShutNow, part_now, ready-roll, shut-out}

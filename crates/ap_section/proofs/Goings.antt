@@ -18,7 +18,7 @@ use Rattle.ap_standing.specs.Machine.{Point, Machine, returning, failed}
 use Rattle.ap_standing.specs.Holds.{Holds, AreOpen, HoldsPoints}
 use Rattle.ap_standing.proofs.Machines.{failed-points, points-failed}
 use Rattle.ap_tie.specs.Sections as seen
-use Rattle.ap_tie.specs.Sections.{section, Stack, bottom, parcall, Slots, no_slot, slot, nothing, held, rows, machine_in}
+use Rattle.ap_tie.specs.Sections.{section, Stack, bottom, parcall, Slots, slot, nothing, held, rows, machine_in}
 use Rattle.ap_tie.specs.Settled.{HasFailed}
 use Rattle.ap_tie.specs.Tied.{HoldsStack}
 use Rattle.ap_tied.specs.Ties.{Goes, IsQuietStack, IsInRound, stack_in}
@@ -30,7 +30,7 @@ use Rattle.ap_section.proofs.Newest.{top-at, slots-at}
 use Rattle.ap_section.specs.Slots.{IsAtFrame, verdict_in, slots_in, closed_stack}
 use Rattle.ap_section.specs.Views.{view_of, row_of, spent_in, budget_in}
 use Rattle.ap_section.specs.Settles.{HasCharged}
-use Rattle.ap_section.specs.Closes.{HasFrame, IsAtFirst, closed_in, charged_in, IsForgotten, IsBack, HasMetIn, CannotMeet, stays_in, IsHeldAnswer, IsStandAnswer, AreSlotAnswers}
+use Rattle.ap_section.specs.Closes.{closed_in, charged_in, IsForgotten, IsBack, HasMetIn, CannotMeet, stays_in, IsHeldAnswer, IsStandAnswer, AreSlotAnswers}
 use Rattle.ap_section.proofs.Levels.{slots_now, held_own, held_now}
 
 -- ---- nothing happens
@@ -90,10 +90,6 @@ charged-none s = record { spent = zero-more (spent_in s); budget = refl }
 
 -- ---- answers
 
-pub at-first : (s : seen.Section) → IsAtFrame s → IsAtFirst s
-at-first (section m c b bottom) h = absurd h
-at-first (section m c b (parcall f q rd w qs st)) h = (tt, h.0)
-
 held-answer : (y : Stand Section) (t : Trees) → IsStandAnswer y t → (x : Section) × (held_now y ≡ held (view_of x)) × IsAnswerIn (view_of x) t
 held-answer Ready t h = absurd h
 held-answer Waiting t h = absurd h
@@ -152,14 +148,6 @@ pub joined-stack : (s t : seen.Section) (e : ℕ) (ts : List Trees) → HasMetIn
 joined-stack (section m c b bottom) t e ts k = absurd k
 joined-stack (section m c b (parcall f q rd w qs st)) t e ts (n, met, is) = ap (λ x. stack_in (closed_in (charged_in e x))) is
 
-pub met-frame : (s t : seen.Section) (e : ℕ) (ts : List Trees) → HasMetIn s ts t → HasFrame (stack_in (charged_in e t))
-met-frame (section m c b bottom) t e ts k = absurd k
-met-frame (section m c b (parcall f q rd w qs st)) t e ts (n, met, is) = subst (λ x. HasFrame (stack_in (charged_in e x))) (sym is) tt
-
-pub met-spent : (s t : seen.Section) (ts : List Trees) → HasMetIn s ts t → spent_in t ≡ spent_in s
-met-spent (section m c b bottom) t ts k = absurd k
-met-spent (section m c b (parcall f q rd w qs st)) t ts (n, met, is) = ap spent_in is
-
 -- ---- broken
 
 pub goes-broken : SettlingLaw → (code : Compiled) (s t : seen.Section) (e : ℕ) → IsAtFrame s → verdict_in s ≡ BrokenBy e → list_any is_running (rows (slots_in s)) ≡ false → stays_in s ≡ false → IsForgotten (charged_in e s) t → Goes code s t
@@ -185,7 +173,3 @@ closed-charged (section m c b st) e = record { spent = refl; budget = refl }
 pub closed-now : (s : seen.Section) (e : ℕ) → IsAtFrame s → (machine_in (closed_in (charged_in e s))).now ≡ failed
 closed-now (section m c b bottom) e at = absurd at
 closed-now (section m c b (parcall f q rd w qs st)) e at = at.0.now
-
-pub charged-first : (s : seen.Section) (e : ℕ) → IsAtFrame s → IsAtFirst (charged_in e s)
-charged-first (section m c b bottom) e at = absurd at
-charged-first (section m c b (parcall f q rd w qs st)) e at = (tt, at.0)

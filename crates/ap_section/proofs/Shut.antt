@@ -10,7 +10,7 @@ use Rattle.ap_instr.specs.Code.{Compiled}
 use Rattle.ap_machine.specs.View.{Segment, Paused, IsFor}
 use Rattle.ap_machine.specs.Advanced.{Advanced}
 use Rattle.ap_tie.specs.Sections as seen
-use Rattle.ap_tie.specs.Sections.{section, Slots, Stack, bottom, parcall, rows}
+use Rattle.ap_tie.specs.Sections.{section, bottom, parcall}
 use Rattle.ap_tie.specs.Settled.{AreClosed}
 use Rattle.ap_tie.specs.Tied.{IsRest}
 use Rattle.ap_tied.specs.Ties.{Goes, stack_in}
@@ -18,12 +18,13 @@ use Rattle.ap_tied.specs.Reaching.{ReachingLaw}
 use Rattle.ap_section.specs.declared.section.Section.{Section, out-Section}
 use Rattle.ap_section.specs.declared.section.Section.TheOpen.{Section-F}
 use Rattle.ap_section.specs.Views.{view_of, spent_in}
-use Rattle.ap_section.specs.Ready.{Shape, shape_of, AreMatched, AreShut, AreInOrder, IsAtNewest, IsReady}
+use Rattle.ap_section.specs.Ready.{Shape, shape_of, AreMatched, AreShut, AreInOrder, IsAtNewest, IsReady, IsShut}
 use Rattle.ap_section.specs.Slots.{IsAtFrame, IsAtDueFrame, IsSlotOf}
-use Rattle.ap_section.specs.Moving.{IsShut, HasMoved}
+use Rattle.ap_section.specs.Moving.{HasMoved}
 use Rattle.ap_section.proofs.Levels.{slots_now, stack_now, seen_as, view_of-out}
-use Rattle.ap_section.proofs.Parts.{FramesReady, IsReadyNow, IsShutNow, part_now, ready-out, shut-out, out-shut, out-ready}
+use Rattle.ap_section.proofs.Parts.{FramesReady, IsReadyNow, IsShutNow, part_now, ready-out, shut-out, out-shut}
 use Rattle.ap_section.proofs.Newest.{Top, view-top, length-rows, round-at}
+use Rattle.ap_section.proofs.Closes.{shut-order}
 use Rattle.ap_section.proofs.Owed.{owes-same, owes-closed, AreClosedBehind}
 
 -- a level as its view has it
@@ -32,15 +33,8 @@ seen_now x = seen_as x.search (reverse x.frames.items)
 
 -- ---- closed, and ready
 
-order-shut : (p : Paused) (bs : List Shape) → AreShut bs → AreInOrder p bs
-order-shut p [] h = tt
-order-shut p (a ∷ bs) h = (inl h.0, h.1)
-
 pub shut-now-ready : (code : Compiled) (s : Section-F Section) → IsShutNow code s → IsReadyNow code s
-shut-now-ready code s h = ((h.0.0, h.0.1, order-shut s.search (part_now s).frames h.0.2), h.1)
-
-pub shut-ready : (code : Compiled) (s : Section) → IsShut code s → IsReady code s
-shut-ready code s h = out-ready code s (shut-now-ready code (out-Section s) (shut-out code s h))
+shut-now-ready code s h = ((h.0.0, h.0.1, shut-order s.search (part_now s).frames h.0.2), h.1)
 
 pub closed-stack : (code : Compiled) (gs : List Segment) (fs : List (Frame Section Trees)) → AreMatched code gs (map shape_of fs) → AreShut (map shape_of fs) → AreClosed (stack_now gs fs)
 closed-stack code [] [] h k = tt

@@ -68,12 +68,6 @@ row-of f (Some x) h = (x, refl, h)
 pub told-row : (f : Row → Bool) (i : ℕ) (s : Section) → told_of f i s ≡ true → (x : Row) × (row_in i (slots_in s) ≡ Some x) × (f x ≡ true)
 told-row f i s h = row-of f (row_in i (slots_in s)) h
 
-told-length : (f : Row → Bool) (k : ℕ) (rs : List Row) → of_slot f false (slice_get rs k) ≡ true → k < length rs
-told-length f zero [] h = absurd (false≢true h)
-told-length f (suc k) [] h = absurd (false≢true h)
-told-length f zero (r ∷ rs) h = search rules
-told-length f (suc k) (r ∷ rs) h = let l = told-length f k rs h in search rules
-
 -- ---- one of them stands otherwise
 
 pub at-stood : (i : ℕ) (e : Stand (Unit {0})) (a : Held) (v : Section) → IsAtFrame v → IsAtFrame (stood i e a v)
@@ -143,15 +137,6 @@ told-behind f by (suc i) (suc k) (slot x a w) h = told-behind f by i k w h
 told-readied : (f : Row → Bool) → ((x : Row) → f x ≡ true → f (readied x) ≡ true) → (j i : ℕ) (s : Section) → told_of f j s ≡ true → told_of f j (readied_in i s) ≡ true
 told-readied f by j i (section m c b bottom) h = h
 told-readied f by j i (section m c b (parcall g q rd w qs st)) h = told-behind f by i (j - 1) w h
-
-runs-on : (y : Stand (Unit {0})) → stands_running y ≡ true → stands_running (readied_stand y) ≡ true
-runs-on Waiting h = h
-runs-on Ready h = h
-runs-on (Running r) h = h
-runs-on (Answered a) h = h
-runs-on (Replayed k) h = h
-runs-on (Ended e c) h = h
-runs-on GivenBack h = h
 
 first-on : (y : Stand (Unit {0})) → stands_first y ≡ true → stands_first (readied_stand y) ≡ true
 first-on Waiting h = h

@@ -26,10 +26,10 @@ use Rattle.ap_tied.specs.SlotCalls.{held_in, gone_on}
 use Rattle.ap_section.specs.Views.{view_of, row_of, bare, spent_in, budget_in}
 use Rattle.ap_section.specs.Lending.{count_in}
 use Rattle.ap_section.specs.Slots.{IsAtFrame, IsPlaceIn, told_of, slots_in, round_in, taken_in, taken_stack, is_held, held_spent, IsGoneOn}
-use Rattle.ap_section.specs.Ready.{IsReady}
+use Rattle.ap_section.specs.Ready.{IsReady, IsShut}
 use Rattle.std.proofs.Common.{◌^◌, Ok}
 use Rattle.ap_section.specs.declared.settle.Settled.TheVariants.{Redo}
-use Rattle.ap_section.specs.Closes.{IsNearlyReady, IsShut, IsOutcome}
+use Rattle.ap_section.specs.Closes.{IsNearlyReady, IsOutcome}
 use Rattle.ap_section.proofs.Outcomes.{to-redo}
 use Rattle.ap_section.proofs.Levels.{held_own, held_now, slots_now, stack_now, seen_as, view_of-out}
 use Rattle.ap_section.proofs.Parts.{HeldReady, StandReady, SlotsReady, FramesReady}

@@ -113,10 +113,6 @@ AreNearlyReady code (a ∷ bs) = IsFor code a.search × AreMatched code a.search
 abbrev pub IsNearlyReady : Compiled → Section → Type 0
 IsNearlyReady code s = AreNearlyReady code (parts_of s)
 
--- as a section that a slot holds: all rounds are closed
-abbrev pub IsShut : Compiled → Section → Type 0
-IsShut code s = AllByRecursion (IsShutPart code) (parts_of s)
-
 -- ---- what became of the frame
 
 pub record IsOutcome (s t : Section) (r : Result Settled NoMemory) : Type 0 where

@@ -1,13 +1,10 @@
 -- A section lends its newest frame.
 use Rattle.std.specs.Prelude.{ℕ, ◌-◌, vec_len}
 use Rattle.std.specs.Vec.{with_item}
-use Rattle.std.specs.Borrow.{Lends, MutBor, Fml}
 use Rattle.ap_term.specs.Tree.{Trees}
 use Rattle.ap_frames.specs.declared.frame.Frame.{Frame}
 use Rattle.ap_frames.specs.contracts.frame.Frame as frames
-use Rattle.ap_copy.specs.contracts.parcels.Parcelled as parcels
 use Rattle.ap_section.specs.declared.section.Section.{Section, roll-Section, out-Section}
-use Rattle.ap_section.specs.contracts.section.Section.{the_row}
 
 abbrev pub count_in : Section → ℕ
 count_in s = vec_len (out-Section s).frames
@@ -15,6 +12,3 @@ count_in s = vec_len (out-Section s).frames
 -- with another newest frame
 abbrev pub with_newest : Section → Frame Section Trees → Section
 with_newest s f = roll-Section (record (out-Section s) { frames = with_item (out-Section s).frames (vec_len (out-Section s).frames - 1) f })
-
-abbrev pub LendsNewest : MutBor Section → MutBor (Frame Section Trees) → Fml
-LendsNewest s r = Lends the_row (frames.the_row the_row parcels.the_row) s r (with_newest s.now)

@@ -1,6 +1,5 @@
 -- What a section is after some moves.
 use Rattle.std.specs.Prelude.{◌≡◌, ℕ, ◌+◌, ◌-◌, ◌<◌, ◌≤◌, replicate, false}
-use Rattle.std.specs.List.{AllByRecursion}
 use Rattle.ap_term.specs.Tree.{Trees}
 use Rattle.ap_frames.specs.declared.frame.Frame.{Frame}
 use Rattle.ap_frames.specs.Rows.{row, opened}
@@ -14,14 +13,9 @@ use Rattle.ap_tie.specs.Tied.{IsAtAnswer}
 use Rattle.ap_tied.specs.Ties.{Goes}
 use Rattle.ap_section.specs.declared.section.Section.{Section}
 use Rattle.ap_section.specs.Views.{spent_in, budget_in}
-use Rattle.ap_section.specs.Ready.{parts_of, IsShutPart}
 use Rattle.ap_section.specs.declared.advance.Turn.{Turn}
 use Rattle.ap_section.specs.Ends.{IsCallNext, Ends}
 use Rattle.ap_section.specs.Owed.{owed}
-
--- it goes on by the code, and all frames are closed
-abbrev pub IsShut : Compiled → Section → Type 0
-IsShut code s = AllByRecursion (IsShutPart code) (parts_of s)
 
 -- events of the core lead there, no call was taken back, and no more is owed but what was called
 pub record HasMoved (code : Compiled) (s t : seen.Section) : Type 0 where

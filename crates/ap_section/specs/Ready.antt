@@ -91,3 +91,7 @@ AreReady code (a ∷ bs) = IsReadyPart code a × AllByRecursion (IsShutPart code
 -- its search is at the newest fork, that one's.
 abbrev pub IsReady : Compiled → Section → Type 0
 IsReady code s = AreReady code (parts_of s)
+
+-- it goes on by the code, and all frames are closed, as those of a section that a slot holds
+abbrev pub IsShut : Compiled → Section → Type 0
+IsShut code s = AllByRecursion (IsShutPart code) (parts_of s)

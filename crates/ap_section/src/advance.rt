@@ -10,9 +10,9 @@ ghost use Rattle.ap_ledger.specs.Counts.{capped};
 ghost use Rattle.ap_tied.specs.Ties.{Goes};
 ghost use Rattle.ap_section.specs.Views.{view_of, spent_in, budget_in};
 ghost use Rattle.ap_section.specs.declared.section.Section.{out-Section};
-ghost use Rattle.ap_section.specs.Ready.{IsReady};
+ghost use Rattle.ap_section.specs.Ready.{IsReady, IsShut};
 ghost use Rattle.ap_section.specs.Slots.{IsAtDueFrame};
-ghost use Rattle.ap_section.specs.Moving.{IsShut, HasMoved, IsOpened, IsEndedBy, IsRested};
+ghost use Rattle.ap_section.specs.Moving.{HasMoved, IsOpened, IsEndedBy, IsRested};
 ghost use Rattle.ap_section.specs.Ends.{Ends};
 ghost use Rattle.ap_section.specs.Owed.{owed};
 

@@ -12,11 +12,11 @@ ghost use Rattle.ap_tied.specs.Ties.{Goes, stack_in};
 ghost use Rattle.ap_tied.specs.Settling.{AreAnswersOf, IsRedoable};
 ghost use Rattle.ap_tied.specs.SlotCalls.{held_in, gone_on};
 ghost use Rattle.ap_section.specs.Views.{view_of, spent_in, budget_in};
-ghost use Rattle.ap_section.specs.Ready.{IsReady};
+ghost use Rattle.ap_section.specs.Ready.{IsReady, IsShut};
 ghost use Rattle.ap_section.specs.Slots.{IsAtFrame, IsPlaceIn, verdict_in, slots_in, told_of, round_in, taken_in, held_spent, is_held, IsGoneOn};
 ghost use Rattle.ap_section.specs.Settles.{HasCharged, IsSettled};
 ghost use Rattle.ap_section.specs.Owed.{OwesNoMore};
-ghost use Rattle.ap_section.specs.Closes.{IsStandAnswer, AreSlotAnswers, HasFrame, IsAtFirst, closed_in, charged_in, IsForgotten, IsBack, IsRejoined, stays_by, stays_in, IsNearlyReady, IsShut, MayBreak, CannotBreak, IsOutcome};
+ghost use Rattle.ap_section.specs.Closes.{IsStandAnswer, AreSlotAnswers, HasFrame, IsAtFirst, closed_in, charged_in, IsForgotten, IsBack, IsRejoined, stays_by, stays_in, IsNearlyReady, MayBreak, CannotBreak, IsOutcome};
 
 use crate::section::Section;
 use ap_copy::Parcelled;

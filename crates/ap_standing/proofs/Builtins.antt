@@ -46,7 +46,7 @@ instance_all-spread : (f t k : ℕ → Tree) (p n : ℕ) → ((w : ℕ) → k w 
 instance_all-spread f t k p zero h = refl
 instance_all-spread f t k p (suc n) h = ap (λ u. more u (spread k (p + 1) n)) (h p) ∙ ap (more (instance f (t p))) (instance_all-spread f t k (p + 1) n h)
 
-Behind-same : (I J : Trees → Trees → Type 0) → SameSet I J → SameSet (Behind I) (Behind J)
+pub Behind-same : (I J : Trees → Trees → Type 0) → SameSet I J → SameSet (Behind I) (Behind J)
 Behind-same I J h gs t = (λ b. (b.0, (h (more b.0 gs) t).0 b.1), λ b. (b.0, (h (more b.0 gs) t).1 b.1))
 
 Equated-same : (I J : Trees → Trees → Type 0) → SameSet I J → SameSet (Equated I) (Equated J)
@@ -55,7 +55,7 @@ Equated-same I J h gs t = (
   λ b. (b.0, (h (more (node UNIFY (more b.0 (more b.0 none))) gs) t).1 b.1),
 )
 
-Valued-same : (I J : Trees → Trees → Type 0) (z : ℤ) → SameSet I J → SameSet (Valued I z) (Valued J z)
+pub Valued-same : (I J : Trees → Trees → Type 0) (z : ℤ) → SameSet I J → SameSet (Valued I z) (Valued J z)
 Valued-same I J z h gs t = (
   λ b. (b.0, (h (more (node IS (more (int z) (more b.0 none))) gs) t).0 b.1),
   λ b. (b.0, (h (more (node IS (more (int z) (more b.0 none))) gs) t).1 b.1),

@@ -13,9 +13,6 @@ use Rattle.ap_steps.proofs.RegisterMaps.{set-of, set_x-of, set_y-of, read-of}
 
 -- ---- one after another
 
-pub Moves-refl : (cs : List Raw) (x y : ℕ → ℕ) (js : List Step) → Moves cs x y js cs x y js
-Moves-refl cs x y js = record { longer = omega arith; forth = λ k bs h. (k, λ i b. refl, h); back = λ l bs h. h }
-
 pub Moves-trans : (cs ds es : List Raw) (x y x' y' x'' y'' : ℕ → ℕ) (js is hs : List Step) → Moves cs x y js ds x' y' is → Moves ds x' y' is es x'' y'' hs → Moves cs x y js es x'' y'' hs
 Moves-trans cs ds es x y x' y' x'' y'' js is hs m n = record {
   longer = let a : length cs ≤ length ds = m.longer in let b : length ds ≤ length es = n.longer in omega arith;

@@ -66,11 +66,6 @@ pub question_kept : (program : Program) (table : List (List ℕ)) (a b : Option 
 question_kept program table a b kept t e f puts =
     text_alone 10000000 1000000 program table question one_question.0 one_question.1 t kept (kept_lines a b (IsOutput 10000000 1000000 program table question (judged true question) t) kept e f puts)
 
--- what the question came to is put as it is summed up
-pub refused_lines : (seed size : ℕ) (refused : Bool) (block ls : List (List ℕ)) → refused ≡ true → ls ≡ block → IsSummed seed size refused block ls
-refused_lines seed size true block ls is same = same
-refused_lines seed size false block ls is same = cc
-
 pub summed_lines : (seed size : ℕ) (refused : Bool) (block ls : List (List ℕ)) → refused ≡ false → (answers : List (List ℕ)) (end : List ℕ) → block ≡ answers ++ end ∷ [] → ls ≡ summary seed size answers end
     → IsSummed seed size refused block ls
 summed_lines seed size false block ls is answers end whole same = (answers, end, whole, same)

@@ -138,18 +138,6 @@ marks-done args i found whole l h = ap Some (sym (append-nil found)) ∙ ap (λ 
 
 -- ---- entries
 
-pub no-predicate : (program : Program) (t : Tree) → predicate_of t ≡ None → (e : Entry) → IsEntryOf program t e → ⊥
-no-predicate program t absent e h = let both : None ≡ Some e.predicate = sym absent ∙ h.predicate in cc
-
-pub no-clause : (program : Program) (t : Tree) (p : Predicate) → predicate_of t ≡ Some p → has_clause program p ≡ false → (e : Entry) → IsEntryOf program t e → ⊥
-no-clause program t p is absent e h =
-    let both : Some e.predicate ≡ Some p = sym h.predicate ∙ is in
-    let same : e.predicate ≡ p = cc in
-    false≢true (sym absent ∙ sym (ap (has_clause program) same) ∙ h.clause)
-
-pub no-marks : (program : Program) (t : Tree) → marks_of (arguments t) ≡ None → (e : Entry) → IsEntryOf program t e → ⊥
-no-marks program t absent e h = let both : None ≡ Some e.marks.items = sym absent ∙ h.marks in cc
-
 count_marks : (ts : Trees) (ms : List Mark) → marks_of ts ≡ Some ms → length ms ≡ count_trees ts
 count_marks none ms e = let same : [] ≡ ms = cc in sym (ap length same)
 count_marks (more t ts) ms e = go (mark_of t) (marks_of ts) (λ ns f. count_marks ts ns f) e

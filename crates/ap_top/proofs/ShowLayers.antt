@@ -1,9 +1,6 @@
 -- From what a layer of `show` has put to what the layer above it has put.
 use Rattle.std.proofs.Common.{◌≡◌, ◌≢◌, ℕ, ◌<◌, ◌≤◌, List, [], ◌∷◌, length, Option, None, Some, sym, ◌∙◌, ap, subst, codes}
-use Rattle.ap_outside.specs.Pieces.{Puts, FrontOf, CutOf}
 use Rattle.ap_outside.specs.Files.{HasContent}
-use Rattle.ap_outside.specs.Halting.{AnyOf}
-use Rattle.ap_outside.proofs.Puts.{puts_map, front_map, cut_map}
 use Rattle.ap_term.specs.AtomTable.{fixed_names}
 use Rattle.ap_term.specs.Goals.{Program}
 use Rattle.ap_clause.specs.Reads.{RefusesProgram}
@@ -21,18 +18,6 @@ use Rattle.ap_top.specs.Shows.{kind_of, IsPrinted, ProgramShows, TextShows, File
 use Rattle.ap_top.specs.declared.status.Status.{Status}
 use Rattle.ap_top.specs.declared.status.Status.TheVariants as status
 use Rattle.ap_top.proofs.Statuses.{IsCalm}
-
-any_cut : (P : List (List ℕ) → Type 0) (ps : List (List ℕ)) → CutOf P ps → CutOf (AnyOf {T = Unit {0}} (λ _. P)) ps
-any_cut P ps cut = cut_map P (AnyOf {T = Unit {0}} (λ _. P)) (λ ls h. (tt, h)) ps cut
-
-any_front : (P : List (List ℕ) → Type 0) (ps : List (List ℕ)) → FrontOf P ps → FrontOf (AnyOf {T = Unit {0}} (λ _. P)) ps
-any_front P ps front = front_map P (AnyOf {T = Unit {0}} (λ _. P)) (λ ls h. (tt, h)) ps front
-
-pub printed_cut : (a b : Option (List (List ℕ))) (P : List (List ℕ) → Type 0) → Puts a b (CutOf P) → Puts a b (CutOf (AnyOf {T = Unit {0}} (λ _. P)))
-printed_cut a b P puts = puts_map a b (CutOf P) (CutOf (AnyOf {T = Unit {0}} (λ _. P))) (any_cut P) puts
-
-pub printed_front : (a b : Option (List (List ℕ))) (P : List (List ℕ) → Type 0) → Puts a b (FrontOf P) → Puts a b (FrontOf (AnyOf {T = Unit {0}} (λ _. P)))
-printed_front a b P puts = puts_map a b (FrontOf P) (FrontOf (AnyOf {T = Unit {0}} (λ _. P))) (any_front P) puts
 
 module _ (what : Shown) (program : Program) (table : List (List ℕ)) where
   pub entry_refused : ((E : Entries) → AreEntries what.entry program table E → ⊥) → (s : Status) (ls : List (List ℕ)) → (s ≡ status.EntryRefused) × (ls ≡ codes "refused: entry\n" ∷ []) → ProgramShows what program table s ls

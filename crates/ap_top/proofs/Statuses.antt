@@ -77,7 +77,3 @@ sink_rose T before now halt.NoMemory is count = cc
 pub memory_stays : (T : Type 0) (before now : ℕ) (e : Halt) → e ≡ halt.NoMemory → SinkCount {T = T} before now (Err e) → now ≡ before
 memory_stays T before now halt.NoMemory is count = count
 memory_stays T before now halt.Sink is count = cc
-
--- a sink that never fails halts nothing
-pub never_sunk : (T : Type 0) (e : Halt) → e ≡ halt.Sink → SinkCount {T = T} 0 0 (Err e) → ⊥
-never_sunk T e is count = let rose = (sink_rose T 0 0 e is count).rose in omega (arith, rose)

@@ -48,14 +48,6 @@ length_some (b ∷ bs) some = go (b == 10)
     go true = omega arith
     go false = omega arith
 
-pub length_within : (text : List ℕ) → line_length text ≤ length text
-length_within [] = omega arith
-length_within (b ∷ bs) = go (b == 10) (length_within bs)
-  where
-    go : (e : Bool) → line_length bs ≤ length bs → (if e then 1 else suc (line_length bs)) ≤ length (b ∷ bs)
-    go true h = omega arith
-    go false h = omega arith
-
 -- it ends behind the first line feed, or where the text ends
 length_at : (text : List ℕ) → position_or_len is_feed text < length text → line_length text ≡ position_or_len is_feed text + 1
 length_at [] h = absurd (omega (arith, h))
@@ -106,7 +98,3 @@ module _ (all : List (List ℕ)) (rest line behind : List ℕ) (cut : text_lines
 
   pub lines_go_on : (ps qs : List (List ℕ)) → ps ++ text_lines rest ≡ all → AnyOf {T = Unit {0}} (λ _ put. put ≡ line ∷ []) qs → PrefixOf (AnyOf {T = Unit {0}} (λ _ put. put ≡ all)) (ps ++ qs)
   lines_go_on ps qs before any = (text_lines behind, (tt, one_line_more ps qs before any.1))
-
-pub no_more_lines : (all : List (List ℕ)) (rest : List ℕ) → length rest ≡ 0 → (ps : List (List ℕ)) → ps ++ text_lines rest ≡ all → ps ≡ all
-no_more_lines all [] none ps before = sym (append-nil ps) ∙ before
-no_more_lines all (b ∷ bs) none ps before = absurd (omega (arith, none))

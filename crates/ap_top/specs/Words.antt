@@ -1,7 +1,7 @@
 -- What the words of a command line ask for.
 use Rattle.std.specs.Prelude.{List, ℕ}
 use Rattle.ap_words.specs.Table.{Text}
-use Rattle.ap_words.specs.Asked.{Run, Show, codes_of, loads, runs, shows}
+use Rattle.ap_words.specs.Asked.{Run, Show, codes_of, runs, shows}
 use Rattle.ap_words.specs.Reading.{IsRead, asks}
 
 -- of `run`, and of `show`
@@ -22,7 +22,3 @@ IsShow words what = IsRead words (asks (shows what))
 -- of `code`, for the code of this file
 abbrev pub IsCode : List Text → Text → Type 0
 IsCode words file = IsRead words (asks (codes_of file))
-
--- of `load`, by a seed and a size
-abbrev pub IsLoad : List Text → ℕ → ℕ → ℕ → Type 0
-IsLoad words seed size workers = IsRead words (asks (loads seed size workers))

@@ -1,6 +1,5 @@
 -- A query that is asked by a clause for `?-`.
 use Rattle.std.proofs.Common.{◌≡◌, ℕ, ◌-◌, ◌^◌, ◌<◌, ◌≤◌, min, List, [], ◌∷◌, map, length, slice_get, Option, Result, Ok, Err, Some, None, IfOk, refl, ap, sym, ◌∙◌, subst, rules}
-use Rattle.std.proofs.lemmas.Option.{same_Some}
 use Rattle.ap_outside.specs.Halting.{Finishes, SinkCount}
 use Rattle.ap_outside.specs.declared.halting.Halt.TheVariants as halt
 use Rattle.ap_outside.proofs.Puts.{puts_map}
@@ -15,8 +14,6 @@ use Rattle.ap_term.specs.Blocks.{IsPrefix, IsBlock}
 use Rattle.ap_term.specs.UpToNames.{SameUpToNames}
 use Rattle.ap_term.specs.WellFormed.{IsProgram, IsQuery}
 use Rattle.ap_graft.specs.Starts.{tracked_start}
-use Rattle.ap_graft.specs.Uncalled.{NeverCalls}
-use Rattle.ap_instr.specs.declared.compiled.Predicate.{Predicate}
 use Rattle.ap_instr.specs.Code.{Compiled}
 use Rattle.ap_instr.specs.StandsFor.{asked_query, StandsForQuery}
 use Rattle.ap_machine.specs.Started.{IsAsked}
@@ -45,14 +42,6 @@ use Rattle.ap_worker.specs.Sought.{MayBeAsked}
 
 pub is-asked : (code : Compiled) (p : Program) (q : Query) → IsQuery q → StandsForQuery code p q → MayBeAsked p q → IsAsked code p q
 is-asked code p q is stands may = record { is_query = is; stands = stands; program = may.program; lifted = may.lifted }
-
--- the query's predicate, by its number
-pub query-predicate : (code : Compiled) (p : Program) (q : Query) (number : ℕ) → IsAsked code p q → code.query ≡ Some number → (n : ℕ) → n ≡ length q.names
-    → (predicate : Predicate) × (slice_get code.predicates number ≡ Some predicate) × (predicate.arity ≡ n)
-query-predicate code p q number a e n count =
-    let s = a.stands in
-    let same : s.number ≡ number = same_Some _ _ (sym s.is_query ∙ e) in
-    (s.predicate, ap (slice_get code.predicates) (sym same) ∙ s.held, s.arity ∙ sym a.is_query.named ∙ sym count)
 
 -- a section that begins by the query's predicate makes the query's search
 pub begun-solves : SolvingLaw → (code : Compiled) (p : Program) (q : Query) (number rest n : ℕ) (ts : Trees) (s : Section) → Begins code ts number rest s → code.query ≡ Some number → n ≡ length q.names → SameUpToNames ts (variables n)

@@ -38,9 +38,6 @@ use Rattle.ap_worker.specs.contracts.worker.Worker as Worker
 pub section-send : IsSend (Section.the_field).row
 section-send = search (sendable, crosses, heap.the_field_send, knot.send-Section, frame.the_send, parcel.the_send, machine.the_send) depth 20
 
-pub section-sync : IsSync (Section.the_field).row
-section-sync = search (sendable, crosses, heap.the_field_sync, knot.sync-Section, frame.the_sync, parcel.the_sync, machine.the_sync) depth 20
-
 pub outcome-send : IsSend (Outcome.the_field).row
 outcome-send = search (sendable, crosses, section-send) depth 20
 

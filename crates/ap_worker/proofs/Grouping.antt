@@ -2,8 +2,6 @@
 use Rattle.std.proofs.Common.{◌≡◌, ℕ, ◌+◌, ◌<◌, ◌≤◌, Bool, true, false, ◌||◌, List, [], ◌∷◌, ◌++◌, length, drop, get_or, map, refl, ap, sym, ◌∙◌}
 use Rattle.std.specs.List.{list_any}
 use Rattle.std.proofs.lemmas.List.{drop_more, drop_all}
-use Rattle.ap_term.specs.declared.clauses.Part as code
-use Rattle.ap_term.specs.GoalView.{part_of}
 use Rattle.ap_term.specs.Goals.{Part, call, group, Clause, Program, Query, joined}
 use Rattle.ap_term.proofs.GoalLists.{any-turn, any-found, any-done}
 use Rattle.ap_open.specs.Ungrouped.{AreCalls, IsUngrouped}
@@ -13,9 +11,6 @@ use Rattle.ap_worker.specs.Grouped.{is_group, is_grouped}
 
 any-more : {X : Type 0} (f : X → Bool) (xs : List X) (i : ℕ) (x : X) → i < length xs → x ≡ get_or xs i x → list_any f (drop i xs) ≡ (f x || list_any f (drop (i + 1) xs))
 any-more f xs i x l e = ap (list_any f) (drop_more xs i x l ∙ ap (λ y. y ∷ drop (i + 1) xs) (sym e))
-
-parts-more : (ps : List code.Part) (i : ℕ) (p : code.Part) → i < length ps → p ≡ get_or ps i p → list_any is_group (map part_of (drop i ps)) ≡ (is_group (part_of p) || list_any is_group (map part_of (drop (i + 1) ps)))
-parts-more ps i p l e = ap (λ qs. list_any is_group (map part_of qs)) (drop_more ps i p l ∙ ap (λ y. y ∷ drop (i + 1) ps) (sym e))
 
 -- ---- goals
 

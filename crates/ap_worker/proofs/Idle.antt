@@ -14,9 +14,6 @@ none-taken w taken jobs floor =
     subst (λ ts. AreTaken w.post w.floor ts (jobs_in w.post) w.post.next) (sym taken)
     (subst (λ js. AreTaken w.post w.floor [] js w.post.next) (sym jobs) (let e = floor in omega arith))
 
-pub idle-staffed : (w : Worker) → IsIdle w → IsStaffed w
-idle-staffed w i = none-taken w i.taken i.new.jobs i.floor
-
 -- one that leads from now on
 pub idle-leads : (l : Lead) → l.worker.taken.items ≡ [] → jobs_in l.worker.post ≡ [] → l.worker.floor ≡ 0 → IsGood l.worker.post l.query → IsLeading l
 idle-leads l taken jobs floor good = record { staffed = none-taken l.worker taken jobs floor; good = good; above = λ some. absurd (some taken) }

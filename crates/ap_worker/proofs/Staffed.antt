@@ -1,24 +1,20 @@
 -- What taking a goal, going on with a search and finishing it are to a worker.
 use Rattle.std.proofs.Common.{◌≡◌, ◌≢◌, ℕ, suc, ◌+◌, ◌-◌, ◌≤◌, ◌<◌, List, [], ◌∷◌, ◌++◌, length, length-append, Some, None, Ok, Err, refl, ap, sym, ◌∙◌, subst, arith}
 use Rattle.std.specs.Prelude.{Option, Result, IfOk}
-use Rattle.ap_term.specs.declared.memory.NoMemory as memory
 use Rattle.ap_board.specs.declared.view.Cause.{Cause}
 use Rattle.ap_desk.specs.Held.{IsCauseAt}
 use Rattle.ap_open.specs.Sharing.{OutcomeLaw}
 use Rattle.ap_post.specs.declared.job.Job.{Job}
-use Rattle.ap_post.specs.declared.outcome.Ending.{Ending}
-use Rattle.ap_post.specs.declared.outcome.Ending.TheVariants.{Answer, Failed, Spent, Stopped, GivenBack, NoMemory}
 use Rattle.ap_post.specs.declared.outcome.Outcome.{Outcome}
 use Rattle.ap_post.specs.declared.post.Post.{Post}
-use Rattle.ap_post.specs.Jobs.{IsOf, cause_of}
+use Rattle.ap_post.specs.Jobs.{IsOf}
 use Rattle.ap_post.specs.Posts.{posted_in, jobs_in, asked_in, SamePosted, SameBelow}
 use Rattle.ap_stack.specs.declared.stack.Stack.{Stack}
-use Rattle.ap_stack.specs.declared.stack.Step.{Step}
-use Rattle.ap_stack.specs.Outcomes.{IsOutcome, IsUnasked}
-use Rattle.ap_stack.specs.Stacks.{IsGood, Goes, IsStep}
+use Rattle.ap_stack.specs.Outcomes.{IsOutcome}
+use Rattle.ap_stack.specs.Stacks.{Goes}
 use Rattle.ap_worker.specs.declared.taken.Taken.{Taken}
 use Rattle.ap_worker.specs.declared.worker.Worker.{Worker}
-use Rattle.ap_worker.specs.Workers.{IsTaken, IsTakenAs, AreTaken, IsStaffed, IsShort, IsOff, IsAwaiting, IsStepOf, WorkerGoes, WorkerHelps}
+use Rattle.ap_worker.specs.Workers.{IsTaken, IsTakenAs, AreTaken, IsStaffed, IsShort, IsOff, IsAwaiting, WorkerGoes}
 use Rattle.ap_worker.proofs.Taking.{as-first, as-below, as-elsewhere, as-gone, as-fits, same-last, taken-le, taken-length, taken-below, taken-elsewhere, taken-split, taken-joined}
 
 -- the same searches, as another worker's
@@ -158,20 +154,7 @@ gone-then v u x s t floor off goes =
     let lowest = off-floor v s off in
     goes-after v u x floor (λ g less. goes.below g (omega arith)) goes.next
 
-pub helps-goes : (v x : Worker) → WorkerHelps v x → WorkerGoes v x
-helps-goes v x h = record { staffed = h.staffed; below = λ g less. h.posted g; floor = h.floor; next = h.next }
-
--- ---- rows
-
-pub is-nil : {X : Type 0} (xs : List X) → length xs ≡ 0 → xs ≡ []
-is-nil [] e = refl
-is-nil (x ∷ xs) e = absurd (omega arith)
-
 -- ---- what a step of its newest search is to a worker
-
-pub step-of : (v : Worker) (s : Stack) (r : Result Step memory.NoMemory) → IfOk r (λ x. IsStep v.post s x) → IsStepOf v s r
-step-of v s (Ok x) h = h
-step-of v s (Err e) h = tt
 
 pub now-gone : OutcomeLaw → (v u x : Worker) (s : Stack) (t : Taken) → u.taken.items ≡ v.taken.items → u.floor ≡ v.floor → Goes v.post s u.post t.stack → x.taken.items ≡ u.taken.items ++ t ∷ [] → x.floor ≡ u.floor → x.post ≡ u.post
     → IsOff v s → WorkerGoes v x
@@ -186,13 +169,6 @@ now-gone law v u x s t items floor goes more same post h =
     })
 
 -- ---- outcomes
-
-as-good : (p : Post) (s : Stack) (j : Option Job) → IsTakenAs p s j → IsGood p s
-as-good p s None h = absurd h
-as-good p s (Some j) h = h.good
-
-pub off-good : (v : Worker) (s : Stack) → IsOff v s → IsGood v.post s
-off-good v s h = as-good v.post s h.short.last h.last
 
 pub off-fits : (v : Worker) (s : Stack) (o : Outcome) → IsOff v s → IsOutcome v.post s o → (js : List (Option Job)) (j : Job) → jobs_in v.post ≡ js ++ Some j ∷ [] → IsOf j o
 off-fits v s o h out js j e =
@@ -210,12 +186,3 @@ off-cause v s c asked is within h off =
     let count = off-count v s off in
     let last : length v.taken.items ≡ length (jobs_in v.post) - 1 = omega arith in
     subst (λ a. IsCauseAt c a (length (jobs_in v.post) - 1)) (sym is) (subst (IsCauseAt c (Some asked)) last (h (omega arith)))
-
--- nobody has to have asked for it
-pub free-cause : (e : Ending) (asked : Option ℕ) (n : ℕ) → IsUnasked e → IsCauseAt (cause_of e) asked n
-free-cause (Answer s spent more) asked n h = tt
-free-cause (Failed spent) asked n h = tt
-free-cause Spent asked n h = tt
-free-cause (Stopped spent) asked n h = absurd h
-free-cause GivenBack asked n h = absurd h
-free-cause NoMemory asked n h = tt
