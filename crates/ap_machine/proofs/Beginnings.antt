@@ -3,7 +3,7 @@ use Rattle.std.proofs.Common.{◌≡◌, ℕ, zero, suc, ◌+◌, ◌-◌, ◌<�
 use Rattle.ap_tracked.specs.Sets.{SameSet}
 use Rattle.ap_term.proofs.UpToNames.{instance-same}
 use Rattle.ap_term.specs.Tuples.{tuple_under}
-use Rattle.ap_term.proofs.TreeLists.{arguments-applied, instance-applied, append_trees-none}
+use Rattle.ap_term.proofs.TreeLists.{instance-applied, append_trees-none}
 use Rattle.ap_term.specs.declared.fixed.TheConstants.{QUERY}
 use Rattle.ap_term.specs.Tree.{Tree, Trees, var, atom, none, more, count_trees, append_trees}
 use Rattle.ap_term.specs.Substitution.{instance, instance_all, shift}
@@ -61,6 +61,10 @@ spread-fits cs k f e p zero l = refl
 spread-fits cs k f e p (suc n) l = ap₂ more (e p (omega arith)) (spread-fits cs k f e (p + 1) n (omega arith))
 
 -- ---- names on arguments
+
+arguments-applied : (p : ℕ) (ts : Trees) → arguments (applied p ts) ≡ ts
+arguments-applied p none = refl
+arguments-applied p (more t ts) = refl
 
 Local-applied : (P : ℕ → Type 0) (p : ℕ) (ts : Trees) → LocalAll P ts → Local P (applied p ts)
 Local-applied P p none h = tt
