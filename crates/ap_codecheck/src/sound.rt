@@ -4,6 +4,7 @@ ghost use Rattle.std.specs.Prelude.{◌≡◌, ℕ, ◌<◌, Some, IsSome, IfOk,
 ghost use Rattle.ap_index.specs.Heads.{IsHeadOf};
 ghost use Rattle.ap_index.specs.Index.{IsRowOf, IsRestOf, IsLinkOf};
 ghost use Rattle.ap_needs.specs.Needs.{IsRoomOf, AreWidthsOf};
+ghost use Rattle.ap_direct.specs.Goals.{AsksFirst};
 ghost use Rattle.ap_codecheck.specs.Rules.{IsSound};
 ghost use Rattle.ap_codecheck.specs.Judged.{KeepsAll, KeepsAllAt, BreaksIn, Breaks};
 
@@ -11,6 +12,7 @@ use crate::operands::check_operands;
 use crate::paths::check_paths;
 use crate::rule::{CodeErr, Rule};
 use crate::walk::Walk;
+use ap_direct::{Direct, Directs};
 use ap_index::{Head, Index, Link, Row, index_of};
 use ap_instr::{Code, Predicate};
 use ap_needs::{Room, Widths, widths_of};
@@ -24,6 +26,7 @@ pub struct Sound {
     index: Index,
     room: Room,
     widths: Widths,
+    directs: Directs,
 }
 
 impl Model for Sound {
@@ -31,12 +34,13 @@ impl Model for Sound {
     ghost use Rattle.ap_codecheck.specs.Rules.{IsSound};
     ghost use Rattle.ap_index.specs.Index.{IsIndexOf};
     ghost use Rattle.ap_needs.specs.Needs.{IsRoomOf, AreWidthsOf};
+    ghost use Rattle.ap_direct.specs.Table.{AreGoalsOf};
 
     ghost Value = { Compiled };
 
     ghost view = { λ a. a.code };
 
-    ghost invariant = { λ a. IsSound a.code × IsIndexOf a.code a.index × IsRoomOf a.code a.room × AreWidthsOf a.code a.widths };
+    ghost invariant = { λ a. IsSound a.code × IsIndexOf a.code a.index × IsRoomOf a.code a.room × AreWidthsOf a.code a.widths × AreGoalsOf a.code a.directs };
 }
 
 fn check_query(code: &Code) -> Result<(), CodeErr>
@@ -93,11 +97,13 @@ pub fn check(alloc: Global, code: Code) -> Result<Sound, CodeErr>
     let index = index_of(alloc, &code)?;
     let room = Room::of(alloc, &code)?;
     let widths = widths_of(&code);
+    let directs = Directs::of(alloc, &code)?;
     Ok(Sound {
         code,
         index,
         room,
         widths,
+        directs,
     })
 }
 
@@ -156,6 +162,20 @@ impl Sound {
         ensures { AreWidthsOf self.now result }
     {
         self.widths
+    }
+
+    /// The goal of arithmetic that begins at a place, where one does that can be solved straight from registers.
+    #[inline(always)]
+    pub fn direct(&self, at: usize) -> Option<&Direct>
+        ensures { IfSome result (λ d. AsksFirst self.now at d.now) }
+    {
+        self.directs.goal(at)
+    }
+
+    /// The first place behind this one, before the next transfer of control, at which such a goal begins.
+    #[inline(always)]
+    pub fn stop(&self, at: usize) -> usize {
+        self.directs.stop(at)
     }
 
     /// The number of the query's predicate.

@@ -1,5 +1,5 @@
 -- A run of instructions up to one that leads elsewhere than to the one behind it.
-use Rattle.std.specs.Prelude.{◌≡◌, ℕ, true, List, length, slice_get, Option, Some, None}
+use Rattle.std.specs.Prelude.{◌≡◌, ℕ, ◌<◌, ◌⊎◌, true, List, length, slice_get, Option, Some, None}
 use Rattle.ap_instr.specs.declared.instruction.Instr.{Instr}
 use Rattle.ap_cells.specs.declared.cells.Raw.{Raw}
 use Rattle.ap_instr.specs.Code.{Compiled}
@@ -22,3 +22,7 @@ RanOrStuck code at cs x y None ds x' y' = IsStuck cs (held x) (held y) (steps_fr
 -- an instruction stands at the place that leads elsewhere than to the one behind it
 abbrev pub IsTransferAt : Compiled → ℕ → Type 0
 IsTransferAt code at = (i : Instr) × (slice_get code.instructions at ≡ Some i) × (is_transfer i ≡ true)
+
+-- such an instruction, or the place to stop at, which is inside the code
+abbrev pub IsEndAt : Compiled → ℕ → ℕ → Type 0
+IsEndAt code stop at = IsTransferAt code at ⊎ ((at ≡ stop) × (at < length code.instructions))

@@ -3,7 +3,8 @@
 //!
 //! Stands on `ap_steps` and `ap_standing`. What is used above: `choose` and `next_possible`, which pass over clauses that can ask for
 //! nothing, and say of some that their heads surely unify with the call; `can_take`, which is so just where a clause's head does;
-//! `run_to_transfer`, behind which the code asks for the same goals; and `solve`, by which cells become what a built-in goal asks.
+//! `run_to_transfer` and `run_to_stop`, behind which the code asks for the same goals; and `solve`, by which cells become what a
+//! built-in goal asks.
 #![tactic(auto)]
 
 mod alternatives;
@@ -18,5 +19,5 @@ pub use ap_codecheck::Sound;
 pub use checks::{are_apart, is_ground};
 pub use choosing::{Chosen, Possible, choose, next_possible};
 pub use relations::solve;
-pub use runs::{run_to_transfer, used};
+pub use runs::{run_to_stop, run_to_transfer, used};
 pub use taking::can_take;

@@ -20,3 +20,4 @@ pub mod Parting
 pub mod Rejoining
 pub mod Parted
 pub mod Counting
+pub mod Values

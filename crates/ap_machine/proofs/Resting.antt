@@ -1,8 +1,8 @@
 -- What the states are where a search comes to rest.
-use Rattle.std.proofs.Common.{◌≡◌, ℕ, ◌+◌, ◌<◌, List, [], ◌∷◌, ◌++◌, length, slice_get, Some, refl, ap, ap₂, sym, ◌∙◌, subst}
+use Rattle.std.proofs.Common.{◌≡◌, ℕ, ◌+◌, ◌<◌, List, [], ◌∷◌, ◌++◌, length, slice_get, Some, inl, inr, refl, ap, ap₂, sym, ◌∙◌, subst}
 use Rattle.std.specs.List.{AllByRecursion}
 use Rattle.ap_tracked.specs.Sets.{SameSet, IsSetOf}
-use Rattle.ap_term.specs.Tree.{Tree, Trees, none, more, append_trees}
+use Rattle.ap_term.specs.Tree.{Tree, Trees, atom, none, more, append_trees}
 use Rattle.ap_term.specs.Substitution.{instance_all}
 use Rattle.ap_tracked.specs.Tracked.{Goal, Tracked}
 use Rattle.ap_tracked.specs.Marks.{marked}
@@ -19,6 +19,9 @@ use Rattle.ap_tracked.specs.Instances.{Inst}
 use Rattle.ap_steps.specs.Moves.{held}
 use Rattle.ap_steps.specs.Standing.{AtCall, InCode}
 use Rattle.ap_instr.specs.Steps.{steps_from}
+use Rattle.ap_direct.specs.declared.goal.Goal.{Goal as Goal_direct}
+use Rattle.ap_direct.specs.declared.goal.Direct.{Direct}
+use Rattle.ap_direct.specs.Goals.{goal_tree, x_behind, y_behind, AsksGoal, AsksFirst}
 use Rattle.ap_standing.specs.Machine.{Point, Now, calling, inside, returning, failed, Machine, standing}
 use Rattle.ap_standing.specs.Holds.{AtCallOf, SetAt, IsOpenAt, AreOpen, HoldsPoints, Holds}
 use Rattle.ap_standing.specs.Laws.{machine}
@@ -84,9 +87,40 @@ goals-at-builtin code m at b e here ss h =
     let opens : AsksOpenly (builtin_step p n ∷ is) = subst AsksOpenly same asks in
     has-goals (AtGoal code m p n is) h.0 h.1 ss set_at (some-goal code m p n is opens.0 h.5) (begins-at-goal code m p n is) h.7
 
+-- code that asks for a goal of arithmetic first
+module _ (code : Compiled) (m : Machine) (js is : List Step) (g : Goal_direct) (asks : AsksGoal js g is) where
+  abbrev AtDirect : Trees → Trees → Type 0
+  AtDirect = InCode code (standing m) (held m.x) (held m.y) js
+
+  some-direct : AsksOpenly js → AreOpen code m.returns → (gs t : Trees) × AtDirect gs t
+  some-direct openly are_open =
+      let k : ℕ → Tree = tree_at (trees m.cells) in
+      let x : ℕ → Tree = λ w. k (held m.x w) in
+      let y : ℕ → Tree = λ w. k (held m.y w) in
+      let b = (asks.openly openly).0 (x_behind g (atom 0) x) (y_behind g (atom 0) y) in
+      let r = some-waits code k m.returns m.roots are_open in
+      let bs : Trees = more (goal_tree g (atom 0) x y) b.0 in
+      (append_trees bs r.0, r.1, (k, bs, r.0, fits-own m.cells, asks.each x y (atom 0) b.0 b.1, refl, r.2))
+
+  begins-at-direct : BeginsWithGoal AtDirect
+  begins-at-direct gs t i =
+      let x : ℕ → Tree = λ w. i.0 (held m.x w) in
+      let y : ℕ → Tree = λ w. i.0 (held m.y w) in
+      let o = asks.only x y i.1 i.4 in
+      (goal_tree g o.0 x y, append_trees o.1 i.2, i.5 ∙ ap (λ bs. append_trees bs i.2) o.2)
+
+goals-at-direct : (code : Compiled) (m : Machine) (at : ℕ) (d : Direct) → m.now ≡ inside at → AsksFirst code at d → (ss : List Tracked) → Holds code m ss → HasGoals ss
+goals-at-direct code m at d e asks ss h =
+    let js : List Step = steps_from code at in
+    let is : List Step = steps_from code d.to in
+    let set : IsSetOf (AtDirect code m js is d.goal asks) h.0 = subst (λ now. IsSetOf (SetAt code (standing m) m.x m.y now) h.0) e h.2 in
+    let openly : AsksOpenly js = subst (IsOpenAt code) e h.4 in
+    has-goals (AtDirect code m js is d.goal asks) h.0 h.1 ss set (some-direct code m js is d.goal asks openly h.5) (begins-at-direct code m js is d.goal asks) h.7
+
 goals-due : (code : Compiled) (m : Machine) (now : Now) → m.now ≡ now → IsCallDue code now → (ss : List Tracked) → Holds code m ss → HasGoals ss
 goals-due code m (calling number) e due = goals-at-call code m number due.0 e due.1
-goals-due code m (inside at) e due = goals-at-builtin code m at due.0 e due.1
+goals-due code m (inside at) e (inl due) = goals-at-builtin code m at due.0 e due.1
+goals-due code m (inside at) e (inr due) = goals-at-direct code m at due.0 e due.1
 goals-due code m returning e due = absurd due
 goals-due code m failed e due = absurd due
 

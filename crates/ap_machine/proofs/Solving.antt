@@ -2,7 +2,7 @@
 use Rattle.std.proofs.Common.{◌≡◌, ℕ, ◌<◌, Bool, List, length, map, slice_get, Some, Result, Ok, Err, ap, ap₂, sym, ◌∙◌, subst}
 use Rattle.std.specs.List.{AllByRecursion}
 use Rattle.std.specs.Prelude.{OnErr}
-use Rattle.ap_cells.specs.Store.{Store, Keeps}
+use Rattle.ap_cells.specs.Store.{Store, IsStore, Keeps}
 use Rattle.ap_environments.specs.Kept.{Kept}
 use Rattle.ap_term.specs.Goals.{Program}
 use Rattle.ap_term.specs.WellFormed.{IsProgram}
@@ -13,11 +13,17 @@ use Rattle.ap_instr.specs.declared.instruction.Instr.TheVariants.{Builtin as bui
 use Rattle.ap_instr.specs.Code.{Compiled}
 use Rattle.ap_steps.specs.Moves.{held, HoldPlaces}
 use Rattle.ap_steps.specs.Standing.{Return}
+use Rattle.ap_direct.specs.declared.goal.Goal.{Goal}
+use Rattle.ap_direct.specs.declared.goal.Direct.{Direct}
+use Rattle.ap_direct_turns.specs.Solved.{SolvedOn}
+use Rattle.ap_direct_turns.specs.Laws.{behind_direct, DirectLaw}
 use Rattle.ap_standing.specs.Machine.{Point, Now, inside, Machine, AreWithin}
 use Rattle.ap_standing.specs.Laws.{machine, IsTurn, behind_goal}
 use Rattle.ap_standing.proofs.Builtins.{solved-turn, true-turn, fail-turn}
 use Rattle.ap_standing.proofs.Machines.{steps-at}
 use Rattle.ap_machine.specs.declared.state.Now.{Now as Kind}
+use Rattle.ap_machine.specs.declared.direct.Value.{Value}
+use Rattle.ap_machine.specs.Direct.{HasValue, IsDirectDue}
 use Rattle.ap_machine.specs.View.{Paused, now_of, point_of, segment_of, machine_of, paused_of}
 use Rattle.ap_machine.specs.Sane.{Sane}
 use Rattle.ap_machine.specs.Goal.{SolvedGoal}
@@ -70,3 +76,34 @@ module _ (v w : Store) (k : Kept) (x y roots : List ℕ) (next : Kind) (spent bu
       IsTurn-from code p s.machine v.cells x y k.returns roots qs (now_of next) (inside at) (machine_of w k x y roots next') (ap (λ (t : Paused). t.machine) view) due
       (subst (λ ps. IsTurn code p (machine v.cells x y k.returns roots qs (inside at)) (machine w.cells x y k.returns roots ps (now_of next'))) (sym (points-same v w k x y roots keeps sane))
       (subst (λ n. IsTurn code p (machine v.cells x y k.returns roots qs (inside at)) (machine w.cells x y k.returns roots qs n)) (sym en) t))
+
+-- ---- the search after a goal of arithmetic
+
+module _ (v w : Store) (k : Kept) (x y x' y' roots : List ℕ) (next : Kind) (spent budget : ℕ) (s : Paused)
+    (view : paused_of v k x y roots next spent budget ≡ s) (sane : Sane v k x y roots) (keeps : Keeps v w)
+    (code : Compiled) (value : Value) (to : ℕ) (due : IsDirectDue code s.machine value to) where
+  -- what is due, in the words of the search's fields
+  pub direct-value : HasValue v.cells x y due.1.goal value
+  direct-value = subst (λ (m : Machine). HasValue m.cells m.x m.y due.1.goal value) (sym (ap (λ (t : Paused). t.machine) view)) due.5
+
+  -- what was made of other registers that are these
+  pub solved-moved : (xs ys xs' ys' : List ℕ) (r : Bool) → xs ≡ x → ys ≡ y → x' ≡ xs' → y' ≡ ys' → ((g : Goal) → HasValue v.cells xs ys g value → SolvedOn g v.cells xs ys w.cells xs' ys' r)
+      → SolvedOn due.1.goal v.cells x y w.cells x' y' r
+  solved-moved xs ys xs' ys' r ex ey ex' ey' h =
+      let g : Goal = due.1.goal in
+      let S : List ℕ → List ℕ → List ℕ → List ℕ → Type 0 = λ p q p' q'. HasValue v.cells p q g value → SolvedOn g v.cells p q w.cells p' q' r in
+      let k : S x y x' y' = subst (λ u. S x y x' u) (sym ey') (subst (λ u. S x y u ys') (sym ex') (subst (λ u. S x u xs' ys') ey (subst (λ u. S u ys xs' ys') ex (h g)))) in
+      k direct-value
+
+  pub turn-of-direct : DirectLaw → IsStore v.cells v.trail → (r : Bool) → SolvedOn due.1.goal v.cells x y w.cells x' y' r → (next' : Kind) → now_of next' ≡ behind_direct to r
+      → (p : Program) → IsProgram p → IsTurn code p s.machine (machine_of w k x' y' roots next')
+  turn-of-direct law store r solved next' en p good =
+      let qs : List Point = map (point_of v) k.moments in
+      let at : ℕ = due.0 in
+      let d : Direct = due.1 in
+      let t : IsTurn code p (machine v.cells x y k.returns roots qs (inside at)) (machine w.cells x' y' k.returns roots qs (behind_direct d.to r)) =
+      law code v.cells w.cells v.trail k.returns roots qs x y x' y' at d r p good due.3 store sane.x sane.y sane.returns sane.inside solved
+      in
+      IsTurn-from code p s.machine v.cells x y k.returns roots qs (now_of next) (inside at) (machine_of w k x' y' roots next') (ap (λ (t : Paused). t.machine) view) due.2
+      (subst (λ ps. IsTurn code p (machine v.cells x y k.returns roots qs (inside at)) (machine w.cells x' y' k.returns roots ps (now_of next'))) (sym (points-same v w k x y roots keeps sane))
+      (subst (λ n. IsTurn code p (machine v.cells x y k.returns roots qs (inside at)) (machine w.cells x' y' k.returns roots qs n)) (ap (λ q. behind_direct q r) due.4 ∙ sym en) t))

@@ -6,7 +6,7 @@ use Rattle.ap_standing.specs.Machine.{Machine}
 use Rattle.ap_machine.specs.declared.advance.Turn.{Turn}
 use Rattle.ap_machine.specs.declared.advance.Turn.TheVariants.{Answer, Failed, Spent, More, Stopped, Group}
 use Rattle.ap_machine.specs.declared.due.Due.{Due}
-use Rattle.ap_machine.specs.declared.due.Due.TheVariants.{Call, Goal, Answer as AnswerDue, Nothing, Group as GroupDue}
+use Rattle.ap_machine.specs.declared.due.Due.TheVariants.{Call, Goal, Direct, Answer as AnswerDue, Nothing, Group as GroupDue}
 use Rattle.ap_machine.specs.View.{Paused}
 use Rattle.ap_machine.specs.Stands.{IsCallDue, IsAtAnswer, IsAtEnd, IsAtGroup, tuple_of, IsAnswer, HasGoals}
 
@@ -24,6 +24,7 @@ Ends code inferences old new Group = IsAtGroup code new.machine
 abbrev pub IsEndOf : Paused → Due → Turn → Type 0
 IsEndOf s (Call number) end = (end ≡ Spent) × (s.budget ≤ s.spent)
 IsEndOf s (Goal builtin at) end = (end ≡ Spent) × (s.budget ≤ s.spent)
+IsEndOf s (Direct value to) end = (end ≡ Spent) × (s.budget ≤ s.spent)
 IsEndOf s AnswerDue end = end ≡ Answer
 IsEndOf s Nothing end = end ≡ Failed
 IsEndOf s (GroupDue at) end = end ≡ Group

@@ -16,3 +16,4 @@ pub mod Forks
 pub mod Forking
 pub mod Ahead
 pub mod Lending
+pub mod Direct

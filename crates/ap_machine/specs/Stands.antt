@@ -1,5 +1,5 @@
 -- Where a search may come to rest, and what a list of states begins with.
-use Rattle.std.specs.Prelude.{◌≡◌, ℕ, List, [], ◌∷◌, slice_get, Some, None}
+use Rattle.std.specs.Prelude.{◌≡◌, ℕ, ◌⊎◌, List, [], ◌∷◌, slice_get, Some, None}
 use Rattle.ap_term.specs.Tuples.{tuple_under}
 use Rattle.ap_term.specs.Tree.{Trees}
 use Rattle.ap_tracked.specs.Tracked.{Tracked}
@@ -9,13 +9,15 @@ use Rattle.ap_instr.specs.declared.builtins.Builtin.{Builtin}
 use Rattle.ap_instr.specs.declared.instruction.Instr.TheVariants.{Builtin as builtin_instr}
 use Rattle.ap_instr.specs.declared.compiled.Predicate.{Predicate}
 use Rattle.ap_instr.specs.Code.{Compiled}
+use Rattle.ap_direct.specs.declared.goal.Direct.{Direct}
+use Rattle.ap_direct.specs.Goals.{AsksFirst}
 use Rattle.ap_group.specs.Gathers.{IsGroupAt}
 use Rattle.ap_standing.specs.Machine.{Now, calling, inside, returning, failed, Machine}
 
--- a call of a predicate of the table, or a built-in goal
+-- a call of a predicate of the table, or a built-in goal, which stands there or is the first one that the code asks for
 abbrev pub IsCallDue : Compiled → Now → Type 0
 IsCallDue code (calling number) = (q : Predicate) × (slice_get code.predicates number ≡ Some q)
-IsCallDue code (inside at) = (builtin : Builtin) × (slice_get code.instructions at ≡ Some (builtin_instr builtin))
+IsCallDue code (inside at) = ((builtin : Builtin) × (slice_get code.instructions at ≡ Some (builtin_instr builtin))) ⊎ ((d : Direct) × AsksFirst code at d)
 IsCallDue code returning = ⊥
 IsCallDue code failed = ⊥
 

@@ -8,10 +8,12 @@ ghost use Rattle.ap_instr.specs.declared.compiled.Predicate.{Predicate};
 ghost use Rattle.ap_standing.specs.Machine.{calling, inside};
 ghost use Rattle.ap_standing.specs.Holds.{Holds};
 ghost use Rattle.ap_machine.specs.View.{IsFor};
+ghost use Rattle.ap_machine.specs.Direct.{IsDirectDue};
 ghost use Rattle.ap_machine.specs.Due.{IsDue, IsTurnDue};
 ghost use Rattle.ap_machine.specs.Advanced.{Advanced};
 ghost use Rattle.ap_machine.specs.Ends.{IsEndOf, Ends, AreStates};
 
+use crate::direct::Value;
 use crate::due::Due;
 use crate::state::Search;
 use ap_codecheck::Sound;
@@ -82,6 +84,21 @@ impl Search {
         Ok(())
     }
 
+    /// Solves a goal of arithmetic, and counts it.
+    #[inline(always)]
+    fn make_direct(&mut self, code: &Code, value: Value, to: usize) -> Result<(), NoMemory>
+        requires is_for { IsFor code.now self.old }
+        requires due { IsDirectDue code.now self.old.machine value to }
+        requires fits { self.old.spent < 2 ^ 64 - 1 }
+        ensures advanced { Advanced code.now self.old self.new }
+        ensures counted { IfOk result (λ _. self.new.spent ≡ self.old.spent + 1) }
+        ensures err { OnErr result (self.new ≡ self.old) }
+    {
+        self.solve_direct(code, value, to)?;
+        self.count();
+        Ok(())
+    }
+
     /// Makes the call that is due.
     #[inline(always)]
     fn make(&mut self, sound: &Sound, due: Due) -> Result<(), NoMemory>
@@ -96,6 +113,7 @@ impl Search {
         match due {
             Due::Call(number) => self.make_call(sound, number),
             Due::Goal(builtin, at) => self.make_goal(sound.code(), builtin, at),
+            Due::Direct(value, to) => self.make_direct(sound.code(), value, to),
             Due::Answer => Ok(()),
             Due::Nothing => Ok(()),
             Due::Group(_) => Ok(()),
@@ -117,6 +135,7 @@ impl Search {
             Due::Group(_) => Some(Turn::Group),
             Due::Call(_) if is_spent => Some(Turn::Spent),
             Due::Goal(_, _) if is_spent => Some(Turn::Spent),
+            Due::Direct(_, _) if is_spent => Some(Turn::Spent),
             _ => None,
         }
     }

@@ -7,7 +7,7 @@ ghost use Rattle.ap_instr.specs.declared.compiled.Predicate.{Predicate};
 ghost use Rattle.ap_instr.specs.Code.{Compiled};
 ghost use Rattle.ap_needs.specs.Needs.{AllHaveTargets, room, wants, IsRoomOf};
 ghost use Rattle.ap_steps.specs.Moves.{held, HoldPlaces};
-ghost use Rattle.ap_control.specs.Runs.{RanOrStuck, IsTransferAt};
+ghost use Rattle.ap_control.specs.Runs.{RanOrStuck, IsTransferAt, IsEndAt};
 ghost use Rattle.ap_standing.specs.Machine.{inside, returning, failed};
 ghost use Rattle.ap_standing.specs.Holds.{Holds};
 ghost use Rattle.ap_standing.specs.Laws.{KeepsStanding};
@@ -22,7 +22,7 @@ use crate::due::Due;
 use crate::goals::behind as next_place;
 use crate::state::{Now, Search};
 use ap_cells::Cells;
-use ap_control::{instruction_at, run_to_transfer, used};
+use ap_control::{instruction_at, run_to_stop, used};
 use ap_instr::{Code, Instr};
 use ap_needs::Room;
 use ap_term::NoMemory;
@@ -79,7 +79,8 @@ pub(crate) fn is_known(code: &Code, number: u32) -> bool
     }
 }
 
-/// Takes the instructions from a place on up to one of control. Where they can't be taken, the cells are as they were.
+/// Takes the instructions from a place on up to one of control, or to a place to stop at. Where they can't be taken, the cells
+/// are as they were.
 #[inline(always)]
 fn run_or_undo(
     cells: &mut Cells,
@@ -87,6 +88,7 @@ fn run_or_undo(
     y: &mut [u32],
     code: &Code,
     at: usize,
+    stop: usize,
     work: &mut Work,
 ) -> Result<Option<usize>, NoMemory>
     requires room { room (drop at code.now.instructions) ≤ cells.old.spare }
@@ -94,7 +96,7 @@ fn run_or_undo(
     requires holds_x { HoldPlaces (length cells.old.cells) x.old }
     requires holds_y { HoldPlaces (length cells.old.cells) y.old }
     ensures ran { IfOk result (λ to. RanOrStuck code.now at cells.old.cells x.old y.old to cells.new.cells x.new y.new) }
-    ensures transfer { IfOk result (λ to. IfSome to (λ place. IsTransferAt code.now place)) }
+    ensures end { IfOk result (λ to. IfSome to (λ place. IsEndAt code.now stop place)) }
     ensures forward { IfOk result (λ to. IfSome to (λ place. at ≤ place)) }
     ensures longer { length cells.old.cells ≤ length cells.new.cells }
     ensures wants { OnErr result (wants (drop at code.now.instructions) ≡ true) }
@@ -105,7 +107,7 @@ fn run_or_undo(
 {
     cells.is_store();
     let mark = cells.mark();
-    match run_to_transfer(cells, x, y, code, at, work) {
+    match run_to_stop(cells, x, y, code, at, stop, work) {
         Ok(Some(to)) => Ok(Some(to)),
         Ok(None) => {
             cells.undo_to(mark);
@@ -119,14 +121,15 @@ fn run_or_undo(
 }
 
 impl Search {
-    /// Control is at a place in a clause, and goes on to the next instruction of control, unless what stands between can't be
-    /// taken. Without memory nothing changes.
+    /// Control is at a place in a clause, and goes on to the next instruction of control, or to a place to stop at, unless what
+    /// stands between can't be taken. Without memory nothing changes.
     #[inline(always)]
     pub(crate) fn run(
         &mut self,
         code: &Code,
         room: &Room,
         at: usize,
+        stop: usize,
     ) -> Result<Option<usize>, NoMemory>
         requires here { self.old.machine.now ≡ inside at }
         requires is_for { IsFor code.now self.old }
@@ -134,7 +137,7 @@ impl Search {
         ensures holds { KeepsStanding code.now self.old.machine self.new.machine }
         ensures stays { Stays self.old self.new }
         ensures rest { IfOk result (λ found. SameRest self.old.machine self.new.machine) }
-        ensures at { IfOk result (λ found. MatchOption found (self.new.machine.now ≡ failed) (λ to. (self.new.machine.now ≡ inside to) × IsTransferAt code.now to)) }
+        ensures at { IfOk result (λ found. MatchOption found (self.new.machine.now ≡ failed) (λ to. (self.new.machine.now ≡ inside to) × IsEndAt code.now stop to)) }
         ensures forward { IfOk result (λ found. IfSome found (λ to. at ≤ to)) }
         ensures kept { OnErr result (self.new ≡ self.old) }
     {
@@ -148,6 +151,7 @@ impl Search {
             &mut self.y,
             code,
             at,
+            stop,
             &mut self.work,
         ) {
             Ok(Some(to)) => {
@@ -168,14 +172,15 @@ impl Search {
         }
     }
 
-    /// Control is at a place in a clause, and goes on to the next instruction of control that is no jump, unless what stands
-    /// between can't be taken. Without memory it is at a jump's end, or where it was.
+    /// Control is at a place in a clause, and goes on to the next instruction of control that is no jump, or to a place to stop
+    /// at, unless what stands between can't be taken. Without memory it is at a jump's end, or where it was.
     #[inline(always)]
     pub(crate) fn run_on(
         &mut self,
         code: &Code,
         room: &Room,
         at: usize,
+        stop: usize,
     ) -> Result<Option<usize>, NoMemory>
         requires here { self.old.machine.now ≡ inside at }
         requires is_for { IsFor code.now self.old }
@@ -183,12 +188,12 @@ impl Search {
         ensures holds { KeepsStanding code.now self.old.machine self.new.machine }
         ensures stays { Stays self.old self.new }
         ensures rest { SameRest self.old.machine self.new.machine }
-        ensures at { IfOk result (λ found. MatchOption found (self.new.machine.now ≡ failed) (λ to. (self.new.machine.now ≡ inside to) × IsTransferAt code.now to)) }
+        ensures at { IfOk result (λ found. MatchOption found (self.new.machine.now ≡ failed) (λ to. (self.new.machine.now ≡ inside to) × IsEndAt code.now stop to)) }
         ensures no_jump { IfOk result (λ found. IfSome found (λ to. IsNoJumpAt code.now to)) }
     {
         let mut place = at;
         'jumps: loop {
-            let Some(to) = self.run(code, room, place)? else {
+            let Some(to) = self.run(code, room, place, stop)? else {
                 return Ok(None);
             };
             let Some(next) = jump_from(code, to) else {

@@ -1,7 +1,6 @@
 //! Moves that are no calls, up to what is due.
 
 ghost use Rattle.std.specs.Prelude.{◌≡◌, ◌≤◌, ◌<◌, Some, None, true, false, IfOk, IfSome, IfNone};
-ghost use Rattle.ap_needs.specs.Needs.{IsRoomOf};
 ghost use Rattle.ap_standing.specs.Machine.{calling, inside};
 ghost use Rattle.ap_standing.specs.Laws.{KeepsStanding};
 ghost use Rattle.ap_machine.specs.View.{IsFor};
@@ -12,10 +11,10 @@ ghost use Rattle.ap_machine.specs.Lasting.{moves_left};
 ghost use Rattle.ap_machine.specs.Due.{IsDue};
 
 use crate::control::is_known;
+use crate::direct::Value;
 use crate::state::{Now, Search};
 use ap_codecheck::Sound;
 use ap_instr::{Builtin, Code};
-use ap_needs::Room;
 use ap_term::NoMemory;
 
 /// What is due.
@@ -25,6 +24,8 @@ pub(crate) enum Due {
     Call(u32),
     /// A built-in goal, which stands at a place.
     Goal(Builtin, usize),
+    /// A goal of arithmetic with this value, behind which the code goes on at a place.
+    Direct(Value, usize),
     /// The search stands at an answer.
     Answer,
     /// No alternative is left.
@@ -51,19 +52,50 @@ impl Search {
         None
     }
 
-    /// Control is at a place in a clause, and goes on to an instruction of control.
+    /// Control is at a place in a clause, and goes on to a goal of arithmetic that can be solved straight from registers, or else to
+    /// an instruction of control.
     #[inline(always)]
-    fn go_inside(&mut self, code: &Code, room: &Room, at: usize) -> Result<Option<Due>, NoMemory>
+    fn go_inside(&mut self, sound: &Sound, at: usize) -> Result<Option<Due>, NoMemory>
         requires here { self.old.machine.now ≡ inside at }
-        requires is_for { IsFor code.now self.old }
-        requires room { IsRoomOf code.now room.now }
-        ensures holds { GoesOn code.now self.old.machine self.new.machine }
+        requires is_for { IsFor sound.now self.old }
+        ensures holds { GoesOn sound.now self.old.machine self.new.machine }
         ensures stays { Stays self.old self.new }
-        ensures fewer { IfOk result (λ found. IfNone found (moves_left code.now self.new.machine < moves_left code.now self.old.machine)) }
-        ensures due { IfOk result (λ found. IfSome found (λ due. IsDue code.now self.new.machine due)) }
+        ensures fewer { IfOk result (λ found. IfNone found (moves_left sound.now self.new.machine < moves_left sound.now self.old.machine)) }
+        ensures due { IfOk result (λ found. IfSome found (λ due. IsDue sound.now self.new.machine due)) }
         ensures points { self.new.machine.points ≡ self.old.machine.points }
     {
-        match self.run_on(code, room, at)? {
+        if let Some(due) = self.direct_due(sound, at) {
+            return Ok(Some(due));
+        }
+        let code = sound.code();
+        let stop = sound.stop(at);
+        let Some(to) = self.run_on(code, sound.room(), at, stop)? else {
+            return Ok(None);
+        };
+        if to != stop {
+            return self.transfer(code, to);
+        }
+        if let Some(due) = self.direct_due(sound, to) {
+            return Ok(Some(due));
+        }
+        self.go_past(sound, to)
+    }
+
+    /// Control is at a goal of arithmetic that can't be solved straight from registers, and goes on to an instruction of control.
+    #[cold]
+    #[inline(never)]
+    fn go_past(&mut self, sound: &Sound, at: usize) -> Result<Option<Due>, NoMemory>
+        requires here { self.old.machine.now ≡ inside at }
+        requires is_for { IsFor sound.now self.old }
+        ensures holds { GoesOn sound.now self.old.machine self.new.machine }
+        ensures stays { Stays self.old self.new }
+        ensures fewer { IfOk result (λ found. IfNone found (moves_left sound.now self.new.machine < moves_left sound.now self.old.machine)) }
+        ensures due { IfOk result (λ found. IfSome found (λ due. IsDue sound.now self.new.machine due)) }
+        ensures points { self.new.machine.points ≡ self.old.machine.points }
+    {
+        let code = sound.code();
+        let end = code.instructions().len();
+        match self.run_on(code, sound.room(), at, end)? {
             Some(to) => self.transfer(code, to),
             None => Ok(None),
         }
@@ -82,7 +114,7 @@ impl Search {
         let code = sound.code();
         match self.now() {
             Now::Calling(number) => Ok(self.at_call(code, number)),
-            Now::Inside(at) => self.go_inside(code, sound.room(), at),
+            Now::Inside(at) => self.go_inside(sound, at),
             Now::Returning => {
                 if self.come_back() {
                     return Ok(None);

@@ -9,6 +9,7 @@
 mod advance;
 mod calls;
 mod control;
+mod direct;
 mod due;
 mod forks;
 mod goals;

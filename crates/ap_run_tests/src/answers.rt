@@ -6,7 +6,7 @@ use std::test::Fail;
 
 const RUN: &[&str] = &["andprolog", "run", "f.pl"];
 
-const ANSWERS: [Command; 20] = [
+const ANSWERS: [Command; 22] = [
     (
         RUN,
         "p(1). p(2).",
@@ -121,6 +121,21 @@ const ANSWERS: [Command; 20] = [
         "",
         "?- X is -7 // 2, Y is -7 mod 2, Z is -7 rem 2.",
         "X = -3, Y = 1, Z = -1\nno more.\n",
+        Status::Done,
+    ),
+    (
+        RUN,
+        "o(X,Y,A,B,C,D,E,F) :- A is X + Y, B is X - Y, C is X * Y, D is X // Y, E is X rem Y, F is X mod Y.",
+        "?- o(-7,2,A,B,C,D,E,F). ?- o(7,0,_A,_B,_C,D,_E,_F).",
+        "A = -5, B = -9, C = -14, D = -3, E = -1, F = 1\nno more.\nno more.\n",
+        Status::Done,
+    ),
+    // an operand that isn't an integer is an expression, or the goal fails
+    (
+        RUN,
+        "k(X,Y,1) :- X < Y. k(X,Y,2) :- X > Y. k(X,Y,3) :- X =:= Y. k(X,Y,4) :- X =\\= Y. k(X,Y,5) :- X =< Y. k(X,Y,6) :- X >= Y.",
+        "?- k(1,2,K). ?- k(2,1,K). ?- k(1+1,2,K). ?- k(_X,2,K). ?- k(2,a,K).",
+        "K = 1\nK = 4\nK = 5\nno more.\nK = 2\nK = 4\nK = 6\nno more.\nK = 3\nK = 5\nK = 6\nno more.\nno more.\nno more.\n",
         Status::Done,
     ),
 ];

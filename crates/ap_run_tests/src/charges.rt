@@ -29,10 +29,13 @@ struct Charge {
 
 const BITS: &str = "s(X,Y,Z) :- b(X) & q(Y,Z). q(Y,Z) :- b(Y) & b(Z). b(0). b(1).";
 
+/// Counts down to 0.
+const COUNT: &str = "c(0). c(N) :- N > 0, M is N - 1, c(M).";
+
 const SIX: &str =
     "X = 0, Y = 0, Z = 0\nX = 0, Y = 0, Z = 1\nX = 0, Y = 1, Z = 0\nX = 0, Y = 1, Z = 1\nX = 1, Y = 0, Z = 0\nX = 1, Y = 0, Z = 1\n";
 
-static CHARGES: [Charge; 10] = [
+static CHARGES: [Charge; 18] = [
     // s, b(X), q, b(Y), b(Z); then b(Z), and q, b(Y), b(Z), b(Z) again
     Charge {
         program: BITS,
@@ -137,6 +140,90 @@ static CHARGES: [Charge; 10] = [
         put: "",
         end: End::Stopped,
         charged: 0,
+        wasteful: false,
+    },
+    // three for each number but 0, and two for 0; the budget may be spent at each goal
+    Charge {
+        program: COUNT,
+        query: "?- c(3).",
+        budget: 11,
+        answers: 100,
+        put: "true\n",
+        end: End::NoMore,
+        charged: 11,
+        wasteful: false,
+    },
+    Charge {
+        program: COUNT,
+        query: "?- c(3).",
+        budget: 10,
+        answers: 100,
+        put: "true\n",
+        end: End::Spent,
+        charged: 10,
+        wasteful: false,
+    },
+    Charge {
+        program: COUNT,
+        query: "?- c(3).",
+        budget: 2,
+        answers: 100,
+        put: "",
+        end: End::Spent,
+        charged: 2,
+        wasteful: false,
+    },
+    Charge {
+        program: COUNT,
+        query: "?- c(3).",
+        budget: 1,
+        answers: 100,
+        put: "",
+        end: End::Spent,
+        charged: 1,
+        wasteful: false,
+    },
+    // a goal on an unbound operand fails, and counts
+    Charge {
+        program: COUNT,
+        query: "?- c(_N), fail.",
+        budget: 100,
+        answers: 100,
+        put: "",
+        end: End::NoMore,
+        charged: 3,
+        wasteful: false,
+    },
+    // a value that 64 bits don't hold, and the greatest that they do
+    Charge {
+        program: "",
+        query: "?- X = 9223372036854775807, Y is X + 1.",
+        budget: 100,
+        answers: 100,
+        put: "",
+        end: End::NoMore,
+        charged: 2,
+        wasteful: false,
+    },
+    Charge {
+        program: "",
+        query: "?- X = 9223372036854775806, Y is X + 1, Y > X.",
+        budget: 100,
+        answers: 100,
+        put: "X = 9223372036854775806, Y = 9223372036854775807\n",
+        end: End::NoMore,
+        charged: 3,
+        wasteful: false,
+    },
+    // a value that a variable has already, and another one
+    Charge {
+        program: "e(X) :- X is 1 + 2. e(X) :- X = 4, X is 1 + 2.",
+        query: "?- e(X).",
+        budget: 100,
+        answers: 100,
+        put: "X = 3\n",
+        end: End::NoMore,
+        charged: 4,
         wasteful: false,
     },
 ];

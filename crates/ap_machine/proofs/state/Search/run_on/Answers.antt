@@ -1,7 +1,7 @@
 use Rattle.std.proofs.Common.{◌≡◌, ap, sym, ◌∙◌, subst}
 use Rattle.std.specs.Option.{MatchOption}
 use Rattle.ap_standing.specs.Machine.{inside, failed}
-use Rattle.ap_control.specs.Runs.{IsTransferAt}
+use Rattle.ap_control.specs.Runs.{IsEndAt}
 use Rattle.ap_machine.specs.View.{Paused}
 use Rattle.ap_machine.specs.Choices.{Stays}
 use Rattle.ap_machine.proofs.Progress.{Stays-trans}
@@ -13,7 +13,7 @@ jumps-preserved c =
     let code = c.args.code.now in
     let v = c.jumps.invariant in
     let r = c.run.new.self in
-    let at = subst (λ o. MatchOption o (r.machine.now ≡ failed) (λ to. (r.machine.now ≡ inside to) × IsTransferAt code to)) c.in-Some.is c.in_ok-to.ensures.at in
+    let at = subst (λ o. MatchOption o (r.machine.now ≡ failed) (λ to. (r.machine.now ≡ inside to) × IsEndAt code c.args.stop to)) c.in-Some.is c.in_ok-to.ensures.at in
     let stays : Stays c.args.self.now r = Stays-trans c.args.self.now c.jumps.self r v.stays c.run.ensures.stays in
     let rest = c.in_ok-to.ensures.rest in
     record {

@@ -2,7 +2,7 @@ use Rattle.std.proofs.Common.{◌≡◌, ◌≤◌, ◌-◌, true, length, drop}
 use Rattle.ap_cells.specs.Store.{Keeps}
 use Rattle.ap_needs.specs.Needs.{room, wants}
 use Rattle.ap_control.specs.Runs.{Ran}
-use Rattle.ap_control.proofs.runs.run_to_transfer.Given as goal
+use Rattle.ap_control.proofs.runs.run_to_stop.Given as goal
 
 abbrev pub decreases-run : goal.decreases-run
 decreases-run l = length l.code.instructions - l.place

@@ -8,7 +8,7 @@ use Rattle.ap_steps.proofs.Places.{targets-here, room-here}
 use Rattle.ap_steps.proofs.MemoryWants.{wants-now}
 use Rattle.ap_steps.proofs.Steps.{Moves-stuck}
 use Rattle.ap_control.proofs.Ran.{ran-on, ran-stuck, room-on, wants-behind, none-inside}
-use Rattle.ap_control.proofs.runs.run_to_transfer.Goals as goal
+use Rattle.ap_control.proofs.runs.run_to_stop.Goals as goal
 use Rattle.ap_cells.proofs.Stores.{Keeps-trans}
 
 pub step-requires-clause-room : goal.step-requires-clause-room
