@@ -38,6 +38,10 @@ Becomes-asked old new P Q R there back b = record {
   each = λ k h q. b.each k h (back k h q);
 }
 
+pub Answered-asked : (old new : List Raw) (P Q : (ℕ → Tree) → Type 0) → ((k : ℕ → Tree) → Fits old k → P k → Q k) → ((k : ℕ → Tree) → Fits old k → Q k → P k) → (r : Bool) → Answered old new P r → Answered old new Q r
+Answered-asked old new P Q there back true b = Becomes-asked old new P Q (λ k. Unit {0}) there back b
+Answered-asked old new P Q there back false never = λ k h q. never k h (back k h q)
+
 -- what holds already
 pub Becomes-same : (cs : List Raw) (P : (ℕ → Tree) → Type 0) → ((k : ℕ → Tree) → Fits cs k → P k) → Becomes cs cs P (λ k. Unit {0})
 Becomes-same cs P holds = record { longer = omega arith; only = λ k h. (h, holds k h, tt); each = λ k h p. (k, λ i b. refl, h) }

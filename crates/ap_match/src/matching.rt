@@ -159,63 +159,6 @@ fn are_apart(cells: &Cells, x: usize, first: usize, count: u32) -> bool
     true
 }
 
-/// Whether the term of `to` can be bound to a place x as it stands: it is a constant, a variable of an earlier place, or a
-/// compound term of constants, other variables and terms that were settled before x came.
-fn is_flat(cells: &Cells, x: usize, to: usize) -> bool
-    requires { to < length cells.now.cells }
-    ensures absent { result ≡ true → occurs x (tree_at (trees cells.now.cells) to) ≡ false }
-    ensures down { result ≡ true → (y : ℕ) → tree_at (trees cells.now.cells) to ≡ var y → y < x }
-{
-    match cells.top(to) {
-        Top::Free(variable) => variable < x,
-        Top::Int(_) => true,
-        Top::Atom(_) => true,
-        Top::Node(_, first, count) => {
-            cells.are_settled_before(x, first, count) || are_apart(cells, x, first, count)
-        }
-    }
-}
-
-/// Binds a place to another one's term, where it is unbound and that is flat. Else it does nothing.
-fn bind_flat(cells: &mut Cells, place: usize, to: usize) -> bool
-    requires { (place < length cells.old.cells) × (to < length cells.old.cells) }
-    ensures bound { result ≡ true → Becomes cells.old.cells cells.new.cells (λ k. k place ≡ k to) (λ k. Unit {0}) }
-    ensures same { result ≡ false → cells.new ≡ cells.old }
-    ensures len { length cells.new.cells ≡ length cells.old.cells }
-    ensures spare { cells.new.spare ≡ cells.old.spare }
-    ensures keeps { Keeps cells.old cells.new }
-{
-    match cells.top(place) {
-        Top::Free(x) => {
-            if !is_flat(cells, x, to) {
-                return false;
-            }
-            cells.bind(x, to);
-            true
-        }
-        _ => false,
-    }
-}
-
-/// Makes the terms of two places equal, if they can be. After false, or want of memory, some bindings may be made;
-/// `undo_to` takes them back.
-pub fn equate(cells: &mut Cells, a: usize, b: usize, work: &mut Work) -> Result<bool, NoMemory>
-    requires { (a < length cells.old.cells) × (b < length cells.old.cells) }
-    ensures answered { IfOk result (λ r. Answered cells.old.cells cells.new.cells (λ k. k a ≡ k b) r) }
-    ensures len { length cells.new.cells ≡ length cells.old.cells }
-    ensures spare { cells.new.spare ≡ cells.old.spare }
-    ensures keeps { Keeps cells.old cells.new }
-{
-    if bind_flat(cells, a, b) {
-        return Ok(true);
-    }
-    if bind_flat(cells, b, a) {
-        return Ok(true);
-    }
-    let answer = unify(cells, a, b, work)?;
-    Ok(answer)
-}
-
 /// Binds an unbound place to the compound term of a name and the cells from `first` on, in which it doesn't stand. It takes
 /// no memory.
 #[inline]
@@ -230,6 +173,136 @@ pub fn bind_structure(cells: &mut Cells, x: usize, name: Atom, first: usize, cou
     ensures keeps { Keeps cells.old cells.new }
 {
     bind_term(cells, x, Cell::Node(name, first, count));
+}
+
+/// Makes two unbound places one variable: of two the higher one is bound.
+#[inline]
+fn join(cells: &mut Cells, x: usize, y: usize)
+    requires inside { (x < length cells.old.cells) × (y < length cells.old.cells) }
+    requires x_unbound { tree_at (trees cells.old.cells) x ≡ var x }
+    requires y_unbound { tree_at (trees cells.old.cells) y ≡ var y }
+    ensures becomes { Becomes cells.old.cells cells.new.cells (λ k. k x ≡ k y) (λ k. Unit {0}) }
+    ensures len { length cells.new.cells ≡ length cells.old.cells }
+    ensures spare { cells.new.spare ≡ cells.old.spare }
+    ensures keeps { Keeps cells.old cells.new }
+{
+    if x < y {
+        bind_term(cells, y, Cell::Same(x));
+    } else if y < x {
+        bind_term(cells, x, Cell::Same(y));
+    }
+}
+
+/// Whether x stands in none of these places' terms, as far as that is told without a walk: each was settled before x came, or is a
+/// constant or another variable.
+#[inline]
+fn are_free_of(cells: &Cells, x: usize, first: usize, count: u32) -> bool
+    requires { first + count ≤ length cells.now.cells }
+    ensures { result ≡ true → occurs_all x (span (trees cells.now.cells) first count) ≡ false }
+{
+    cells.are_settled_before(x, first, count) || are_apart(cells, x, first, count)
+}
+
+/// Makes the term of an unbound place that of `whole`, which is compound, if it can be: if it doesn't stand there.
+fn equate_compound(
+    cells: &mut Cells,
+    x: usize,
+    name: Atom,
+    first: usize,
+    count: u32,
+    whole: usize,
+    work: &mut Work,
+) -> Result<bool, NoMemory>
+    requires inside { (x < length cells.old.cells) × (whole < length cells.old.cells) }
+    requires args { first + count ≤ length cells.old.cells }
+    requires unbound { tree_at (trees cells.old.cells) x ≡ var x }
+    requires compound { tree_at (trees cells.old.cells) whole ≡ node name (span (trees cells.old.cells) first count) }
+    ensures answered { IfOk result (λ r. Answered cells.old.cells cells.new.cells (λ k. k x ≡ k whole) r) }
+    ensures len { length cells.new.cells ≡ length cells.old.cells }
+    ensures spare { cells.new.spare ≡ cells.old.spare }
+    ensures keeps { Keeps cells.old cells.new }
+{
+    if are_free_of(cells, x, first, count) {
+        bind_structure(cells, x, name, first, count);
+        return Ok(true);
+    }
+    let answer = unify(cells, x, whole, work)?;
+    Ok(answer)
+}
+
+/// Makes the term of an unbound place that of another one, if it can be.
+#[inline]
+fn equate_unbound(cells: &mut Cells, x: usize, to: usize, work: &mut Work) -> Result<bool, NoMemory>
+    requires inside { (x < length cells.old.cells) × (to < length cells.old.cells) }
+    requires unbound { tree_at (trees cells.old.cells) x ≡ var x }
+    ensures answered { IfOk result (λ r. Answered cells.old.cells cells.new.cells (λ k. k x ≡ k to) r) }
+    ensures len { length cells.new.cells ≡ length cells.old.cells }
+    ensures spare { cells.new.spare ≡ cells.old.spare }
+    ensures keeps { Keeps cells.old cells.new }
+{
+    match cells.top(to) {
+        Top::Free(y) => {
+            join(cells, x, y);
+            Ok(true)
+        }
+        Top::Int(value) => {
+            bind_term(cells, x, Cell::Int(value));
+            Ok(true)
+        }
+        Top::Atom(constant) => {
+            bind_term(cells, x, Cell::Atom(constant));
+            Ok(true)
+        }
+        Top::Node(name, first, count) => {
+            let answer = equate_compound(cells, x, name, first, count, to, work)?;
+            Ok(answer)
+        }
+    }
+}
+
+/// Makes the terms of two places equal, if they can be, where the first one's is compound.
+#[inline]
+fn equate_with_compound(
+    cells: &mut Cells,
+    a: usize,
+    b: usize,
+    work: &mut Work,
+) -> Result<bool, NoMemory>
+    requires { (a < length cells.old.cells) × (b < length cells.old.cells) }
+    ensures answered { IfOk result (λ r. Answered cells.old.cells cells.new.cells (λ k. k a ≡ k b) r) }
+    ensures len { length cells.new.cells ≡ length cells.old.cells }
+    ensures spare { cells.new.spare ≡ cells.old.spare }
+    ensures keeps { Keeps cells.old cells.new }
+{
+    if let Top::Free(y) = cells.top(b) {
+        let bound = equate_unbound(cells, y, a, work)?;
+        return Ok(bound);
+    }
+    let answer = unify(cells, a, b, work)?;
+    Ok(answer)
+}
+
+/// Makes the terms of two places equal, if they can be. After false, or want of memory, some bindings may be made;
+/// `undo_to` takes them back.
+pub fn equate(cells: &mut Cells, a: usize, b: usize, work: &mut Work) -> Result<bool, NoMemory>
+    requires { (a < length cells.old.cells) × (b < length cells.old.cells) }
+    ensures answered { IfOk result (λ r. Answered cells.old.cells cells.new.cells (λ k. k a ≡ k b) r) }
+    ensures len { length cells.new.cells ≡ length cells.old.cells }
+    ensures spare { cells.new.spare ≡ cells.old.spare }
+    ensures keeps { Keeps cells.old cells.new }
+{
+    match cells.top(a) {
+        Top::Free(x) => {
+            let bound = equate_unbound(cells, x, b, work)?;
+            Ok(bound)
+        }
+        Top::Int(value) => Ok(match_integer(cells, b, value)),
+        Top::Atom(name) => Ok(match_atom(cells, b, name)),
+        Top::Node(_, _, _) => {
+            let answer = equate_with_compound(cells, a, b, work)?;
+            Ok(answer)
+        }
+    }
 }
 
 /// Makes the term of an unbound place the compound term of a name and the cells from `first` on, if it can be: if it doesn't
