@@ -1,7 +1,6 @@
 //! Frames: registers that were saved, with a place and the frame above which they were put on.
 
 ghost use Rattle.std.specs.Prelude.{◌≡◌, ℕ, ◌+◌, ◌≤◌, List, ◌∷◌, [], ◌++◌, length, take, drop, IfOk, OnOk, OnErr};
-ghost use Rattle.std.specs.Vec.{vec_capacity};
 ghost use Rattle.ap_steps.specs.Moves.{held};
 ghost use Rattle.ap_environments.specs.Frames.{LeadUp, AreFrames, chain, chains};
 
@@ -10,17 +9,6 @@ use ap_term::NoMemory;
 
 /// The most that 32 bits count.
 const MOST: usize = u32::MAX as usize;
-
-/// Puts registers behind those that were saved, for which there is room: one by one, since there are few.
-#[inline(always)]
-fn append(slots: &mut Vec<u32>, registers: &[u32])
-    requires { length slots.old.items + length registers.now ≤ vec_capacity slots.old }
-    ensures { slots.new.items ≡ slots.old.items ++ registers.now }
-{
-    for register in registers {
-        slots.push_reserved(*register);
-    }
-}
 
 /// Puts a frame behind the others, and answers its number, counted from 1.
 #[inline(always)]
@@ -50,10 +38,9 @@ pub fn push_frame(
         first: slots.len() as u32,
         count: registers.len() as u32,
     };
-    slots.reserve(registers.len())?;
     frames.reserve(1)?;
+    slots.extend_from_slice(registers)?;
     frames.push_reserved(frame);
-    append(slots, registers);
     Ok(number)
 }
 

@@ -9,7 +9,7 @@ returns-clause-chains c =
     let ss : List ℕ = c.args.slots.now.items in
     let fs : List Frame = c.args.frames.now.items in
     let f : Frame = record { place = c.args.place; up = c.args.up; first = length ss; count = length c.args.registers.now } in
-    let e : c.append.new.slots.items ≡ ss ++ c.args.registers.now = search rules in
+    let e : c.extend_from_slice.new.self.items ≡ ss ++ c.args.registers.now = search rules in
     let d : c.push_reserved.new.self.items ≡ fs ++ f ∷ [] = search rules in
     ap₂ chains e d ∙ pushed ss fs f c.args.registers.now c.requires.are_frames refl refl
 
@@ -18,6 +18,6 @@ returns-clause-are_frames c =
     let ss : List ℕ = c.args.slots.now.items in
     let fs : List Frame = c.args.frames.now.items in
     let f : Frame = record { place = c.args.place; up = c.args.up; first = length ss; count = length c.args.registers.now } in
-    let e : c.append.new.slots.items ≡ ss ++ c.args.registers.now = search rules in
+    let e : c.extend_from_slice.new.self.items ≡ ss ++ c.args.registers.now = search rules in
     let d : c.push_reserved.new.self.items ≡ fs ++ f ∷ [] = search rules in
     subst (λ us. AreFrames us c.push_reserved.new.self.items) (sym e) (subst (AreFrames (ss ++ c.args.registers.now)) (sym d) (frames-pushed ss fs f c.args.registers.now c.requires.are_frames refl refl c.requires.up))
