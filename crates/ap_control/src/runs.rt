@@ -7,8 +7,9 @@ ghost use Rattle.ap_needs.specs.Needs.{AllHaveTargets, room, wants};
 ghost use Rattle.ap_control.specs.Runs.{RanOrStuck, IsTransferAt, IsEndAt};
 
 use ap_cells::Cells;
-use ap_instr::{Code, Instr};
+use ap_instr::Code;
 use ap_steps::run::{Outcome, step};
+use ap_steps::tables::instruction_in;
 use ap_term::NoMemory;
 use ap_unify::Work;
 
@@ -22,14 +23,6 @@ pub fn used(registers: &[u32]) -> &[u32]
         count -= 1;
     }
     &registers[..count]
-}
-
-/// The instruction at a place.
-#[inline(always)]
-fn instruction_in(instructions: &[Instr], at: usize) -> Option<Instr>
-    ensures { result ≡ slice_get instructions.now at }
-{
-    instructions.get(at).copied()
 }
 
 /// Takes the instructions from a place on up to the next one that leads elsewhere than to the one behind it, or to a place to

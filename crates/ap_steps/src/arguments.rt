@@ -15,7 +15,7 @@ ghost use Rattle.ap_steps.specs.Arguments.{Built, BuiltOr, BuiltOrStuck, are_bui
 ghost use Rattle.ap_steps.specs.Ways.{NoneOfControl};
 
 use crate::registers::{read, write};
-use crate::tables::{instruction_at, integer_at};
+use crate::tables::{instruction_in, integer_at};
 use ap_cells::{Cell, Cells, Raw};
 use ap_instr::{Code, Instr, Slot};
 use ap_match::{push_new, push_value};
@@ -163,14 +163,14 @@ pub fn build_argument(
     x: &mut [u32],
     y: &mut [u32],
     code: &Code,
-    instr: Instr,
+    instr: &Instr,
 ) -> Parts
     requires room { 0 < cells.old.spare }
-    requires has { HasTargets instr (length x.old) (length y.old) }
-    ensures built { (whole : ℕ) → HoldPlacesBut whole (length cells.old.cells) x.old → HoldPlacesBut whole (length cells.old.cells) y.old → BuiltOr whole cells.old.cells (held x.old) (held y.old) (step_of code.now instr) cells.new.cells (held x.new) (held y.new) (are_built result) }
-    ensures argument { are_built result ≡ true → is_control instr ≡ false }
+    requires has { HasTargets instr.now (length x.old) (length y.old) }
+    ensures built { (whole : ℕ) → HoldPlacesBut whole (length cells.old.cells) x.old → HoldPlacesBut whole (length cells.old.cells) y.old → BuiltOr whole cells.old.cells (held x.old) (held y.old) (step_of code.now instr.now) cells.new.cells (held x.new) (held y.new) (are_built result) }
+    ensures argument { are_built result ≡ true → is_control instr.now ≡ false }
     ensures fresh { result ≡ Parts.Fresh → StandApart cells.old.cells cells.new.cells }
-    ensures value { result ≡ Parts.Values → is_value instr ≡ true }
+    ensures value { result ≡ Parts.Values → is_value instr.now ≡ true }
     ensures stays { KeepTrees cells.old.cells cells.new.cells }
     ensures holds_x { (whole : ℕ) → HoldPlacesBut whole (length cells.old.cells) x.old → HoldPlacesBut whole (length cells.new.cells) x.new }
     ensures holds_y { (whole : ℕ) → HoldPlacesBut whole (length cells.old.cells) y.old → HoldPlacesBut whole (length cells.new.cells) y.new }
@@ -179,7 +179,7 @@ pub fn build_argument(
     ensures spare { are_built result ≡ true → cells.new.spare + 1 ≡ cells.old.spare }
     ensures keeps { Keeps cells.old cells.new }
 {
-    match instr {
+    match *instr {
         Instr::UnifyVariable(v) => {
             build_variable(cells, x, y, v);
             Parts::Fresh
@@ -228,11 +228,12 @@ pub fn build_arguments(
     ensures spare { are_built result ≡ true → cells.new.spare + count ≡ cells.old.spare }
     ensures keeps { Keeps cells.old cells.new }
 {
-    let places = code.instructions().len();
+    let instructions = code.instructions();
+    let places = instructions.len();
     prove!(at <= places);
     let mut values = false;
     for i in 0..count {
-        match instruction_at(code, at + i) {
+        match instruction_in(instructions, at + i) {
             Some(instr) => match build_argument(cells, x, y, code, instr) {
                 Parts::Fresh => {}
                 Parts::Values => values = true,

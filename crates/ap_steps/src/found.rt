@@ -10,7 +10,7 @@ ghost use Rattle.ap_steps.specs.Found.{Matched, MatchedAll};
 ghost use Rattle.ap_steps.specs.Ways.{NoneOfControl};
 
 use crate::registers::{read, write};
-use crate::tables::{instruction_at, integer_at};
+use crate::tables::{instruction_in, integer_at};
 use ap_cells::Cells;
 use ap_instr::{Code, Instr, Slot};
 use ap_match::{equate, match_atom, match_integer};
@@ -94,17 +94,17 @@ fn match_argument(
     x: &mut [u32],
     y: &mut [u32],
     code: &Code,
-    instr: Instr,
+    instr: &Instr,
     place: usize,
     work: &mut Work,
 ) -> Result<bool, NoMemory>
-    requires has { HasTargets instr (length x.old) (length y.old) }
+    requires has { HasTargets instr.now (length x.old) (length y.old) }
     requires holds_x { HoldPlaces (length cells.old.cells) x.old }
     requires holds_y { HoldPlaces (length cells.old.cells) y.old }
     requires inside { place < length cells.old.cells }
-    ensures matched { IfOk result (λ b. Matched cells.old.cells (held x.old) (held y.old) (step_of code.now instr) place cells.new.cells (held x.new) (held y.new) b) }
-    ensures argument { IfOk result (λ b. b ≡ true → is_control instr ≡ false) }
-    ensures wants { OnErr result (is_value instr ≡ true) }
+    ensures matched { IfOk result (λ b. Matched cells.old.cells (held x.old) (held y.old) (step_of code.now instr.now) place cells.new.cells (held x.new) (held y.new) b) }
+    ensures argument { IfOk result (λ b. b ≡ true → is_control instr.now ≡ false) }
+    ensures wants { OnErr result (is_value instr.now ≡ true) }
     ensures holds_x { HoldPlaces (length cells.new.cells) x.new }
     ensures holds_y { HoldPlaces (length cells.new.cells) y.new }
     ensures x_len { length x.new ≡ length x.old }
@@ -113,7 +113,7 @@ fn match_argument(
     ensures spare { cells.new.spare ≡ cells.old.spare }
     ensures keeps { Keeps cells.old cells.new }
 {
-    match instr {
+    match *instr {
         Instr::UnifyVariable(v) => {
             match_variable(cells, x, y, v, place);
             Ok(true)
@@ -156,11 +156,12 @@ pub fn match_arguments(
     ensures spare { cells.new.spare ≡ cells.old.spare }
     ensures keeps { Keeps cells.old cells.new }
 {
-    let instructions = code.instructions().len();
-    prove!(at <= instructions);
+    let instructions = code.instructions();
+    let places = instructions.len();
+    prove!(at <= places);
     let _places = cells.len();
     for i in 0..count {
-        match instruction_at(code, at + i) {
+        match instruction_in(instructions, at + i) {
             Some(instr) => {
                 let matched = match_argument(cells, x, y, code, instr, first + i, work)?;
                 if !matched {

@@ -11,4 +11,4 @@ pub mod laws;
 pub mod registers;
 pub mod run;
 pub mod structures;
-mod tables;
+pub mod tables;

@@ -88,22 +88,22 @@ pub fn step(
     y: &mut [u32],
     code: &Code,
     at: usize,
-    instr: Instr,
+    instr: &Instr,
     work: &mut Work,
 ) -> Result<Outcome, NoMemory>
-    requires room { is_transfer instr ≡ false → cells_of instr ≤ cells.old.spare }
+    requires room { is_transfer instr.now ≡ false → cells_of instr.now ≤ cells.old.spare }
     requires inside { at ≤ length code.now.instructions }
-    requires has { HasTargets instr (length x.old) (length y.old) }
+    requires has { HasTargets instr.now (length x.old) (length y.old) }
     requires targets { AllHaveTargets (drop at code.now.instructions) (length x.old) (length y.old) }
     requires holds_x { HoldPlaces (length cells.old.cells) x.old }
     requires holds_y { HoldPlaces (length cells.old.cells) y.old }
-    ensures wants { OnErr result (wants_memory instr (drop at code.now.instructions) ≡ true) }
-    ensures came { IfOk result (λ o. CameTo code.now instr at cells.old x.old y.old o cells.new x.new y.new) }
+    ensures wants { OnErr result (wants_memory instr.now (drop at code.now.instructions) ≡ true) }
+    ensures came { IfOk result (λ o. CameTo code.now instr.now at cells.old x.old y.old o cells.new x.new y.new) }
     ensures x_len { length x.new ≡ length x.old }
     ensures y_len { length y.new ≡ length y.old }
     ensures keeps { Keeps cells.old cells.new }
 {
-    match instr {
+    match *instr {
         Instr::GetVariable(v, a) => {
             get_variable(x, y, v, a);
             Ok(Outcome::On(0))

@@ -19,22 +19,22 @@ use Rattle.ap_steps.proofs.arguments.build_arguments.Goals.{in-Fresh, in-Values}
 pub build_argument-requires-clause-has : goal.build_argument-requires-clause-has
 build_argument-requires-clause-has c =
     let v = c.loop-i.invariant in
-    let e : slice_get c.args.code.now.instructions (c.args.at + c.loop-i.i) ≡ Some c.in-Some.instr = sym c.in-Some.ensures in
-    let h : HasTargets c.in-Some.instr (length c.args.x.now) (length c.args.y.now) =
-    (targets-here c.args.code.now.instructions (c.args.at + c.loop-i.i) (length c.args.x.now) (length c.args.y.now) c.in-Some.instr e
+    let e : slice_get c.args.code.now.instructions (c.args.at + c.loop-i.i) ≡ Some c.in-Some.instr.now = ap (λ is. slice_get is (c.args.at + c.loop-i.i)) (sym c.instructions-instructions.ensures) ∙ c.in-Some.ensures.some in
+    let h : HasTargets c.in-Some.instr.now (length c.args.x.now) (length c.args.y.now) =
+    (targets-here c.args.code.now.instructions (c.args.at + c.loop-i.i) (length c.args.x.now) (length c.args.y.now) c.in-Some.instr.now e
     (none-targets c.args.code.now.instructions c.args.at c.loop-i.i (length c.args.x.now) (length c.args.y.now) v.passed c.requires.targets)).0
     in
-    subst (λ n. HasTargets c.in-Some.instr n (length c.loop-i.y)) (sym v.x_len) (subst (HasTargets c.in-Some.instr (length c.args.x.now)) (sym v.y_len) h)
+    subst (λ n. HasTargets c.in-Some.instr.now n (length c.loop-i.y)) (sym v.x_len) (subst (HasTargets c.in-Some.instr.now (length c.args.x.now)) (sym v.y_len) h)
 
 pub returns-in-Stuck-clause-built : goal.returns-in-Stuck-clause-built
 returns-in-Stuck-clause-built c =
     let v = c.loop-i.invariant in
     let whole : ℕ = length c.args.cells.now.cells + c.args.count in
-    let e : slice_get c.args.code.now.instructions (c.args.at + c.loop-i.i) ≡ Some c.in-Some.instr = sym c.in-Some.ensures in
+    let e : slice_get c.args.code.now.instructions (c.args.at + c.loop-i.i) ≡ Some c.in-Some.instr.now = ap (λ is. slice_get is (c.args.at + c.loop-i.i)) (sym c.instructions-instructions.ensures) ∙ c.in-Some.ensures.some in
     BuiltAll-stuck whole c.loop-i.i c.args.count c.args.cells.now.cells c.loop-i.cells.cells c.build_argument.new.cells.cells (held c.args.x.now) (held c.args.y.now) (held c.loop-i.x) (held c.loop-i.y) (held c.build_argument.new.x) (held c.build_argument.new.y)
-    (steps_from c.args.code.now c.args.at) (steps_from c.args.code.now (c.args.at + c.loop-i.i + 1 + skipped c.in-Some.instr (c.args.at + c.loop-i.i))) (step_of c.args.code.now c.in-Some.instr) c.loop-i-test.true
+    (steps_from c.args.code.now c.args.at) (steps_from c.args.code.now (c.args.at + c.loop-i.i + 1 + skipped c.in-Some.instr.now (c.args.at + c.loop-i.i))) (step_of c.args.code.now c.in-Some.instr.now) c.loop-i-test.true
     (subst (λ is. BuiltAll c.loop-i.i c.args.cells.now.cells (held c.args.x.now) (held c.args.y.now) (steps_from c.args.code.now c.args.at) c.loop-i.cells.cells (held c.loop-i.x) (held c.loop-i.y) is)
-    (steps_law c.args.code.now (c.args.at + c.loop-i.i) c.in-Some.instr e) v.built)
+    (steps_law c.args.code.now (c.args.at + c.loop-i.i) c.in-Some.instr.now e) v.built)
     (c.in-Stuck.ensures.built whole (v.holds_x whole c.requires.holds_x) (v.holds_y whole c.requires.holds_y))
 
 pub returns-in-Stuck-clause-holds_x : goal.returns-in-Stuck-clause-holds_x
@@ -51,7 +51,7 @@ returns-in-None-clause-built c =
     BuiltAll-end (length c.args.cells.now.cells + c.args.count) c.loop-i.i c.args.count c.args.cells.now.cells c.loop-i.cells.cells (held c.args.x.now) (held c.args.y.now) (held c.loop-i.x) (held c.loop-i.y) (steps_from c.args.code.now c.args.at)
     c.loop-i-test.true
     (subst (λ is. BuiltAll c.loop-i.i c.args.cells.now.cells (held c.args.x.now) (held c.args.y.now) (steps_from c.args.code.now c.args.at) c.loop-i.cells.cells (held c.loop-i.x) (held c.loop-i.y) is)
-    (steps-past c.args.code.now (c.args.at + c.loop-i.i) (sym c.in-None.ensures)) c.loop-i.invariant.built)
+    (steps-past c.args.code.now (c.args.at + c.loop-i.i) (ap (λ is. slice_get is (c.args.at + c.loop-i.i)) (sym c.instructions-instructions.ensures) ∙ c.instruction_in.ensures.none c.in-None.is)) c.loop-i.invariant.built)
 
 pub loop-i-preserved : goal.loop-i-preserved
 loop-i-preserved c =
@@ -59,8 +59,8 @@ loop-i-preserved c =
     let i : ℕ = c.loop-i.i in
     let at : ℕ = c.args.at in
     let whole : ℕ = length c.args.cells.now.cells + c.args.count in
-    let e : slice_get c.args.code.now.instructions (at + i) ≡ Some c.in-Some.instr = sym c.in-Some.ensures in
-    let value : c.build_argument.result ≡ Values → is_value c.in-Some.instr ≡ true = c.build_argument.ensures.value in
+    let e : slice_get c.args.code.now.instructions (at + i) ≡ Some c.in-Some.instr.now = ap (λ is. slice_get is (c.args.at + c.loop-i.i)) (sym c.instructions-instructions.ensures) ∙ c.in-Some.ensures.some in
+    let value : c.build_argument.result ≡ Values → is_value c.in-Some.instr.now ≡ true = c.build_argument.ensures.value in
     let fresh : c.build_argument.result ≡ Fresh → StandApart c.loop-i.cells.cells c.build_argument.new.cells.cells = c.build_argument.ensures.fresh in
     let longer : length c.args.cells.now.cells ≤ length c.loop-i.cells.cells = let l : length c.loop-i.cells.cells ≡ length c.args.cells.now.cells + i = v.built.longer in omega arith in
     let ok : are_built c.build_argument.result ≡ true = elim c.match-build_argument.branch [ in-Fresh w ↦ ap are_built w.in-Fresh.is | in-Values w ↦ ap are_built w.in-Values.is ] in
@@ -69,15 +69,15 @@ loop-i-preserved c =
       built =
           subst (λ n. BuiltAll (i + 1) c.args.cells.now.cells (held c.args.x.now) (held c.args.y.now) (steps_from c.args.code.now at) c.build_argument.new.cells.cells (held c.build_argument.new.x) (held c.build_argument.new.y) (steps_from c.args.code.now n)) behind
           (BuiltAll-more i c.args.cells.now.cells c.loop-i.cells.cells c.build_argument.new.cells.cells (held c.args.x.now) (held c.args.y.now) (held c.loop-i.x) (held c.loop-i.y) (held c.build_argument.new.x) (held c.build_argument.new.y)
-          (steps_from c.args.code.now at) (steps_from c.args.code.now (at + i + 1)) (step_of c.args.code.now c.in-Some.instr)
-          (subst (λ is. BuiltAll i c.args.cells.now.cells (held c.args.x.now) (held c.args.y.now) (steps_from c.args.code.now at) c.loop-i.cells.cells (held c.loop-i.x) (held c.loop-i.y) is) (steps-next c.args.code.now (at + i) c.in-Some.instr e (plain-transfer c.in-Some.instr (c.build_argument.ensures.argument ok))) v.built)
-          (subst (BuiltOr whole c.loop-i.cells.cells (held c.loop-i.x) (held c.loop-i.y) (step_of c.args.code.now c.in-Some.instr) c.build_argument.new.cells.cells (held c.build_argument.new.x) (held c.build_argument.new.y)) ok
+          (steps_from c.args.code.now at) (steps_from c.args.code.now (at + i + 1)) (step_of c.args.code.now c.in-Some.instr.now)
+          (subst (λ is. BuiltAll i c.args.cells.now.cells (held c.args.x.now) (held c.args.y.now) (steps_from c.args.code.now at) c.loop-i.cells.cells (held c.loop-i.x) (held c.loop-i.y) is) (steps-next c.args.code.now (at + i) c.in-Some.instr.now e (plain-transfer c.in-Some.instr.now (c.build_argument.ensures.argument ok))) v.built)
+          (subst (BuiltOr whole c.loop-i.cells.cells (held c.loop-i.x) (held c.loop-i.y) (step_of c.args.code.now c.in-Some.instr.now) c.build_argument.new.cells.cells (held c.build_argument.new.x) (held c.build_argument.new.y)) ok
           (c.build_argument.ensures.built whole (v.holds_x whole c.requires.holds_x) (v.holds_y whole c.requires.holds_y))));
-      passed = none-more c.args.code.now.instructions at i c.in-Some.instr v.passed e (c.build_argument.ensures.argument ok);
+      passed = none-more c.args.code.now.instructions at i c.in-Some.instr.now v.passed e (c.build_argument.ensures.argument ok);
       value =
           elim c.match-build_argument.branch [
             | in-Fresh w ↦ λ some. value-kept c.args.code.now.instructions at i (v.value (sym w.values-is ∙ some))
-            | in-Values w ↦ λ some. value-among c.args.code.now.instructions at i c.in-Some.instr e (i + 1) (omega arith) (value w.in-Values.is)
+            | in-Values w ↦ λ some. value-among c.args.code.now.instructions at i c.in-Some.instr.now e (i + 1) (omega arith) (value w.in-Values.is)
           ];
       fresh =
           elim c.match-build_argument.branch [
@@ -86,7 +86,7 @@ loop-i-preserved c =
             | in-Values w ↦ λ none. absurd (false≢true (sym none ∙ w.values-is))
           ];
       stays = KeepTrees-trans c.args.cells.now.cells c.loop-i.cells.cells c.build_argument.new.cells.cells longer v.stays c.build_argument.ensures.stays;
-      inside = let l : at + i < length c.args.code.now.instructions = slice_get_within c.args.code.now.instructions (at + i) c.in-Some.instr e in omega arith;
+      inside = let l : at + i < length c.args.code.now.instructions = slice_get_within c.args.code.now.instructions (at + i) c.in-Some.instr.now e in omega arith;
       holds_x = λ w h. c.build_argument.ensures.holds_x w (v.holds_x w h);
       holds_y = λ w h. c.build_argument.ensures.holds_y w (v.holds_y w h);
       x_len = c.build_argument.ensures.x_len ∙ v.x_len;

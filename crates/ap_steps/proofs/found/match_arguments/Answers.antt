@@ -1,4 +1,4 @@
-use Rattle.std.proofs.Common.{◌≡◌, ℕ, suc, ◌+◌, ◌-◌, ◌<◌, true, Ok, Err, length, slice_get, Some, ◌∷◌, sym, ◌∙◌, subst, arith, rules}
+use Rattle.std.proofs.Common.{◌≡◌, ℕ, suc, ◌+◌, ◌-◌, ◌<◌, true, Ok, Err, length, slice_get, Some, ◌∷◌, sym, ap, ◌∙◌, subst, arith, rules}
 use Rattle.std.specs.Prelude.{OnErr}
 use Rattle.std.proofs.lemmas.Option.{slice_get_within}
 use Rattle.ap_cells.proofs.Stores.{Keeps-trans}
@@ -37,12 +37,12 @@ loop-i-init c =
 pub match_argument-requires-clause-has : goal.match_argument-requires-clause-has
 match_argument-requires-clause-has c =
     let v = c.loop-i.invariant in
-    let e : slice_get c.args.code.now.instructions (c.args.at + c.loop-i.i) ≡ Some c.in-Some.instr = sym c.in-Some.ensures in
-    let h : HasTargets c.in-Some.instr (length c.args.x.now) (length c.args.y.now) =
-    (targets-here c.args.code.now.instructions (c.args.at + c.loop-i.i) (length c.args.x.now) (length c.args.y.now) c.in-Some.instr e
+    let e : slice_get c.args.code.now.instructions (c.args.at + c.loop-i.i) ≡ Some c.in-Some.instr.now = ap (λ is. slice_get is (c.args.at + c.loop-i.i)) (sym c.instructions-instructions.ensures) ∙ c.in-Some.ensures.some in
+    let h : HasTargets c.in-Some.instr.now (length c.args.x.now) (length c.args.y.now) =
+    (targets-here c.args.code.now.instructions (c.args.at + c.loop-i.i) (length c.args.x.now) (length c.args.y.now) c.in-Some.instr.now e
     (none-targets c.args.code.now.instructions c.args.at c.loop-i.i (length c.args.x.now) (length c.args.y.now) v.passed c.requires.targets)).0
     in
-    subst (λ n. HasTargets c.in-Some.instr n (length c.loop-i.y)) (sym v.x_len) (subst (HasTargets c.in-Some.instr (length c.args.x.now)) (sym v.y_len) h)
+    subst (λ n. HasTargets c.in-Some.instr.now n (length c.loop-i.y)) (sym v.x_len) (subst (HasTargets c.in-Some.instr.now (length c.args.x.now)) (sym v.y_len) h)
 
 pub returns-in_err-matched-in-Some-clause-keeps : goal.returns-in_err-matched-in-Some-clause-keeps
 returns-in_err-matched-in-Some-clause-keeps c = Keeps-trans c.args.cells.now c.loop-i.cells c.match_argument.new.cells c.loop-i.invariant.keeps c.match_argument.ensures.keeps
@@ -54,15 +54,15 @@ pub returns-then-not-matched-clause-matched : goal.returns-then-not-matched-clau
 returns-then-not-matched-clause-matched c =
     let v = c.loop-i.invariant in
     let m : ℕ = c.args.count - (c.loop-i.i + 1) in
-    let e : slice_get c.args.code.now.instructions (c.args.at + c.loop-i.i) ≡ Some c.in-Some.instr = sym c.in-Some.ensures in
+    let e : slice_get c.args.code.now.instructions (c.args.at + c.loop-i.i) ≡ Some c.in-Some.instr.now = ap (λ is. slice_get is (c.args.at + c.loop-i.i)) (sym c.instructions-instructions.ensures) ∙ c.in-Some.ensures.some in
     let n : c.args.count ≡ c.loop-i.i + suc m = omega arith in
-    MovesInside-stuck c.args.cells.now.cells c.loop-i.cells.cells (held c.args.x.now) (held c.args.y.now) (held c.loop-i.x) (held c.loop-i.y) (steps_from c.args.code.now c.args.at) (step_of c.args.code.now c.in-Some.instr ∷ steps_from c.args.code.now (c.args.at + c.loop-i.i + 1 + skipped c.in-Some.instr (c.args.at + c.loop-i.i)))
+    MovesInside-stuck c.args.cells.now.cells c.loop-i.cells.cells (held c.args.x.now) (held c.args.y.now) (held c.loop-i.x) (held c.loop-i.y) (steps_from c.args.code.now c.args.at) (step_of c.args.code.now c.in-Some.instr.now ∷ steps_from c.args.code.now (c.args.at + c.loop-i.i + 1 + skipped c.in-Some.instr.now (c.args.at + c.loop-i.i)))
     c.args.first c.args.count (c.args.first + c.loop-i.i) (suc m)
     (subst (λ is. MovesInside c.args.cells.now.cells (held c.args.x.now) (held c.args.y.now) (steps_from c.args.code.now c.args.at) c.args.first c.args.count c.loop-i.cells.cells (held c.loop-i.x) (held c.loop-i.y) is (c.args.first + c.loop-i.i) (suc m))
-    (steps_law c.args.code.now (c.args.at + c.loop-i.i) c.in-Some.instr e) (v.matched (suc m) n))
+    (steps_law c.args.code.now (c.args.at + c.loop-i.i) c.in-Some.instr.now e) (v.matched (suc m) n))
     (subst
-    (λ b. Matched c.loop-i.cells.cells (held c.loop-i.x) (held c.loop-i.y) (step_of c.args.code.now c.in-Some.instr) (c.args.first + c.loop-i.i) c.match_argument.new.cells.cells (held c.match_argument.new.x) (held c.match_argument.new.y) b)
-    c.if-not-matched.true c.in_ok-matched-in-Some.ensures.matched m (steps_from c.args.code.now (c.args.at + c.loop-i.i + 1 + skipped c.in-Some.instr (c.args.at + c.loop-i.i))) (omega arith))
+    (λ b. Matched c.loop-i.cells.cells (held c.loop-i.x) (held c.loop-i.y) (step_of c.args.code.now c.in-Some.instr.now) (c.args.first + c.loop-i.i) c.match_argument.new.cells.cells (held c.match_argument.new.x) (held c.match_argument.new.y) b)
+    c.if-not-matched.true c.in_ok-matched-in-Some.ensures.matched m (steps_from c.args.code.now (c.args.at + c.loop-i.i + 1 + skipped c.in-Some.instr.now (c.args.at + c.loop-i.i))) (omega arith))
 
 pub returns-in-None-clause-matched : goal.returns-in-None-clause-matched
 returns-in-None-clause-matched c =
@@ -70,7 +70,7 @@ returns-in-None-clause-matched c =
     let n : c.args.count ≡ c.loop-i.i + m = omega arith in
     MovesInside-end c.args.cells.now.cells c.loop-i.cells.cells (held c.args.x.now) (held c.args.y.now) (held c.loop-i.x) (held c.loop-i.y) (steps_from c.args.code.now c.args.at) c.args.first c.args.count (c.args.first + c.loop-i.i) m
     (subst (λ is. MovesInside c.args.cells.now.cells (held c.args.x.now) (held c.args.y.now) (steps_from c.args.code.now c.args.at) c.args.first c.args.count c.loop-i.cells.cells (held c.loop-i.x) (held c.loop-i.y) is (c.args.first + c.loop-i.i) m)
-    (steps-past c.args.code.now (c.args.at + c.loop-i.i) (sym c.in-None.ensures)) (c.loop-i.invariant.matched m n))
+    (steps-past c.args.code.now (c.args.at + c.loop-i.i) (ap (λ is. slice_get is (c.args.at + c.loop-i.i)) (sym c.instructions-instructions.ensures) ∙ c.instruction_in.ensures.none c.in-None.is)) (c.loop-i.invariant.matched m n))
 
 pub loop-i-preserved : goal.loop-i-preserved
 loop-i-preserved c =
@@ -78,7 +78,7 @@ loop-i-preserved c =
     let i : ℕ = c.loop-i.i in
     let at : ℕ = c.args.at in
     let first : ℕ = c.args.first in
-    let e : slice_get c.args.code.now.instructions (at + i) ≡ Some c.in-Some.instr = sym c.in-Some.ensures in
+    let e : slice_get c.args.code.now.instructions (at + i) ≡ Some c.in-Some.instr.now = ap (λ is. slice_get is (c.args.at + c.loop-i.i)) (sym c.instructions-instructions.ensures) ∙ c.in-Some.ensures.some in
     let behind : at + i + 1 ≡ at + (i + 1) = omega arith in
     let further : first + i + 1 ≡ first + (i + 1) = omega arith in
     let old = c.args.cells.now.cells in
@@ -92,12 +92,12 @@ loop-i-preserved c =
           let n : c.args.count ≡ i + suc m = omega arith in
           subst (λ a. MovesInside old (held c.args.x.now) (held c.args.y.now) js first c.args.count new x'' y'' (steps_from c.args.code.now a) (first + (i + 1)) m) behind
           (subst (λ p. MovesInside old (held c.args.x.now) (held c.args.y.now) js first c.args.count new x'' y'' (steps_from c.args.code.now (at + i + 1)) p m) further
-          (MovesInside-trans old mid new (held c.args.x.now) (held c.args.y.now) (held c.loop-i.x) (held c.loop-i.y) x'' y'' js (step_of c.args.code.now c.in-Some.instr ∷ steps_from c.args.code.now (at + i + 1)) (steps_from c.args.code.now (at + i + 1))
+          (MovesInside-trans old mid new (held c.args.x.now) (held c.args.y.now) (held c.loop-i.x) (held c.loop-i.y) x'' y'' js (step_of c.args.code.now c.in-Some.instr.now ∷ steps_from c.args.code.now (at + i + 1)) (steps_from c.args.code.now (at + i + 1))
           first c.args.count (first + i) (suc m) (first + i + 1) m
-          (subst (λ is. MovesInside old (held c.args.x.now) (held c.args.y.now) js first c.args.count mid (held c.loop-i.x) (held c.loop-i.y) is (first + i) (suc m)) (steps-next c.args.code.now (at + i) c.in-Some.instr e (plain-transfer c.in-Some.instr (c.in_ok-matched-in-Some.ensures.argument c.if-not-matched.false))) (v.matched (suc m) n))
-          (subst (λ b. Matched mid (held c.loop-i.x) (held c.loop-i.y) (step_of c.args.code.now c.in-Some.instr) (first + i) new x'' y'' b) c.if-not-matched.false c.in_ok-matched-in-Some.ensures.matched m (steps_from c.args.code.now (at + i + 1)) (omega arith))));
-      passed = none-more c.args.code.now.instructions at i c.in-Some.instr v.passed e (c.in_ok-matched-in-Some.ensures.argument c.if-not-matched.false);
-      inside = let l : at + i < length c.args.code.now.instructions = slice_get_within c.args.code.now.instructions (at + i) c.in-Some.instr e in omega arith;
+          (subst (λ is. MovesInside old (held c.args.x.now) (held c.args.y.now) js first c.args.count mid (held c.loop-i.x) (held c.loop-i.y) is (first + i) (suc m)) (steps-next c.args.code.now (at + i) c.in-Some.instr.now e (plain-transfer c.in-Some.instr.now (c.in_ok-matched-in-Some.ensures.argument c.if-not-matched.false))) (v.matched (suc m) n))
+          (subst (λ b. Matched mid (held c.loop-i.x) (held c.loop-i.y) (step_of c.args.code.now c.in-Some.instr.now) (first + i) new x'' y'' b) c.if-not-matched.false c.in_ok-matched-in-Some.ensures.matched m (steps_from c.args.code.now (at + i + 1)) (omega arith))));
+      passed = none-more c.args.code.now.instructions at i c.in-Some.instr.now v.passed e (c.in_ok-matched-in-Some.ensures.argument c.if-not-matched.false);
+      inside = let l : at + i < length c.args.code.now.instructions = slice_get_within c.args.code.now.instructions (at + i) c.in-Some.instr.now e in omega arith;
       longer = omega arith;
       holds_x = c.match_argument.ensures.holds_x;
       holds_y = c.match_argument.ensures.holds_y;
@@ -116,8 +116,8 @@ returns-clause-matched c =
 
 pub returns-in_err-matched-in-Some-clause-wants : goal.returns-in_err-matched-in-Some-clause-wants
 returns-in_err-matched-in-Some-clause-wants c =
-    let e : slice_get c.args.code.now.instructions (c.args.at + c.loop-i.i) ≡ Some c.in-Some.instr = sym c.in-Some.ensures in
+    let e : slice_get c.args.code.now.instructions (c.args.at + c.loop-i.i) ≡ Some c.in-Some.instr.now = ap (λ is. slice_get is (c.args.at + c.loop-i.i)) (sym c.instructions-instructions.ensures) ∙ c.in-Some.ensures.some in
     elim c.from_residual.result as (λ r. OnErr r (has_value c.args.code.now.instructions c.args.at c.args.count ≡ true)) [
       | Ok b ↦ tt
-      | Err f ↦ value-among c.args.code.now.instructions c.args.at c.loop-i.i c.in-Some.instr e c.args.count c.loop-i-test.true c.in_err-matched-in-Some.ensures.wants
+      | Err f ↦ value-among c.args.code.now.instructions c.args.at c.loop-i.i c.in-Some.instr.now e c.args.count c.loop-i-test.true c.in_err-matched-in-Some.ensures.wants
     ]
