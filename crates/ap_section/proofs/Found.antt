@@ -1,23 +1,29 @@
 -- The leftmost slot that can be started, and whether none can.
-use Rattle.std.proofs.Common.{◌≡◌, ◌∙◌, ℕ, zero, suc, ◌+◌, ◌-◌, ◌<◌, ◌≤◌, inl, inr, Bool, true, false, ◌||◌, not, nat_lt, cond, List, [], ◌∷◌, length, slice_get, take, Option, Some, None, ap, ap₂, sym, subst, refl, get_or, rules, arith}
+use Rattle.std.proofs.Common.{◌≡◌, ◌∙◌, ℕ, zero, suc, ◌+◌, ◌-◌, ◌<◌, ◌≤◌, inl, inr, Bool, true, false, ◌||◌, not, nat_lt, cond, List, [], ◌∷◌, ◌++◌, length, slice_get, take, Option, Some, None, ap, ap₂, sym, subst, refl, get_or, rules, arith}
 use Rattle.std.specs.Prelude.{position, IfSome}
 use Rattle.std.specs.List.{list_any, position_or_len}
 use Rattle.std.proofs.lemmas.Bool.{ltb-true, ltb-false}
 use Rattle.std.proofs.lemmas.Option.{same_Some}
+use Rattle.std.proofs.Math.Seq.{take-suc, length-take-le}
 use Rattle.ap_term.specs.Tree.{Trees}
 use Rattle.ap_tie.specs.Sections.{Row, rows}
 use Rattle.ap_frames.specs.declared.frame.Frame.{Frame}
 use Rattle.ap_frames.specs.declared.slots.Slot.{Slot}
-use Rattle.ap_frames.specs.declared.frame.Round.TheVariants.{Closed}
+use Rattle.ap_frames.specs.declared.slots.Stand.{Stand}
+use Rattle.ap_frames.specs.declared.slots.Stand.TheVariants.{Ready, Waiting, Running, Answered, Replayed, Ended, GivenBack}
+use Rattle.ap_frames.specs.declared.frame.Round.{Round}
+use Rattle.ap_frames.specs.declared.frame.Round.TheVariants.{First, Draining, Later, Closed}
 use Rattle.ap_frames.specs.Rows.{of_slot}
-use Rattle.ap_frames.specs.Slots.{is_startable}
+use Rattle.ap_frames.specs.Slots.{stands_startable, is_startable}
+use Rattle.ap_frames.specs.Verdicts.{place_behind, rightmost}
+use Rattle.ap_frames.proofs.Failing.{rightmost-here}
 use Rattle.ap_section.specs.declared.section.Section.{Section, out-Section}
-use Rattle.ap_section.specs.Views.{view_of}
-use Rattle.ap_section.specs.Slots.{IsAtFrame, IsFirstReady, IsReadyAt, HasNoReady, slots_in}
+use Rattle.ap_section.specs.Views.{view_of, row_of, bare}
+use Rattle.ap_section.specs.Slots.{IsAtFrame, IsFirstReady, IsReadyAt, HasNoReady, slots_in, round_in, stands_ready, is_ready, last_ready_of, last_ready_in}
 use Rattle.ap_section.specs.Lending.{count_in}
 use Rattle.ap_section.proofs.Newest.{top-at, slots-at, round-at, startable-row, length-rows}
 use Rattle.ap_section.proofs.Levels.{slots_now}
-use Rattle.ap_section.proofs.Shown.{position-shown}
+use Rattle.ap_section.proofs.Shown.{position-shown, rightmost-shown}
 
 abbrev first_in : List Row → ℕ
 first_in rs = position_or_len is_startable rs
@@ -103,7 +109,80 @@ ready-place s n f i e at v opened h =
       λ c. opened (sym (round-at s f t at) ∙ c),
     )
 
+ready-stand : (y : Stand Section) → stands_ready (bare y) ≡ stands_ready y
+ready-stand Ready = refl
+ready-stand Waiting = refl
+ready-stand (Running r) = refl
+ready-stand (Answered a) = refl
+ready-stand (Replayed k) = refl
+ready-stand (Ended e c) = refl
+ready-stand GivenBack = refl
+
+ready-row : (x : Slot Section Trees) → is_ready (row_of x) ≡ is_ready x
+ready-row x = ready-stand x.stand
+
+ready-startable : (y : Stand Section) → stands_ready y ≡ true → stands_startable y ≡ true
+ready-startable Ready h = refl
+ready-startable Waiting h = absurd (cc)
+ready-startable (Running r) h = absurd (cc)
+ready-startable (Answered a) h = absurd (cc)
+ready-startable (Replayed k) h = absurd (cc)
+ready-startable (Ended e c) h = absurd (cc)
+ready-startable GivenBack h = absurd (cc)
+
+ready-behind : (x : Slot Section Trees) (xs : List (Slot Section Trees)) (j : ℕ) → IsReadyPlace xs j → IsReadyPlace (x ∷ xs) (j + 1)
+ready-behind x xs j h =
+    let d : suc (j - 1) ≡ j + 1 - 1 = omega (arith, h.0) in
+    (omega arith, omega (arith, h.1), subst (λ m. of_slot is_startable false (slice_get (x ∷ xs) m) ≡ true) d h.2)
+
+rightmost-ready : (xs : List (Slot Section Trees)) (i : ℕ) → rightmost is_ready xs ≡ Some i → IsReadyPlace xs i
+rightmost-ready [] i e = absurd (cc)
+rightmost-ready (x ∷ xs) i e = go (rightmost is_ready xs) (rightmost-ready xs) (is_ready x) refl e
+  where
+    go : (o : Option ℕ) → ((j : ℕ) → o ≡ Some j → IsReadyPlace xs j) → (b : Bool) → is_ready x ≡ b → place_behind o b ≡ Some i → IsReadyPlace (x ∷ xs) i
+    go (Some j) k b t e = let d : j + 1 ≡ i = cc in subst (IsReadyPlace (x ∷ xs)) d (ready-behind x xs j (k j refl))
+    go None k true t e = let d : 1 ≡ i = cc in subst (IsReadyPlace (x ∷ xs)) d (omega arith, omega arith, ready-startable x.stand t)
+    go None k false t e = absurd (cc)
+
+last-open : (d : Round) (rs : List Row) → (d ≡ Closed → ⊥) → last_ready_of d rs ≡ rightmost is_ready rs
+last-open First rs h = refl
+last-open (Draining c) rs h = refl
+last-open (Later i) rs h = refl
+last-open Closed rs h = absurd (h refl)
+
+pub last-closed : (s : Section) (n : ℕ) (f : Frame Section Trees) → n ≡ count_in s → IsAtFrame (view_of s) → f ≡ get_or (out-Section s).frames.items (n - 1) f → f.round ≡ Closed → None ≡ last_ready_in (view_of s)
+last-closed s n f e at v h = sym (ap (λ d. last_ready_of d (rows (slots_in (view_of s)))) (round-at s f (top-at s n f e at v) at ∙ h))
+
 pub last-ready : (s : Section) (n : ℕ) (f : Frame Section Trees) (o : Option ℕ) → n ≡ count_in s → IsAtFrame (view_of s) → f ≡ get_or (out-Section s).frames.items (n - 1) f → (f.round ≡ Closed → ⊥)
-    → IfSome o (IsReadyPlace f.slots.items) → IfSome o (λ i. IsReadyAt i (view_of s))
-last-ready s n f None e at v opened h = tt
-last-ready s n f (Some i) e at v opened h = ready-place s n f i e at v opened h
+    → o ≡ rightmost is_ready f.slots.items → o ≡ last_ready_in (view_of s)
+last-ready s n f o e at v opened h =
+    let t = top-at s n f e at v in
+    let shut : round_in (view_of s) ≡ Closed → ⊥ = λ c. opened (sym (round-at s f t at) ∙ c) in
+    h ∙ sym (rightmost-shown is_ready is_ready ready-row f.slots.items) ∙ sym (ap (λ w. rightmost is_ready (rows w)) (slots-at s f t at)) ∙ sym (last-open (round_in (view_of s)) (rows (slots_in (view_of s))) shut)
+
+pub last-place : (s : Section) (n : ℕ) (f : Frame Section Trees) (o : Option ℕ) → n ≡ count_in s → IsAtFrame (view_of s) → f ≡ get_or (out-Section s).frames.items (n - 1) f → (f.round ≡ Closed → ⊥)
+    → o ≡ rightmost is_ready f.slots.items → IfSome o (λ i. IsReadyAt i (view_of s))
+last-place s n f None e at v opened h = tt
+last-place s n f (Some i) e at v opened h = ready-place s n f i e at v opened (rightmost-ready f.slots.items i (sym h))
+
+-- ---- found from behind
+
+pub rightmost-behind : (xs : List (Slot Section Trees)) (i : ℕ) (x : Slot Section Trees) → 0 < i → i ≤ length xs → x ≡ get_or xs (i - 1) x → is_ready x ≡ true → rightmost is_ready (take i xs) ≡ Some i
+rightmost-behind xs i x p q e t =
+    let d : i ≡ suc (i - 1) = omega (arith, p) in
+    let cut : take i xs ≡ take (i - 1) xs ++ x ∷ [] = ap (λ m. take m xs) d ∙ take-suc xs (i - 1) x (omega (arith, p, q)) ∙ ap (λ y. take (i - 1) xs ++ y ∷ []) (sym e) in
+    let size : length (take (i - 1) xs) + 1 ≡ i = omega (arith, length-take-le (i - 1) xs (omega (arith, q)), p) in
+    ap (rightmost is_ready) cut ∙ rightmost-here is_ready (take (i - 1) xs) [] x t refl ∙ ap Some size
+
+rightmost-push : (xs : List (Slot Section Trees)) (x : Slot Section Trees) → is_ready x ≡ false → rightmost is_ready (xs ++ x ∷ []) ≡ rightmost is_ready xs
+rightmost-push [] x t = ap (place_behind None) t
+rightmost-push (y ∷ xs) x t = ap (λ o. place_behind o (is_ready y)) (rightmost-push xs x t)
+
+pub rightmost-before : (xs : List (Slot Section Trees)) (i : ℕ) (x : Slot Section Trees) → 0 < i → i ≤ length xs → x ≡ get_or xs (i - 1) x → is_ready x ≡ false
+    → rightmost is_ready (take i xs) ≡ rightmost is_ready (take (i - 1) xs)
+rightmost-before xs i x p q e t =
+    let d : i ≡ suc (i - 1) = omega (arith, p) in
+    let cut : take i xs ≡ take (i - 1) xs ++ x ∷ [] = ap (λ m. take m xs) d ∙ take-suc xs (i - 1) x (omega (arith, p, q)) ∙ ap (λ y. take (i - 1) xs ++ y ∷ []) (sym e) in
+    ap (rightmost is_ready) cut ∙ rightmost-push (take (i - 1) xs) x t
+
+pub ruleset last_rules = (rightmost-behind, rightmost-before)

@@ -1,9 +1,10 @@
 -- What settling a frame comes to.
-use Rattle.std.proofs.Common.{◌≡◌, ◌∙◌, ℕ, ◌+◌, ◌-◌, ◌<◌, ◌^◌, List, ap, sym, subst, refl, Some, Bool, true, false, Ok, Err}
+use Rattle.std.proofs.Common.{◌≡◌, ◌∙◌, ℕ, ◌+◌, ◌-◌, ◌<◌, ◌^◌, inl, inr, List, ap, sym, subst, refl, Some, Bool, true, false, Ok, Err}
 use Rattle.std.specs.Prelude.{Result, IsErr}
+use Rattle.std.specs.List.{list_any}
 use Rattle.ap_frames.specs.declared.verdict.Verdict.{Verdict}
 use Rattle.ap_section.specs.declared.settle.Settled.{Settled}
-use Rattle.ap_tie.specs.Sections.{Slots}
+use Rattle.ap_tie.specs.Sections as seen
 use Rattle.ap_term.specs.declared.memory.NoMemory.{NoMemory}
 use Rattle.ap_term.specs.Tree.{Trees}
 use Rattle.ap_frames.specs.declared.frame.Round.TheVariants.{Closed}
@@ -19,7 +20,7 @@ use Rattle.ap_section.specs.declared.settle.Settled.TheVariants.{Open, Joined, B
 use Rattle.ap_section.specs.Views.{view_of, spent_in, budget_in}
 use Rattle.ap_section.specs.Ready.{IsReady}
 use Rattle.ap_section.specs.Slots.{IsAtFrame, verdict_in, slots_in, round_in, is_held, held_spent}
-use Rattle.ap_section.specs.Settles.{IsOpenIn, IsSettled}
+use Rattle.ap_section.specs.Settles.{IsOpenIn, IsSettled, lacks_section}
 use Rattle.ap_section.specs.Owed.{OwesNoMore}
 use Rattle.ap_section.specs.Closes.{closed_in, charged_in, IsForgotten, IsBack, HasMetIn, CannotMeet, stays_in, MayBreak, CannotBreak, IsNearlyReady, IsOutcome}
 use Rattle.ap_section.proofs.Closes.{ready-nearly, nearly-ready}
@@ -29,7 +30,7 @@ use Rattle.ap_section.proofs.Goings.{stays-there, goes-back, at-back, stack-back
 
 -- ---- nothing is done
 
-pub none-open : (s : Section) → IsOpenIn (verdict_in (view_of s)) (slots_in (view_of s)) → IsOutcome s s (Ok Open)
+pub none-open : (s : Section) → IsOpenIn (verdict_in (view_of s)) (view_of s) → IsOutcome s s (Ok Open)
 none-open s h = record { goes = λ code k. stays-there code (view_of s); settled = (refl, charged-none (view_of s), h); err = tt; ready = λ code k. k; owes = λ code k. no-more-same (view_of s) }
 
 pub no-memory : (s : Section) (e : NoMemory) → IsAtFrame (view_of s) → IsOutcome s s (Err e)
@@ -60,17 +61,17 @@ pub back-unmet : SettlingLaw → (s t : Section) (e : ℕ) (ts : List Trees) →
     → ((code : Compiled) → IsNearlyReady code s → IsNearlyReady code t) → IsOutcome s t (Ok Open)
 back-unmet law s t e ts at v a b n = record {
   goes = λ code k. goes-unmet law code (view_of s) (view_of t) e ts at v a b.1;
-  settled = (stack-back (view_of s) (view_of t) b.0, charged-back (view_of s) (view_of t) b.0, subst (λ x. IsOpenIn x (slots_in (view_of s))) (sym v) tt);
+  settled = (stack-back (view_of s) (view_of t) b.0, charged-back (view_of s) (view_of t) b.0, subst (λ x. IsOpenIn x (view_of s)) (sym v) (inr (ts, a, b.1)));
   err = tt;
   ready = still-ready s t at b.0 n;
   owes = λ code k. no-more-back (view_of s) (view_of t) b.0;
 }
 
-pub open-joined : (s : Section) (e : ℕ) → verdict_in (view_of s) ≡ JoinedBy e → IsOpenIn (verdict_in (view_of s)) (slots_in (view_of s))
-open-joined s e v = subst (λ x. IsOpenIn x (slots_in (view_of s))) (sym v) tt
+pub open-joined : (s : Section) (e : ℕ) → verdict_in (view_of s) ≡ JoinedBy e → list_any lacks_section (rows (slots_in (view_of s))) ≡ true → IsOpenIn (verdict_in (view_of s)) (view_of s)
+open-joined s e v h = subst (λ x. IsOpenIn x (view_of s)) (sym v) (inl h)
 
-pub open-broken : (s : Section) (e : ℕ) → verdict_in (view_of s) ≡ BrokenBy e → CannotBreak (slots_in (view_of s)) → IsOpenIn (verdict_in (view_of s)) (slots_in (view_of s))
-open-broken s e v h = subst (λ x. IsOpenIn x (slots_in (view_of s))) (sym v) h
+pub open-broken : (s : Section) (e : ℕ) (b : Bool) → verdict_in (view_of s) ≡ BrokenBy e → b ≡ stays_in (view_of s) → CannotBreak b (slots_in (view_of s)) → IsOpenIn (verdict_in (view_of s)) (view_of s)
+open-broken s e b v stays h = subst (λ x. IsOpenIn x (view_of s)) (sym v) (subst (λ a. CannotBreak a (slots_in (view_of s))) stays h)
 
 -- ---- joined, and then charged and closed
 
@@ -116,16 +117,16 @@ was-forgotten law s d t e b at v stays is_false may x y g h =
       owes = λ code k. no-more-forgotten (view_of s) (view_of t) e (ready-behind code s k) v gone;
     }
 
-pub open-waiting : (s : Section) → verdict_in (view_of s) ≡ Wait → IsOpenIn (verdict_in (view_of s)) (slots_in (view_of s))
-open-waiting s v = subst (λ x. IsOpenIn x (slots_in (view_of s))) (sym v) tt
+pub open-waiting : (s : Section) → verdict_in (view_of s) ≡ Wait → IsOpenIn Wait (view_of s) → IsOpenIn (verdict_in (view_of s)) (view_of s)
+open-waiting s v h = subst (λ x. IsOpenIn x (view_of s)) (sym v) h
 
-pub open-otherwise : (v : Verdict) (w : Slots) → ((e : ℕ) → v ≡ BrokenBy e → ⊥) → (v ≡ SpentBy → ⊥) → IsOpenIn v w
-open-otherwise Wait w h k = tt
-open-otherwise (JoinedBy e) w h k = tt
-open-otherwise (BrokenBy e) w h k = absurd (h e refl)
-open-otherwise (Drain i r) w h k = tt
-open-otherwise (Raised e f) w h k = tt
-open-otherwise SpentBy w h k = absurd (k refl)
+pub open-otherwise : (v : Verdict) (s : seen.Section) → ((e : ℕ) → v ≡ JoinedBy e → ⊥) → ((e : ℕ) → v ≡ BrokenBy e → ⊥) → (v ≡ SpentBy → ⊥) → (v ≡ Wait → ⊥) → IsOpenIn v s
+open-otherwise Wait s g h k l = absurd (l refl)
+open-otherwise (JoinedBy e) s g h k l = absurd (g e refl)
+open-otherwise (BrokenBy e) s g h k l = absurd (h e refl)
+open-otherwise (Drain i r) s g h k l = tt
+open-otherwise (Raised e f) s g h k l = tt
+open-otherwise SpentBy s g h k l = absurd (k refl)
 
 pub no-memory-by : (s : Section) (r : Result Settled NoMemory) → IsErr r → IsAtFrame (view_of s) → IsOutcome s s r
 no-memory-by s (Ok x) h at = absurd (let z : false ≡ true = h in cc)

@@ -30,6 +30,8 @@ use Rattle.ap_section.specs.Ready.{IsReady, IsShut}
 use Rattle.std.proofs.Common.{◌^◌, Ok}
 use Rattle.ap_section.specs.declared.settle.Settled.TheVariants.{Redo}
 use Rattle.ap_section.specs.Closes.{IsNearlyReady, IsOutcome}
+use Rattle.ap_frames.specs.declared.verdict.Verdict.TheVariants.{Wait}
+use Rattle.ap_section.specs.Settles.{IsOpenIn}
 use Rattle.ap_section.proofs.Outcomes.{to-redo}
 use Rattle.ap_section.proofs.Levels.{held_own, held_now, slots_now, stack_now, seen_as, view_of-out}
 use Rattle.ap_section.proofs.Parts.{HeldReady, StandReady, SlotsReady, FramesReady}
@@ -283,3 +285,37 @@ redo-found s n f i a e at v c d o fits =
     let held_is = found-held s n f i a e at v (next-place f.slots.items i d).0 o in
     to-redo s i (round-at s f (top-at s n f e at v) at ∙ c) (next-at s n f e at v ∙ d) (ap is_held held_is)
     (subst (λ m. m + (budget_in (view_of s) - spent_in (view_of s)) < 2 ^ 64) (sym (ap held_spent held_is ∙ held-spent (view_of a))) fits)
+
+-- ---- nothing is redone
+
+none-held : (y : Stand Section) → section_at y ≡ None → is_held (held_now y) ≡ false
+none-held Ready e = refl
+none-held Waiting e = refl
+none-held (Running r) e = refl
+none-held (Answered a) e = go a.section e
+  where
+    go : (o : Option Section) → o ≡ None → is_held (held_own o) ≡ false
+    go None d = refl
+    go (Some s) d = absurd (cc)
+none-held (Replayed k) e = refl
+none-held (Ended d c) e = refl
+none-held GivenBack e = refl
+
+none-place : (k : ℕ) (xs : List (Slot Section Trees)) → frames.of_slot section_of None (slice_get xs k) ≡ None → is_held (held_in (suc k) (slots_now xs)) ≡ false
+none-place k [] e = refl
+none-place zero (x ∷ xs) e = none-held x.stand e
+none-place (suc k) (x ∷ xs) e = none-place k xs e
+
+module _ (s : Section) (n : ℕ) (f : Frame Section Trees) (e : n ≡ count_in s) (at : IsAtFrame (view_of s)) (v : f ≡ get_or (out-Section s).frames.items (n - 1) f) where
+  pub open-round : (f.round ≡ Closed → ⊥) → IsOpenIn Wait (view_of s)
+  open-round h = λ c i d. absurd (h (sym (round-at s f (top-at s n f e at v) at) ∙ c))
+
+  pub none-redone : ((i : ℕ) → next_redo f.slots.items ≡ Some i → ⊥) → IsOpenIn Wait (view_of s)
+  none-redone h = λ c i d. absurd (h i (sym (next-at s n f e at v) ∙ d))
+
+  pub none-there : (i : ℕ) → next_redo f.slots.items ≡ Some i → frames.of_slot section_of None (slice_get f.slots.items (i - 1)) ≡ None → IsOpenIn Wait (view_of s)
+  none-there i k o = λ c j d.
+      let same : i ≡ j = let m = sym k ∙ sym (next-at s n f e at v) ∙ d in cc in
+      let place = one-less i (next-place f.slots.items i k).0 in
+      subst (λ m. is_held (held_in m (slots_in (view_of s))) ≡ false) same
+      (ap (λ w. is_held (held_in i w)) (slots-at s f (top-at s n f e at v) at) ∙ ap (λ m. is_held (held_in m (slots_now f.slots.items))) (sym place) ∙ none-place (i - 1) f.slots.items o)

@@ -1,16 +1,15 @@
 -- What becomes of a section whose first frame is closed, forgotten or joined.
+pub use Rattle.ap_section.specs.Settles.{CannotMeet}
 use Rattle.std.specs.Prelude.{◌≡◌, ℕ, ◌+◌, ◌⊎◌, Bool, true, false, is_some, List, [], ◌∷◌, Option, Some, None, Result, IfOk, OnErr}
 use Rattle.std.specs.List.{AllByRecursion, list_any}
-use Rattle.ap_group.specs.Meets.{MeetAll}
 use Rattle.ap_term.specs.declared.memory.NoMemory.{NoMemory}
-use Rattle.ap_term.specs.Tree.{Tree, Trees}
+use Rattle.ap_term.specs.Tree.{Trees}
 use Rattle.ap_frames.specs.declared.frame.Round.{Round}
 use Rattle.ap_frames.specs.declared.frame.Round.TheVariants.{Later}
 use Rattle.ap_frames.specs.declared.slots.Slot.{Slot}
 use Rattle.ap_frames.specs.declared.slots.Stand.{Stand}
 use Rattle.ap_frames.specs.declared.slots.Stand.TheVariants.{Answered}
 use Rattle.ap_instr.specs.Code.{Compiled}
-use Rattle.ap_match.specs.Fits.{Fits}
 use Rattle.ap_standing.specs.Machine.{Machine}
 use Rattle.ap_machine.specs.View.{IsFor}
 use Rattle.ap_tie.specs.Sections as seen
@@ -75,11 +74,6 @@ abbrev pub HasMetIn : seen.Section → List Trees → seen.Section → Type 0
 HasMetIn (section m c b bottom) ts t = ⊥
 HasMetIn (section m c b (parcall f q rd w qs st)) ts t = (n : Machine) × HasMet m.roots f ts n × (t ≡ section n c b (parcall f q rd w qs st))
 
--- nothing meets them
-abbrev pub CannotMeet : seen.Section → List Trees → Type 0
-CannotMeet (section m c b bottom) ts = Unit {0}
-CannotMeet (section m c b (parcall f q rd w qs st)) ts = (k : ℕ → Tree) → Fits f.cells k → MeetAll f.goals ts k → ⊥
-
 abbrev pub IsRejoined : seen.Section → List Trees → seen.Section → Bool → Type 0
 IsRejoined s ts t true = HasMetIn s ts t
 IsRejoined s ts t false = IsBack s t × CannotMeet s ts
@@ -97,8 +91,8 @@ stays_in s = stays (round_in s) (rows (slots_in s))
 abbrev pub MayBreak : Bool → Slots → Type 0
 MayBreak stays w = (list_any is_running (rows w) ≡ false) × (stays ≡ true → IsRedoable (rows w))
 
-abbrev pub CannotBreak : Slots → Type 0
-CannotBreak w = (list_any is_running (rows w) ≡ true) ⊎ (IsRedoable (rows w) → ⊥)
+abbrev pub CannotBreak : Bool → Slots → Type 0
+CannotBreak stays w = (list_any is_running (rows w) ≡ true) ⊎ ((stays ≡ true) × (IsRedoable (rows w) → ⊥))
 
 -- ---- ready, whatever the first frame's round is
 

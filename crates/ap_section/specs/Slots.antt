@@ -8,11 +8,14 @@ use Rattle.ap_cells.specs.declared.cells.Raw.{Raw}
 use Rattle.ap_cells.specs.Trees.{tree_at, trees}
 use Rattle.ap_frames.specs.declared.frame.Round.{Round}
 use Rattle.ap_frames.specs.declared.frame.Round.TheVariants.{Later, Closed}
+use Rattle.ap_frames.specs.declared.slots.Slot.{Slot}
+use Rattle.ap_frames.specs.declared.slots.Stand.{Stand}
+use Rattle.ap_frames.specs.declared.slots.Stand.TheVariants.{Ready}
 use Rattle.ap_frames.specs.declared.verdict.Verdict.{Verdict}
 use Rattle.ap_frames.specs.declared.verdict.Verdict.TheVariants.{Wait}
 use Rattle.ap_frames.specs.Slots.{is_startable}
 use Rattle.ap_frames.specs.Rows.{of_slot}
-use Rattle.ap_frames.specs.Verdicts.{judged, next_redo}
+use Rattle.ap_frames.specs.Verdicts.{judged, rightmost, next_redo}
 use Rattle.ap_instr.specs.declared.compiled.Predicate.{Predicate}
 use Rattle.ap_instr.specs.Code.{Compiled}
 use Rattle.ap_group.specs.Groups.{Pushed}
@@ -88,6 +91,22 @@ IsFirstReady i s = IsPlaceIn i s × (told_of is_startable i s ≡ true) × (list
 -- slot i can be started
 abbrev pub IsReadyAt : ℕ → Section → Type 0
 IsReadyAt i s = IsPlaceIn i s × (told_of is_startable i s ≡ true) × (round_in s ≡ Closed → ⊥)
+
+abbrev pub stands_ready : {S : Type 0} → Stand S → Bool
+stands_ready Ready = true
+stands_ready _ = false
+
+-- it is ready, and wasn't given back
+abbrev pub is_ready : {S T : Type 0} → Slot S T → Bool
+is_ready x = stands_ready x.stand
+
+abbrev pub last_ready_of : Round → List Row → Option ℕ
+last_ready_of Closed xs = None
+last_ready_of _ xs = rightmost is_ready xs
+
+-- the rightmost slot that is ready, where the round isn't over
+abbrev pub last_ready_in : Section → Option ℕ
+last_ready_in s = last_ready_of (round_in s) (rows (slots_in s))
 
 -- no slot can
 abbrev pub HasNoReady : Section → Type 0

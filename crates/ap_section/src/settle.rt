@@ -1,6 +1,6 @@
 //! The frame at which a section stands is settled, or one of its slots redone.
 
-ghost use Rattle.std.specs.Prelude.{◌≡◌, ℕ, ◌+◌, ◌-◌, ◌<◌, ◌≤◌, ◌^◌, true, false, length, take, Some, IfOk, IfSome, OnErr};
+ghost use Rattle.std.specs.Prelude.{◌≡◌, ℕ, ◌+◌, ◌-◌, ◌<◌, ◌≤◌, ◌^◌, true, false, length, take, Some, IfOk, IfSome, IfNone, OnErr};
 ghost use Rattle.std.specs.List.{list_any, list_all};
 ghost use Rattle.ap_instr.specs.Code.{Compiled};
 ghost use Rattle.ap_frames.specs.declared.frame.Round.TheVariants.{Closed as ClosedRound};
@@ -14,7 +14,7 @@ ghost use Rattle.ap_tied.specs.SlotCalls.{held_in, gone_on};
 ghost use Rattle.ap_section.specs.Views.{view_of, spent_in, budget_in};
 ghost use Rattle.ap_section.specs.Ready.{IsReady, IsShut};
 ghost use Rattle.ap_section.specs.Slots.{IsAtFrame, IsPlaceIn, verdict_in, slots_in, told_of, round_in, taken_in, held_spent, is_held, IsGoneOn};
-ghost use Rattle.ap_section.specs.Settles.{HasCharged, IsSettled};
+ghost use Rattle.ap_section.specs.Settles.{HasCharged, IsSettled, lacks_section};
 ghost use Rattle.ap_section.specs.Owed.{OwesNoMore};
 ghost use Rattle.ap_section.specs.Closes.{IsStandAnswer, AreSlotAnswers, HasFrame, IsAtFirst, closed_in, charged_in, IsForgotten, IsBack, IsRejoined, stays_by, stays_in, IsNearlyReady, MayBreak, CannotBreak, IsOutcome};
 
@@ -42,7 +42,8 @@ pub enum Settled {
 
 /// Copies out the answer at which the section of a slot stands; None where it holds none.
 fn answer_of(slot: &Slot<Section, Parcelled>) -> Result<Option<Parcelled>, NoMemory>
-    ensures { IfOk result (λ found. IfSome found (λ parcel. IsStandAnswer slot.now.stand parcel)) }
+    ensures answer { IfOk result (λ found. IfSome found (λ parcel. IsStandAnswer slot.now.stand parcel)) }
+    ensures none { IfOk result (λ found. IfNone found (lacks_section slot.now ≡ true)) }
 {
     match &slot.stand {
         Stand::Answered(answer) => match &answer.section {
@@ -58,7 +59,8 @@ fn answers_of(
     alloc: Global,
     slots: &[Slot<Section, Parcelled>],
 ) -> Result<Option<Vec<Parcelled>>, NoMemory>
-    ensures { IfOk result (λ found. IfSome found (λ answers. AreSlotAnswers slots.now answers.items)) }
+    ensures answers { IfOk result (λ found. IfSome found (λ answers. AreSlotAnswers slots.now answers.items)) }
+    ensures none { IfOk result (λ found. IfNone found (list_any lacks_section slots.now ≡ true)) }
 {
     let mut answers = Vec::new(alloc);
     for slot in slots {
@@ -149,7 +151,8 @@ impl Section {
     /// Copies out the answers of the newest frame's slots; None where a slot holds none.
     fn answers(&self, alloc: Global) -> Result<Option<Vec<Parcelled>>, NoMemory>
         requires { IsAtFrame (view_of self.now) }
-        ensures { IfOk result (λ found. IfSome found (λ answers. AreAnswersOf (slots_in (view_of self.now)) answers.items)) }
+        ensures answers { IfOk result (λ found. IfSome found (λ answers. AreAnswersOf (slots_in (view_of self.now)) answers.items)) }
+        ensures none { IfOk result (λ found. IfNone found (list_any lacks_section (rows (slots_in (view_of self.now))) ≡ true)) }
     {
         let newest = self.frames.len() - 1;
         answers_of(alloc, &self.frames[newest].slots)
@@ -192,7 +195,7 @@ impl Section {
     fn may_break(&self, stays: bool) -> bool
         requires { IsAtFrame (view_of self.now) }
         ensures done { result ≡ true → MayBreak stays (slots_in (view_of self.now)) }
-        ensures waits { result ≡ false → CannotBreak (slots_in (view_of self.now)) }
+        ensures waits { result ≡ false → CannotBreak stays (slots_in (view_of self.now)) }
     {
         if self.runs() {
             return false;

@@ -1,19 +1,20 @@
 //! The slots of the frame at which a section stands.
 
-ghost use Rattle.std.specs.Prelude.{◌≡◌, ◌<◌, ◌≤◌, ◌-◌, true, false, length, position, slice_get, IfOk, IfSome, IfNone, Some};
+ghost use Rattle.std.specs.Prelude.{◌≡◌, ◌<◌, true, false, length, position, IfOk, IfSome, IfNone, Some};
 ghost use Rattle.ap_instr.specs.Code.{Compiled};
 ghost use Rattle.ap_frames.specs.declared.slots.Stand.TheVariants.{Running as RunningStand, Ended as EndedStand};
 ghost use Rattle.ap_frames.specs.declared.slots.Run.TheVariants.{First as FirstRun};
 ghost use Rattle.ap_frames.specs.declared.slots.Ending.TheVariants.{Failed as FailedEnding, Spent as SpentEnding};
 ghost use Rattle.ap_frames.specs.Slots.{is_running, is_startable, may_be_given_back};
-ghost use Rattle.ap_frames.specs.Rows.{of_slot, stopped};
+ghost use Rattle.ap_frames.specs.Rows.{stopped};
+ghost use Rattle.ap_frames.specs.Verdicts.{rightmost};
 ghost use Rattle.ap_tie.specs.Sections.{nothing, held};
 ghost use Rattle.ap_tie.specs.Settled.{AreClosed};
 ghost use Rattle.ap_tied.specs.Ties.{stack_in};
 ghost use Rattle.ap_tied.specs.SlotCalls.{stood, answered};
 ghost use Rattle.ap_section.specs.Views.{view_of};
 ghost use Rattle.ap_section.specs.Ready.{IsReady};
-ghost use Rattle.ap_section.specs.Slots.{IsAtFrame, IsPlaceIn, IsFirstReady, IsReadyAt, HasNoReady, IsGoalOf, IsKnownAt, IsParcelOf, told_of, verdict_in, redone_in, readied_in};
+ghost use Rattle.ap_section.specs.Slots.{IsAtFrame, IsPlaceIn, IsFirstReady, IsReadyAt, HasNoReady, IsGoalOf, IsKnownAt, IsParcelOf, is_ready, last_ready_in, told_of, verdict_in, redone_in, readied_in};
 
 use crate::section::Section;
 use ap_copy::Parcelled;
@@ -37,19 +38,22 @@ fn first_startable(slots: &[Slot<Section, Parcelled>]) -> Option<usize>
 
 /// Whether a slot is ready, and wasn't given back.
 fn is_ready(x: &Slot<Section, Parcelled>) -> bool
-    ensures { result ≡ true → is_startable x.now ≡ true }
+    ensures { result ≡ is_ready x.now }
 {
     matches!(&x.stand, Stand::Ready)
 }
 
 /// Finds the rightmost slot that is ready, from 1.
+#[tactic(auto, using(crate::proofs::Found::last_rules))]
 fn last_ready(slots: &[Slot<Section, Parcelled>]) -> Option<usize>
-    ensures { IfSome result (λ i. (0 < i) × (i ≤ length slots.now) × (of_slot is_startable false (slice_get slots.now (i - 1)) ≡ true)) }
+    ensures { result ≡ rightmost is_ready slots.now }
 {
-    for i in (0..slots.len()).rev() {
-        if is_ready(&slots[i]) {
-            return Some(i + 1);
+    let mut i = slots.len();
+    while i > 0 {
+        if is_ready(&slots[i - 1]) {
+            return Some(i);
         }
+        i -= 1;
     }
     None
 }
@@ -84,7 +88,8 @@ impl Section {
     /// Finds the rightmost slot that is ready, from 1; one that was given back isn't.
     pub fn last_ready(&self) -> Option<usize>
         requires { IsAtFrame (view_of self.now) }
-        ensures { IfSome result (λ i. IsReadyAt i (view_of self.now)) }
+        ensures last { result ≡ last_ready_in (view_of self.now) }
+        ensures ready { IfSome result (λ i. IsReadyAt i (view_of self.now)) }
     {
         let newest = self.frames.len() - 1;
         let frame = &self.frames[newest];

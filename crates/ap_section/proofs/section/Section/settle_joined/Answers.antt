@@ -1,4 +1,7 @@
-use Rattle.std.proofs.Common.{rules, sym, subst}
+use Rattle.std.proofs.Common.{rules, ◌≡◌, true, sym, subst}
+use Rattle.std.specs.List.{list_any}
+use Rattle.ap_tie.specs.Sections.{rows}
+use Rattle.ap_section.specs.Settles.{lacks_section}
 use Rattle.ap_tied.specs.Settling.{AreAnswersOf}
 use Rattle.ap_section.specs.Views.{view_of}
 use Rattle.ap_section.specs.Slots.{slots_in}
@@ -13,7 +16,9 @@ pub returns-in_err-answers : goal.returns-in_err-answers
 returns-in_err-answers c = no-memory-by c.args.self.now c.from_residual.result c.from_residual.ensures.0 c.requires.at
 
 pub returns-in_default : goal.returns-in_default
-returns-in_default c = none-open c.args.self.now (open-joined c.args.self.now c.args.cost c.requires.joined)
+returns-in_default c =
+    let lacks : list_any lacks_section (rows (slots_in (view_of c.args.self.now))) ≡ true = search rules in
+    none-open c.args.self.now (open-joined c.args.self.now c.args.cost c.requires.joined lacks)
 
 pub returns-in_err-rejoin : goal.returns-in_err-rejoin
 returns-in_err-rejoin c = back-by c.args.self.now c.rejoin.new.self c.from_residual-in_err-rejoin.result c.from_residual-in_err-rejoin.ensures.0 c.requires.at c.in_err-rejoin.ensures.back c.rejoin.ensures.nearly
