@@ -1,5 +1,5 @@
 -- Marks behind a write, and with more places.
-use Rattle.std.proofs.Common.{◌≡◌, ℕ, ◌+◌, ◌-◌, ◌<◌, ◌≤◌, ◌==◌, ◌&&◌, nat_le, Bool, true, false, cond, List, ◌++◌, [], ◌∷◌, length, get_or, take, replicate, refl, ap, arith}
+use Rattle.std.proofs.Common.{◌≡◌, ℕ, ◌+◌, ◌-◌, ◌<◌, ◌≤◌, ◌==◌, ◌&&◌, nat_le, Bool, true, false, cond, List, ◌++◌, [], ◌∷◌, length, get_or, take, replicate, refl, ap, subst, arith}
 use Rattle.std.proofs.Math.Bool.{beq}
 use Rattle.std.specs.Cmp.Lexicographic.{pointwise}
 use Rattle.std.proofs.Math.ListN.{set}
@@ -45,3 +45,12 @@ marks_same (true ∷ xs) (true ∷ ys) h = ap (λ zs. true ∷ zs) (marks_same x
 marks_same (false ∷ xs) (false ∷ ys) h = ap (λ zs. false ∷ zs) (marks_same xs ys h)
 marks_same (true ∷ xs) (false ∷ ys) h = cc
 marks_same (false ∷ xs) (true ∷ ys) h = cc
+
+alike_marks : (xs : List Bool) → pointwise beq xs xs ≡ true
+alike_marks [] = refl
+alike_marks (true ∷ xs) = alike_marks xs
+alike_marks (false ∷ xs) = alike_marks xs
+
+-- and marks that are told to be others are
+pub marks_other : (xs ys : List Bool) → pointwise beq xs ys ≡ false → xs ≡ ys → ⊥
+marks_other xs ys h e = let k : pointwise beq xs ys ≡ true = subst (λ zs. pointwise beq xs zs ≡ true) e (alike_marks xs) in cc

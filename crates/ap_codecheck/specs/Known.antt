@@ -4,9 +4,10 @@ use Rattle.ap_instr.specs.declared.instruction.Instr.{Instr}
 use Rattle.ap_instr.specs.declared.compiled.Predicate.{Predicate}
 use Rattle.ap_instr.specs.Code.{Compiled}
 use Rattle.ap_codecheck.specs.declared.walk.Way.{Way}
+use Rattle.ap_codecheck.specs.declared.shape.Shape.{Shape as Kept}
 use Rattle.ap_codecheck.specs.Shape.{Shape, after}
 use Rattle.ap_codecheck.specs.Paths.{Path}
-use Rattle.ap_codecheck.specs.Held.{shape_of}
+use Rattle.ap_codecheck.specs.Held.{shape_of, AreAlike}
 use Rattle.ap_codecheck.specs.Judged.{IsFineFrom, IsJudged}
 use Rattle.ap_codecheck.specs.Walk.{is_inner, elsewhere}
 
@@ -21,6 +22,10 @@ pub record IsKnown (ways : List Way) (at : ℕ) (s : Shape) : Type 0 where
   pub held : slice_get ways number ≡ Some way
   pub place : way.place ≡ at
   pub shape : shape_of way.shape ≡ s
+
+-- the place isn't remembered with a shape that is kept like this one
+abbrev pub IsUnknown : List Way → ℕ → Kept → Type 0
+IsUnknown ways at s = (k : ℕ) (w : Way) → slice_get ways k ≡ Some w → w.place ≡ at → AreAlike w.shape s → ⊥
 
 -- what one of the ways has that isn't one of others: this place and shape
 abbrev pub IsNew : List Way → (ℕ → Type 0) → Shape → Way → Type 0

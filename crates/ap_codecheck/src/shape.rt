@@ -59,15 +59,18 @@ fn is_marked(marks: &[bool], at: usize) -> bool
 }
 
 fn same_marks(some: &[bool], others: &[bool]) -> bool
-    ensures { result ≡ true → some.now ≡ others.now }
+    ensures same { result ≡ true → some.now ≡ others.now }
+    ensures other { result ≡ false → some.now ≡ others.now → ⊥ }
 {
     some == others
 }
 
 impl Shape {
-    ghost use Rattle.ap_codecheck.specs.Held.{shape_of};
+    ghost use Rattle.ap_codecheck.specs.Held.{shape_of, AreAlike};
 
-    pub fn new(alloc: Global) -> Shape {
+    pub fn new(alloc: Global) -> Shape
+        ensures { shape_of result ≡ record { x = unset; y = unset; room = None; pending = 0; target = None; group = None } }
+    {
         Shape {
             x: Vec::new(alloc),
             y: Vec::new(alloc),
@@ -224,7 +227,8 @@ impl Shape {
 
     /// Whether the same is known here as there, as far as it is easily told.
     pub fn is_same(&self, other: &Shape) -> bool
-        ensures { result ≡ true → shape_of self.now ≡ shape_of other.now }
+        ensures same { result ≡ true → shape_of self.now ≡ shape_of other.now }
+        ensures other { result ≡ false → AreAlike self.now other.now → ⊥ }
     {
         if self.room != other.room || self.pending != other.pending {
             return false;

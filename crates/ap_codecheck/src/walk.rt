@@ -1,11 +1,11 @@
 //! Where a walk of a clause stands, and the places that it still has to go on from.
 
-ghost use Rattle.std.specs.Prelude.{◌≡◌, ◌+◌, ◌^◌, ◌<◌, ℕ, true, false, [], Some, None, IfOk, OnOk};
+ghost use Rattle.std.specs.Prelude.{◌≡◌, ◌⊎◌, ◌+◌, ◌^◌, ◌<◌, ℕ, true, false, [], Some, None, IfOk, OnOk, MatchOption};
 ghost use Rattle.ap_codecheck.specs.declared.walk.Way.{Way};
 ghost use Rattle.ap_codecheck.specs.Shape.{entry};
 ghost use Rattle.ap_codecheck.specs.Held.{shape_of};
 ghost use Rattle.ap_codecheck.specs.Walk.{is_inner, elsewhere};
-ghost use Rattle.ap_codecheck.specs.Known.{IsKnown, Remembers, IsWay};
+ghost use Rattle.ap_codecheck.specs.Known.{IsKnown, IsUnknown, Remembers, IsWay};
 
 use crate::shape::Shape;
 use ap_instr::Instr;
@@ -56,7 +56,8 @@ fn is_inner(instr: &Instr) -> bool
 
 /// Whether a place is remembered with a shape.
 fn is_known(ways: &[Way], place: usize, shape: &Shape) -> bool
-    ensures { result ≡ true → IsKnown ways.now place (shape_of shape.now) }
+    ensures known { result ≡ true → IsKnown ways.now place (shape_of shape.now) }
+    ensures unknown { result ≡ false → IsUnknown ways.now place shape.now }
 {
     for way in ways {
         if way.place == place && way.shape.is_same(shape) {
@@ -68,7 +69,8 @@ fn is_known(ways: &[Way], place: usize, shape: &Shape) -> bool
 
 /// Remembers a place with a shape, unless it is.
 fn remember(ways: &mut Vec<Way>, place: usize, shape: &Shape) -> Result<(), NoMemory>
-    ensures { OnOk result (Remembers ways.old.items ways.new.items (Some place) (shape_of shape.now)) }
+    ensures remembers { OnOk result (Remembers ways.old.items ways.new.items (Some place) (shape_of shape.now)) }
+    ensures once { OnOk result ((ways.new.items ≡ ways.old.items) ⊎ IsUnknown ways.old.items place shape.now) }
 {
     if is_known(ways, place, shape) {
         return Ok(());
@@ -79,7 +81,9 @@ fn remember(ways: &mut Vec<Way>, place: usize, shape: &Shape) -> Result<(), NoMe
 }
 
 impl Walk {
-    pub fn new(alloc: Global) -> Walk {
+    pub fn new(alloc: Global) -> Walk
+        ensures { result.ways.items ≡ [] }
+    {
         Walk {
             shape: Shape::new(alloc),
             ways: Vec::new(alloc),
@@ -99,6 +103,7 @@ impl Walk {
     pub fn remember_elsewhere(&mut self, instr: &Instr) -> Result<(), NoMemory>
         ensures same { OnOk result (shape_of self.new.shape ≡ shape_of self.old.shape) }
         ensures remembers { OnOk result (Remembers self.old.ways.items self.new.ways.items (elsewhere instr.now) (shape_of self.old.shape)) }
+        ensures once { OnOk result ((self.new.ways.items ≡ self.old.ways.items) ⊎ MatchOption (elsewhere instr.now) ⊥ (λ l. IsUnknown self.old.ways.items l self.old.shape)) }
     {
         match elsewhere(instr) {
             Some(place) => remember(&mut self.ways, place as usize, &self.shape),
@@ -109,6 +114,7 @@ impl Walk {
     /// Whether control goes on from an instruction to a place behind it that isn't remembered.
     pub fn goes_on(&self, instr: &Instr, behind: usize) -> bool
         ensures goes { result ≡ true → is_inner instr.now ≡ true }
+        ensures on { result ≡ true → IsUnknown self.now.ways.items behind self.now.shape }
         ensures stops { result ≡ false → is_inner instr.now ≡ true → IsKnown self.now.ways.items behind (shape_of self.now.shape) }
     {
         is_inner(instr) && !is_known(&self.ways, behind, &self.shape)
