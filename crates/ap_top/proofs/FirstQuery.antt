@@ -1,8 +1,9 @@
 -- What the first query of a text comes to.
-use Rattle.std.proofs.Common.{◌≡◌, ℕ, ◌<◌, List, [], ◌∷◌, length, Contains, Option, Some, None, slice_get, refl, sym, ap, ◌∙◌, subst, arith}
+use Rattle.std.proofs.Common.{◌≡◌, ℕ, ◌<◌, List, [], ◌∷◌, length, Contains, Option, Some, None, Result, Ok, Err, IfOk, IfSome, slice_get, refl, sym, ap, ◌∙◌, subst, arith}
 use Rattle.ap_outside.specs.Pieces.{Puts}
 use Rattle.ap_outside.specs.Halting.{AnyOf}
-use Rattle.ap_outside.proofs.Puts.{adds_nothing}
+use Rattle.ap_outside.specs.declared.halting.Halt.{Halt}
+use Rattle.ap_outside.proofs.Puts.{adds_nothing, puts_map}
 use Rattle.ap_lexer.specs.Lexeme.{Text}
 use Rattle.ap_lexer.specs.Piece.{pieces}
 use Rattle.ap_lexer.specs.declared.cut.Piece.{Piece}
@@ -11,8 +12,9 @@ use Rattle.ap_term.specs.Goals.{Program, Query}
 use Rattle.ap_clause.specs.Reads.{AcceptsProgram, RefusesProgram, AcceptsQuery, RefusesQuery}
 use Rattle.ap_clause.specs.declared.refusal.Refusal.{Refusal}
 use Rattle.ap_worker.specs.declared.emission.Ended.{Ended}
-use Rattle.ap_top.specs.Output.{AreAnswers}
-use Rattle.ap_top.specs.Single.{FirstEnds, SingleEnds}
+use Rattle.ap_mel.specs.declared.annotations.Kind.{Kind}
+use Rattle.ap_top.specs.Output.{AreAnswers, IsCounted}
+use Rattle.ap_top.specs.Single.{FirstEnds, SingleEnds, IsFirstCounted, IsSingleCounted}
 
 -- ---- the first of a list
 
@@ -48,3 +50,18 @@ module _ (budget limit : ℕ) (program : Program) (table : List (List ℕ)) (tex
 
 pub program-refused : (budget limit : ℕ) (bytes text : Text) (a : Option (List (List ℕ))) (r : Refusal) → RefusesProgram bytes fixed_names r → Puts a a (SingleEnds budget limit bytes text None)
 program-refused budget limit bytes text a r h = puts-nothing (SingleEnds budget limit bytes text None) a (SingleEnds.refused r [] h refl)
+
+-- ---- what is charged
+
+pub first-counted : (kind : Kind) (budget limit : ℕ) (program : Program) (table : List (List ℕ)) (text : Text) (piece : Piece) (rest : List Piece) (query : Query) (names : List (List ℕ)) (a b : Option (List (List ℕ))) (e : Ended)
+    → pieces text ≡ piece ∷ rest → AcceptsQuery text piece program table query names → Puts a b (IsCounted kind budget limit program names query e) → Puts a b (IsFirstCounted kind budget limit program table text e)
+first-counted kind budget limit program table text piece rest query names a b e is accepts puts =
+    puts_map a b (IsCounted kind budget limit program names query e) (IsFirstCounted kind budget limit program table text e)
+    (λ ls h. record { piece = piece; rest = rest; query = query; names = names; first = is; accepts = accepts; counted = h }) puts
+
+pub single-counted : (kind : Kind) (budget limit : ℕ) (bytes text : Text) (program : Program) (table : List (List ℕ)) (a b : Option (List (List ℕ))) (r : Result (Option Ended) Halt) → AcceptsProgram bytes fixed_names program table
+    → IfOk r (λ o. IfSome o (λ e. Puts a b (IsFirstCounted kind budget limit program table text e))) → IfOk r (λ o. IfSome o (λ e. Puts a b (IsSingleCounted kind budget limit bytes text e)))
+single-counted kind budget limit bytes text program table a b (Err h) accepts puts = tt
+single-counted kind budget limit bytes text program table a b (Ok None) accepts puts = tt
+single-counted kind budget limit bytes text program table a b (Ok (Some e)) accepts puts =
+    puts_map a b (IsFirstCounted kind budget limit program table text e) (IsSingleCounted kind budget limit bytes text e) (λ ls h. record { program = program; table = table; accepts = accepts; first = h }) puts

@@ -12,8 +12,14 @@ use Rattle.ap_term.specs.Search.{start}
 use Rattle.ap_term.specs.Blocks.{End, no_more, budget_spent, stopped, error, IsBlock}
 use Rattle.ap_clause.specs.Reads.{AcceptsQuery, RefusesQuery}
 use Rattle.ap_clause.specs.declared.refusal.Refusal.{Refusal}
+use Rattle.ap_reach.specs.Reached.{IsReached}
+use Rattle.ap_mel.specs.declared.annotations.Kind.{Kind}
+use Rattle.ap_grouping.specs.Groups.{AreGroups}
+use Rattle.ap_open.specs.Ungrouped.{IsUngrouped}
 use Rattle.ap_worker.specs.declared.emission.Ended.{Ended}
+use Rattle.ap_worker.specs.Charged.{IsChargedBlock}
 use Rattle.ap_worker.specs.Ends.{end_of}
+use Rattle.ap_worker.specs.Totals.{NoneTaken}
 use Rattle.ap_writer.specs.Line.{answer_line}
 use Rattle.ap_top.specs.Refusals.{refusal_line}
 use Rattle.ap_top.specs.Status.{tally, both}
@@ -44,6 +50,18 @@ is_spent (error e) = false
 -- the lines of a query's answers that go with how they end
 abbrev pub AreAnswers : ℕ → ℕ → Program → List (List ℕ) → Query → Ended → List (List ℕ) → Type 0
 AreAnswers budget limit program table query e put = IsBlock (line_of table query) (joined program query) (start query) budget limit put (end_of e.end)
+
+-- What a query is charged, and the calls that were made for it: searched is the part of the program that it can call, with the
+-- groups that it got. Where it got none, one worker made all calls, and these are charged.
+pub record IsCounted (kind : Kind) (budget limit : ℕ) (program : Program) (table : List (List ℕ)) (query : Query) (e : Ended) (put : List (List ℕ)) : Type 0 where
+  pub part : Program
+  pub grouped : Program
+  pub asked : Query
+  pub reached : IsReached program query part
+  pub groups : AreGroups kind part query grouped asked
+  pub charged : IsChargedBlock (line_of table query) (joined program query) (start query) budget limit (IsUngrouped (joined grouped asked)) e put
+  pub exact : IsUngrouped (joined grouped asked) → e.total.sum ≡ e.charged
+  pub plain : IsUngrouped (joined grouped asked) → NoneTaken e
 
 -- A block of a query, by a budget of calls and a limit of answers: answer lines that are a block of its search, then
 -- the line that ends it. `spent` tells whether that says so of the budget.

@@ -2,12 +2,13 @@
 
 ghost use Rattle.std.specs.Prelude.{◌≡◌, ℕ, List, ◌<◌, ◌≤◌, ◌^◌, length, IfOk};
 ghost use Rattle.ap_outside.specs.Halting.{Finishes, SinkCount};
+ghost use Rattle.ap_outside.specs.Pieces.{Puts};
 ghost use Rattle.ap_term.specs.Tree.{Trees};
 ghost use Rattle.ap_machine.specs.Lent.{terms_of};
 ghost use Rattle.ap_worker.specs.Ends.{end_of};
 ghost use Rattle.ap_worker.specs.Sought.{MayBeAsked};
 ghost use Rattle.ap_worker.specs.Totals.{NoneTaken};
-ghost use Rattle.ap_top.specs.Output.{line_of, fault_line, end_line, is_spent, AreAnswers, IsQueryBlock};
+ghost use Rattle.ap_top.specs.Output.{line_of, fault_line, end_line, is_spent, AreAnswers, IsCounted, IsQueryBlock};
 ghost use Rattle.ap_top.specs.Lines.{line_same};
 
 use ap_grouping::group_query;
@@ -117,6 +118,7 @@ pub fn put_answers<R: Threads + Wait + Sync, G: Gate, K: Sink>(
     requires asked { MayBeAsked program.now query.now }
     requires pads { (0 < pads) × (pads ≤ 1024) }
     ensures lines { Finishes (K.pieces out.old) (K.pieces out.new) (AreAnswers bounds.budget bounds.answers program.now atoms.now query.now) result }
+    ensures counted { IfOk result (λ e. Puts (K.pieces out.old) (K.pieces out.new) (IsCounted bounds.kind bounds.budget bounds.answers program.now atoms.now query.now e)) }
     ensures total { IfOk result (λ e. e.charged ≤ e.total.sum) }
     ensures one { crew.now.workers ≡ 1 → IfOk result NoneTaken }
     ensures count { SinkCount (K.faults out.old) (K.faults out.new) result }

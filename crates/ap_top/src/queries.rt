@@ -92,6 +92,7 @@ pub fn print_pieces<R: Threads + Wait + Sync, G: Gate, K: Sink>(
     requires pieces { All (Contains (lexer.pieces text.now)) pieces.now }
     ensures lines { Finishes (K.pieces out.old) (K.pieces out.new) (IsOutput bounds.budget bounds.answers program.now atoms.old text.now pieces.now) result }
     ensures count { SinkCount (K.faults out.old) (K.faults out.new) result }
+    ensures table { OnOk result (atoms.new ≡ atoms.old) }
 {
     let mut tally = Tally {
         spent: false,

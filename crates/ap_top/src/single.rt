@@ -2,8 +2,9 @@
 
 ghost use Rattle.std.specs.Prelude.{◌≡◌, ◌<◌, ◌≤◌, IfOk, IfSome};
 ghost use Rattle.ap_outside.specs.Halting.{Finishes, SinkCount};
+ghost use Rattle.ap_outside.specs.Pieces.{Puts};
 ghost use Rattle.ap_worker.specs.Totals.{NoneTaken};
-ghost use Rattle.ap_top.specs.Single.{FirstEnds, SingleEnds};
+ghost use Rattle.ap_top.specs.Single.{FirstEnds, IsFirstCounted, IsSingleCounted, SingleEnds};
 ghost use Rattle.ap_top.specs.Unasked.{LeavesQuery};
 
 use crate::answers::{Bounds, put_answers};
@@ -31,6 +32,7 @@ fn answer_first<R: Threads + Wait + Sync, G: Gate, K: Sink>(
     requires pads { (0 < pads) × (pads ≤ 1024) }
     requires query { LeavesQuery program.now atoms.old }
     ensures lines { Finishes (K.pieces out.old) (K.pieces out.new) (FirstEnds bounds.budget bounds.answers program.now atoms.old text.now) result }
+    ensures counted { IfOk result (λ r. IfSome r (λ e. Puts (K.pieces out.old) (K.pieces out.new) (IsFirstCounted bounds.kind bounds.budget bounds.answers program.now atoms.old text.now e))) }
     ensures total { IfOk result (λ r. IfSome r (λ e. e.charged ≤ e.total.sum)) }
     ensures one { crew.now.workers ≡ 1 → IfOk result (λ r. IfSome r NoneTaken) }
     ensures count { SinkCount (K.faults out.old) (K.faults out.new) result }
@@ -69,6 +71,7 @@ pub fn answer<R: Threads + Wait + Sync, G: Gate, K: Sink>(
 ) -> Result<Option<Ended>, Halt>
     requires pads { (0 < pads) × (pads ≤ 1024) }
     ensures lines { Finishes (K.pieces out.old) (K.pieces out.new) (SingleEnds bounds.budget bounds.answers text.now queries.now) result }
+    ensures counted { IfOk result (λ r. IfSome r (λ e. Puts (K.pieces out.old) (K.pieces out.new) (IsSingleCounted bounds.kind bounds.budget bounds.answers text.now queries.now e))) }
     ensures total { IfOk result (λ r. IfSome r (λ e. e.charged ≤ e.total.sum)) }
     ensures one { crew.now.workers ≡ 1 → IfOk result (λ r. IfSome r NoneTaken) }
     ensures count { SinkCount (K.faults out.old) (K.faults out.new) result }

@@ -1,6 +1,6 @@
 //! The queries of a text.
 
-ghost use Rattle.std.specs.Prelude.{◌≡◌, ◌≤◌, ◌^◌, IfOk};
+ghost use Rattle.std.specs.Prelude.{◌≡◌, ◌≤◌, ◌^◌, IfOk, OnOk};
 ghost use Rattle.ap_outside.specs.Halting.{Finishes, SinkCount};
 ghost use Rattle.ap_top.specs.Output.{IsOutput, judged};
 ghost use Rattle.ap_top.specs.Unasked.{LeavesQuery};
@@ -44,6 +44,7 @@ pub fn print_text<R: Threads + Wait + Sync, G: Gate, K: Sink>(
     requires query { LeavesQuery program.now atoms.old }
     ensures lines { Finishes (K.pieces out.old) (K.pieces out.new) (IsOutput bounds.budget bounds.answers program.now atoms.old text.now (judged whole text.now)) result }
     ensures count { SinkCount (K.faults out.old) (K.faults out.new) result }
+    ensures table { OnOk result (atoms.new ≡ atoms.old) }
 {
     let Ok(pieces) = judged(alloc, text, whole) else {
         return Err(Halt::NoMemory);

@@ -1,7 +1,7 @@
 use Rattle.std.proofs.Common.{◌≡◌, subst}
 use Rattle.ap_term.specs.WellFormed.{IsProgram}
 use Rattle.ap_top.proofs.Grouped.{grouped-read, grouped-asked, grouped-safe}
-use Rattle.ap_top.proofs.Parts.{part-asked, part-finishes}
+use Rattle.ap_top.proofs.Parts.{part-asked, part-finishes, part-counted}
 use Rattle.ap_top.proofs.answers.put_answers.Goals as goal
 
 pub solve_with_pads-requires-clause-asked : goal.solve_with_pads-requires-clause-asked
@@ -22,3 +22,15 @@ returns-clause-lines g c =
     let good : IsProgram p = subst IsProgram c.program.ensures c.as_slice-whole.ensures.kept in
     part-finishes c.args.bounds.budget c.args.bounds.answers p c.args.atoms.now q r good c.in-Ok.ensures _ _ c.solve_with_pads.result
     (c.solve_with_pads.ensures.lines r q c.as_slice-good.ensures.kept c.question-asked.ensures.kept (grouped-read _ r q c.in-Ok-group_query.grouped.program c.in-Ok-group_query.grouped.query c.in-Ok-group_query.ensures))
+
+pub returns-clause-counted : goal.returns-clause-counted
+returns-clause-counted g c =
+    let p = c.args.program.now in
+    let q = c.args.query.now in
+    let r = c.in-Ok.part in
+    let a = c.in-Ok-group_query.grouped.program in
+    let b = c.in-Ok-group_query.grouped.query in
+    let groups = c.in-Ok-group_query.ensures in
+    let good : IsProgram p = subst IsProgram c.program.ensures c.as_slice-whole.ensures.kept in
+    part-counted c.args.bounds.budget c.args.bounds.answers p c.args.atoms.now q r good c.in-Ok.ensures c.args.bounds.kind a b groups _ _ c.solve_with_pads.result
+    (c.solve_with_pads.ensures.charged r q c.as_slice-good.ensures.kept c.question-asked.ensures.kept (grouped-read _ r q a b groups)) c.solve_with_pads.ensures.exact c.solve_with_pads.ensures.plain
