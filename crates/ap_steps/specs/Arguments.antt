@@ -4,6 +4,7 @@ use Rattle.std.specs.Prelude.{◌≡◌, ℕ, suc, ◌+◌, ◌<◌, ◌≤◌, 
 use Rattle.ap_term.specs.Tree.{Tree, Trees}
 use Rattle.ap_term.specs.Vars.{occurs}
 use Rattle.ap_cells.specs.declared.cells.Raw.{Raw}
+use Rattle.ap_cells.specs.declared.cells.Raw.TheVariants.{Int, Atom}
 use Rattle.ap_cells.specs.Trees.{tree_at, trees}
 use Rattle.ap_instr.specs.Code.{Compiled}
 use Rattle.ap_instr.specs.Step.{Step}
@@ -50,6 +51,12 @@ abbrev pub are_built : Parts → Bool
 are_built Fresh = true
 are_built Values = true
 are_built Stuck = false
+
+-- the cell is a constant's
+abbrev pub holds_constant : Raw → Bool
+holds_constant (Int z) = true
+holds_constant (Atom a) = true
+holds_constant _ = false
 
 -- the old places keep their trees
 abbrev pub KeepTrees : List Raw → List Raw → Type 0

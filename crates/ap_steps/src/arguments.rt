@@ -1,8 +1,9 @@
 //! Arguments of a structure that is built: each becomes the next cell.
 
-ghost use Rattle.std.specs.Prelude.{◌≡◌, ℕ, ◌+◌, ◌<◌, ◌≤◌, List, length, drop, slice_get, true, false};
+ghost use Rattle.std.specs.Prelude.{◌≡◌, ℕ, ◌+◌, ◌<◌, ◌≤◌, List, length, drop, slice_get, slice_index_or, true, false};
 ghost use Rattle.ap_term.specs.Tree.{Tree, atom, int};
 ghost use Rattle.ap_term.specs.Vars.{occurs};
+ghost use Rattle.ap_cells.specs.declared.cells.Raw.{Raw as Held};
 ghost use Rattle.ap_cells.specs.Raws.{raw_of};
 ghost use Rattle.ap_cells.specs.Store.{Keeps};
 ghost use Rattle.ap_cells.specs.Trees.{Within, tree_at, trees};
@@ -11,7 +12,7 @@ ghost use Rattle.ap_instr.specs.Runs.{read};
 ghost use Rattle.ap_needs.specs.Needs.{HasRegister, HasTargets, is_control, is_value, has_value, AllHaveTargets};
 ghost use Rattle.ap_match.specs.Fits.{cell_tree};
 ghost use Rattle.ap_steps.specs.Moves.{held, HoldPlacesBut, constant_of};
-ghost use Rattle.ap_steps.specs.Arguments.{Built, BuiltOr, BuiltOrStuck, are_built, KeepTrees, StandApart};
+ghost use Rattle.ap_steps.specs.Arguments.{Built, BuiltOr, BuiltOrStuck, are_built, holds_constant, KeepTrees, StandApart};
 ghost use Rattle.ap_steps.specs.Ways.{NoneOfControl};
 
 use crate::registers::{read, write};
@@ -58,7 +59,8 @@ pub fn build_variable(cells: &mut Cells, x: &mut [u32], y: &mut [u32], v: Slot)
 #[inline(always)]
 fn is_constant(cells: &Cells, place: usize) -> bool
     requires { place < length cells.now.cells }
-    ensures { result ≡ true → (x : ℕ) → occurs x (tree_at (trees cells.now.cells) place) ≡ false }
+    ensures apart { result ≡ true → (x : ℕ) → occurs x (tree_at (trees cells.now.cells) place) ≡ false }
+    ensures other { result ≡ false → (d : Held) → holds_constant (slice_index_or cells.now.cells place d) ≡ false }
 {
     match cells.raw_at(place) {
         Raw::Int(_) => true,
@@ -74,6 +76,7 @@ pub fn build_value(cells: &mut Cells, x: &[u32], y: &[u32], v: Slot) -> Parts
     requires room { 0 < cells.old.spare }
     ensures built { (whole : ℕ) → ((read v (held x.now) (held y.now) ≡ whole → ⊥) → read v (held x.now) (held y.now) < length cells.old.cells) → BuiltOr whole cells.old.cells (held x.now) (held y.now) (unify_value v) cells.new.cells (held x.now) (held y.now) (are_built result) }
     ensures fresh { result ≡ Parts.Fresh → StandApart cells.old.cells cells.new.cells }
+    ensures values { result ≡ Parts.Values → (d : Held) → holds_constant (slice_index_or cells.new.cells (length cells.old.cells) d) ≡ false }
     ensures stays { KeepTrees cells.old.cells cells.new.cells }
     ensures longer { length cells.old.cells ≤ length cells.new.cells }
     ensures spare { are_built result ≡ true → cells.new.spare + 1 ≡ cells.old.spare }

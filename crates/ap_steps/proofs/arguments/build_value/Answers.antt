@@ -1,6 +1,7 @@
-use Rattle.std.proofs.Common.{◌≡◌, false, subst, arith}
+use Rattle.std.proofs.Common.{◌≡◌, false, get_or, subst, arith}
 use Rattle.ap_term.specs.Vars.{occurs}
 use Rattle.ap_cells.specs.Trees.{tree_at, trees}
+use Rattle.ap_steps.specs.Arguments.{holds_constant}
 use Rattle.ap_steps.specs.Moves.{held}
 use Rattle.ap_steps.proofs.Building.{value-built}
 use Rattle.ap_steps.proofs.NewCells.{push-keeps}
@@ -30,4 +31,8 @@ pub returns-then-is_constant-clause-fresh : goal.returns-then-is_constant-clause
 returns-then-is_constant-clause-fresh c =
     λ t x p inside above below.
     let q : c.push_value-argument.result ≡ p = omega arith in
-    subst (λ i. occurs x (tree_at (trees c.push_value-argument.new.cells.cells) i) ≡ false) q (c.is_constant.ensures c.if-is_constant.true x)
+    subst (λ i. occurs x (tree_at (trees c.push_value-argument.new.cells.cells) i) ≡ false) q (c.is_constant.ensures.apart c.if-is_constant.true x)
+
+pub returns-else-is_constant-clause-values : goal.returns-else-is_constant-clause-values
+returns-else-is_constant-clause-values c =
+    λ t d. subst (λ i. holds_constant (get_or c.push_value-argument.new.cells.cells i d) ≡ false) c.push_value-argument.ensures.place (c.is_constant.ensures.other c.if-is_constant.false d)
