@@ -1,5 +1,6 @@
 -- A search at an instruction of control, and at the end of a clause.
-use Rattle.std.proofs.Common.{◌≡◌, ℕ, ◌+◌, List, ◌∷◌, map, slice_get, Some, None, sym, subst}
+use Rattle.std.proofs.Common.{◌≡◌, ℕ, ◌+◌, ◌-◌, ◌<◌, ◌≤◌, ◌⊎◌, List, ◌∷◌, length, map, slice_get, Some, None, inl, inr, sym, subst, arith}
+use Rattle.std.proofs.lemmas.Option.{slice_get_within}
 use Rattle.ap_tracked.specs.Tracked.{Tracked}
 use Rattle.ap_cells.specs.Store.{Store, IsStore}
 use Rattle.ap_instr.specs.declared.instruction.Instr.{Instr}
@@ -7,6 +8,7 @@ use Rattle.ap_instr.specs.declared.compiled.Predicate.{Predicate}
 use Rattle.ap_instr.specs.Code.{Compiled}
 use Rattle.ap_instr.specs.Step.{call, execute, proceed, other, step_of}
 use Rattle.ap_instr.proofs.Steps.{steps-past}
+use Rattle.ap_control.specs.Runs.{IsEndAt}
 use Rattle.ap_environments.specs.Kept.{Kept}
 use Rattle.ap_steps.specs.Moves.{held, IsStuck}
 use Rattle.ap_steps.specs.Standing.{Return}
@@ -65,3 +67,15 @@ module _ (code : Compiled) (v : Store) (k k' : Kept) (x y x' y' roots : List ℕ
       let Q : ℕ → Type 0 = λ p. Holds code (machine v.cells x' y' ws roots (map (point_of v) k.moments) (inside p)) ss in
       let R : List Return → Type 0 = λ us. Holds code (machine v.cells x y us roots (map (point_of v) k.moments) returning) ss in
       subst P (sym ek) (subst Q ep (came-back code roots (map (point_of v) k.moments) ws v.cells x y x' y' w (bottom-fits v store s.bottom) nx ny ss (subst R er h)))
+
+-- a run that came to a place to stop at has gone further on in the code
+pub end-further : (code : Compiled) (at stop to : ℕ) → IsEndAt code stop to → to ≡ stop → (at < stop) ⊎ (length code.instructions ≤ stop) → length code.instructions - to < length code.instructions - at
+end-further code at stop to end e further = go (within end) further
+  where
+    within : IsEndAt code stop to → to < length code.instructions
+    within (inl t) = slice_get_within code.instructions to t.0 t.1
+    within (inr s) = s.1
+
+    go : to < length code.instructions → (at < stop) ⊎ (length code.instructions ≤ stop) → length code.instructions - to < length code.instructions - at
+    go w (inl l) = omega arith
+    go w (inr l) = absurd (omega arith)

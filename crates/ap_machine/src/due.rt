@@ -1,6 +1,6 @@
 //! Moves that are no calls, up to what is due.
 
-ghost use Rattle.std.specs.Prelude.{◌≡◌, ◌≤◌, ◌<◌, Some, None, true, false, IfOk, IfSome, IfNone};
+ghost use Rattle.std.specs.Prelude.{◌≡◌, ◌≤◌, ◌<◌, ◌⊎◌, length, Some, None, true, false, IfOk, IfSome, IfNone};
 ghost use Rattle.ap_standing.specs.Machine.{calling, inside};
 ghost use Rattle.ap_standing.specs.Laws.{KeepsStanding};
 ghost use Rattle.ap_machine.specs.View.{IsFor};
@@ -34,6 +34,22 @@ pub(crate) enum Due {
     Group(usize),
 }
 
+/// Where a run stops that began at a place and is at another one: the first place behind it, before the next transfer of control, at
+/// which a goal of arithmetic begins; outside of the code where it has stopped before, so that a goal that couldn't be solved there is
+/// put as a whole.
+#[inline(always)]
+fn stop_behind(sound: &Sound, begin: usize, at: usize) -> usize
+    ensures { (at < result) ⊎ (length sound.now.instructions ≤ result) }
+{
+    if at == begin {
+        let stop = sound.stop(at);
+        if stop > at {
+            return stop;
+        }
+    }
+    sound.code().instructions().len()
+}
+
 impl Search {
     /// A predicate is to be called, which is due if the table has it.
     #[inline(always)]
@@ -64,40 +80,20 @@ impl Search {
         ensures due { IfOk result (λ found. IfSome found (λ due. IsDue sound.now self.new.machine due)) }
         ensures points { self.new.machine.points ≡ self.old.machine.points }
     {
-        if let Some(due) = self.direct_due(sound, at) {
-            return Ok(Some(due));
-        }
         let code = sound.code();
-        let stop = sound.stop(at);
-        let Some(to) = self.run_on(code, sound.room(), at, stop)? else {
-            return Ok(None);
-        };
-        if to != stop {
-            return self.transfer(code, to);
-        }
-        if let Some(due) = self.direct_due(sound, to) {
-            return Ok(Some(due));
-        }
-        self.go_past(sound, to)
-    }
-
-    /// Control is at a goal of arithmetic that can't be solved straight from registers, and goes on to an instruction of control.
-    #[cold]
-    #[inline(never)]
-    fn go_past(&mut self, sound: &Sound, at: usize) -> Result<Option<Due>, NoMemory>
-        requires here { self.old.machine.now ≡ inside at }
-        requires is_for { IsFor sound.now self.old }
-        ensures holds { GoesOn sound.now self.old.machine self.new.machine }
-        ensures stays { Stays self.old self.new }
-        ensures fewer { IfOk result (λ found. IfNone found (moves_left sound.now self.new.machine < moves_left sound.now self.old.machine)) }
-        ensures due { IfOk result (λ found. IfSome found (λ due. IsDue sound.now self.new.machine due)) }
-        ensures points { self.new.machine.points ≡ self.old.machine.points }
-    {
-        let code = sound.code();
-        let end = code.instructions().len();
-        match self.run_on(code, sound.room(), at, end)? {
-            Some(to) => self.transfer(code, to),
-            None => Ok(None),
+        let mut place = at;
+        'goals: loop {
+            if let Some(due) = self.direct_due(sound, place) {
+                return Ok(Some(due));
+            }
+            let stop = stop_behind(sound, at, place);
+            let Some(to) = self.run_on(code, sound.room(), place, stop)? else {
+                return Ok(None);
+            };
+            if to != stop {
+                return self.transfer(code, to);
+            }
+            place = to;
         }
     }
 

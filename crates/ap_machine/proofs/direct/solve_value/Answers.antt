@@ -1,4 +1,4 @@
-use Rattle.std.proofs.Common.{rules, ◌≡◌, ℤ, refl, subst, w64, to_z, of_z}
+use Rattle.std.proofs.Common.{rules, ◌≡◌, refl, subst, w64, to_z, of_z}
 use Rattle.ap_term.specs.Tree.{int}
 use Rattle.ap_match.specs.Fits.{Answered}
 use Rattle.ap_machine.specs.Direct.{HasValue}
