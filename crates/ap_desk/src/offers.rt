@@ -91,6 +91,15 @@ impl<P: Fits<O> + Drop, O: Drop> Desk<P, O> {
         at_work
     }
 
+    /// Notes that a goal is of another frame from then on.
+    pub fn assign(&mut self, k: usize, frame: u64)
+        requires { k < length self.old.4 }
+        ensures same { (self.new.0 ≡ self.old.0) × (self.new.1 ≡ self.old.1) × (self.new.2 ≡ self.old.2) × (self.new.3 ≡ self.old.3) }
+        ensures told { (n : Note) → slice_get self.old.4 k ≡ Some n → self.new.4 ≡ slice_set self.old.4 k (record n { frame = frame }) }
+    {
+        self.notes[k].frame = frame;
+    }
+
     /// Collects the outcome of a note's goal, which is then none of the notes. None only where the goal wasn't finished; all but what
     /// was seen stays.
     pub fn collect(&mut self, board: &Board<P, O>, k: usize) -> Option<O>

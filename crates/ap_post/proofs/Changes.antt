@@ -61,7 +61,7 @@ comes_back v w ts ns ms k n f j stay at is o e = let l = posted_less v ns k n f 
 pub comes_back_other : (v w : V) (ts : List Ticket) (ns ms : List Note) (k : ℕ) (n : Note) (g : ℕ) → JobsStay v w ts ms → slice_get ns k ≡ Some n → ms ≡ remove ns k → (n.frame ≡ g → ⊥) → posted w ms g ≡ posted v ns g
 comes_back_other v w ts ns ms k n g stay at e ne = posted_same v w ms g stay.jobs ∙ ap (λ (x : List Note). posted v x g) e ∙ posted_other v ns k n g at ne
 
-some_out : (before behind : List Posted) (a : Posted) → length (before ++ a ∷ behind) ≡ 0 → ⊥
+pub some_out : (before behind : List Posted) (a : Posted) → length (before ++ a ∷ behind) ≡ 0 → ⊥
 some_out [] behind a e = omega (arith, e)
 some_out (x ∷ before) behind a e = omega (arith, e)
 

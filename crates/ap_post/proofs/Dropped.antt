@@ -14,8 +14,8 @@ use Rattle.ap_desk.specs.Looks.{Missed}
 use Rattle.ap_desk.specs.Offered.{JobsStay, goal_of, taken_of}
 use Rattle.ap_post.specs.declared.job.Job.{Job}
 use Rattle.ap_post.specs.declared.outcome.Outcome.{Outcome}
-use Rattle.ap_post.specs.Posted.{posted}
-use Rattle.ap_post.proofs.Noted.{V, gives, given, posted_same}
+use Rattle.ap_post.specs.Posted.{Posted, posted}
+use Rattle.ap_post.proofs.Noted.{V, gives, given, given_elsewhere, posted_same}
 use Rattle.ap_post.proofs.Changes.{jobs_stay, goes}
 
 -- no goal of a frame is out, with one note less
@@ -25,6 +25,15 @@ none_left v [] (suc k) f e = e
 none_left v (n ∷ ns) zero f e = let l = ap length (gives v n ns f) in let a = length-append (given v n f) (posted v ns f) in omega (arith, l, a, e)
 none_left v (n ∷ ns) (suc k) f e = let l = ap length (gives v n ns f) in let a = length-append (given v n f) (posted v ns f) in
     let m = ap length (gives v n (remove ns k) f) in let b = length-append (given v n f) (posted v (remove ns k) f) in let c = none_left v ns k f (omega (arith, l, a, e)) in omega (arith, l, a, e, m, b, c)
+
+-- nor with one note that passes to another frame
+pub assigned_none : (v : V) (ns : List Note) (k : ℕ) (m : Note) (f : ℕ) → (m.frame ≡ f → ⊥) → length (posted v ns f) ≡ 0 → length (posted v (slice_set ns k m) f) ≡ 0
+assigned_none v [] zero m f ne e = e
+assigned_none v [] (suc k) m f ne e = e
+assigned_none v (n ∷ ns) zero m f ne e = let l = ap length (gives v n ns f) in let a = length-append (given v n f) (posted v ns f) in
+    let o = ap length (gives v m ns f ∙ ap (λ (r : List Posted). r ++ posted v ns f) (given_elsewhere v m f ne)) in omega (arith, l, a, e, o)
+assigned_none v (n ∷ ns) (suc k) m f ne e = let l = ap length (gives v n ns f) in let a = length-append (given v n f) (posted v ns f) in
+    let o = ap length (gives v n (slice_set ns k m) f) in let b = length-append (given v n f) (posted v (slice_set ns k m) f) in let c = assigned_none v ns k m f ne (omega (arith, l, a, e)) in omega (arith, l, a, e, o, b, c)
 
 pub still_none : (v w : V) (ts : List Ticket) (ns ms : List Note) (k f : ℕ) → JobsStay v w ts ms → ms ≡ remove ns k → length (posted v ns f) ≡ 0 → length (posted w ms f) ≡ 0
 still_none v w ts ns ms k f stay e none = ap length (posted_same v w ms f stay.jobs ∙ ap (λ (x : List Note). posted v x f) e) ∙ none_left v ns k f none

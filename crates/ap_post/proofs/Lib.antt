@@ -2,3 +2,4 @@ pub mod Noted
 pub mod Changes
 pub mod Dropped
 pub mod Opened
+pub mod Left

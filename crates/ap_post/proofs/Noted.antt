@@ -35,7 +35,7 @@ gives v n ns f = leads (n.frame == f) n.place (job_of v n) (posted v ns f)
 given_here : (v : V) (n : Note) (f : ℕ) (j : Job) → n.frame ≡ f → job_of v n ≡ Some j → given v n f ≡ posted_at n.place j ∷ []
 given_here v n f j e o = ap (λ (b : Bool). lead b n.place (job_of v n)) (eq-eqb n.frame f e) ∙ ap (λ (x : Option Job). lead true n.place x) o
 
-given_elsewhere : (v : V) (n : Note) (f : ℕ) → (n.frame ≡ f → ⊥) → given v n f ≡ []
+pub given_elsewhere : (v : V) (n : Note) (f : ℕ) → (n.frame ≡ f → ⊥) → given v n f ≡ []
 given_elsewhere v n f ne = ap (λ (b : Bool). lead b n.place (job_of v n)) (ne_eqb n.frame f ne)
 
 first_is : (m n : Note) → Some m ≡ Some n → m ≡ n

@@ -1,5 +1,6 @@
 -- What a post is to its caller: the goals that are out, and those that were taken.
-use Rattle.std.specs.Prelude.{◌≡◌, ℕ, ◌<◌, List, [], ◌∷◌, ◌++◌, map, Option, None}
+use Rattle.std.specs.Prelude.{◌≡◌, ℕ, ◌-◌, ◌^◌, ◌<◌, ◌≤◌, ◌⊎◌, List, [], ◌∷◌, ◌++◌, map, slice_get, Option, Some, None}
+use Rattle.ap_desk.specs.declared.note.Note.{Note}
 use Rattle.ap_desk.specs.Offered.{goal_of}
 use Rattle.ap_post.specs.declared.job.Job.{Job}
 use Rattle.ap_post.specs.declared.post.Post.{Post}
@@ -54,3 +55,13 @@ pub record IsNew (p : Post) : Type 0 where
   pub jobs : jobs_in p ≡ []
   pub asked : asked_in p ≡ None
   pub none : (f : ℕ) → posted_in p f ≡ []
+
+-- ---- notes of a desk
+
+-- all but the one at that place stood where they stand
+abbrev pub OthersNoted : ℕ → List Note → List Note → Type 0
+OthersNoted k ns ms = (i : ℕ) (n : Note) → slice_get ms i ≡ Some n → (i ≡ k → ⊥) → slice_get ns i ≡ Some n
+
+-- from that place on each is of the frames that were left, or stood behind it
+abbrev pub IsLeftAt : ℕ → List Note → List Note → Type 0
+IsLeftAt k ns ms = (i : ℕ) (n : Note) → k ≤ i → slice_get ms i ≡ Some n → (n.frame ≡ 2 ^ 64 - 1) ⊎ ((j : ℕ) × (k < j) × (slice_get ns j ≡ Some n))

@@ -4,6 +4,7 @@ ghost use Rattle.std.specs.Prelude.{◌≡◌};
 
 use ap_ledger::Share;
 use ap_section::Section;
+use std::alloc::Global;
 
 /// How the search of a goal ended for its taker.
 #[derive(Drop)]
@@ -46,5 +47,16 @@ impl Outcome {
             ending,
             share: Share::new(),
         }
+    }
+
+    /// Drops what came of a goal, and gives the calls that were made for it.
+    pub fn release(self, alloc: Global) -> Share
+        ensures { result ≡ self.share }
+    {
+        let Outcome { ending, share } = self;
+        if let Ending::Answer { section, .. } = ending {
+            section.release(alloc);
+        }
+        share
     }
 }

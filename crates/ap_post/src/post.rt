@@ -1,6 +1,6 @@
 //! A worker's post.
 
-ghost use Rattle.std.specs.Prelude.{◌≡◌, ◌+◌, ◌≤◌, ℕ, [], length, IfOk, OnErr};
+ghost use Rattle.std.specs.Prelude.{◌≡◌, ◌+◌, ◌-◌, ◌^◌, ◌<◌, ◌≤◌, ℕ, [], length, IfOk, OnErr};
 ghost use Rattle.ap_post.specs.Posted.{posted};
 
 use crate::bar::Bar;
@@ -16,6 +16,9 @@ use crossbeam_utils::atomic::AtomicCell;
 /// The board on which workers offer one another goals.
 pub type JobBoard<'a> = Board<Job<'a>, Outcome>;
 
+/// The number of all frames that were left. No other one has it.
+pub(crate) const LEFT: u64 = u64::MAX;
+
 /// A worker's desk, the stack of its offers' tickets, the ends of the others' stacks, and the number of its next frame.
 #[derive(Drop)]
 pub struct Post<'a, 'b> {
@@ -30,7 +33,7 @@ pub struct Post<'a, 'b> {
     /// What it has saved for forks.
     pub(crate) bar: Bar,
     ghost table: { desk.0 ≡ board.now.table.shared.table_id },
-    pub ghost fresh: { (f : ℕ) → next ≤ f → length (posted desk.1 desk.4 f) ≡ 0 },
+    pub ghost fresh: { (f : ℕ) → next ≤ f → f < 2 ^ 64 - 1 → length (posted desk.1 desk.4 f) ≡ 0 },
 }
 
 impl<'a, 'b> Post<'a, 'b> {

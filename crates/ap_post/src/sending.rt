@@ -1,18 +1,21 @@
 //! Goals of a worker's own that go out and come back.
 
-ghost use Rattle.std.specs.Prelude.{◌≡◌, ℕ, ◌<◌, ◌≤◌, true, [], length, slice_get, Some, IfSome, MatchBool, MatchOption};
+ghost use Rattle.std.specs.Prelude.{◌≡◌, ◌≢◌, ℕ, ◌-◌, ◌^◌, ◌<◌, ◌≤◌, true, false, [], length, slice_get, Some, IfSome, MatchBool, MatchOption};
 ghost use Rattle.ap_desk.specs.declared.note.Note.{Note};
 ghost use Rattle.ap_open.specs.Away.{IsOutcomeOf};
+ghost use Rattle.ap_post.specs.declared.outcome.Outcome.{Outcome as Came};
 ghost use Rattle.ap_post.specs.Jobs.{outcome_of, IsReadyEnding, IsPaid};
 ghost use Rattle.ap_post.specs.Posted.{Posted, posted_at};
-ghost use Rattle.ap_post.specs.Posts.{posted_in, SamePosted, SameBelow, SameJobs, IsLess, IsMore};
+ghost use Rattle.ap_post.specs.Posts.{posted_in, SamePosted, SameBelow, SameJobs, IsLess, IsMore, OthersNoted, IsLeftAt};
 
 use crate::job::Job;
 use crate::outcome::Outcome;
-use crate::post::Post;
+use crate::post::{LEFT, Post};
 use ap_board::Ticket;
 use ap_desk::Desk;
 use ap_goalstack::{GoalStack, Unruled};
+use ap_ledger::Share;
+use std::alloc::Global;
 
 // Whether a goal is offered under a ticket, as far as its owner knows.
 fn is_offered(desk: &Desk<Job<'_>, Outcome>, ticket: Ticket) -> bool {
@@ -104,6 +107,17 @@ impl<'a, 'b> Post<'a, 'b> {
         None
     }
 
+    // Tells, by one look, whether the outcome of a note's goal can be collected.
+    fn is_finished(&mut self, k: usize) -> bool
+        requires { k < length self.old.desk.4 }
+        ensures posted { SamePosted self.old self.new }
+        ensures jobs { SameJobs self.old self.new }
+        ensures next { self.new.next ≡ self.old.next }
+        ensures notes { self.new.desk.4 ≡ self.old.desk.4 }
+    {
+        self.desk.done(self.board, k)
+    }
+
     // Collects the outcome of a note's goal, with the goal's place. None where its taker hasn't finished it.
     fn collect_note(&mut self, k: usize) -> Option<(usize, Outcome)>
         requires { k < length self.old.desk.4 }
@@ -111,9 +125,20 @@ impl<'a, 'b> Post<'a, 'b> {
         ensures jobs { SameJobs self.old self.new }
         ensures next { self.new.next ≡ self.old.next }
     {
+        if !self.is_finished(k) {
+            return None;
+        }
         let place = self.desk.note(k).place;
         let outcome = self.desk.collect(self.board, k)?;
         Some((place, outcome))
+    }
+
+    /// Tells whether some goal of a frame of its own is out.
+    pub fn has_out(&self) -> bool
+        ensures some { result ≡ true → (f : ℕ) × (posted_in self.now f ≢ []) }
+        ensures none { result ≡ false → (f : ℕ) → posted_in self.now f ≡ [] }
+    {
+        self.desk.count_out() > 0
     }
 
     /// Collects the outcome of a goal of a frame whose taker has finished it, with the goal's place. None where there is none.
@@ -123,8 +148,7 @@ impl<'a, 'b> Post<'a, 'b> {
         ensures next { self.new.next ≡ self.old.next }
     {
         for k in 0..self.desk.count_out() {
-            let note = self.desk.note(k);
-            if note.frame == frame && note.gone {
+            if self.desk.note(k).frame == frame {
                 if let Some(collected) = self.collect_note(k) {
                     return Some(collected);
                 }
@@ -167,6 +191,8 @@ impl<'a, 'b> Post<'a, 'b> {
         ensures jobs { SameJobs self.old self.new }
         ensures next { self.new.next ≡ self.old.next }
         ensures count { length self.new.desk.4 ≡ length self.old.desk.4 }
+        ensures others { OthersNoted k self.old.desk.4 self.new.desk.4 }
+        ensures frame { (n : Note) (m : Note) → slice_get self.old.desk.4 k ≡ Some n → slice_get self.new.desk.4 k ≡ Some m → m.frame ≡ n.frame }
     {
         if self.desk.note(k).asked {
             return;
@@ -175,35 +201,67 @@ impl<'a, 'b> Post<'a, 'b> {
         self.common.tell_all();
     }
 
+    // Notes that a note's frame was left, once its taker was asked to stop.
+    fn leave_note(&mut self, k: usize)
+        requires place { k < length self.old.desk.4 }
+        requires gone { (n : Note) → slice_get self.old.desk.4 k ≡ Some n → n.gone ≡ true }
+        ensures posted { (f : ℕ) (n : Note) → slice_get self.old.desk.4 k ≡ Some n → (n.frame ≡ f → ⊥) → f < 2 ^ 64 - 1 → posted_in self.new f ≡ posted_in self.old f }
+        ensures jobs { SameJobs self.old self.new }
+        ensures next { self.new.next ≡ self.old.next }
+        ensures count { length self.new.desk.4 ≡ length self.old.desk.4 }
+        ensures left { IsLeftAt k self.old.desk.4 self.new.desk.4 }
+    {
+        self.ask(k);
+        self.desk.assign(k, LEFT);
+    }
+
     // Takes a note's goal back and drops it, or asks its taker to stop.
     fn drop_note(&mut self, k: usize)
         requires { k < length self.old.desk.4 }
-        ensures posted { (f : ℕ) (n : Note) → slice_get self.old.desk.4 k ≡ Some n → (n.frame ≡ f → ⊥) → posted_in self.new f ≡ posted_in self.old f }
+        ensures posted { (f : ℕ) (n : Note) → slice_get self.old.desk.4 k ≡ Some n → (n.frame ≡ f → ⊥) → f < 2 ^ 64 - 1 → posted_in self.new f ≡ posted_in self.old f }
         ensures jobs { SameJobs self.old self.new }
         ensures next { self.new.next ≡ self.old.next }
         ensures count { k ≤ length self.new.desk.4 }
+        ensures left { IsLeftAt k self.old.desk.4 self.new.desk.4 }
     {
         if self.desk.note(k).gone {
-            return self.ask(k);
+            return self.leave_note(k);
         }
         match self.desk.reclaim(self.board, k) {
             Some(_goal) => self.common.rise(),
-            None => self.ask(k),
+            None => self.leave_note(k),
         }
     }
 
-    /// Leaves the goals of all frames from a number on: each is taken back and dropped, or its taker is asked to stop.
+    /// Leaves the goals of all frames from a number on: each is taken back and dropped, or its taker is asked to stop. So none of these
+    /// frames has a goal out.
     pub fn leave(&mut self, from: u64)
         ensures posted { SameBelow from self.old self.new }
+        ensures none { (f : ℕ) → from ≤ f → f < 2 ^ 64 - 1 → posted_in self.new f ≡ [] }
         ensures jobs { SameJobs self.old self.new }
         ensures next { self.new.next ≡ self.old.next }
     {
         let count = self.desk.count_out();
         for back in 0..count {
             let k = count - 1 - back;
-            if self.desk.note(k).frame >= from {
+            let frame = self.desk.note(k).frame;
+            if frame >= from && frame != LEFT {
                 self.drop_note(k);
             }
         }
+    }
+
+    /// Collects what has come of a goal of a frame that was left, which frees its pad, and gives the calls that were made for it. None
+    /// where there is none.
+    pub fn sweep(&mut self, alloc: Global) -> Option<Share>
+        ensures told { MatchOption result (SamePosted self.old self.new) (λ share. (a : Posted) × (o : Came) × (o.share ≡ share) × IsLess (2 ^ 64 - 1) a self.old self.new × IsPaid a.code a.away.key o) }
+        ensures posted { SameBelow self.old.next self.old self.new }
+        ensures jobs { SameJobs self.old self.new }
+        ensures next { self.new.next ≡ self.old.next }
+    {
+        // All numbers are below that one.
+        let _next = self.next();
+        let (_place, outcome) = self.collect(LEFT)?;
+        Some(outcome.release(alloc))
     }
 }

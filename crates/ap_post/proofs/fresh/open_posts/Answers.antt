@@ -15,7 +15,7 @@ loop-seat-init c = let z = c.args.board.now.table.shared.table_id in let gives :
 pub invariant_of-push : goal.invariant_of-push
 invariant_of-push c = let z = c.args.board.now.table.shared.table_id in let sat = All-head (IsSat z) c.in-Some.seat c.next.new.self.rest.items (subst (All (IsSat z)) c.in-Some.ensures.steps.0 c.loop-seat.invariant.left) in record {
   table = ap (λ d. d.0) c.new.ensures ∙ sat.0;
-  fresh = λ f l. none_posted c.new.result c.in-Some.seat.0 c.in-Some.seat.1 c.new.ensures f;
+  fresh = λ f l m. none_posted c.new.result c.in-Some.seat.0 c.in-Some.seat.1 c.new.ensures f;
 }
 
 pub loop-seat-preserved : goal.loop-seat-preserved

@@ -7,7 +7,7 @@ pub finish-requires-clause-fits : goal.finish-requires-clause-fits
 finish-requires-clause-fits c = let d = c.args.self.now.desk in λ ts t e x b r. c.requires.fits (map (goal_of d.1) ts) x (last_job d.1 d.2 ts t x b e r)
 
 pub invariant_of-self-clause-fresh : goal.invariant_of-self-clause-fresh
-invariant_of-self-clause-fresh c = let d = c.args.self.now.desk in let e = c.finish.new.self in λ f l. ap length (stays_notes d.1 e.1 e.2 d.4 e.4 c.finish.ensures.jobs c.finish.ensures.same.1 f) ∙ c.args.self.now.fresh f l
+invariant_of-self-clause-fresh c = let d = c.args.self.now.desk in let e = c.finish.new.self in λ f l m. ap length (stays_notes d.1 e.1 e.2 d.4 e.4 c.finish.ensures.jobs c.finish.ensures.same.1 f) ∙ c.args.self.now.fresh f l m
 
 pub returns-clause-posted : goal.returns-clause-posted
 returns-clause-posted c = let d = c.args.self.now.desk in let e = c.finish.new.self in λ f. stays_notes d.1 e.1 e.2 d.4 e.4 c.finish.ensures.jobs c.finish.ensures.same.1 f

@@ -3,7 +3,7 @@ use Rattle.ap_post.proofs.Changes.{stays_notes, jobs_stay}
 use Rattle.ap_post.proofs.post.Post.poll.Goals as goal
 
 pub invariant_of-self-clause-fresh : goal.invariant_of-self-clause-fresh
-invariant_of-self-clause-fresh c = let d = c.args.self.now.desk in let e = c.poll.new.self in λ f l. ap length (stays_notes d.1 e.1 d.2 d.4 e.4 c.poll.ensures.jobs c.poll.ensures.same.2 f) ∙ c.args.self.now.fresh f l
+invariant_of-self-clause-fresh c = let d = c.args.self.now.desk in let e = c.poll.new.self in λ f l m. ap length (stays_notes d.1 e.1 d.2 d.4 e.4 c.poll.ensures.jobs c.poll.ensures.same.2 f) ∙ c.args.self.now.fresh f l m
 
 pub returns-clause-posted : goal.returns-clause-posted
 returns-clause-posted c = let d = c.args.self.now.desk in let e = c.poll.new.self in λ f. stays_notes d.1 e.1 d.2 d.4 e.4 c.poll.ensures.jobs c.poll.ensures.same.2 f

@@ -8,7 +8,7 @@ use Rattle.ap_post.proofs.post.Post.take_back.Goals as goal
 
 pub invariant_of-self-clause-fresh : goal.invariant_of-self-clause-fresh
 invariant_of-self-clause-fresh c = let d = c.args.self.now.desk in let e = c.reclaim.new.self in let n : Note = c.note-place.result in let at = c.note-place.ensures.note in let stay = c.reclaim.ensures.jobs in
-    λ f l. let none = c.args.self.now.fresh f l in either_way c.reclaim.result (c.reclaim.ensures.told n at)
+    λ f l m. let none = c.args.self.now.fresh f l m in either_way c.reclaim.result (c.reclaim.ensures.told n at)
     (λ t. ap length (goes d.1 e.1 d.2 d.4 e.4 c.args.k n stay at t.0 f) ∙ none)
     (λ x t. none_after d.1 e.1 d.2 d.4 e.4 c.args.k n x stay at t.0 t.1 f none)
 

@@ -4,7 +4,7 @@ use Rattle.ap_post.proofs.Dropped.{took}
 use Rattle.ap_post.proofs.post.Post.take_from.Goals as goal
 
 pub invariant_of-self-2-clause-fresh : goal.invariant_of-self-2-clause-fresh
-invariant_of-self-2-clause-fresh c = let d = c.args.self.now.desk in let e = c.take.new.self in λ f l. ap length (stays_notes d.1 e.1 d.2 d.4 e.4 c.take.ensures.jobs c.take.ensures.same.2 f) ∙ c.args.self.now.fresh f l
+invariant_of-self-2-clause-fresh c = let d = c.args.self.now.desk in let e = c.take.new.self in λ f l m. ap length (stays_notes d.1 e.1 d.2 d.4 e.4 c.take.ensures.jobs c.take.ensures.same.2 f) ∙ c.args.self.now.fresh f l m
 
 pub returns-clause-posted : goal.returns-clause-posted
 returns-clause-posted c = let d = c.args.self.now.desk in let e = c.take.new.self in λ f. stays_notes d.1 e.1 d.2 d.4 e.4 c.take.ensures.jobs c.take.ensures.same.2 f
