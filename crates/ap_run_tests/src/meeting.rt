@@ -60,3 +60,48 @@ impl Gate for Meeting {
         self.wait();
     }
 }
+
+/// The second goal of the first place that begins waits until a goal of the third place has ended.
+#[derive(Drop)]
+pub(crate) struct Behind {
+    begun: AtomicCell<u64>,
+    ended: AtomicCell<bool>,
+}
+
+impl Behind {
+    pub(crate) fn new() -> Behind {
+        Behind {
+            begun: AtomicCell::new(0),
+            ended: AtomicCell::new(false),
+        }
+    }
+
+    /// Tells whether such a goal has ended.
+    pub(crate) fn is_over(&self) -> bool {
+        self.ended.load()
+    }
+
+    fn wait(&self) {
+        let backoff = Backoff::new();
+        for _ in 0..TURNS {
+            if self.is_over() {
+                return;
+            }
+            backoff.snooze();
+        }
+    }
+}
+
+impl Gate for Behind {
+    fn pass(&self, spot: Spot) {
+        match spot {
+            Spot::Began { place: 1 } => {
+                if self.begun.fetch_add(1) == 1 {
+                    self.wait();
+                }
+            }
+            Spot::Finished { place: 3 } => self.ended.store(true),
+            _ => {}
+        }
+    }
+}

@@ -2,7 +2,7 @@
 
 use crate::cases::{Case, Command, are_lines, is_met};
 use crate::groups::GROUPS;
-use crate::meeting::Meeting;
+use crate::meeting::{Behind, Meeting};
 use ap_outside::{MemFiles, MemSink, MemSource, OpenGate};
 use ap_top::{Status, run};
 use std::alloc::Global;
@@ -88,6 +88,44 @@ fn a_goal_that_fails_may_stop_an_endless_one_on_its_left(rt: HostRuntime) -> Res
     for workers in ["2", "4", "32"] {
         assert!(&rt;
             is_spent_or_stopped(&rt, rt.alloc(), workers)?,
+            "{workers} workers"
+        );
+    }
+    Ok(())
+}
+
+/// Whether a goal that fails stops an endless one within the goal on its left. The goal l waits at the gate until f has failed, and
+/// would then spend the budget.
+fn is_stopped_within<R: Threads + Wait + RandomSource + Sync>(
+    rt: &R,
+    alloc: Global,
+    workers: &str,
+) -> Result<bool, Fail> {
+    let file = "r(X) :- a & v & f, X = 0. r(1). a :- l & u. l :- l. u. v. f :- fail.";
+    let mut files = MemFiles::new(alloc, &[("f.pl", file.as_bytes())])?;
+    let mut queries = MemSource::new(alloc, &["?- r(X).".as_bytes()], &[])?;
+    let mut out = MemSink::new(alloc, &[])?;
+    let gate = Behind::new();
+    let words = [
+        "andprolog",
+        "run",
+        "f.pl",
+        "--budget",
+        "100000",
+        "--workers",
+        workers,
+    ];
+    let status = run(rt, alloc, &words, &mut files, &mut queries, &mut out, &gate);
+    Ok(status == Status::Done && gate.is_over() && are_lines(out.pieces(), "X = 1\nno more.\n"))
+}
+
+#[test]
+fn a_goal_that_fails_stops_an_endless_one_within_its_neighbour(
+    rt: HostRuntime,
+) -> Result<(), Fail> {
+    for workers in ["2", "4", "32"] {
+        assert!(&rt;
+            is_stopped_within(&rt, rt.alloc(), workers)?,
             "{workers} workers"
         );
     }

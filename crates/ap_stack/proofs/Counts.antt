@@ -133,9 +133,9 @@ popped-counts b s t es e was is share budget owes h =
 
 -- ---- a section further out changes
 
-owed-with : (before : List Open) (e d : Open) (after : List Open) (n : ℕ) → d.since ≡ e.since → owed (view_of d.section) ≤ owed (view_of e.section) → owed_by (before ++ d ∷ after) n ≤ owed_by (before ++ e ∷ after) n
-owed-with [] e d after n since owes = omega (arith, since, owes)
-owed-with (x ∷ before) e d after n since owes = let k = owed-with before e d after n since owes in omega (arith, k)
+owed-with : (before : List Open) (e d : Open) (after : List Open) (n c : ℕ) → d.since ≡ e.since → owed (view_of d.section) ≤ owed (view_of e.section) + c → owed_by (before ++ d ∷ after) n ≤ owed_by (before ++ e ∷ after) n + c
+owed-with [] e d after n c since owes = omega (arith, since, owes)
+owed-with (x ∷ before) e d after n c since owes = let k = owed-with before e d after n c since owes in omega (arith, k)
 
 given-with : (b : ℕ) (before : List Open) (e d : Open) (after : List Open) (n : ℕ) → d.since ≡ e.since → budget_in (view_of d.section) ≡ budget_in (view_of e.section) → rest_in (view_of d.section) ≡ rest_in (view_of e.section)
     → AreGiven b (before ++ e ∷ after) n → AreGiven b (before ++ d ∷ after) n
@@ -145,19 +145,28 @@ given-with b [] e d after n since budget rest h = (
 )
 given-with b (x ∷ before) e d after n since budget rest h = (h.0, given-with (x.since + rest_in (view_of x.section)) before e d after n since budget rest h.1)
 
-pub outer-counts : (b : ℕ) (s t : Stack) (before : List Open) (e d : Open) (after : List Open) → s.outer.items ≡ before ++ e ∷ after → t.outer.items ≡ before ++ d ∷ after → t.newest ≡ s.newest → t.share ≡ s.share → d.since ≡ e.since
-    → budget_in (view_of d.section) ≡ budget_in (view_of e.section) → rest_in (view_of d.section) ≡ rest_in (view_of e.section) → owed (view_of d.section) ≤ owed (view_of e.section) → Counts b s → Counts b t
-outer-counts b s t before e d after was is newest share since budget rest owes h =
+-- it owes so much more at most, which the share counts
+pub outer-counts : (b : ℕ) (s t : Stack) (before : List Open) (e d : Open) (after : List Open) (c : ℕ) → s.outer.items ≡ before ++ e ∷ after → t.outer.items ≡ before ++ d ∷ after → t.newest ≡ s.newest → d.since ≡ e.since
+    → budget_in (view_of d.section) ≡ budget_in (view_of e.section) → rest_in (view_of d.section) ≡ rest_in (view_of e.section) → owed (view_of d.section) ≤ owed (view_of e.section) + c
+    → ((n : ℕ) → capped n ≤ s.share → capped (n + c) ≤ t.share) → Counts b s → Counts b t
+outer-counts b s t before e d after c was is newest since budget rest owes share h =
     let given : AreGiven b (before ++ e ∷ after) (budget_in (section_in s)) = subst (λ xs. AreGiven b xs (budget_in (section_in s))) was h.given in
     let paid : capped (owed_by (before ++ e ∷ after) (owed (section_in s))) ≤ s.share = subst (λ xs. capped (owed_by xs (owed (section_in s))) ≤ s.share) was h.paid in
     let n = owed (section_in s) in
-    let paid' : capped (owed_by (before ++ d ∷ after) n) ≤ s.share = capped-less (owed_by (before ++ d ∷ after) n) (owed_by (before ++ e ∷ after) n) s.share (owed-with before e d after n since owes) paid in
+    let paid' : capped (owed_by (before ++ d ∷ after) n) ≤ t.share =
+    capped-less (owed_by (before ++ d ∷ after) n) (owed_by (before ++ e ∷ after) n + c) t.share (owed-with before e d after n c since owes) (share (owed_by (before ++ e ∷ after) n) paid) in
     record {
       given = subst (λ x. AreGiven b t.outer.items (budget_in (view_of x))) (sym newest)
           (subst (λ xs. AreGiven b xs (budget_in (section_in s))) (sym is) (given-with b before e d after (budget_in (section_in s)) since budget rest given));
-      paid = subst (λ x. capped (owed_by t.outer.items (owed (view_of x))) ≤ t.share) (sym newest)
-          (subst (λ m. capped (owed_by t.outer.items n) ≤ m) (sym share) (subst (λ xs. capped (owed_by xs n) ≤ s.share) (sym is) paid'));
+      paid = subst (λ x. capped (owed_by t.outer.items (owed (view_of x))) ≤ t.share) (sym newest) (subst (λ xs. capped (owed_by xs n) ≤ t.share) (sym is) paid');
     }
+
+-- with the same share
+pub outer-stays : (b : ℕ) (s t : Stack) (before : List Open) (e d : Open) (after : List Open) → s.outer.items ≡ before ++ e ∷ after → t.outer.items ≡ before ++ d ∷ after → t.newest ≡ s.newest → t.share ≡ s.share → d.since ≡ e.since
+    → rest_in (view_of d.section) ≡ rest_in (view_of e.section) → OwesNoMore (view_of e.section) (view_of d.section) → Counts b s → Counts b t
+outer-stays b s t before e d after was is newest share since rest less h =
+    outer-counts b s t before e d after 0 was is newest since less.budget rest (subst (λ m. owed (view_of d.section) ≤ m) (plus-same (owed (view_of e.section))) less.owes)
+    (λ n k. subst (λ m. capped (n + 0) ≤ m) (sym share) (plus-none n s.share k)) h
 
 -- ---- a slot stands otherwise
 

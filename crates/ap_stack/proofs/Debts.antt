@@ -1,8 +1,7 @@
 -- What the ties of a search say of costs: of slots that have spent their budget, and of a frame whose slot is redone.
-use Rattle.std.proofs.Common.{◌≡◌, ℕ, zero, suc, ◌+◌, ◌-◌, ◌<◌, ◌≤◌, Bool, true, false, ◌&&◌, nat_lt, if◌then◌else◌, inl, inr, List, [], ◌∷◌, ◌++◌, take, Option, Some, None, refl, ap, sym, ◌∙◌, subst, position, arith}
+use Rattle.std.proofs.Common.{◌≡◌, ℕ, zero, suc, ◌+◌, ◌-◌, ◌<◌, ◌≤◌, Bool, true, false, nat_lt, if◌then◌else◌, inl, inr, List, [], ◌∷◌, ◌++◌, take, Option, Some, None, refl, ap, sym, ◌∙◌, subst, position, arith}
 use Rattle.std.proofs.lemmas.Bool.{ltb-true, and_parts}
 use Rattle.std.specs.Cmp.{nat_cmp_is}
-use Rattle.std.specs.Ordering.{nat_cmp}
 use Rattle.std.specs.declared.cmp.Ordering.TheVariants.{Less, Greater}
 use Rattle.std.specs.List.{AllByRecursion, list_any, list_all}
 use Rattle.ap_term.specs.Tree.{Trees, none, more}
@@ -17,7 +16,7 @@ use Rattle.ap_frames.specs.declared.slots.Run.TheVariants.{Redone}
 use Rattle.ap_frames.specs.declared.slots.Ending.{Ending}
 use Rattle.ap_frames.specs.declared.slots.Ending.TheVariants as ended
 use Rattle.ap_frames.specs.declared.verdict.Verdict.{Verdict}
-use Rattle.ap_frames.specs.declared.verdict.Verdict.TheVariants.{Wait, Joined, Broken, Drain, Raised, Spent}
+use Rattle.ap_frames.specs.declared.verdict.Verdict.TheVariants.{Joined, Broken, Drain, Raised, Spent}
 use Rattle.ap_frames.specs.Rows.{standing, at_place}
 use Rattle.ap_frames.specs.Rounds.{numbered, without_cost, reset, reset_by, resumed}
 use Rattle.ap_frames.specs.Slots.{has_answer, has_failed, has_more, is_loud_with_more, ends, stands_answered, cost_at}

@@ -7,6 +7,7 @@ pub mod Elsewhere
 mod Offers
 mod Places
 mod Returns
+mod Outer
 pub mod Endings
 pub mod Counts
 mod Debts

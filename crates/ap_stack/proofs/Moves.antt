@@ -294,10 +294,10 @@ module _ (p : Post) (s : Stack) (es : List Open) (e : Open) (outer : s.outer.ite
   pub popped-open : IsGood p s → AllByRecursion (IsOpen (code_in s) p) es × IsOpen (code_in s) p e
   popped-open good = all-last (IsOpen (code_in s) p) es e (subst (AllByRecursion (IsOpen (code_in s) p)) outer good.outer)
 
-  pub popped : (t : Stack) → t.outer.items ≡ es → code_in t ≡ code_in s → t.first ≡ s.first → t.frame ≡ e.frame → t.tends ≡ true → IsGood p s → posted_in p s.frame ≡ [] → IsReady (code_in s) t.newest → IsAtFrame (section_in t)
+  pub popped : (t : Stack) → t.outer.items ≡ es → code_in t ≡ code_in s → t.first ≡ s.first → t.frame ≡ e.frame → t.tends ≡ true → IsGood p s → IsReady (code_in s) t.newest → IsAtFrame (section_in t)
       → AreOut (code_in s) (section_in t) (posted_in p e.frame)
-      → Carries (code_in s) (levels_of p es ++ level_of p e ∷ []) (section_in s) [] (levels_of p es) (section_in t) (aways_in p e.frame) → Pays p s t → Goes p s p t
-  popped t same sound first frame tends good none ready at out carries pays =
+      → Carries (code_in s) (levels_of p es ++ level_of p e ∷ []) (section_in s) (away_in p s) (levels_of p es) (section_in t) (aways_in p e.frame) → Pays p s t → Goes p s p t
+  popped t same sound first frame tends good ready at out carries pays =
       let code = code_in s in
       let rise = rise-pop s.first s.frame es e (subst (λ xs. Rise s.first xs s.frame) outer good.rise) in
       record {
@@ -313,9 +313,8 @@ module _ (p : Post) (s : Stack) (es : List Open) (e : Open) (outer : s.outer.ite
         sound = sound;
         first = first;
         carries = subst (λ ls. Carries code ls (section_in s) (away_in p s) (levels_in p t) (section_in t) (away_in p t)) (sym (ap (levels_of p) outer ∙ map-append (level_of p) es (e ∷ [])))
-            (subst (λ out. Carries code (levels_of p es ++ level_of p e ∷ []) (section_in s) out (levels_in p t) (section_in t) (away_in p t)) (sym (ap aways_of none))
-            (subst (λ xs. Carries code (levels_of p es ++ level_of p e ∷ []) (section_in s) [] (levels_of p xs) (section_in t) (away_in p t)) (sym same)
-            (subst (λ f. Carries code (levels_of p es ++ level_of p e ∷ []) (section_in s) [] (levels_of p es) (section_in t) (aways_in p f)) (sym frame) carries)));
+            (subst (λ xs. Carries code (levels_of p es ++ level_of p e ∷ []) (section_in s) (away_in p s) (levels_of p xs) (section_in t) (away_in p t)) (sym same)
+            (subst (λ f. Carries code (levels_of p es ++ level_of p e ∷ []) (section_in s) (away_in p s) (levels_of p es) (section_in t) (aways_in p f)) (sym frame) carries));
         pays = pays;
         below = λ g l. refl;
         jobs = same-jobs p;
@@ -323,12 +322,20 @@ module _ (p : Post) (s : Stack) (es : List Open) (e : Open) (outer : s.outer.ite
       }
 
   -- its slot stands so then
+  pub stopped : (st : Stand (Unit {0})) (h : Held) (t : Stack) → t.outer.items ≡ es → code_in t ≡ code_in s → t.first ≡ s.first → t.frame ≡ e.frame → t.tends ≡ true → IsGood p s → IsReady (code_in s) t.newest → IsAtFrame (section_in t)
+      → section_in t ≡ stood e.place st h (view_of e.section)
+      → Carries (code_in s) (levels_of p es ++ level_of p e ∷ []) (section_in s) (away_in p s) (levels_of p es) (stood e.place st h (view_of e.section)) (aways_in p e.frame) → Pays p s t → Goes p s p t
+  stopped st h t same sound first frame tends good ready at is carries pays =
+      let code = code_in s in
+      let one = (popped-open good).1 in
+      popped t same sound first frame tends good ready at
+      (subst (λ v. AreOut code v (posted_in p e.frame)) (sym is) (out-stood code e.place st h (view_of e.section) (posted_in p e.frame) one.elsewhere one.out))
+      (subst (λ v. Carries code (levels_of p es ++ level_of p e ∷ []) (section_in s) (away_in p s) (levels_of p es) v (aways_in p e.frame)) (sym is) carries) pays
+
+  -- the same where none of its own goals is out
   pub ended : (st : Stand (Unit {0})) (h : Held) (t : Stack) → t.outer.items ≡ es → code_in t ≡ code_in s → t.first ≡ s.first → t.frame ≡ e.frame → t.tends ≡ true → IsGood p s → posted_in p s.frame ≡ [] → IsReady (code_in s) t.newest → IsAtFrame (section_in t)
       → section_in t ≡ stood e.place st h (view_of e.section)
       → Carries (code_in s) (levels_of p es ++ level_of p e ∷ []) (section_in s) [] (levels_of p es) (stood e.place st h (view_of e.section)) (aways_in p e.frame) → Pays p s t → Goes p s p t
   ended st h t same sound first frame tends good none ready at is carries pays =
-      let code = code_in s in
-      let one = (popped-open good).1 in
-      popped t same sound first frame tends good none ready at
-      (subst (λ v. AreOut code v (posted_in p e.frame)) (sym is) (out-stood code e.place st h (view_of e.section) (posted_in p e.frame) one.elsewhere one.out))
-      (subst (λ v. Carries code (levels_of p es ++ level_of p e ∷ []) (section_in s) [] (levels_of p es) v (aways_in p e.frame)) (sym is) carries) pays
+      stopped st h t same sound first frame tends good ready at is
+      (subst (λ out. Carries (code_in s) (levels_of p es ++ level_of p e ∷ []) (section_in s) out (levels_of p es) (stood e.place st h (view_of e.section)) (aways_in p e.frame)) (sym (ap aways_of none)) carries) pays

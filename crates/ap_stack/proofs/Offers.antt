@@ -34,7 +34,7 @@ use Rattle.ap_stack.specs.declared.stack.Open.{Open}
 use Rattle.ap_stack.specs.declared.stack.Stack.{Stack}
 use Rattle.ap_stack.specs.Levels.{aways_of, aways_in, level_of, levels_of, AreNotAt, AreOut, IsOpen, Rise}
 use Rattle.ap_stack.specs.Stacks.{code_in, levels_in, section_in, away_in, IsGood, Pays, Goes}
-use Rattle.ap_stack.proofs.Counts.{rest-stood, budget-stood, no-more-stood, stays-pays, outer-counts}
+use Rattle.ap_stack.proofs.Counts.{rest-stood, no-more-stood, stays-pays, outer-stays}
 use Rattle.ap_stack.proofs.Outs.{all-split, outs-started, aways-append}
 use Rattle.ap_stack.proofs.Elsewhere.{rise-at-most, SameIn, rise-same, opens-same, levels-same}
 
@@ -188,48 +188,37 @@ pub record SameBut (s t : Stack) (before : List Open) (e d : Open) (after : List
   pub place : d.place ≡ e.place
   pub since : d.since ≡ e.since
   pub number : d.frame ≡ e.frame
-  pub share : t.share ≡ s.share
 
-abbrev level_by : seen.Section → ℕ → ℕ → List Away → Level
+abbrev pub level_by : seen.Section → ℕ → ℕ → List Away → Level
 level_by v i n ps = record { section = v; place = i; since = n; aways = ps }
 
-pub offered-below : SharingLaw → (p : Post) (s : Stack) (q : Post) (t : Stack) (before : List Open) (e d : Open) (after : List Open) (i : ℕ) (a : Posted) → IsGood p s → SameBut s t before e d after → SameJobs p q → q.next ≡ p.next
-    → IsMore e.frame a p q → a.code ≡ code_in s → a.away.place ≡ i → IsKeyOf (code_in s) i (view_of e.section) a.away.key → IsReadyAt i (view_of e.section)
-    → view_of d.section ≡ stood i (Running First) nothing (view_of e.section) → IsAtFrame (view_of d.section) → IsReady (code_in s) d.section → Goes p s q t
-offered-below law p s q t before e d after i a good same jobs next more coded placed is-key-of ready stands at ready' =
+-- the levels without that section's
+abbrev pub with_level : Post → List Open → Level → List Open → List Level
+with_level p before a after = levels_of p before ++ a ∷ levels_of p after
+
+pub levels-with : (p : Post) (s : Stack) (before : List Open) (e : Open) (after : List Open) → s.outer.items ≡ before ++ e ∷ after → levels_in p s ≡ with_level p before (level_of p e) after
+levels-with p s before e after was = ap (levels_of p) was ∙ levels-split p before e after
+
+-- a section further out stands otherwise, and other goals of its frame are out
+pub changed-below : (p : Post) (s : Stack) (q : Post) (t : Stack) (before : List Open) (e d : Open) (after : List Open) → IsGood p s → SameBut s t before e d after → SameJobs p q → q.next ≡ p.next → OthersPosted e.frame p q
+    → IsOpen (code_in s) q d → Carries (code_in s) (with_level p before (level_of p e) after) (section_in s) (away_in p s) (with_level p before (level_of q d) after) (section_in s) (away_in p s) → Pays p s t → Goes p s q t
+changed-below p s q t before e d after good same jobs next others open-d carries pays =
     let code = code_in s in
-    let j = a.away.place in
-    let ps = posted_in p e.frame in
-    let v = view_of e.section in
-    let ready-j : IsReadyAt j v = subst (λ k. IsReadyAt k v) (sym placed) ready in
-    let key-j : IsKeyOf code j v a.away.key = subst (λ k. IsKeyOf code k v a.away.key) (sym placed) is-key-of in
-    let stands-j : view_of d.section ≡ stood j (Running First) nothing v = stands ∙ ap (λ k. stood k (Running First) nothing v) (sym placed) in
     let rise : Rise s.first (before ++ e ∷ after) s.frame = subst (λ es. Rise s.first es s.frame) same.was good.rise in
     let parts = rise-front s.first s.frame before e after rise in
-    let front : List Level = levels_of p before in
-    let back : List Level = levels_of p after in
-    let begun : Level = level_by (stood j (Running First) nothing v) e.place e.since (aways_of ps ++ a.away ∷ []) in
     let first-e : s.first ≤ e.frame = rise-at-most before s.first e.frame parts.0 in
     let last-e : suc e.frame ≤ s.frame = rise-at-most after (suc e.frame) s.frame parts.1 in
-    let same-before : SameIn p q before = rise-same p q before s.first e.frame (λ g l u. more.others g (not-below g e.frame u)) parts.0 in
-    let same-after : SameIn p q after = rise-same p q after (suc e.frame) s.frame (λ g l u. more.others g (not-above g e.frame l)) parts.1 in
-    let same-own : posted_in q s.frame ≡ posted_in p s.frame = more.others s.frame (not-above s.frame e.frame last-e) in
+    let same-before : SameIn p q before = rise-same p q before s.first e.frame (λ g l u. others g (not-below g e.frame u)) parts.0 in
+    let same-after : SameIn p q after = rise-same p q after (suc e.frame) s.frame (λ g l u. others g (not-above g e.frame l)) parts.1 in
+    let same-own : posted_in q s.frame ≡ posted_in p s.frame = others s.frame (not-above s.frame e.frame last-e) in
     let opens = subst (AllByRecursion (IsOpen code p)) same.was good.outer in
     let open-parts = all-split (IsOpen code p) before (e ∷ after) opens in
-    let open-d : IsOpen code q d = begun-open code p q e d a open-parts.1.0 same.place same.number more.now coded ready-j stands-j at ready' key-j.rest in
     let opens' : AllByRecursion (IsOpen code q) (before ++ d ∷ after) =
     AllByRecursion-append (IsOpen code q) before (d ∷ after) (opens-same code p q before same-before open-parts.0) (open-d, opens-same code p q after same-after open-parts.1.1) in
     let opens'' : AllByRecursion (IsOpen code q) t.outer.items = subst (AllByRecursion (IsOpen code q)) (sym same.is) opens' in
-    let levels-p : levels_in p s ≡ front ++ level_of p e ∷ back = ap (levels_of p) same.was ∙ levels-split p before e after in
-    let d-is : level_of q d ≡ begun =
-    ap (λ x. level_by x d.place d.since (aways_in q d.frame)) stands-j ∙ ap (λ x. level_by (stood j (Running First) nothing v) x d.since (aways_in q d.frame)) same.place
-    ∙ ap (λ x. level_by (stood j (Running First) nothing v) e.place x (aways_in q d.frame)) same.since
-    ∙ ap (level_by (stood j (Running First) nothing v) e.place e.since) (ap (aways_in q) same.number ∙ ap aways_of more.now ∙ aways-append ps (a ∷ [])) in
-    let levels-q : levels_in q t ≡ front ++ begun ∷ back =
-    ap (levels_of q) same.is ∙ levels-split q before d after ∙ ap (λ ls. ls ++ level_of q d ∷ levels_of q after) (levels-same p q before same-before)
-    ∙ ap (λ l. front ++ l ∷ levels_of q after) d-is ∙ ap (λ ls. front ++ begun ∷ ls) (levels-same p q after same-after) in
-    let left = law.leaves_below code front back (level_of p e) (section_in s) (away_in p s) j a.away.key (may-begin j v open-parts.1.0.at_frame ready-j) key-j in
-    let c1 = subst (λ ls. Carries code ls (section_in s) (away_in p s) (front ++ begun ∷ back) (section_in s) (away_in p s)) (sym levels-p) left in
+    let levels-q : levels_in q t ≡ with_level p before (level_of q d) after =
+    levels-with q t before d after same.is ∙ ap (λ ls. ls ++ level_of q d ∷ levels_of q after) (levels-same p q before same-before) ∙ ap (λ ls. levels_of p before ++ level_of q d ∷ ls) (levels-same p q after same-after) in
+    let c1 = subst (λ ls. Carries code ls (section_in s) (away_in p s) (with_level p before (level_of q d) after) (section_in s) (away_in p s)) (sym (levels-with p s before e after same.was)) carries in
     let c2 = subst (λ ls. Carries code (levels_in p s) (section_in s) (away_in p s) ls (section_in s) (away_in p s)) (sym levels-q) c1 in
     let c3 = subst (λ x. Carries code (levels_in p s) (section_in s) (away_in p s) (levels_in q t) (view_of x) (away_in p s)) (sym same.newest) c2 in
     let away-is : away_in q t ≡ away_in p s = ap (aways_in q) same.frame ∙ ap aways_of same-own in
@@ -253,10 +242,40 @@ offered-below law p s q t before e d after i a good same jobs next more coded pl
       sound = same.sound;
       first = same.first;
       carries = subst (Carries code (levels_in p s) (section_in s) (away_in p s) (levels_in q t) (section_in t)) (sym away-is) c3;
-      pays = λ b r o u tie h.
-          outer-counts b s t before e d after same.was same.is same.newest same.share same.since (ap views.budget_in stands ∙ budget-stood i (Running First) nothing v)
-          (ap rest_in stands ∙ rest-stood i (Running First) nothing v) (no-more-stood i (Running First) nothing v (view_of d.section) refl stands).owes h;
-      below = λ g l. more.others g (below-first g s.first e.frame l first-e);
+      pays = pays;
+      below = λ g l. others g (below-first g s.first e.frame l first-e);
       jobs = jobs;
       next = omega arith;
     }
+
+-- a level by what it is of
+pub level-is : (q : Post) (d : Open) (v : seen.Section) (i n f : ℕ) (ps : List Away) → view_of d.section ≡ v → d.place ≡ i → d.since ≡ n → d.frame ≡ f → aways_in q f ≡ ps → level_of q d ≡ level_by v i n ps
+level-is q d v i n f ps view place since number out =
+    ap (λ x. level_by x d.place d.since (aways_in q d.frame)) view ∙ ap (λ x. level_by v x d.since (aways_in q d.frame)) place ∙ ap (λ x. level_by v i x (aways_in q d.frame)) since
+    ∙ ap (level_by v i n) (ap (aways_in q) number ∙ out)
+
+-- the section that waits there
+pub open-there : (p : Post) (s : Stack) (before : List Open) (e : Open) (after : List Open) → IsGood p s → s.outer.items ≡ before ++ e ∷ after → IsOpen (code_in s) p e
+open-there p s before e after good was =
+    (all-split (IsOpen (code_in s) p) before (e ∷ after) (subst (AllByRecursion (IsOpen (code_in s) p)) was good.outer)).1.0
+
+pub offered-below : SharingLaw → (p : Post) (s : Stack) (q : Post) (t : Stack) (before : List Open) (e d : Open) (after : List Open) (i : ℕ) (a : Posted) → IsGood p s → SameBut s t before e d after → t.share ≡ s.share → SameJobs p q → q.next ≡ p.next
+    → IsMore e.frame a p q → a.code ≡ code_in s → a.away.place ≡ i → IsKeyOf (code_in s) i (view_of e.section) a.away.key → IsReadyAt i (view_of e.section)
+    → view_of d.section ≡ stood i (Running First) nothing (view_of e.section) → IsAtFrame (view_of d.section) → IsReady (code_in s) d.section → Goes p s q t
+offered-below law p s q t before e d after i a good same share jobs next more coded placed is-key-of ready stands at ready' =
+    let code = code_in s in
+    let j = a.away.place in
+    let ps = posted_in p e.frame in
+    let v = view_of e.section in
+    let ready-j : IsReadyAt j v = subst (λ k. IsReadyAt k v) (sym placed) ready in
+    let key-j : IsKeyOf code j v a.away.key = subst (λ k. IsKeyOf code k v a.away.key) (sym placed) is-key-of in
+    let stands-j : view_of d.section ≡ stood j (Running First) nothing v = stands ∙ ap (λ k. stood k (Running First) nothing v) (sym placed) in
+    let begun : Level = level_by (stood j (Running First) nothing v) e.place e.since (aways_of ps ++ a.away ∷ []) in
+    let open-e = open-there p s before e after good same.was in
+    let open-d : IsOpen code q d = begun-open code p q e d a open-e same.place same.number more.now coded ready-j stands-j at ready' key-j.rest in
+    let d-is : level_of q d ≡ begun =
+    level-is q d (stood j (Running First) nothing v) e.place e.since e.frame (aways_of ps ++ a.away ∷ []) stands-j same.place same.since same.number (ap aways_of more.now ∙ aways-append ps (a ∷ [])) in
+    let left = law.leaves_below code (levels_of p before) (levels_of p after) (level_of p e) (section_in s) (away_in p s) j a.away.key (may-begin j v open-e.at_frame ready-j) key-j in
+    let c1 = subst (λ l. Carries code (with_level p before (level_of p e) after) (section_in s) (away_in p s) (with_level p before l after) (section_in s) (away_in p s)) (sym d-is) left in
+    changed-below p s q t before e d after good same jobs next more.others open-d c1
+    (λ b r o u tie h. outer-stays b s t before e d after same.was same.is same.newest share same.since (ap rest_in stands ∙ rest-stood i (Running First) nothing v) (no-more-stood i (Running First) nothing v (view_of d.section) refl stands) h)

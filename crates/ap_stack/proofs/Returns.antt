@@ -38,7 +38,7 @@ has-failed : (s : seen.Section) → IsAtFrame s → HasFailed (machine_in s).roo
 has-failed (section m c b bottom) at = absurd at
 has-failed (section m c b (parcall f q rd w qs st)) at = at.0
 
-may-return : (i : ℕ) (o : Outcome) (s : seen.Section) → IsAtFrame s → told_of may_be_given_back i s ≡ true → MayReturn i o s
+pub may-return : (i : ℕ) (o : Outcome) (s : seen.Section) → IsAtFrame s → told_of may_be_given_back i s ≡ true → MayReturn i o s
 may-return i (found a cost more) s at first = tt
 may-return i (failed_at cost) s at first = tt
 may-return i spent_all s at first = tt
@@ -46,7 +46,7 @@ may-return i (stopped_at cost) s at first = tt
 may-return i given_back (section m c b bottom) at first = absurd at
 may-return i given_back (section m c b (parcall f q rd w qs st)) at first = told-row may_be_given_back i (section m c b (parcall f q rd w qs st)) first
 
-outs-returned : (code : Compiled) (s : seen.Section) (i : ℕ) (o : Outcome) (ps : List Posted) → AreOut code s ps → AreNotAt i ps → AreOut code (returned i o s) ps
+pub outs-returned : (code : Compiled) (s : seen.Section) (i : ℕ) (o : Outcome) (ps : List Posted) → AreOut code s ps → AreNotAt i ps → AreOut code (returned i o s) ps
 outs-returned code s i (found a cost more) ps outs n = outs-stood code s i (answered cost more) (held a) ps outs n
 outs-returned code s i (failed_at cost) ps outs n = outs-stood code s i (Ended ending.Failed cost) nothing ps outs n
 outs-returned code s i spent_all ps outs n = outs-stood code s i (Ended ending.Spent (rest_in s)) nothing ps outs n

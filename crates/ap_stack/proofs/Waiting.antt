@@ -1,10 +1,9 @@
 -- What is read of a section, as the laws of open sections want it.
-use Rattle.std.proofs.Common.{◌≡◌, ℕ, zero, suc, ◌-◌, ◌<◌, ◌≤◌, Bool, true, false, inl, inr, ◌∷◌, Some, slice_get, refl, ap, sym, ◌∙◌, subst, arith}
+use Rattle.std.proofs.Common.{◌≡◌, ℕ, zero, suc, ◌-◌, ◌<◌, ◌≤◌, Bool, true, false, ◌∷◌, Some, slice_get, refl, ap, sym, ◌∙◌, subst, arith}
 use Rattle.std.proofs.lemmas.Bool.{false≢true}
 use Rattle.ap_frames.specs.declared.frame.Round.{Round}
 use Rattle.ap_frames.specs.declared.frame.Round.TheVariants.{First, Draining, Later, Closed}
 use Rattle.ap_frames.specs.declared.slots.Stand.{Stand}
-use Rattle.ap_frames.specs.declared.verdict.Verdict.TheVariants.{Spent as SpentBy}
 use Rattle.ap_frames.specs.Rows.{of_slot, standing}
 use Rattle.ap_frames.specs.Slots.{is_running, is_startable, has_answer}
 use Rattle.ap_frames.specs.Verdicts.{next_redo}
@@ -14,11 +13,10 @@ use Rattle.ap_tied.specs.SlotCalls.{row_in, held_in, stood_in, stood, answered, 
 use Rattle.ap_tied.proofs.Places.{length-stood}
 use Rattle.ap_open.specs.Opened.{spent_in, rest_in}
 use Rattle.ap_open.specs.Moving.{HasAnsweredAgain, restarted}
-use Rattle.ap_open.specs.Calling.{MayBegin, MayRedo, with_redone, IsAnswering, HasMore, IsDone, IsSpent}
+use Rattle.ap_open.specs.Calling.{MayBegin, MayRedo, with_redone, HasMore}
 use Rattle.ap_section.specs.Views as seen
-use Rattle.ap_section.specs.Ends.{Ends, HasNext, HasNothing, left_behind}
-use Rattle.ap_open.specs.Solving.{past_answer}
-use Rattle.ap_section.specs.Slots.{IsAtFrame, IsPlaceIn, IsFirstReady, told_of, round_in, slots_in, verdict_in, redone_of, redone_in, readied_in, taken_in, is_held, IsGoneOn}
+use Rattle.ap_section.specs.Ends.{Ends, HasNext, HasNothing}
+use Rattle.ap_section.specs.Slots.{IsAtFrame, IsPlaceIn, IsFirstReady, told_of, round_in, slots_in, redone_of, redone_in, readied_in, taken_in, is_held, IsGoneOn}
 use Rattle.ap_section.specs.declared.advance.Turn.TheVariants as turn
 use Rattle.ap_section.proofs.Stood.{row-of}
 

@@ -17,7 +17,7 @@ use ap_post::{Ending, Post};
 use ap_section::Section;
 
 /// Puts what came of a goal that was out into its slot.
-fn put_ending(section: &mut Section, i: usize, ending: Ending)
+pub(crate) fn put_ending(section: &mut Section, i: usize, ending: Ending)
     requires at { IsAtFrame (view_of section.old) }
     requires place { IsPlaceIn i (view_of section.old) }
     requires first { told_of may_be_given_back i (view_of section.old) ≡ true }

@@ -1,4 +1,4 @@
-//! What a search does next: a step looks at the newest section alone.
+//! What a search does next: a step looks for goals of outer frames that have come back, and then at the newest section.
 
 ghost use Rattle.std.specs.Prelude.{◌≡◌, true, false, [], IfOk};
 ghost use Rattle.ap_post.specs.Posts.{posted_in};
@@ -35,7 +35,7 @@ impl<'a> Stack<'a> {
             Settled::Open => {
                 // It finds out anew where it stands.
                 self.tends = false;
-                Ok(Step::Waits)
+                Ok(Step::Went)
             }
             Settled::Joined | Settled::Broken => {
                 self.tends = false;
@@ -169,6 +169,9 @@ impl<'a> Stack<'a> {
         ensures lone { StaysLone self.old self.new result }
     {
         self.offer_wanted(post)?;
+        if let Some(step) = self.look_after(alloc, post) {
+            return Ok(step);
+        }
         if self.tends {
             self.tend(alloc, post)
         } else {

@@ -57,6 +57,5 @@ returns-clause-goes c =
       place = refl;
       since = refl;
       number = refl;
-      share = refl;
     })
-    c.offer.ensures.jobs c.offer.ensures.next more key.2 key.1 key' (c.requires.ready e e-at) c.start_slot.ensures.stands c.start_slot.ensures.at_frame (c.start_slot.ensures.ready s.sound.now waits.ready)
+    refl c.offer.ensures.jobs c.offer.ensures.next more key.2 key.1 key' (c.requires.ready e e-at) c.start_slot.ensures.stands c.start_slot.ensures.at_frame (c.start_slot.ensures.ready s.sound.now waits.ready)
