@@ -6,9 +6,9 @@ ghost use Rattle.ap_instr.specs.Code.{Compiled};
 ghost use Rattle.ap_direct.specs.Table.{AreGoalsOf};
 
 use crate::finding::goal_at;
-use crate::goal::Direct;
+use crate::goal::{Direct, Goal, Operand, Part};
 use crate::unread::instruction_at;
-use ap_instr::{Code, Instr};
+use ap_instr::{Code, Instr, Slot};
 use ap_term::NoMemory;
 use std::alloc::Global;
 
@@ -43,6 +43,63 @@ fn is_transfer(code: &Code, at: usize) -> bool {
     }
 }
 
+/// The register of the structure that is put just before a place.
+fn structure_before(code: &Code, at: usize) -> Option<u32> {
+    let mut place = at;
+    'arguments: while place > 0 {
+        place -= 1;
+        match instruction_at(code, place) {
+            Some(Instr::UnifyVariable(_)) => {}
+            Some(Instr::UnifyValue(_)) => {}
+            Some(Instr::UnifyConstant(_)) => {}
+            Some(Instr::UnifyInteger(_)) => {}
+            Some(Instr::PutStructure(_, _, a)) => return Some(a),
+            _ => return None,
+        }
+    }
+    None
+}
+
+fn is_register(operand: Operand, a: u32) -> bool {
+    match operand {
+        Operand::Register(Slot::X(n)) => n == a,
+        Operand::Register(Slot::Y(_)) => false,
+        Operand::Integer(_) => false,
+    }
+}
+
+fn part_reads(part: Part, a: u32) -> bool {
+    match part {
+        Part::Operand(operand) => is_register(operand, a),
+        Part::Operation(_, left, right) => is_register(left, a) || is_register(right, a),
+    }
+}
+
+/// Whether an operand of a goal is what an X register holds.
+fn reads(goal: Goal, a: u32) -> bool {
+    match goal {
+        Goal::Compare(_, left, right) => part_reads(left, a) || part_reads(right, a),
+        Goal::Match(_, part) => part_reads(part, a),
+        Goal::Give(_, part) => part_reads(part, a),
+    }
+}
+
+/// The goal that begins at a place, unless an operand is a structure that was put just before, and so no integer.
+fn goal_on_integers(code: &Code, at: usize) -> Option<Direct>
+    ensures { IfSome result (λ d. AsksFirst code.now at d) }
+{
+    let direct = goal_at(code, at)?;
+    match structure_before(code, at) {
+        Some(a) => {
+            if reads(direct.goal, a) {
+                return None;
+            }
+            Some(direct)
+        }
+        None => Some(direct),
+    }
+}
+
 impl Directs {
     /// The goals of code.
     pub fn of(alloc: Global, code: &Code) -> Result<Directs, NoMemory>
@@ -59,7 +116,7 @@ impl Directs {
                 stop = usize::MAX;
             }
             stops[place] = stop;
-            let found = goal_at(code, place);
+            let found = goal_on_integers(code, place);
             if let Some(_) = found {
                 stop = place;
             }
