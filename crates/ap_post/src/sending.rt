@@ -157,6 +157,22 @@ impl<'a, 'b> Post<'a, 'b> {
         None
     }
 
+    /// Finds a frame below a number one of whose goals came to an outcome that can be collected.
+    pub fn finished_below(&mut self, number: u64) -> Option<u64>
+        ensures below { IfSome result (λ frame. frame < number) }
+        ensures posted { SamePosted self.old self.new }
+        ensures jobs { SameJobs self.old self.new }
+        ensures next { self.new.next ≡ self.old.next }
+    {
+        for k in 0..self.desk.count_out() {
+            let frame = self.desk.note(k).frame;
+            if frame < number && self.is_finished(k) {
+                return Some(frame);
+            }
+        }
+        None
+    }
+
     /// Asks those who took goals of a frame to stop.
     pub fn stop(&mut self, frame: u64)
         ensures posted { SamePosted self.old self.new }

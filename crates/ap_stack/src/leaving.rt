@@ -33,6 +33,13 @@ impl<'a> Stack<'a> {
         true
     }
 
+    /// Finds the outer section that waits at a frame.
+    fn outer_at(&self, frame: u64) -> Option<usize>
+        ensures { IfSome result (λ k. k < length self.now.outer.items) }
+    {
+        (0..self.outer.len()).find(|&k| self.outer[k].frame == frame)
+    }
+
     /// Finds an outer frame one of whose goals has come back, and puts that goal's outcome into its slot.
     fn collect_any(&mut self, post: &mut Post<'a, '_>) -> Option<usize>
         requires good { IsGood post.old self.old }
@@ -40,10 +47,10 @@ impl<'a> Stack<'a> {
         ensures there { IfSome result (λ k. k < length self.new.outer.items) }
     {
         sharing_law();
-        for k in 0..self.outer.len() {
-            if self.collect_outer(post, k) {
-                return Some(k);
-            }
+        let frame = post.finished_below(self.frame)?;
+        let k = self.outer_at(frame)?;
+        if self.collect_outer(post, k) {
+            return Some(k);
         }
         None
     }

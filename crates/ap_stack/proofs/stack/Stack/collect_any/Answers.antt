@@ -1,16 +1,30 @@
-use Rattle.std.proofs.Common.{sym, ◌∙◌}
-use Rattle.ap_stack.proofs.Moves.{goes-same, goes-then}
+use Rattle.ap_stack.proofs.Moves.{goes-then}
+use Rattle.ap_stack.proofs.Returns.{posted-goes}
 use Rattle.ap_stack.proofs.stack.Stack.collect_any.Goals as goal
 
-pub loop-k-init : goal.loop-k-init
-loop-k-init c = record { goes = goes-same c.sharing_law.ensures c.args.post.now c.args.self.now c.requires.good; count = c.len-k-end.ensures ∙ c.args.self.now.outer.ok.0 }
+pub returns-in_err-frame-clause-goes : goal.returns-in_err-frame-clause-goes
+returns-in_err-frame-clause-goes c =
+    let looked = c.finished_below.ensures in
+    posted-goes c.sharing_law.ensures c.args.post.now c.args.self.now c.finished_below.new.self c.requires.good looked.posted looked.jobs looked.next
 
-pub loop-k-preserved : goal.loop-k-preserved
-loop-k-preserved c = record {
-  goes = goes-then c.args.post.now c.loop-k.post c.collect_outer.new.post c.args.self.now c.loop-k.self c.collect_outer.new.self c.loop-k.invariant.goes c.collect_outer.ensures.goes;
-  count = c.loop-k.invariant.count ∙ sym c.collect_outer.ensures.count;
-}
+pub returns-in_err-k-clause-goes : goal.returns-in_err-k-clause-goes
+returns-in_err-k-clause-goes c =
+    let looked = c.finished_below.ensures in
+    posted-goes c.sharing_law.ensures c.args.post.now c.args.self.now c.finished_below.new.self c.requires.good looked.posted looked.jobs looked.next
+
+pub collect_outer-requires-clause-good : goal.collect_outer-requires-clause-good
+collect_outer-requires-clause-good c =
+    let looked = c.finished_below.ensures in
+    (posted-goes c.sharing_law.ensures c.args.post.now c.args.self.now c.finished_below.new.self c.requires.good looked.posted looked.jobs looked.next).good
 
 pub returns-then-collect_outer-clause-goes : goal.returns-then-collect_outer-clause-goes
 returns-then-collect_outer-clause-goes c =
-    goes-then c.args.post.now c.loop-k.post c.collect_outer.new.post c.args.self.now c.loop-k.self c.collect_outer.new.self c.loop-k.invariant.goes c.collect_outer.ensures.goes
+    let looked = c.finished_below.ensures in
+    let first = posted-goes c.sharing_law.ensures c.args.post.now c.args.self.now c.finished_below.new.self c.requires.good looked.posted looked.jobs looked.next in
+    goes-then c.args.post.now c.finished_below.new.self c.collect_outer.new.post c.args.self.now c.args.self.now c.collect_outer.new.self first c.collect_outer.ensures.goes
+
+pub returns-clause-goes : goal.returns-clause-goes
+returns-clause-goes c =
+    let looked = c.finished_below.ensures in
+    let first = posted-goes c.sharing_law.ensures c.args.post.now c.args.self.now c.finished_below.new.self c.requires.good looked.posted looked.jobs looked.next in
+    goes-then c.args.post.now c.finished_below.new.self c.collect_outer.new.post c.args.self.now c.args.self.now c.collect_outer.new.self first c.collect_outer.ensures.goes
