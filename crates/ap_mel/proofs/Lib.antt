@@ -3,3 +3,4 @@ pub mod Turns
 pub mod Certifying
 pub mod Ending
 pub mod Untouched
+pub mod Plain

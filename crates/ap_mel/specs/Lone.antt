@@ -1,17 +1,24 @@
 -- Programs with nothing to group.
-use Rattle.std.specs.Prelude.{Bool, true, false, List, [], ◌∷◌}
+use Rattle.std.specs.Prelude.{Bool, true, false, not, ◌&&◌, List, [], ◌∷◌}
 use Rattle.std.specs.List.{list_all}
-use Rattle.ap_term.specs.Goals.{Part, call, group, Program}
+use Rattle.ap_term.specs.Goals.{Part, call, group, has_groups, Program}
+use Rattle.ap_udg.specs.Runs.{is_user_call}
 
 abbrev pub is_call : Part → Bool
 is_call (call g) = true
 is_call (group cs gs) = false
 
--- no group, and one goal at most
+-- no group, and of two goals in a row one is built in; whether the goal before is none that is built in is told
+abbrev pub is_lone_behind : Bool → List Part → Bool
+is_lone_behind user [] = true
+is_lone_behind user (p ∷ ps) = is_call p && (not (user && is_user_call p) && is_lone_behind (is_user_call p) ps)
+
 abbrev pub is_lone_body : List Part → Bool
-is_lone_body [] = true
-is_lone_body (p ∷ []) = is_call p
-is_lone_body (p ∷ q ∷ ps) = false
+is_lone_body ps = is_lone_behind false ps
 
 abbrev pub is_lone : Program → Bool
 is_lone p = list_all (λ c. is_lone_body c.body) p
+
+-- no clause has a group
+abbrev pub is_plain : Program → Bool
+is_plain p = list_all (λ c. not (has_groups c)) p

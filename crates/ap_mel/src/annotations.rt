@@ -1,12 +1,14 @@
 //! Annotated programs, certified for their entries.
 
-ghost use Rattle.std.specs.Prelude.{◌≡◌, IfOk};
-ghost use Rattle.ap_patterns.specs.Given.{patterns};
+ghost use Rattle.std.specs.Prelude.{◌≡◌, length, IfOk};
+ghost use Rattle.ap_patterns.specs.Given.{Patterns, patterns};
 ghost use Rattle.ap_patterns.specs.Entry.{IsMarked};
 ghost use Rattle.ap_certify.specs.declared.certified.Scope.TheVariants.{Of};
 ghost use Rattle.ap_certify.specs.Certificate.{IsSoundAnnotation};
 ghost use Rattle.ap_udg.specs.declared.runs.Rule.TheVariants.{Conditional};
 ghost use Rattle.ap_udg.specs.Annotated.{IsAnnotated};
+ghost use Rattle.ap_fixpoint.specs.Fix.{IsFix};
+ghost use Rattle.ap_mel.specs.Lone.{is_plain};
 ghost use Rattle.ap_mel.specs.Made.{IsFirst, IsMade};
 ghost use Rattle.ap_certify.specs.Scopes.{IsScopeOf};
 
@@ -18,7 +20,7 @@ use ap_cge::{Annotated, hand_written};
 use ap_fixpoint::analyse;
 use ap_patterns::{Entries, Table};
 use ap_term::{NoMemory, Program};
-use ap_udg::{Rule, annotate_by};
+use ap_udg::{Rule, annotate_by, has_groups};
 use std::alloc::Global;
 
 /// Which groups are made beside those that were written by hand.
@@ -50,7 +52,40 @@ fn first(alloc: Global, kind: Kind, program: &Program, table: &Table) -> Result<
     }
 }
 
-/// The program with its groups, passed over until a pass leaves it as it is.
+/// Whether no clause has a group.
+fn is_plain(program: &Program) -> bool
+    ensures { result ≡ is_plain program.now }
+{
+    program.as_slice().iter().all(|clause| !has_groups(clause))
+}
+
+/// The program with its first groups, passed over until a pass leaves it as it is.
+fn pass_on(
+    alloc: Global,
+    program: &Program,
+    entries: &Entries,
+    kind: Kind,
+    grouped: Annotated,
+) -> Result<Certified, NoMemory>
+    requires marked { IsMarked entries.now }
+    requires length { length program.now ≡ length grouped }
+    ensures made { IfOk result (λ c. (t : Patterns) → IsFix entries.now program.now t → IsFirst kind t program.now grouped → IsMade kind entries.now program.now c.program) }
+    ensures scope { IfOk result (λ c. IsScopeOf entries.now c.scope) }
+    ensures sound { IfOk result (λ c. (t : Patterns) → IsFirst kind t program.now grouped → IsSoundAnnotation program.now c.program (Of entries.now)) }
+{
+    let mut current = grouped;
+    loop {
+        let table = analyse(alloc, &current, entries)?;
+        let Pass { annotated, settled } = pass_over(alloc, kind, &table, program, &current)?;
+        if settled {
+            return certified(current, entries);
+        }
+        current = annotated;
+    }
+}
+
+/// The program with its groups. Where nothing is grouped, the table of the program as it is written is that of the program with its
+/// groups, and no pass changes it.
 fn annotate_by_passes(
     alloc: Global,
     program: &Program,
@@ -62,25 +97,22 @@ fn annotate_by_passes(
     ensures scope { IfOk result (λ c. IsScopeOf entries.now c.scope) }
     ensures sound { IfOk result (λ c. IsSoundAnnotation program.now c.program (Of entries.now)) }
 {
+    let _good = program.as_slice();
     let written = hand_written(alloc, program)?;
     let table = analyse(alloc, &written, entries)?;
-    let mut current = first(alloc, kind, program, &table)?;
-    loop {
-        let table = analyse(alloc, &current, entries)?;
-        let Pass { annotated, settled } = pass_over(alloc, kind, &table, program, &current)?;
-        if settled {
-            return certified(current, entries);
-        }
-        current = annotated;
+    let grouped = first(alloc, kind, program, &table)?;
+    if is_plain(program) && is_plain(grouped.program()) {
+        return certified(grouped, entries);
     }
+    pass_on(alloc, program, entries, kind, grouped)
 }
 
 /// The program with groups that may run side by side in every search of a query that is as the entries say. The groups are
 /// made by the table of the program as it is written. Then passes follow, each by the table of the program before it, until
 /// one leaves the program as it is: a group gets the checks that its state no longer gives; one whose condition holds
 /// nowhere becomes a sequence, and so does one that was made without checks and would need some. The passes end, since
-/// each but the last adds checks of a group's full condition or takes groups away. Where no clause has two goals there is
-/// nothing to group, and no table is made.
+/// each but the last adds checks of a group's full condition or takes groups away. Where no clause has two goals in a row
+/// that aren't built in there is nothing to group, and no table is made.
 pub fn annotate_sound(
     alloc: Global,
     program: &Program,

@@ -1,6 +1,6 @@
 use Rattle.ap_mel.specs.Made.{Passes}
 use Rattle.ap_mel.proofs.Ending.{weight}
-use Rattle.ap_mel.proofs.annotations.annotate_by_passes.Given as goal
+use Rattle.ap_mel.proofs.annotations.pass_on.Given as goal
 
 abbrev pub invariant-loop-current : goal.invariant-loop-current
 invariant-loop-current l = Passes l.kind l.entries l.program l.initial.current l.current
