@@ -1,8 +1,7 @@
 //! Code that keeps every rule.
 
 ghost use Rattle.std.specs.Prelude.{◌≡◌, ℕ, ◌<◌, Some, IsSome, IfOk, OnOk, IfErr, IfSome, length, slice_get};
-ghost use Rattle.ap_index.specs.Heads.{IsHeadOf};
-ghost use Rattle.ap_index.specs.Index.{IsRowOf, IsRestOf, IsLinkOf};
+ghost use Rattle.ap_index.specs.Index.{IsRowOf, IsRestOf, IsChoiceAt};
 ghost use Rattle.ap_needs.specs.Needs.{IsRoomOf, AreWidthsOf};
 ghost use Rattle.ap_direct.specs.Goals.{AsksFirst};
 ghost use Rattle.ap_codecheck.specs.Rules.{IsSound};
@@ -13,7 +12,7 @@ use crate::paths::check_paths;
 use crate::rule::{CodeErr, Rule};
 use crate::walk::Walk;
 use ap_direct::{Direct, Directs};
-use ap_index::{Head, Index, Link, Row, index_of};
+use ap_index::{Choice, Index, Row, index_of};
 use ap_instr::{Code, Predicate};
 use ap_needs::{Room, Widths, widths_of};
 use std::alloc::Global;
@@ -132,20 +131,12 @@ impl Sound {
         self.index.rest(from)
     }
 
-    /// What the index has behind a choice.
-    #[inline]
-    pub fn link(&self, from: usize) -> Option<Link>
-        ensures { IfSome result (λ link. IsLinkOf self.now from link) }
+    /// What is known of the choice at a place, if the index has one there.
+    #[inline(always)]
+    pub fn choice(&self, at: usize) -> Option<&Choice>
+        ensures { IfSome result (λ choice. IsChoiceAt self.now at choice.now) }
     {
-        self.index.link(from)
-    }
-
-    /// What the head of the clause at a place asks of a call's arguments, if the clause is one of several.
-    #[inline]
-    pub fn head(&self, at: usize) -> Option<&Head>
-        ensures { IfSome result (λ head. IsHeadOf self.now at head.now) }
-    {
-        self.index.head(at)
+        self.index.choice(at)
     }
 
     /// What runs of the code need of a store.

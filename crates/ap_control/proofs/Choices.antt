@@ -1,9 +1,8 @@
 -- The clauses that instructions name.
 use Rattle.std.proofs.Common.{◌≡◌, ℕ, zero, suc, ◌≤◌, List, [], ◌∷◌, length, drop, refl, arith}
 use Rattle.ap_instr.specs.declared.instruction.Instr.{Instr}
-use Rattle.ap_instr.specs.declared.instruction.Instr.TheVariants.{Try, Retry, Trust}
+use Rattle.ap_instr.specs.declared.instruction.Instr.TheVariants.{Retry, Trust}
 use Rattle.ap_instr.specs.StandsFor.{tried}
-use Rattle.ap_index.specs.Index.{named}
 
 pub tried-other : (i : Instr) (is : List Instr) → ((l : ℕ) → i ≡ Retry l → ⊥) → ((l : ℕ) → i ≡ Trust l → ⊥) → tried (i ∷ is) ≡ []
 tried-other (Retry l) is r t = absurd (r l refl)
@@ -15,7 +14,3 @@ drop-beyond [] zero l = refl
 drop-beyond [] (suc n) l = refl
 drop-beyond (i ∷ is) zero l = absurd (omega arith)
 drop-beyond (i ∷ is) (suc n) l = drop-beyond is n (omega arith)
-
-pub named-other : (i : Instr) (is : List Instr) → ((l : ℕ) → i ≡ Try l → ⊥) → named (i ∷ is) ≡ tried (i ∷ is)
-named-other (Try l) is t = absurd (t l refl)
-named-other i is t = refl

@@ -7,6 +7,7 @@ use Rattle.ap_cells.specs.declared.cells.Raw.{Raw}
 use Rattle.ap_cells.specs.Trees.{tree_at, trees}
 use Rattle.ap_instr.specs.Code.{Compiled}
 use Rattle.ap_index.specs.declared.key.Key.{Key}
+use Rattle.ap_index.specs.declared.hashing.Hashed.{Hashed}
 use Rattle.ap_index.specs.declared.head.Ask.{Ask}
 use Rattle.ap_index.specs.declared.head.Head.{Head}
 use Rattle.ap_index.specs.Keys.{same_key, IsKeyOf}
@@ -102,12 +103,12 @@ module _ (cs : List Raw) (x : ℕ → ℕ) (arity : ℕ) (asks : List Ask) where
   fit-lacks n f e g = let h = subst (AreFit cs x arity (take n asks)) e g in λ z alike k fits met. h z alike k fits (all-first (IsMet (λ w. k (z w))) n asks met)
 
 -- the key of the first argument, by its place
-pub has-key : (cs : List Raw) (x : ℕ → ℕ) (o : Option Key) (p : ℕ) → p ≡ x 1 → IfSome o (λ key. (k : ℕ → Tree) → Fits cs k → IsKeyOf key (k p)) → HasKey cs x o
+pub has-key : (cs : List Raw) (x : ℕ → ℕ) (o : Option Hashed) (p : ℕ) → p ≡ x 1 → IfSome o (λ own. (k : ℕ → Tree) → Fits cs k → IsKeyOf own.key (k p)) → HasKey cs x o
 has-key cs x None p e h = tt
-has-key cs x (Some key) p e h = subst (λ p. (k : ℕ → Tree) → Fits cs k → IsKeyOf key (k p)) e h
+has-key cs x (Some own) p e h = subst (λ p. (k : ℕ → Tree) → Fits cs k → IsKeyOf own.key (k p)) e h
 
 -- an argument of a known key
-pub known-fit : (cs : List Raw) (x : ℕ → ℕ) (arity : ℕ) (own : Key) (a : Ask) → HasKey cs x (Some own) → a.argument ≡ 1 → a.argument ≤ arity → IsAskFit cs x arity a (fit_known own a.key)
+pub known-fit : (cs : List Raw) (x : ℕ → ℕ) (arity : ℕ) (own : Key) (a : Ask) → ((k : ℕ → Tree) → Fits cs k → IsKeyOf own (k (x 1))) → a.argument ≡ 1 → a.argument ≤ arity → IsAskFit cs x arity a (fit_known own a.key)
 known-fit cs x arity own a known first within = λ z alike. go z (alike a.argument within) (same_key own a.key) refl
   where
     there : (z : ℕ → ℕ) → z a.argument ≡ x a.argument → z a.argument ≡ x 1

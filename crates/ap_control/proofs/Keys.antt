@@ -16,8 +16,8 @@ use Rattle.ap_instr.specs.Step.{Step, with_integer, get_constant, get_structure}
 use Rattle.ap_instr.specs.Steps.{steps_behind}
 use Rattle.ap_index.specs.declared.key.Key.{Key}
 use Rattle.ap_index.specs.declared.key.Key.TheVariants.{Atom, Integer, Structure}
-use Rattle.ap_index.specs.Index.{AsksOther, LeavesOthers, named, tried_from, named_from, first_for, IsRowOf}
-use Rattle.ap_index.specs.declared.row.Row.{Row}
+use Rattle.ap_index.specs.declared.choice.Choice.{Choice}
+use Rattle.ap_index.specs.Index.{AsksOther, LeavesOthers, named, tried_from, named_from, IsChoiceAt}
 use Rattle.ap_match.specs.Fits.{Fits}
 use Rattle.ap_steps.specs.Moves.{Asked}
 use Rattle.ap_standing.specs.Machine.{places_from}
@@ -87,11 +87,25 @@ pub tried-places : (code : Compiled) (o : Option ℕ) → tried_from code o ≡ 
 tried-places code None = refl
 tried-places code (Some at) = refl
 
--- the clauses of a predicate whose row begins there
-row-places : (code : Compiled) (q : Predicate) (r : Row) → IsRowOf code q.start r → clause_places code q ≡ named_from code (Some q.start)
-row-places code q r h = let e = drop-here code.instructions q.start (Try h.clause) h.begins in ap (alternatives q.start) e ∙ sym (ap named e)
+-- the clauses of a predicate that begins with a `try`
+begun-places : (code : Compiled) (q : Predicate) (l : ℕ) → slice_get code.instructions q.start ≡ Some (Try l) → clause_places code q ≡ named_from code (Some q.start)
+begun-places code q l begins = let e = drop-here code.instructions q.start (Try l) begins in ap (alternatives q.start) e ∙ sym (ap named e)
 
--- of those the ones from the choice on that the row has for the key
-pub row-passes : (code : Compiled) (cs : List Raw) (x : ℕ → ℕ) (key : Key) → ((k : ℕ → Tree) → Fits cs k → IsKeyOf key (k (x 1))) → (q : Predicate) (r : Row) → IsRowOf code q.start r → PassesOver code cs x (clause_places code q) (named_from code (first_for r key))
-row-passes code cs x key held q r h =
-    subst (λ ls. PassesOver code cs x ls (named_from code (first_for r key))) (sym (row-places code q r h)) (passes-others code cs x key held (named_from code (Some q.start)) (named_from code (first_for r key)) (h.leads key))
+-- what a choice names, and those behind it
+module _ (code : Compiled) (at : ℕ) (c : Choice) (h : IsChoiceAt code at c) where
+  pub choice-places : named_from code (Some at) ≡ c.named.place ∷ places_from code c.named.behind
+  choice-places =
+      subst (λ p. named_from code (Some p) ≡ c.named.place ∷ places_from code c.named.behind) h.at_it
+      (h.is.named.names ∙ ap (λ ls. c.named.place ∷ ls) (tried-places code c.named.behind))
+
+  pub places_from-choice : (rest : Option ℕ) → rest ≡ Some at → c.named.is_first ≡ false → places_from code rest ≡ c.named.place ∷ places_from code c.named.behind
+  places_from-choice rest e goes_on =
+      subst (λ o. places_from code o ≡ c.named.place ∷ places_from code c.named.behind) (sym e)
+      (sym (subst (λ p. named_from code (Some p) ≡ tried_from code (Some p)) h.at_it (h.is.named.goes_on goes_on)) ∙ choice-places)
+
+-- of the clauses of a predicate that begins with a choice those are left that are left of the choices
+pub row-passes : (code : Compiled) (cs : List Raw) (x : ℕ → ℕ) (q : Predicate) (c : Choice) (o : Option ℕ) → IsChoiceAt code q.start c → c.named.is_first ≡ true
+    → PassesOver code cs x (named_from code (Some q.start)) (named_from code o) → PassesOver code cs x (clause_places code q) (named_from code o)
+row-passes code cs x q c o h first p =
+    let begins : slice_get code.instructions q.start ≡ Some (Try c.named.place) = subst (λ at. slice_get code.instructions at ≡ Some (Try c.named.place)) h.at_it (h.is.named.begins first) in
+    subst (λ ls. PassesOver code cs x ls (named_from code o)) (sym (begun-places code q c.named.place begins)) p

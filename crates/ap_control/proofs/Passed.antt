@@ -1,5 +1,5 @@
 -- Clauses that are passed over.
-use Rattle.std.proofs.Common.{◌≡◌, ℕ, ◌≤◌, List, [], ◌∷◌, ◌++◌, length, ap, sym, ◌∙◌, subst, append_assoc, length-append, arith}
+use Rattle.std.proofs.Common.{◌≡◌, ℕ, ◌≤◌, List, [], ◌∷◌, ◌++◌, length, ap, sym, ◌∙◌, append_assoc, length-append, arith}
 use Rattle.std.specs.List.{AllByRecursion}
 use Rattle.ap_cells.specs.declared.cells.Raw.{Raw}
 use Rattle.ap_instr.specs.Code.{Compiled}
@@ -8,9 +8,6 @@ use Rattle.ap_control.specs.Heads.{IsShut, PassesOver}
 module _ (code : Compiled) (cs : List Raw) (x : ℕ → ℕ) where
   pub passes-none : (ls rest : List ℕ) → ls ≡ rest → PassesOver code cs x ls rest
   passes-none ls rest e = record { passed = []; are = e; shut = tt }
-
-  pub passes-same : (ls rest more : List ℕ) → PassesOver code cs x ls rest → rest ≡ more → PassesOver code cs x ls more
-  passes-same ls rest more h e = subst (PassesOver code cs x ls) e h
 
   -- the first clause can't be entered
   pub passes-one : (ls rest : List ℕ) (l : ℕ) → ls ≡ l ∷ rest → IsShut code cs x l → PassesOver code cs x ls rest

@@ -5,6 +5,7 @@ use Rattle.ap_term.specs.Tree.{Tree}
 use Rattle.ap_cells.specs.declared.cells.Raw.{Raw}
 use Rattle.ap_instr.specs.Code.{Compiled}
 use Rattle.ap_index.specs.declared.key.Key.{Key}
+use Rattle.ap_index.specs.declared.hashing.Hashed.{Hashed}
 use Rattle.ap_index.specs.declared.head.Ask.{Ask}
 use Rattle.ap_index.specs.Keys.{same_key, IsKeyOf}
 use Rattle.ap_index.specs.Heads.{IsMet}
@@ -66,9 +67,9 @@ IsChance code cs x n at Sure = (z : ℕ → ℕ) → Alike n x z → CanTake cod
 IsChance code cs x n at OpenChance = Unit {0}
 
 -- a key that the first argument has, if one is known
-abbrev pub HasKey : List Raw → (ℕ → ℕ) → Option Key → Type 0
+abbrev pub HasKey : List Raw → (ℕ → ℕ) → Option Hashed → Type 0
 HasKey cs x None = Unit {0}
-HasKey cs x (Some key) = (k : ℕ → Tree) → Fits cs k → IsKeyOf key (k (x 1))
+HasKey cs x (Some own) = (k : ℕ → Tree) → Fits cs k → IsKeyOf own.key (k (x 1))
 
 -- the clauses that are left from a possible one on
 abbrev pub possible_places : Compiled → Option Possible → List ℕ

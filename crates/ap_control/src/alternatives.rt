@@ -3,7 +3,6 @@
 ghost use Rattle.std.specs.Prelude.{◌≡◌, ◌∷◌, [], slice_get, None, Some, IfSome};
 ghost use Rattle.ap_instr.specs.StandsFor.{clause_places};
 ghost use Rattle.ap_standing.specs.Machine.{places_from};
-ghost use Rattle.ap_index.specs.Index.{named_from};
 
 use ap_instr::{Code, Instr, Predicate};
 
@@ -64,26 +63,6 @@ fn named_at(code: &Code, at: usize) -> Option<Alternative>
                 behind: None,
             }),
             _ => None,
-        },
-    }
-}
-
-/// The clause that the choice at a place names, which may be a `try`.
-pub(crate) fn chosen(code: &Code, at: usize) -> Option<Alternative>
-    ensures none { result ≡ None → named_from code.now (Some at) ≡ [] }
-    ensures some { IfSome result (λ a. named_from code.now (Some at) ≡ a.place ∷ places_from code.now a.behind) }
-{
-    if at >= code.instructions().len() {
-        return None;
-    }
-    match instruction_at(code, at) {
-        None => None,
-        Some(instr) => match instr {
-            Instr::Try(place) => Some(Alternative {
-                place,
-                behind: Some(at + 1),
-            }),
-            _ => named_at(code, at),
         },
     }
 }

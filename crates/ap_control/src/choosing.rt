@@ -7,7 +7,8 @@ ghost use Rattle.ap_cells.specs.declared.cells.Raw.{Raw};
 ghost use Rattle.ap_instr.specs.StandsFor.{clause_places};
 ghost use Rattle.ap_index.specs.declared.key.Key.TheVariants.{Atom as AtomKey, Integer as IntegerKey, Structure as StructureKey};
 ghost use Rattle.ap_index.specs.Keys.{same_key, IsKeyOf};
-ghost use Rattle.ap_index.specs.Index.{IsRowOf};
+ghost use Rattle.ap_instr.specs.Code.{Compiled};
+ghost use Rattle.ap_index.specs.Index.{named_from, IsChoiceOf};
 ghost use Rattle.ap_match.specs.Fits.{Fits};
 ghost use Rattle.ap_steps.specs.Moves.{held, HoldPlaces};
 ghost use Rattle.ap_standing.specs.Machine.{places_from};
@@ -15,14 +16,15 @@ ghost use Rattle.ap_control.specs.Heads.{PassesOver};
 ghost use Rattle.ap_control.specs.Taking.{CanTake};
 ghost use Rattle.ap_control.specs.Choosing.{both, chance_by, fit_known, IsFit, IsAskFit, AreFit, IsChance, HasKey, Alike, possible_places};
 
-use crate::alternatives::{Alternative, chosen, first, following};
+use crate::alternatives::{Alternative, first, following};
 use ap_cells::{Cells, Top};
 use ap_codecheck::Sound;
-use ap_index::{Ask, Head, Key, Row};
+use ap_index::{Ask, Choice, Hashed, Head, Key, Next};
 use ap_instr::Predicate;
 use ap_steps::registers::place_in;
 
 /// What is looked up of an atom, an integer or a structure at a place; none of an unbound variable.
+#[inline(always)]
 fn key_of(cells: &Cells, place: usize) -> Option<Key>
     requires { place < length cells.now.cells }
     ensures { IfSome result (λ key. (k : ℕ → Tree) → Fits cells.now.cells k → IsKeyOf key (k place)) }
@@ -37,6 +39,18 @@ fn key_of(cells: &Cells, place: usize) -> Option<Key>
             }
             Some(Key::Structure(name.number(), count as u8))
         }
+    }
+}
+
+/// What is looked up at a place, with its hash.
+#[inline(always)]
+fn own_of(cells: &Cells, place: usize) -> Option<Hashed>
+    requires { place < length cells.now.cells }
+    ensures { IfSome result (λ own. (k : ℕ → Tree) → Fits cells.now.cells k → IsKeyOf own.key (k place)) }
+{
+    match key_of(cells, place) {
+        Some(key) => Some(Hashed::new(key)),
+        None => None,
     }
 }
 
@@ -151,7 +165,7 @@ fn fit_known(own: Key, asked: Key) -> Fit
 
 /// How an argument of a call with so many stands to what it is asked, where the first one's key may be known.
 #[inline(always)]
-fn fit_ask(cells: &Cells, x: &[u32], arity: u8, key: Option<Key>, ask: &Ask) -> Fit
+fn fit_ask(cells: &Cells, x: &[u32], arity: u8, key: Option<Hashed>, ask: &Ask) -> Fit
     requires holds { HoldPlaces (length cells.now.cells) x.now }
     requires key { HasKey cells.now.cells (held x.now) key }
     ensures { IsAskFit cells.now.cells (held x.now) arity ask.now result }
@@ -163,7 +177,7 @@ fn fit_ask(cells: &Cells, x: &[u32], arity: u8, key: Option<Key>, ask: &Ask) -> 
         return fit_key(cells, place_in(x, ask.argument), ask.key);
     }
     match key {
-        Some(own) => fit_known(own, ask.key),
+        Some(own) => fit_known(own.key(), ask.key),
         None => fit_key(cells, place_in(x, ask.argument), ask.key),
     }
 }
@@ -185,7 +199,7 @@ fn both(some: Fit, one: Fit) -> Fit
 
 /// How the arguments of a call stand to what they are asked.
 #[inline(always)]
-fn fit_all(cells: &Cells, x: &[u32], arity: u8, key: Option<Key>, asks: &[Ask]) -> Fit
+fn fit_all(cells: &Cells, x: &[u32], arity: u8, key: Option<Hashed>, asks: &[Ask]) -> Fit
     requires holds { HoldPlaces (length cells.now.cells) x.now }
     requires key { HasKey cells.now.cells (held x.now) key }
     ensures { AreFit cells.now.cells (held x.now) arity asks.now result }
@@ -227,43 +241,46 @@ fn chance_by(fit: Fit, head: &Head) -> Chance
     }
 }
 
-/// Whether the clause at a place can be entered by a call on so many argument registers, by what its head asks of them.
+/// Whether the clause of a choice can be entered by a call on so many argument registers, by what its head asks of them.
 #[inline(always)]
-fn chance_of(
-    cells: &Cells,
-    x: &[u32],
-    arity: u8,
-    sound: &Sound,
-    key: Option<Key>,
-    at: usize,
-) -> Chance
+fn chance_of(cells: &Cells, x: &[u32], arity: u8, key: Option<Hashed>, choice: &Choice) -> Chance
     requires holds { HoldPlaces (length cells.now.cells) x.now }
     requires key { HasKey cells.now.cells (held x.now) key }
-    ensures { IsChance sound.now cells.now.cells (held x.now) arity at result }
+    ensures { (code : Compiled) → IsChoiceOf code choice.now → IsChance code cells.now.cells (held x.now) arity choice.now.named.place result }
 {
-    match sound.head(at) {
-        Some(head) => chance_by(fit_all(cells, x, arity, key, head.asks()), head),
-        None => Chance::Open,
+    chance_by(
+        fit_all(cells, x, arity, key, choice.head.asks()),
+        &choice.head,
+    )
+}
+
+/// From a place behind a choice the next choice for the first argument, by the row that may go on there.
+#[inline(never)]
+fn next_of_row(sound: &Sound, own: Hashed, at: usize) -> Option<usize>
+    ensures { (cs : List Raw) (x : ℕ → ℕ) → HasKey cs x (Some own) → PassesOver sound.now cs x (places_from sound.now (Some at)) (places_from sound.now result) }
+{
+    match sound.rest(at) {
+        Some(row) => row.first(own),
+        None => Some(at),
     }
 }
 
-/// From a choice the next one for the first argument, by what the index has there.
+/// From a choice the next one for the first argument, by what is known there.
 #[inline(always)]
-fn next_choice(sound: &Sound, key: Option<Key>, behind: Option<usize>) -> Option<usize>
-    ensures { (cs : List Raw) (x : ℕ → ℕ) → HasKey cs x key → PassesOver sound.now cs x (places_from sound.now behind) (places_from sound.now result) }
+fn next_choice(sound: &Sound, key: Option<Hashed>, choice: &Choice) -> Option<usize>
+    requires { IsChoiceOf sound.now choice.now }
+    ensures { (cs : List Raw) (x : ℕ → ℕ) → HasKey cs x key → PassesOver sound.now cs x (places_from sound.now choice.now.named.behind) (places_from sound.now result) }
 {
-    let Some(at) = behind else {
+    let Some(at) = choice.named.behind else {
         return None;
     };
-    let Some(first) = key else {
+    let Some(own) = key else {
         return Some(at);
     };
-    if let Some(link) = sound.link(at) {
-        return link.next(first, at);
-    }
-    match sound.rest(at) {
-        Some(row) => row.first(first),
-        None => Some(at),
+    match choice.next {
+        Next::Linked(link) => link.next(own, at),
+        Next::Row => next_of_row(sound, own, at),
+        Next::Any => Some(at),
     }
 }
 
@@ -274,13 +291,28 @@ pub struct Possible {
     pub sure: bool,
 }
 
+/// The next clause from a choice on, of which nothing is known.
+#[inline(always)]
+fn next_unknown(sound: &Sound, from: Option<usize>) -> Option<Possible>
+    ensures passes { (cs : List Raw) (x : ℕ → ℕ) → PassesOver sound.now cs x (places_from sound.now from) (possible_places sound.now result) }
+    ensures sure { (n : ℕ) (cs : List Raw) (x : ℕ → ℕ) → IfSome result (λ p. p.sure ≡ true → (z : ℕ → ℕ) → Alike n x z → CanTake sound.now cs z p.alternative.place) }
+{
+    match following(sound.code(), from) {
+        Some(alternative) => Some(Possible {
+            alternative,
+            sure: false,
+        }),
+        None => None,
+    }
+}
+
 /// The first clause from a choice on that isn't passed over.
 fn possible_from(
     cells: &Cells,
     x: &[u32],
     arity: u8,
     sound: &Sound,
-    key: Option<Key>,
+    key: Option<Hashed>,
     from: Option<usize>,
 ) -> Option<Possible>
     requires holds { HoldPlaces (length cells.now.cells) x.now }
@@ -288,27 +320,58 @@ fn possible_from(
     ensures passes { PassesOver sound.now cells.now.cells (held x.now) (places_from sound.now from) (possible_places sound.now result) }
     ensures sure { IfSome result (λ p. p.sure ≡ true → (z : ℕ → ℕ) → Alike arity (held x.now) z → CanTake sound.now cells.now.cells z p.alternative.place) }
 {
-    let code = sound.code();
     let mut rest = from;
-    while let Some(found) = following(code, rest) {
-        match chance_of(cells, x, arity, sound, key, found.place as usize) {
-            Chance::Never => {}
+    while let Some(at) = rest {
+        let Some(choice) = sound.choice(at) else {
+            return next_unknown(sound, rest);
+        };
+        if choice.named.is_first {
+            return next_unknown(sound, rest);
+        }
+        let alternative = Alternative {
+            place: choice.named.place,
+            behind: choice.named.behind,
+        };
+        match chance_of(cells, x, arity, key, choice) {
+            Chance::Never => rest = next_choice(sound, key, choice),
             Chance::Sure => {
                 return Some(Possible {
-                    alternative: found,
+                    alternative,
                     sure: true,
                 });
             }
             Chance::Open => {
                 return Some(Possible {
-                    alternative: found,
+                    alternative,
                     sure: false,
                 });
             }
         }
-        rest = next_choice(sound, key, found.behind);
     }
     None
+}
+
+/// From a place behind a choice the next choice for the first argument, by what is known of the choice before it.
+#[inline(always)]
+fn next_behind(sound: &Sound, key: Option<Hashed>, behind: Option<usize>) -> Option<usize>
+    ensures { (cs : List Raw) (x : ℕ → ℕ) → HasKey cs x key → PassesOver sound.now cs x (places_from sound.now behind) (places_from sound.now result) }
+{
+    let Some(at) = behind else {
+        return None;
+    };
+    if at == 0 {
+        return behind;
+    }
+    let Some(choice) = sound.choice(at - 1) else {
+        return behind;
+    };
+    let Some(after) = choice.named.behind else {
+        return behind;
+    };
+    if after != at {
+        return behind;
+    }
+    next_choice(sound, key, choice)
 }
 
 /// The next clause behind a choice that isn't passed over, for a call on so many argument registers.
@@ -326,8 +389,8 @@ pub fn next_possible(
     if behind.is_none() {
         return None;
     }
-    let key = key_of(cells, place_in(x, 1));
-    let from = next_choice(sound, key, behind);
+    let key = own_of(cells, place_in(x, 1));
+    let from = next_behind(sound, key, behind);
     possible_from(cells, x, arity, sound, key, from)
 }
 
@@ -338,87 +401,106 @@ pub struct Chosen {
     pub next: Option<Possible>,
 }
 
-/// The clauses that are left from one on, where the others are left from a choice on. None where none of them can be entered.
+/// The clauses that are left from a choice on, where the others are left from another choice on. None where none of them can be entered.
 #[inline(always)]
 fn chosen_among(
     cells: &Cells,
     x: &[u32],
     arity: u8,
     sound: &Sound,
-    key: Option<Key>,
-    found: Alternative,
+    key: Option<Hashed>,
+    found: &Choice,
     from: Option<usize>,
 ) -> Option<Chosen>
     requires holds { HoldPlaces (length cells.now.cells) x.now }
     requires key { HasKey cells.now.cells (held x.now) key }
-    requires from { PassesOver sound.now cells.now.cells (held x.now) (places_from sound.now found.behind) (places_from sound.now from) }
-    ensures none { result ≡ None → PassesOver sound.now cells.now.cells (held x.now) (found.place ∷ places_from sound.now found.behind) [] }
-    ensures first { IfSome result (λ c. PassesOver sound.now cells.now.cells (held x.now) (found.place ∷ places_from sound.now found.behind) (c.first.place ∷ places_from sound.now c.first.behind)) }
+    requires found { IsChoiceOf sound.now found.now }
+    requires from { PassesOver sound.now cells.now.cells (held x.now) (places_from sound.now found.now.named.behind) (places_from sound.now from) }
+    ensures none { result ≡ None → PassesOver sound.now cells.now.cells (held x.now) (found.now.named.place ∷ places_from sound.now found.now.named.behind) [] }
+    ensures first { IfSome result (λ c. PassesOver sound.now cells.now.cells (held x.now) (found.now.named.place ∷ places_from sound.now found.now.named.behind) (c.first.place ∷ places_from sound.now c.first.behind)) }
     ensures next { IfSome result (λ c. PassesOver sound.now cells.now.cells (held x.now) (places_from sound.now c.first.behind) (possible_places sound.now c.next)) }
     ensures sure { IfSome result (λ c. IfSome c.next (λ p. p.sure ≡ true → (z : ℕ → ℕ) → Alike arity (held x.now) z → CanTake sound.now cells.now.cells z p.alternative.place)) }
 {
+    let own = Alternative {
+        place: found.named.place,
+        behind: found.named.behind,
+    };
     let next = possible_from(cells, x, arity, sound, key, from);
-    match chance_of(cells, x, arity, sound, key, found.place as usize) {
+    match chance_of(cells, x, arity, key, found) {
         Chance::Never => {
             let Some(second) = next else {
                 return None;
             };
-            let rest = next_choice(sound, key, second.alternative.behind);
+            let rest = next_behind(sound, key, second.alternative.behind);
             let third = possible_from(cells, x, arity, sound, key, rest);
             Some(Chosen {
                 first: second.alternative,
                 next: third,
             })
         }
-        _ => Some(Chosen { first: found, next }),
+        _ => Some(Chosen { first: own, next }),
     }
 }
 
-/// The clauses that are left from one on. That one is asked for nothing where there is no other.
+/// The clauses that are left from a choice on. Its clause is asked for nothing where there is no other.
 #[inline(always)]
 fn chosen_from(
     cells: &Cells,
     x: &[u32],
     arity: u8,
     sound: &Sound,
-    key: Option<Key>,
-    found: Alternative,
+    key: Option<Hashed>,
+    found: &Choice,
 ) -> Option<Chosen>
     requires holds { HoldPlaces (length cells.now.cells) x.now }
     requires key { HasKey cells.now.cells (held x.now) key }
-    ensures none { result ≡ None → PassesOver sound.now cells.now.cells (held x.now) (found.place ∷ places_from sound.now found.behind) [] }
-    ensures first { IfSome result (λ c. PassesOver sound.now cells.now.cells (held x.now) (found.place ∷ places_from sound.now found.behind) (c.first.place ∷ places_from sound.now c.first.behind)) }
+    requires found { IsChoiceOf sound.now found.now }
+    ensures none { result ≡ None → PassesOver sound.now cells.now.cells (held x.now) (found.now.named.place ∷ places_from sound.now found.now.named.behind) [] }
+    ensures first { IfSome result (λ c. PassesOver sound.now cells.now.cells (held x.now) (found.now.named.place ∷ places_from sound.now found.now.named.behind) (c.first.place ∷ places_from sound.now c.first.behind)) }
     ensures next { IfSome result (λ c. PassesOver sound.now cells.now.cells (held x.now) (places_from sound.now c.first.behind) (possible_places sound.now c.next)) }
     ensures sure { IfSome result (λ c. IfSome c.next (λ p. p.sure ≡ true → (z : ℕ → ℕ) → Alike arity (held x.now) z → CanTake sound.now cells.now.cells z p.alternative.place)) }
 {
-    match next_choice(sound, key, found.behind) {
+    match next_choice(sound, key, found) {
         None => Some(Chosen {
-            first: found,
+            first: Alternative {
+                place: found.named.place,
+                behind: found.named.behind,
+            },
             next: None,
         }),
         from => chosen_among(cells, x, arity, sound, key, found, from),
     }
 }
 
-/// A predicate's first clause for the first argument, by its row.
+/// A predicate's first clause, with the next one, of neither of which anything is known.
 #[inline(always)]
-fn first_of_row(
-    sound: &Sound,
-    predicate: &Predicate,
-    row: &Row,
-    key: Option<Key>,
-) -> Option<Alternative>
-    requires { IsRowOf sound.now predicate.now.start row.now }
-    ensures none { result ≡ None → (cs : List Raw) (x : ℕ → ℕ) → HasKey cs x key → PassesOver sound.now cs x (clause_places sound.now predicate.now) [] }
-    ensures some { IfSome result (λ a. (cs : List Raw) (x : ℕ → ℕ) → HasKey cs x key → PassesOver sound.now cs x (clause_places sound.now predicate.now) (a.place ∷ places_from sound.now a.behind)) }
+fn chosen_plainly(sound: &Sound, predicate: &Predicate) -> Option<Chosen>
+    ensures none { result ≡ None → (cs : List Raw) (x : ℕ → ℕ) → PassesOver sound.now cs x (clause_places sound.now predicate.now) [] }
+    ensures first { IfSome result (λ c. (cs : List Raw) (x : ℕ → ℕ) → PassesOver sound.now cs x (clause_places sound.now predicate.now) (c.first.place ∷ places_from sound.now c.first.behind)) }
+    ensures next { IfSome result (λ c. (cs : List Raw) (x : ℕ → ℕ) → PassesOver sound.now cs x (places_from sound.now c.first.behind) (possible_places sound.now c.next)) }
+    ensures sure { (n : ℕ) (cs : List Raw) (x : ℕ → ℕ) → IfSome result (λ c. IfSome c.next (λ p. p.sure ≡ true → (z : ℕ → ℕ) → Alike n x z → CanTake sound.now cs z p.alternative.place)) }
 {
-    let code = sound.code();
-    match key {
-        None => first(code, predicate),
-        Some(own) => match row.first(own) {
-            Some(at) => chosen(code, at),
-            None => None,
-        },
+    match first(sound.code(), predicate) {
+        Some(found) => Some(Chosen {
+            first: found,
+            next: next_unknown(sound, found.behind),
+        }),
+        None => None,
+    }
+}
+
+/// A predicate's first choice for the first argument, by its row, if it has one: none where no clause is left.
+#[inline(always)]
+fn first_of_row(sound: &Sound, start: u32, key: Option<Hashed>) -> Option<usize>
+    ensures { (cs : List Raw) (x : ℕ → ℕ) → HasKey cs x key → PassesOver sound.now cs x (named_from sound.now (Some start)) (named_from sound.now result) }
+{
+    let at = start as usize;
+    let Some(own) = key else {
+        return Some(at);
+    };
+    match sound.row(at) {
+        Some(row) => row.first(own),
+        None => Some(at),
     }
 }
 
@@ -431,19 +513,18 @@ pub fn choose(cells: &Cells, x: &[u32], sound: &Sound, predicate: &Predicate) ->
     ensures next { IfSome result (λ c. PassesOver sound.now cells.now.cells (held x.now) (places_from sound.now c.first.behind) (possible_places sound.now c.next)) }
     ensures sure { IfSome result (λ c. IfSome c.next (λ p. p.sure ≡ true → (z : ℕ → ℕ) → Alike predicate.now.arity (held x.now) z → CanTake sound.now cells.now.cells z p.alternative.place)) }
 {
-    let code = sound.code();
-    let Some(row) = sound.row(predicate.start as usize) else {
-        let found = first(code, predicate)?;
-        if found.behind.is_none() {
-            return Some(Chosen {
-                first: found,
-                next: None,
-            });
-        }
-        let key = key_of(cells, place_in(x, 1));
-        return chosen_from(cells, x, predicate.arity, sound, key, found);
+    let Some(begin) = sound.choice(predicate.start as usize) else {
+        return chosen_plainly(sound, predicate);
     };
-    let key = key_of(cells, place_in(x, 1));
-    let found = first_of_row(sound, predicate, row, key)?;
-    chosen_from(cells, x, predicate.arity, sound, key, found)
+    if !begin.named.is_first {
+        return chosen_plainly(sound, predicate);
+    }
+    let key = own_of(cells, place_in(x, 1));
+    let Some(at) = first_of_row(sound, predicate.start, key) else {
+        return None;
+    };
+    match sound.choice(at) {
+        Some(found) => chosen_from(cells, x, predicate.arity, sound, key, found),
+        None => chosen_plainly(sound, predicate),
+    }
 }

@@ -8,12 +8,11 @@ use Rattle.ap_instr.specs.StandsFor.{tried}
 use Rattle.ap_index.specs.declared.key.Key.{Key}
 use Rattle.ap_index.specs.Keys.{same_key, key_at, IsKeyed}
 use Rattle.ap_index.specs.Hashing.{slot_of}
-use Rattle.ap_index.specs.declared.head.Head.{Head}
 use Rattle.ap_index.specs.declared.row.Row.{Row}
 use Rattle.ap_index.specs.declared.row.Link.{Link}
-use Rattle.ap_index.specs.declared.index.Entry.{Entry}
-use Rattle.ap_index.specs.declared.index.Entry.TheVariants.{Nothing, Begins, Rest, Behind, Asks}
-use Rattle.ap_index.specs.Index.{LeavesOthers, named, tried_from, named_from, in_slot, first_for, IsFilled, IsRowOf, IsLinkOf, IsEntryOf}
+use Rattle.ap_index.specs.declared.rows.Entry.{Entry}
+use Rattle.ap_index.specs.declared.rows.Entry.TheVariants.{Nothing, Begins, Rest, Behind}
+use Rattle.ap_index.specs.Index.{LeavesOthers, named, tried_from, named_from, in_slot, first_for, IsFilled, IsRowOf, IsLinkOf, IsEntryOf, IsNamedBy}
 use Rattle.ap_index.proofs.Same.{true-same}
 use Rattle.ap_term.proofs.Lists.{slice_get-push, drop-here}
 
@@ -78,6 +77,25 @@ module _ (code : Compiled) (at l : ℕ) where
   pub retry-named : slice_get code.instructions at ≡ Some (Retry l) → named_from code (Some at) ≡ tried_from code (Some at)
   retry-named e = ap named (drop-here code.instructions at (Retry l) e) ∙ sym (ap tried (drop-here code.instructions at (Retry l) e))
 
+-- what is known of a choice at a place by the instruction there
+module _ (code : Compiled) (at l : ℕ) where
+  pub try-names : slice_get code.instructions at ≡ Some (Try l) → IsNamedBy code at (record { place = l; behind = Some (at + 1); is_first = true })
+  try-names e = record { names = try-more code at l e; begins = λ h. e; goes_on = λ h. absurd (false≢true (sym h)) }
+
+  pub retry-names : slice_get code.instructions at ≡ Some (Retry l) → IsNamedBy code at (record { place = l; behind = Some (at + 1); is_first = false })
+  retry-names e = record {
+    names = retry-named code at l e ∙ retry-more code at l e;
+    begins = λ h. absurd (false≢true h);
+    goes_on = λ h. retry-named code at l e;
+  }
+
+  pub trust-names : slice_get code.instructions at ≡ Some (Trust l) → IsNamedBy code at (record { place = l; behind = None; is_first = false })
+  trust-names e = record {
+    names = trust-named code at l e ∙ trust-last code at l e;
+    begins = λ h. absurd (false≢true h);
+    goes_on = λ h. trust-named code at l e;
+  }
+
 -- a link leads where the row did for its key
 pub row-link : (code : Compiled) (from : ℕ) (row : Row) (asked : Key) (l : Link) → l.count ≡ row.count → l.slot ≡ slot_of asked row.count → l.next ≡ first_for row asked
     → IsFilled code from row → IsLinkOf code from l
@@ -123,26 +141,23 @@ has-more (y ∷ xs) ys (suc n) x e = has-more xs ys n x e
 pub pushed-is : {X : Type 0} (xs ys : List X) (x : X) (n : ℕ) → ys ≡ xs ++ x ∷ [] → n ≡ length xs → slice_get ys n ≡ Some x
 pushed-is xs ys x n e l = ap (slice_get ys) l ∙ ap (λ zs. slice_get zs (length xs)) e ∙ slice_get-push xs x
 
+-- what holds of each of some, and of one more behind them, holds of all
+pub one-more : {X : Type 0} (P : X → Type 0) (xs : List X) (x : X) → ((n : ℕ) (y : X) → slice_get xs n ≡ Some y → P y) → P x → (n : ℕ) (y : X) → slice_get (xs ++ x ∷ []) n ≡ Some y → P y
+one-more P [] x h p zero y e = subst P (let z : x ≡ y = cc in z) p
+one-more P [] x h p (suc n) y e = absurd (let z : ⊥ = cc in z)
+one-more P (w ∷ ws) x h p zero y e = h zero y e
+one-more P (w ∷ ws) x h p (suc n) y e = one-more P ws x (λ m. h (suc m)) p n y e
+
 -- an entry stays right with more rows
-pub more-rows : (code : Compiled) (rs new : List Row) (r : Row) (ls : List Link) (hs : List Head) (from : ℕ) (e : Entry) → new ≡ rs ++ r ∷ [] → IsEntryOf code rs ls hs from e → IsEntryOf code new ls hs from e
-more-rows code rs new r ls hs from Nothing q h = h
-more-rows code rs new r ls hs from (Begins n) q h = (h.0, ap (λ rows. slice_get rows n) q ∙ has-more rs (r ∷ []) n h.0 h.1, h.2)
-more-rows code rs new r ls hs from (Rest n) q h = (h.0, ap (λ rows. slice_get rows n) q ∙ has-more rs (r ∷ []) n h.0 h.1, h.2)
-more-rows code rs new r ls hs from (Behind n) q h = h
-more-rows code rs new r ls hs from (Asks n) q h = h
+pub more-rows : (code : Compiled) (rs new : List Row) (r : Row) (ls : List Link) (from : ℕ) (e : Entry) → new ≡ rs ++ r ∷ [] → IsEntryOf code rs ls from e → IsEntryOf code new ls from e
+more-rows code rs new r ls from Nothing q h = h
+more-rows code rs new r ls from (Begins n) q h = (h.0, ap (λ rows. slice_get rows n) q ∙ has-more rs (r ∷ []) n h.0 h.1, h.2)
+more-rows code rs new r ls from (Rest n) q h = (h.0, ap (λ rows. slice_get rows n) q ∙ has-more rs (r ∷ []) n h.0 h.1, h.2)
+more-rows code rs new r ls from (Behind n) q h = h
 
--- with more links
-pub more-links : (code : Compiled) (rs : List Row) (ls new : List Link) (l : Link) (hs : List Head) (from : ℕ) (e : Entry) → new ≡ ls ++ l ∷ [] → IsEntryOf code rs ls hs from e → IsEntryOf code rs new hs from e
-more-links code rs ls new l hs from Nothing q h = h
-more-links code rs ls new l hs from (Begins n) q h = h
-more-links code rs ls new l hs from (Rest n) q h = h
-more-links code rs ls new l hs from (Behind n) q h = (h.0, ap (λ links. slice_get links n) q ∙ has-more ls (l ∷ []) n h.0 h.1, h.2)
-more-links code rs ls new l hs from (Asks n) q h = h
-
--- and with more heads
-pub more-heads : (code : Compiled) (rs : List Row) (ls : List Link) (hs new : List Head) (a : Head) (from : ℕ) (e : Entry) → new ≡ hs ++ a ∷ [] → IsEntryOf code rs ls hs from e → IsEntryOf code rs ls new from e
-more-heads code rs ls hs new a from Nothing q h = h
-more-heads code rs ls hs new a from (Begins n) q h = h
-more-heads code rs ls hs new a from (Rest n) q h = h
-more-heads code rs ls hs new a from (Behind n) q h = h
-more-heads code rs ls hs new a from (Asks n) q h = (h.0, ap (λ heads. slice_get heads n) q ∙ has-more hs (a ∷ []) n h.0 h.1, h.2)
+-- and with more links
+pub more-links : (code : Compiled) (rs : List Row) (ls new : List Link) (l : Link) (from : ℕ) (e : Entry) → new ≡ ls ++ l ∷ [] → IsEntryOf code rs ls from e → IsEntryOf code rs new from e
+more-links code rs ls new l from Nothing q h = h
+more-links code rs ls new l from (Begins n) q h = h
+more-links code rs ls new l from (Rest n) q h = h
+more-links code rs ls new l from (Behind n) q h = (h.0, ap (λ links. slice_get links n) q ∙ has-more ls (l ∷ []) n h.0 h.1, h.2)

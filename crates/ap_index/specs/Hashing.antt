@@ -10,7 +10,10 @@ number_of (Atom a) = a
 number_of (Integer z) = cast_unsigned w64 z
 number_of (Structure f n) = f * 256 + n
 
--- the slot of a key, among so many: 2 to the power of 64 by the golden ratio is multiplied by the key's number, and
--- what is left behind the point of that by so many slots
+-- what is left behind the point where the number is multiplied by the golden ratio: so many of 2 to the power of 32
+abbrev pub hash_of : Key → ℕ
+hash_of key = number_of key * 11400714819323198485 % 2 ^ 64 / 2 ^ 32
+
+-- the slot of a key, among so many: the part of them that its hash is of 2 to the power of 32
 unfoldable pub slot_of : Key → ℕ → ℕ
-slot_of key slots = number_of key * 11400714819323198485 % 2 ^ 64 / 2 ^ 32 * slots / 2 ^ 32
+slot_of key slots = hash_of key * slots / 2 ^ 32

@@ -1,5 +1,5 @@
 -- What an index says of code.
-use Rattle.std.specs.Prelude.{◌≡◌, ℕ, false, ◌==◌, if◌then◌else◌, List, [], ◌∷◌, ◌++◌, drop, slice_get, get_or, Option, Some, None}
+use Rattle.std.specs.Prelude.{◌≡◌, ℕ, true, false, ◌==◌, if◌then◌else◌, List, [], ◌∷◌, ◌++◌, drop, slice_get, get_or, Option, Some, None}
 use Rattle.std.specs.List.{AllByRecursion}
 use Rattle.ap_instr.specs.declared.instruction.Instr.{Instr}
 use Rattle.ap_instr.specs.declared.instruction.Instr.TheVariants.{Try}
@@ -9,12 +9,16 @@ use Rattle.ap_index.specs.declared.key.Key.{Key}
 use Rattle.ap_index.specs.declared.row.Row.{Row}
 use Rattle.ap_index.specs.declared.row.TheConstants.{NONE}
 use Rattle.ap_index.specs.declared.row.Link.{Link}
-use Rattle.ap_index.specs.declared.index.Entry.{Entry}
-use Rattle.ap_index.specs.declared.index.Entry.TheVariants.{Nothing, Begins, Rest, Behind, Asks}
+use Rattle.ap_index.specs.declared.rows.Entry.{Entry}
+use Rattle.ap_index.specs.declared.rows.Entry.TheVariants.{Nothing, Begins, Rest, Behind}
+use Rattle.ap_index.specs.declared.rows.Rows.{Rows}
+use Rattle.ap_index.specs.declared.choice.Named.{Named}
+use Rattle.ap_index.specs.declared.choice.Next.{Next}
+use Rattle.ap_index.specs.declared.choice.Next.TheVariants.{Any, Row as RowNext, Linked}
+use Rattle.ap_index.specs.declared.choice.Choice.{Choice}
 use Rattle.ap_index.specs.declared.index.Index.{Index}
 use Rattle.ap_index.specs.Keys.{same_key, key_at}
 use Rattle.ap_index.specs.Hashing.{slot_of}
-use Rattle.ap_index.specs.declared.head.Head.{Head}
 use Rattle.ap_index.specs.Heads.{IsHeadOf}
 
 -- the clause at a place asks for another first argument
@@ -71,13 +75,40 @@ abbrev pub IsLinkOf : Compiled → ℕ → Link → Type 0
 IsLinkOf code from l = (key : Key) → slot_of key l.count ≡ l.slot → LeavesOthers code key (tried_from code (Some from)) (tried_from code l.next)
 
 -- what an entry for a place says
-abbrev pub IsEntryOf : Compiled → List Row → List Link → List Head → ℕ → Entry → Type 0
-IsEntryOf code rows links heads from Nothing = Unit {0}
-IsEntryOf code rows links heads from (Begins number) = (r : Row) × (slice_get rows number ≡ Some r) × IsRowOf code from r
-IsEntryOf code rows links heads from (Rest number) = (r : Row) × (slice_get rows number ≡ Some r) × IsRestOf code from r
-IsEntryOf code rows links heads from (Behind number) = (l : Link) × (slice_get links number ≡ Some l) × IsLinkOf code from l
-IsEntryOf code rows links heads at (Asks number) = (h : Head) × (slice_get heads number ≡ Some h) × IsHeadOf code at h
+abbrev pub IsEntryOf : Compiled → List Row → List Link → ℕ → Entry → Type 0
+IsEntryOf code rows links from Nothing = Unit {0}
+IsEntryOf code rows links from (Begins number) = (r : Row) × (slice_get rows number ≡ Some r) × IsRowOf code from r
+IsEntryOf code rows links from (Rest number) = (r : Row) × (slice_get rows number ≡ Some r) × IsRestOf code from r
+IsEntryOf code rows links from (Behind number) = (l : Link) × (slice_get links number ≡ Some l) × IsLinkOf code from l
+
+-- rows of the code's choices, and links between those
+pub record AreRowsOf (code : Compiled) (r : Rows) : Type 0 where
+  pub entries : (from : ℕ) → IsEntryOf code r.rows.items r.links.items from (get_or r.entries.items from Nothing)
+
+-- The choice at the place names this clause and those from there on. The first one is a `try`.
+pub record IsNamedBy (code : Compiled) (at : ℕ) (n : Named) : Type 0 where
+  pub names : named_from code (Some at) ≡ n.place ∷ tried_from code n.behind
+  pub begins : n.is_first ≡ true → slice_get code.instructions at ≡ Some (Try n.place)
+  pub goes_on : n.is_first ≡ false → named_from code (Some at) ≡ tried_from code (Some at)
+
+-- what is known of the choices behind one
+abbrev pub IsNextOf : Compiled → Option ℕ → Next → Type 0
+IsNextOf code behind Any = Unit {0}
+IsNextOf code behind RowNext = Unit {0}
+IsNextOf code behind (Linked l) = (from : ℕ) → behind ≡ Some from → IsLinkOf code from l
+
+-- what is known of a choice
+pub record IsChoiceOf (code : Compiled) (c : Choice) : Type 0 where
+  pub named : IsNamedBy code c.at c.named
+  pub head : IsHeadOf code c.named.place c.head
+  pub next : IsNextOf code c.named.behind c.next
+
+-- and that it stands at a place
+pub record IsChoiceAt (code : Compiled) (at : ℕ) (c : Choice) : Type 0 where
+  pub at_it : c.at ≡ at
+  pub is : IsChoiceOf code c
 
 -- an index of the code
 pub record IsIndexOf (code : Compiled) (i : Index) : Type 0 where
-  pub entries : (from : ℕ) → IsEntryOf code i.rows.items i.links.items i.heads.items from (get_or i.entries.items from Nothing)
+  pub rows : AreRowsOf code i.rows
+  pub choices : (n : ℕ) (c : Choice) → slice_get i.choices.items n ≡ Some c → IsChoiceOf code c

@@ -1,8 +1,8 @@
 //! Where a row keeps what it has for a key: multiplicative hashing by the golden ratio (Knuth, The Art of Computer Programming,
 //! volume 3, 6.4), where the upper bits of the product choose among the slots, which each bit of the key can change.
 
-ghost use Rattle.std.specs.Prelude.{◌≡◌, ◌<◌};
-ghost use Rattle.ap_index.specs.Hashing.{number_of, slot_of};
+ghost use Rattle.std.specs.Prelude.{◌≡◌, ℕ, ◌<◌, ◌^◌};
+ghost use Rattle.ap_index.specs.Hashing.{number_of, hash_of, slot_of};
 
 use crate::key::Key;
 
@@ -21,12 +21,38 @@ fn number_of(key: Key) -> u64
     }
 }
 
-/// The slot of a key, among so many.
-#[inline(always)]
-pub(crate) fn slot_of(key: Key, slots: u32) -> usize
-    ensures is { result ≡ slot_of key slots }
-    ensures below { 0 < slots → result < slots }
-{
-    let upper = number_of(key).wrapping_mul(MULTIPLIER) >> 32;
-    (upper * slots as u64 >> 32) as usize
+/// A key that is looked up, with its hash: the upper half of the product.
+#[derive(Clone, Copy)]
+pub struct Hashed {
+    pub(crate) key: Key,
+    pub(crate) hash: u32,
+    ghost made: { hash ≡ hash_of key },
+}
+
+impl Hashed {
+    /// A key with its hash.
+    #[inline(always)]
+    pub fn new(key: Key) -> Hashed
+        ensures { result.key ≡ key }
+    {
+        let hash = (number_of(key).wrapping_mul(MULTIPLIER) >> 32) as u32;
+        Hashed { key, hash }
+    }
+
+    /// The key.
+    #[inline(always)]
+    pub fn key(self) -> Key
+        ensures { result ≡ self.key }
+    {
+        self.key
+    }
+
+    /// The key's slot, among so many.
+    #[inline(always)]
+    pub(crate) fn slot(self, slots: u32) -> usize
+        ensures is { result ≡ slot_of self.key slots }
+        ensures below { 0 < slots → result < slots }
+    {
+        (self.hash as u64 * slots as u64 >> 32) as usize
+    }
 }

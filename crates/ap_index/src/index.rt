@@ -1,273 +1,52 @@
-//! The index: which choice comes first for a key, and which one next.
+//! The index: the choices of code by their places, and the rows of those that are many.
 
-ghost use Rattle.std.specs.Prelude.{◌≡◌, ℕ, ◌+◌, ◌<◌, ◌≤◌, ◌==◌, ◌^◌, if◌then◌else◌, None, Some, true, IfOk, IfSome, OnOk, length, slice_get, get_or};
-ghost use Rattle.std.specs.Option.{ForSome};
+ghost use Rattle.std.specs.Prelude.{◌≡◌, IfOk, IfSome, OnOk};
 ghost use Rattle.ap_instr.specs.Code.{Compiled};
-ghost use Rattle.ap_index.specs.declared.key.Key.{Key};
-ghost use Rattle.ap_index.specs.declared.index.Entry.TheVariants.{Nothing};
-ghost use Rattle.ap_index.specs.Hashing.{slot_of};
-ghost use Rattle.ap_index.specs.Heads.{IsHeadOf};
-ghost use Rattle.ap_index.specs.Index.{LeavesOthers, tried_from, first_for, in_slot, named_from, IsFilled, IsRowOf, IsRestOf, IsLinkOf, IsEntryOf, IsIndexOf};
+ghost use Rattle.ap_index.specs.Index.{IsRowOf, IsRestOf, IsChoiceAt, IsChoiceOf, IsIndexOf};
 
-use crate::hashing::slot_of;
-use crate::head::{Head, head_at};
-use crate::key::{Key, instruction_at, retry_key, trust_key, try_key};
-use crate::row::{Link, NONE, Row};
-use ap_instr::{Code, Instr};
+use crate::choice::{Choice, choice_at};
+use crate::row::{NONE, Row};
+use crate::rows::{Rows, rows_of};
+use ap_instr::Code;
 use ap_term::NoMemory;
 use std::alloc::Global;
 
-/// Fewer choices than this in a row are gone over one by one.
-const FEW: u32 = 2;
-
-/// So many slots are there for each choice of a row, so that most have none or one.
-const SLOTS_EACH: u32 = 4;
-
-/// What is known at a place. Rows and links are kept by their numbers.
-#[derive(Clone, Copy)]
-pub enum Entry {
-    Nothing,
-    /// A predicate's choices begin there with a row.
-    Begins(u32),
-    /// A row goes on there, behind a clause that has no key.
-    Rest(u32),
-    /// A choice of a row stands before it.
-    Behind(u32),
-    /// A clause that is one of several begins there.
-    Asks(u32),
-}
-
-/// Rows of many choices, each of a clause with a key, and what the heads of clauses ask that are one of several.
+/// What is known of code's choices.
 #[derive(Drop)]
 pub struct Index {
-    rows: Vec<Row>,
-    links: Vec<Link>,
-    heads: Vec<Head>,
-    entries: Vec<Entry>,
-}
-
-impl Row {
-    /// Without choices yet, with room for some.
-    fn new(alloc: Global, choices: u32, behind: Option<u32>) -> Result<Row, NoMemory>
-        requires some { 0 < choices }
-        requires place { ForSome behind (λ at. at < NONE) }
-        ensures { IfOk result (λ row. (key : Key) → first_for row key ≡ behind) }
-    {
-        let count = choices.saturating_mul(SLOTS_EACH);
-        Ok(Row {
-            slots: Vec::from_elem(alloc, behind.unwrap_or(NONE), count as usize)?,
-            count,
-        })
-    }
-
-    /// What stands in a slot.
-    #[inline(always)]
-    fn at(&self, slot: usize) -> Option<u32>
-        requires { slot < self.now.count }
-        ensures { result ≡ in_slot self.now slot }
-    {
-        let place = self.slots[slot];
-        if place == NONE { None } else { Some(place) }
-    }
-
-    /// The place of the first choice for a key.
-    #[inline(always)]
-    pub fn first(&self, key: Key) -> Option<usize>
-        ensures { result ≡ first_for self.now key }
-    {
-        match self.at(slot_of(key, self.count)) {
-            Some(place) => Some(place as usize),
-            None => None,
-        }
-    }
-
-    /// What comes behind a choice for a key.
-    fn link(&self, key: Key) -> Link
-        ensures count { result.count ≡ self.now.count }
-        ensures slot { result.slot ≡ slot_of key self.now.count }
-        ensures next { result.next ≡ first_for self.now key }
-    {
-        let slot = slot_of(key, self.count);
-        Link {
-            slot: slot as u32,
-            count: self.count,
-            next: self.at(slot),
-        }
-    }
-
-    /// A choice is first now for the keys of its key's slot.
-    fn put(&mut self, key: Key, place: u32)
-        requires { place < NONE }
-        ensures { (k : Key) → first_for self.new k ≡ (if slot_of k self.old.count == slot_of key self.old.count then Some place else first_for self.old k) }
-    {
-        let slot = slot_of(key, self.count);
-        self.slots[slot] = place;
-    }
-}
-
-impl Link {
-    /// From a place behind a choice the next one for a key: clauses that are left out ask for another first argument.
-    #[inline(always)]
-    pub fn next(&self, key: Key, from: usize) -> Option<usize>
-        ensures { (code : Compiled) → IsLinkOf code from self.now → LeavesOthers code key (tried_from code (Some from)) (tried_from code result) }
-    {
-        if slot_of(key, self.count) != self.slot as usize {
-            return Some(from);
-        }
-        match self.next {
-            Some(place) => Some(place as usize),
-            None => None,
-        }
-    }
-}
-
-/// Has an entry for a place.
-fn widen(entries: &mut Vec<Entry>, at: usize) -> Result<(), NoMemory>
-    requires { at < 2 ^ 32 }
-    ensures room { OnOk result (at < length entries.new.items) }
-    ensures same { OnOk result ((q : ℕ) → get_or entries.new.items q Nothing ≡ get_or entries.old.items q Nothing) }
-{
-    if at >= entries.len() {
-        entries.resize(at + 1, Entry::Nothing)?;
-    }
-    Ok(())
+    rows: Rows,
+    choices: Vec<Choice>,
+    /// The number of the choice at each place, if one stands there.
+    numbers: Vec<u32>,
 }
 
 impl Index {
-    fn new(alloc: Global) -> Index
-        ensures { (code : Compiled) → IsIndexOf code result }
+    /// One more choice.
+    fn push(&mut self, choice: Choice) -> Result<(), NoMemory>
+        ensures { OnOk result ((code : Compiled) → IsIndexOf code self.old → IsChoiceOf code choice → IsIndexOf code self.new) }
     {
-        Index {
-            rows: Vec::new(alloc),
-            links: Vec::new(alloc),
-            heads: Vec::new(alloc),
-            entries: Vec::new(alloc),
+        let at = choice.at as usize;
+        let number = self.choices.len();
+        self.choices.push(choice)?;
+        if at < self.numbers.len() && number < NONE as usize {
+            self.numbers[at] = number as u32;
         }
+        Ok(())
     }
 
+    /// What is known of the choice at a place, if one stands there.
     #[inline(always)]
-    fn entry_at(&self, at: usize) -> Entry
-        ensures { result ≡ get_or self.now.entries.items at Nothing }
+    pub fn choice(&self, at: usize) -> Option<&Choice>
+        ensures { IfSome result (λ choice. (code : Compiled) → IsIndexOf code self.now → IsChoiceAt code at choice.now) }
     {
-        match self.entries.get(at) {
-            Some(entry) => *entry,
-            None => Entry::Nothing,
-        }
-    }
-
-    fn put(&mut self, at: u32, entry: Entry) -> Result<(), NoMemory>
-        ensures { OnOk result ((code : Compiled) → IsIndexOf code self.old → IsEntryOf code self.old.rows.items self.old.links.items self.old.heads.items at entry → IsIndexOf code self.new) }
-    {
-        widen(&mut self.entries, at as usize)?;
-        self.entries[at as usize] = entry;
-        Ok(())
-    }
-
-    /// The number of one more row, if there is one for it.
-    fn push_row(&mut self, row: Row) -> Result<Option<u32>, NoMemory>
-        ensures same { OnOk result ((code : Compiled) → IsIndexOf code self.old → IsIndexOf code self.new) }
-        ensures held { IfOk result (λ number. IfSome number (λ n. slice_get self.new.rows.items n ≡ Some row)) }
-    {
-        let Ok(number) = u32::try_from(self.rows.len()) else {
-            return Ok(None);
+        let number = match self.numbers.get(at) {
+            Some(number) => *number,
+            None => return None,
         };
-        self.rows.push(row)?;
-        Ok(Some(number))
-    }
-
-    fn put_first(&mut self, start: u32, row: Row) -> Result<(), NoMemory>
-        ensures { OnOk result ((code : Compiled) → IsIndexOf code self.old → IsRowOf code start row → IsIndexOf code self.new) }
-    {
-        match self.push_row(row)? {
-            Some(number) => self.put(start, Entry::Begins(number)),
-            None => Ok(()),
+        match self.choices.get(number as usize) {
+            Some(choice) if choice.at as usize == at => Some(choice),
+            _ => None,
         }
-    }
-
-    fn put_rest(&mut self, from: u32, row: Row) -> Result<(), NoMemory>
-        ensures { OnOk result ((code : Compiled) → IsIndexOf code self.old → IsRestOf code from row → IsIndexOf code self.new) }
-    {
-        match self.push_row(row)? {
-            Some(number) => self.put(from, Entry::Rest(number)),
-            None => Ok(()),
-        }
-    }
-
-    fn put_link(&mut self, from: u32, link: Link) -> Result<(), NoMemory>
-        ensures { OnOk result ((code : Compiled) → IsIndexOf code self.old → IsLinkOf code from link → IsIndexOf code self.new) }
-    {
-        let Ok(number) = u32::try_from(self.links.len()) else {
-            return Ok(());
-        };
-        self.links.push(link)?;
-        self.put(from, Entry::Behind(number))
-    }
-
-    fn put_head(&mut self, at: u32, head: Head) -> Result<(), NoMemory>
-        ensures { OnOk result ((code : Compiled) → IsIndexOf code self.old → IsHeadOf code at head → IsIndexOf code self.new) }
-    {
-        let Ok(number) = u32::try_from(self.heads.len()) else {
-            return Ok(());
-        };
-        self.heads.push(head)?;
-        self.put(at, Entry::Asks(number))
-    }
-
-    /// Puts in the choices with keys from a place to before another one, unless they are few.
-    fn add(&mut self, alloc: Global, code: &Code, start: u32, end: u32) -> Result<(), NoMemory>
-        requires order { start ≤ end }
-        requires below { end < NONE }
-        requires is_index { IsIndexOf code.now self.old }
-        ensures { OnOk result (IsIndexOf code.now self.new) }
-    {
-        if end - start + 1 < FEW {
-            return Ok(());
-        }
-        let Some(mut row) = end_of_row(alloc, code, end - start + 1, end)? else {
-            return Ok(());
-        };
-        for at in (start + 1..end).rev() {
-            let Some(key) = retry_key(code, at as usize) else {
-                return Ok(());
-            };
-            self.put_link(at + 1, row.link(key))?;
-            row.put(key, at);
-        }
-        self.add_first(code, start, row)
-    }
-
-    /// Puts in what the heads ask of the clauses that choices at so many places name.
-    fn add_heads(&mut self, alloc: Global, code: &Code, places: u32) -> Result<(), NoMemory>
-        requires is_index { IsIndexOf code.now self.old }
-        ensures { OnOk result (IsIndexOf code.now self.new) }
-    {
-        for at in 0..places {
-            if let Some(clause) = clause_named(code, at as usize) {
-                let head = head_at(alloc, code, clause as usize)?;
-                self.put_head(clause, head)?;
-            }
-        }
-        Ok(())
-    }
-
-    /// Puts in the first choice of a row, and the row.
-    fn add_first(&mut self, code: &Code, start: u32, mut row: Row) -> Result<(), NoMemory>
-        requires below { start < NONE }
-        requires filled { IsFilled code.now (start + 1) row }
-        requires is_index { IsIndexOf code.now self.old }
-        ensures { OnOk result (IsIndexOf code.now self.new) }
-    {
-        if let Some(first_key) = try_key(code, start as usize) {
-            self.put_link(start + 1, row.link(first_key))?;
-            row.put(first_key, start);
-            return self.put_first(start, row);
-        }
-        if let Some(key) = retry_key(code, start as usize) {
-            self.put_link(start + 1, row.link(key))?;
-            row.put(key, start);
-            return self.put_rest(start, row);
-        }
-        Ok(())
     }
 
     /// The row of choices that begins at a place.
@@ -275,10 +54,7 @@ impl Index {
     pub fn row(&self, start: usize) -> Option<&Row>
         ensures { IfSome result (λ row. (code : Compiled) → IsIndexOf code self.now → IsRowOf code start row.now) }
     {
-        match self.entry_at(start) {
-            Entry::Begins(number) => self.rows.get(number as usize),
-            _ => None,
-        }
+        self.rows.row(start)
     }
 
     /// The row that goes on at a place, behind a clause that has no key.
@@ -286,93 +62,25 @@ impl Index {
     pub fn rest(&self, from: usize) -> Option<&Row>
         ensures { IfSome result (λ row. (code : Compiled) → IsIndexOf code self.now → IsRestOf code from row.now) }
     {
-        match self.entry_at(from) {
-            Entry::Rest(number) => self.rows.get(number as usize),
-            _ => None,
-        }
-    }
-
-    /// What the head of the clause at a place asks, if that is one of several.
-    #[inline]
-    pub fn head(&self, at: usize) -> Option<&Head>
-        ensures { IfSome result (λ head. (code : Compiled) → IsIndexOf code self.now → IsHeadOf code at head.now) }
-    {
-        match self.entry_at(at) {
-            Entry::Asks(number) => self.heads.get(number as usize),
-            _ => None,
-        }
-    }
-
-    /// What is known behind a choice of a row.
-    #[inline]
-    pub fn link(&self, from: usize) -> Option<Link>
-        ensures { IfSome result (λ link. (code : Compiled) → IsIndexOf code self.now → IsLinkOf code from link) }
-    {
-        match self.entry_at(from) {
-            Entry::Behind(number) => self.links.get(number as usize).copied(),
-            _ => None,
-        }
+        self.rows.rest(from)
     }
 }
 
-/// The clause that the choice at a place names.
-fn clause_named(code: &Code, at: usize) -> Option<u32> {
-    match instruction_at(code, at) {
-        Some(Instr::Try(clause) | Instr::Retry(clause) | Instr::Trust(clause)) => Some(clause),
-        _ => None,
-    }
-}
-
-/// Whether a choice other than a `try` stands at a place.
-fn is_behind_try(code: &Code, at: u32) -> bool
-    ensures { result ≡ true → named_from code.now (Some at) ≡ tried_from code.now (Some at) }
-{
-    match instruction_at(code, at as usize) {
-        Some(Instr::Retry(_)) => true,
-        Some(Instr::Trust(_)) => true,
-        _ => false,
-    }
-}
-
-/// A row before the choices in front of a place are put in: with the one there, if that is a `trust` of a clause with a key,
-/// else with the one there behind it.
-fn end_of_row(alloc: Global, code: &Code, choices: u32, at: u32) -> Result<Option<Row>, NoMemory>
-    requires some { 0 < choices }
-    requires below { at < NONE }
-    ensures { IfOk result (λ r. IfSome r (λ row. IsFilled code.now at row)) }
-{
-    if let Some(last_key) = trust_key(code, at as usize) {
-        let mut row = Row::new(alloc, choices, None)?;
-        row.put(last_key, at);
-        return Ok(Some(row));
-    }
-    if !is_behind_try(code, at) {
-        return Ok(None);
-    }
-    let row = Row::new(alloc, choices, Some(at))?;
-    Ok(Some(row))
-}
-
-/// Whether a choice of a clause with a key stands at a place, and another choice has to come.
-fn goes_on(code: &Code, at: u32) -> bool {
-    try_key(code, at as usize).is_some() || retry_key(code, at as usize).is_some()
-}
-
-/// The index of code. Choices that are few aren't in it.
+/// The index of code.
 pub fn index_of(alloc: Global, code: &Code) -> Result<Index, NoMemory>
     ensures { IfOk result (λ index. IsIndexOf code.now index) }
 {
-    let mut index = Index::new(alloc);
-    let Ok(places) = u32::try_from(code.instructions().len()) else {
-        return Ok(index);
+    let length = code.instructions().len();
+    let places = u32::try_from(length).unwrap_or(0);
+    let mut index = Index {
+        rows: rows_of(alloc, code, places)?,
+        choices: Vec::new(alloc),
+        numbers: Vec::from_elem(alloc, NONE, places as usize)?,
     };
-    let mut start = 0;
     for at in 0..places {
-        if !goes_on(code, at) {
-            index.add(alloc, code, start, at)?;
-            start = at + 1;
+        if let Some(choice) = choice_at(alloc, code, &index.rows, at)? {
+            index.push(choice)?;
         }
     }
-    index.add_heads(alloc, code, places)?;
     Ok(index)
 }

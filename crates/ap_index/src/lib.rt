@@ -1,18 +1,22 @@
 //! Floor: code. An index of code's clauses: by the first argument, of a predicate's choices the first one whose clause asks for one of that
-//! name, number or functor, and behind each choice the next one, or that none is left; and of each clause that is one of several what its
-//! head asks of the arguments.
+//! name, number or functor; and of each choice the clause that it names, what that one's head asks of the arguments, and the next choice, or
+//! that none is left.
 //!
-//! Stands on `ap_instr` and `ap_needs`. The contracts used above: `row` and `link`, by which all clauses that are left out ask for
-//! another first argument; `head`, whose asks are needed, and, where the head is whole, enough.
+//! Stands on `ap_instr` and `ap_needs`. The contracts used above: `row` and `choice`, by which all clauses that are left out ask for
+//! another first argument, and what a head asks is needed, and, where the head is whole, enough.
 #![tactic(auto)]
 
+mod choice;
 mod hashing;
 mod head;
 mod index;
 mod key;
 mod opening;
 mod row;
+mod rows;
 
+pub use choice::{Choice, Named, Next};
+pub use hashing::Hashed;
 pub use head::{Ask, Head};
 pub use index::{Index, index_of};
 pub use key::Key;

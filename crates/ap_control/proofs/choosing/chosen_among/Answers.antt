@@ -11,11 +11,11 @@ returns-in-Some-clause-first c =
     let code = c.args.sound.now in
     let cs = c.args.cells.now.cells in
     let x = held c.args.x.now in
-    let behind = places_from code c.args.found.behind in
+    let behind = places_from code c.args.found.now.named.behind in
     let from = places_from code c.args.from in
     let second : List ℕ = c.in-Some.second.alternative.place ∷ places_from code c.in-Some.second.alternative.behind in
-    let shut : IsShut code cs x c.args.found.place = subst (IsChance code cs x c.args.arity c.args.found.place) c.in-Never.is c.chance_of.ensures in
-    passes-then code cs x (c.args.found.place ∷ behind) behind second (passes-one code cs x (c.args.found.place ∷ behind) behind c.args.found.place refl shut)
+    let shut : IsShut code cs x c.args.found.now.named.place = subst (IsChance code cs x c.args.arity c.args.found.now.named.place) c.in-Never.is (c.chance_of.ensures code c.requires.found) in
+    passes-then code cs x (c.args.found.now.named.place ∷ behind) behind second (passes-one code cs x (c.args.found.now.named.place ∷ behind) behind c.args.found.now.named.place refl shut)
     (passes-then code cs x behind from second c.requires.from (subst (λ next. PassesOver code cs x from (possible_places code next)) c.in-Some.is c.possible_from-next.ensures.passes))
 
 pub returns-in-Some-clause-next : goal.returns-in-Some-clause-next
@@ -23,18 +23,18 @@ returns-in-Some-clause-next c =
     let code = c.args.sound.now in
     let cs = c.args.cells.now.cells in
     let x = held c.args.x.now in
-    passes-then code cs x (places_from code c.in-Some.second.alternative.behind) (places_from code c.next_choice-rest.result) (possible_places code c.possible_from-third.result)
-    (c.next_choice-rest.ensures cs x c.requires.key) c.possible_from-third.ensures.passes
+    passes-then code cs x (places_from code c.in-Some.second.alternative.behind) (places_from code c.next_behind-rest.result) (possible_places code c.possible_from-third.result)
+    (c.next_behind-rest.ensures cs x c.requires.key) c.possible_from-third.ensures.passes
 
 pub returns-in_default-next-clause-none : goal.returns-in_default-next-clause-none
 returns-in_default-next-clause-none c = λ e.
     let code = c.args.sound.now in
     let cs = c.args.cells.now.cells in
     let x = held c.args.x.now in
-    let behind = places_from code c.args.found.behind in
+    let behind = places_from code c.args.found.now.named.behind in
     let from = places_from code c.args.from in
-    let shut : IsShut code cs x c.args.found.place = subst (IsChance code cs x c.args.arity c.args.found.place) c.in-Never.is c.chance_of.ensures in
-    passes-then code cs x (c.args.found.place ∷ behind) behind [] (passes-one code cs x (c.args.found.place ∷ behind) behind c.args.found.place refl shut)
+    let shut : IsShut code cs x c.args.found.now.named.place = subst (IsChance code cs x c.args.arity c.args.found.now.named.place) c.in-Never.is (c.chance_of.ensures code c.requires.found) in
+    passes-then code cs x (c.args.found.now.named.place ∷ behind) behind [] (passes-one code cs x (c.args.found.now.named.place ∷ behind) behind c.args.found.now.named.place refl shut)
     (passes-then code cs x behind from [] c.requires.from (subst (λ next. PassesOver code cs x from (possible_places code next)) c.in_default-next.is c.possible_from-next.ensures.passes))
 
 pub returns-in_default : goal.returns-in_default
@@ -42,9 +42,9 @@ returns-in_default c =
     let code = c.args.sound.now in
     let cs = c.args.cells.now.cells in
     let x = held c.args.x.now in
-    let behind = places_from code c.args.found.behind in
+    let behind = places_from code c.args.found.now.named.behind in
     let from = places_from code c.args.from in
-    let all : List ℕ = c.args.found.place ∷ behind in
+    let all : List ℕ = c.args.found.now.named.place ∷ behind in
     record {
       none = λ e. search rules;
       first = passes-none code cs x all all refl;

@@ -10,5 +10,5 @@ returns-clause-passes c =
     let code = c.args.sound.now in
     let cs = c.args.cells.now.cells in
     let x = held c.args.x.now in
-    passes-then code cs x (places_from code c.args.behind) (places_from code c.next_choice-from.result) (possible_places code c.possible_from.result)
-    (c.next_choice-from.ensures cs x (has-key cs x c.key_of-key.result c.place_in.result c.place_in.ensures c.key_of-key.ensures)) c.possible_from.ensures.passes
+    passes-then code cs x (places_from code c.args.behind) (places_from code c.next_behind-from.result) (possible_places code c.possible_from.result)
+    (c.next_behind-from.ensures cs x (has-key cs x c.own_of-key.result c.place_in.result c.place_in.ensures c.own_of-key.ensures)) c.possible_from.ensures.passes
