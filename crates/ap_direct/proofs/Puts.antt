@@ -1,28 +1,31 @@
--- Arguments that are put, and goals on them.
+-- What is put into X registers, and goals behind it.
 use Rattle.std.proofs.Common.{◌≡◌, ℕ, ℤ, ◌==◌, Bool, true, false, if◌then◌else◌, ◌⊎◌, inl, inr, List, ◌∷◌, Some, None, refl, ap, ap₂, sym, ◌∙◌, subst, arith}
 use Rattle.std.proofs.lemmas.Bool.Decides.{Decides-eqb}
 use Rattle.ap_term.specs.declared.builtins.Operation.{Operation}
 use Rattle.ap_term.specs.declared.builtins.Operation.TheVariants.{Add, Subtract, Multiply, Divide, Remainder, Modulo}
 use Rattle.ap_term.specs.declared.builtins.Relation.{Relation}
-use Rattle.ap_term.specs.declared.fixed.TheConstants.{PLUS, MINUS, TIMES, DIVIDE, REM, MOD}
+use Rattle.ap_term.specs.declared.fixed.TheConstants.{IS, PLUS, MINUS, TIMES, DIVIDE, REM, MOD}
 use Rattle.ap_term.specs.Arithmetic.{operation_named}
 use Rattle.ap_term.specs.Tree.{Tree, Trees, int, atom, node, none, more, count_trees}
 use Rattle.ap_term.proofs.Facts.{funext}
 use Rattle.ap_instr.specs.declared.instruction.Slot.{Slot}
-use Rattle.ap_instr.specs.declared.instruction.Slot.TheVariants.{X}
-use Rattle.ap_instr.specs.Builtin.{relation_name}
+use Rattle.ap_instr.specs.declared.instruction.Slot.TheVariants.{X, Y}
+use Rattle.ap_instr.specs.Builtin.{relation_name, comparison_name}
 use Rattle.ap_instr.specs.Step.{Step, put_variable, put_value, put_constant, put_structure, unify_value, unify_constant, builtin}
-use Rattle.ap_instr.specs.Runs.{Runs, set, read}
+use Rattle.ap_instr.specs.Runs.{Runs, set, set_x, set_y, read}
 use Rattle.ap_direct.specs.declared.goal.Operand.{Operand}
 use Rattle.ap_direct.specs.declared.goal.Operand.TheVariants.{Register, Integer}
 use Rattle.ap_direct.specs.declared.goal.Part.{Part}
-use Rattle.ap_direct.specs.declared.goal.Part.TheVariants.{Operand as One, Operation as Two}
 use Rattle.ap_direct.specs.declared.goal.Goal.{Goal}
+use Rattle.ap_direct.specs.declared.goal.Goal.TheVariants.{Compare, Match, Give}
+use Rattle.ap_direct.specs.declared.finding.Simple.{Simple}
+use Rattle.ap_direct.specs.declared.finding.Simple.TheVariants.{Operand as Single, Operation as Double}
 use Rattle.ap_direct.specs.declared.finding.Put.{Put}
-use Rattle.ap_direct.specs.declared.finding.Put.TheVariants.{New, Part as Given}
-use Rattle.ap_direct.specs.Goals.{operation_name, operand_tree, part_tree, pair, goal_tree, y_behind, AsksGoal}
-use Rattle.ap_direct.specs.Puts.{put_tree, x_put, y_put, PutsFirst, FillsFirst, IsApart, IsPartApart, SeesNoNew, IsApartFrom, IsInPlace, IsUnseen, IsGoalOf}
-use Rattle.ap_direct.proofs.Uses.{set-unread, unset-unread}
+use Rattle.ap_direct.specs.declared.finding.Put.TheVariants.{New, Simple as Given}
+use Rattle.ap_direct.specs.Goals.{operation_name, operand_tree, part_tree, pair, goal_tree, x_behind, y_behind, AsksGoal}
+use Rattle.ap_direct.specs.Puts.{simple_tree, PutsFirst, FillsFirst, IsApart, IsPartApart, IsUnseen, IsGoalOf}
+use Rattle.ap_direct.specs.Before.{IsGoalBefore, GivesNew, IsBefore}
+use Rattle.ap_direct.specs.Unread.{DifferAt, IsUnread}
 
 -- ---- arguments of structures
 
@@ -45,10 +48,10 @@ integer-fills z is = record { only = only; each = λ us x y bs run. (refl, run);
 pub variable-puts : (v : Slot) (a : ℕ) (is : List Step) → PutsFirst (put_variable v a ∷ is) a (New v) is
 variable-puts v a is = record { only = λ x y bs run. (run.0, run.1); each = λ x y t bs run. (t, run); openly = λ o. o }
 
-pub value-puts : (v : Slot) (a : ℕ) (is : List Step) → PutsFirst (put_value v a ∷ is) a (Given (One (Register v))) is
+pub value-puts : (v : Slot) (a : ℕ) (is : List Step) → PutsFirst (put_value v a ∷ is) a (Given (Single (Register v))) is
 value-puts v a is = record { only = λ x y bs run. (atom 0, run); each = λ x y t bs run. run; openly = λ o. o }
 
-pub integer-puts : (z : ℤ) (a : ℕ) (is : List Step) → PutsFirst (put_constant (int z) a ∷ is) a (Given (One (Integer z))) is
+pub integer-puts : (z : ℤ) (a : ℕ) (is : List Step) → PutsFirst (put_constant (int z) a ∷ is) a (Given (Single (Integer z))) is
 integer-puts z a is = record { only = λ x y bs run. (atom 0, run); each = λ x y t bs run. run; openly = λ o. o }
 
 pub named-operation : (n : ℕ) (f : Operation) → operation_named n ≡ Some f → n ≡ operation_name f
@@ -67,9 +70,9 @@ named-operation n f e = go n f (n == PLUS) (n == MINUS) (n == TIMES) (n == DIVID
 
 module _ (f : Operation) (a : ℕ) (o q : Operand) (j k is : List Step) (first : FillsFirst j o k) (second : FillsFirst k q is) (ao : IsApart (X a) o) (aq : IsApart (X a) q) where
   abbrev built : (ℕ → Tree) → (ℕ → Tree) → Tree
-  built x y = part_tree (Two f o q) x y
+  built x y = simple_tree (Double f o q) x y
 
-  pub structure-puts : PutsFirst (put_structure (operation_name f) 2 a ∷ j) a (Given (Two f o q)) is
+  pub structure-puts : PutsFirst (put_structure (operation_name f) 2 a ∷ j) a (Given (Double f o q)) is
   structure-puts = record {
     only = λ x y bs run.
         let ts : Trees = run.0 in
@@ -97,7 +100,7 @@ module _ (f : Operation) (a : ℕ) (o q : Operand) (j k is : List Step) (first :
       no-more t u none e = refl
       no-more t u (more v us) e = absurd (let n : ℕ = count_trees us in omega (arith, e))
 
--- ---- arguments that stand where they are wanted
+-- ---- what is put, and isn't seen behind the goal
 
 set-own : (z : ℕ → Tree) (a : ℕ) (u : Tree) → z a ≡ u → set z a u ≡ z
 set-own z a u e = funext (set z a u) z (λ w. go w (w == a) refl)
@@ -106,71 +109,148 @@ set-own z a u e = funext (set z a u) z (λ w. go w (w == a) refl)
     go w true h = sym e ∙ ap z (sym ((Decides-eqb w a).0 h))
     go w false h = refl
 
-pub kept-puts : (a : ℕ) (is : List Step) → PutsFirst is a (Given (One (Register (X a)))) is
-kept-puts a is = record {
-  only = λ x y bs run. (atom 0, subst (λ w. Runs is none w y bs) (sym (set-own x a (x a) refl)) run);
-  each = λ x y t bs run. subst (λ w. Runs is none w y bs) (set-own x a (x a) refl) run;
+pub set-here : (z : ℕ → Tree) (a : ℕ) (u : Tree) → set z a u a ≡ u
+set-here z a u = ap (λ b. if b then u else z a) ((Decides-eqb a a).1 refl)
+
+-- a register that is written first, and another one's tree in it later
+module _ (g : Goal) (t : Tree) (a : ℕ) (u : Tree) (z : ℕ → Tree) where
+  differ-behind : DifferAt a (x_behind g t (set z a u)) (x_behind g t z)
+  differ-behind = go g
+    where
+      other : (w : ℕ) → (w ≡ a → ⊥) → set z a u w ≡ z w
+      other w k = pick w k (w == a) refl
+        where
+          pick : (w : ℕ) → (w ≡ a → ⊥) → (b : Bool) → (w == a) ≡ b → (if b then u else z w) ≡ z w
+          pick w k true e = absurd (k ((Decides-eqb w a).0 e))
+          pick w k false e = refl
+
+      go : (g : Goal) → DifferAt a (x_behind g t (set z a u)) (x_behind g t z)
+      go (Compare op p q) w k = other w k
+      go (Match v p) w k = other w k
+      go (Give (X n) p) w k = ap (λ q. if w == n then t else q) (other w k)
+      go (Give (Y n) p) w k = other w k
+
+  -- of steps that don't see it, whatever the goal gives
+  module _ (is : List Step) (y : ℕ → Tree) (cs : Trees) where
+    abbrev seen : Type 0
+    seen = Runs is none (x_behind g t (set z a u)) y cs
+
+    abbrev unseen : Type 0
+    unseen = Runs is none (x_behind g t z) y cs
+
+    unput : (z a ≡ u) ⊎ IsUnread a is → seen → unseen
+    unput (inl e) run = subst (λ w. Runs is none (x_behind g t w) y cs) (set-own z a u e) run
+    unput (inr h) run = h none (x_behind g t (set z a u)) (x_behind g t z) y cs differ-behind run
+
+    reput : (z a ≡ u) ⊎ IsUnread a is → unseen → seen
+    reput (inl e) run = subst (λ w. Runs is none (x_behind g t w) y cs) (sym (set-own z a u e)) run
+    reput (inr h) run = h none (x_behind g t z) (x_behind g t (set z a u)) y cs (λ w k. sym (differ-behind w k)) run
+
+-- ---- goals behind what is put
+
+module _ (a : ℕ) (j k is : List Step) where
+  module _ (s : Simple) (puts : PutsFirst j a (Given s) k) (unseen_put : IsUnseen a (Given s) is) where
+    hidden : (x y : ℕ → Tree) → (x a ≡ simple_tree s x y) ⊎ IsUnread a is
+    hidden x y = go unseen_put
+      where
+        go : IsUnseen a (Given s) is → (x a ≡ simple_tree s x y) ⊎ IsUnread a is
+        go (inl h) = inl (h x y (atom 0))
+        go (inr h) = inr h
+
+    -- the goal before it has the same tree, and gives the same
+    module _ (g h : Goal) (tree : (t : Tree) (x y : ℕ → Tree) → goal_tree g t (set x a (simple_tree s x y)) y ≡ goal_tree h t x y)
+        (same_x : (t : Tree) (x : ℕ → Tree) → x_behind g t x ≡ x_behind h t x) (same_y : (t : Tree) (y : ℕ → Tree) → y_behind g t y ≡ y_behind h t y) (asks : AsksGoal k g is) where
+      asks-replaced : AsksGoal j h is
+      asks-replaced = record {
+        only = λ x y bs run.
+            let u : Tree = simple_tree s x y in
+            let q = asks.only (set x a u) y bs (puts.only x y bs run).1 in (
+              q.0,
+              q.1,
+              q.2 ∙ ap (λ w. more w q.1) (tree q.0 x y),
+              subst (λ w. Runs is none w (y_behind h q.0 y) q.1) (same_x q.0 x)
+                  (subst (λ w. Runs is none (x_behind g q.0 x) w q.1) (same_y q.0 y) (unput g q.0 a u x is (y_behind g q.0 y) q.1 (hidden x y) q.3)),
+            );
+        each = λ x y t cs run.
+            let u : Tree = simple_tree s x y in
+            let b : Runs is none (x_behind g t x) (y_behind g t y) cs =
+            subst (λ w. Runs is none (x_behind g t x) w cs) (sym (same_y t y)) (subst (λ w. Runs is none w (y_behind h t y) cs) (sym (same_x t x)) run)
+            in
+            puts.each x y t (more (goal_tree h t x y) cs)
+            (subst (λ w. Runs k none (set x a u) y (more w cs)) (tree t x y) (asks.each (set x a u) y t cs (reput g t a u x is (y_behind g t y) cs (hidden x y) b)));
+        openly = λ o. asks.openly (puts.openly o);
+      }
+
+    asks-simple : (g h : Goal) → IsGoalBefore a s g h → AsksGoal k g is → AsksGoal j h is
+    asks-simple (Compare op p q) (Compare cp m l) e asks =
+        asks-replaced (Compare op p q) (Compare cp m l)
+        (λ t x y. ap₂ (λ v w. node (comparison_name op) (pair v w)) (e.1 x y) (e.2 x y) ∙ ap (λ c. node (comparison_name c) (pair (part_tree m x y) (part_tree l x y))) (sym e.0)) (λ t x. refl) (λ t y. refl) asks
+    asks-simple (Match v p) (Match w q) e asks =
+        asks-replaced (Match v p) (Match w q) (λ t x y. ap₂ (λ u r. node IS (pair u r)) (e.0 x y) (e.1 x y)) (λ t x. refl) (λ t y. refl) asks
+    asks-simple (Give v p) (Give w q) e asks =
+        asks-replaced (Give v p) (Give w q)
+        (λ t x y. ap (λ r. node IS (pair t r)) (e.1 x y)) (λ t x. ap (λ u. set_x u t x) (sym e.0)) (λ t y. ap (λ u. set_y u t y) (sym e.0)) asks
+    asks-simple (Compare op p q) (Match w l) e asks = absurd e
+    asks-simple (Compare op p q) (Give w l) e asks = absurd e
+    asks-simple (Match v p) (Compare cp m l) e asks = absurd e
+    asks-simple (Match v p) (Give w l) e asks = absurd e
+    asks-simple (Give v p) (Compare cp m l) e asks = absurd e
+    asks-simple (Give v p) (Match w l) e asks = absurd e
+
+  module _ (v : Slot) (puts : PutsFirst j a (New v) k) (unseen_put : IsUnseen a (New v) is) where
+    hidden-new : (t : Tree) (x : ℕ → Tree) → (set_x v t x a ≡ t) ⊎ IsUnread a is
+    hidden-new t x = go unseen_put
+      where
+        go : IsUnseen a (New v) is → (set_x v t x a ≡ t) ⊎ IsUnread a is
+        go (inl h) = inl (h x x t)
+        go (inr h) = inr h
+
+    module _ (p : Part) (apart : IsPartApart v p) (apart_too : IsPartApart (X a) p) (asks : AsksGoal k (Match (X a) p) is) where
+      -- the goal's tree behind the put
+      new-tree : (t : Tree) (x y : ℕ → Tree) → node IS (pair (set (set_x v t x) a t a) (part_tree p (set (set_x v t x) a t) (set_y v t y))) ≡ node IS (pair t (part_tree p x y))
+      new-tree t x y = ap₂ (λ u w. node IS (pair u w)) (set-here (set_x v t x) a t) (apart_too (set_x v t x) (set_y v t y) t ∙ apart x y t)
+
+      asks-given : AsksGoal j (Give v p) is
+      asks-given = record {
+        only = λ x y bs run.
+            let o = puts.only x y bs run in
+            let t : Tree = o.0 in
+            let q = asks.only (set (set_x v t x) a t) (set_y v t y) bs o.1 in
+            (t, q.1, q.2 ∙ ap (λ w. more w q.1) (new-tree t x y), unput (Match (X a) p) t a t (set_x v t x) is (set_y v t y) q.1 (hidden-new t x) q.3);
+        each = λ x y t cs run.
+            puts.each x y t (more (node IS (pair t (part_tree p x y))) cs)
+            (subst (λ w. Runs k none (set (set_x v t x) a t) (set_y v t y) (more w cs)) (new-tree t x y)
+            (asks.each (set (set_x v t x) a t) (set_y v t y) t cs (reput (Match (X a) p) t a t (set_x v t x) is (set_y v t y) cs (hidden-new t x) run)));
+        openly = λ o. asks.openly (puts.openly o);
+      }
+
+    asks-new : (g h : Goal) → GivesNew a v g h → AsksGoal k g is → AsksGoal j h is
+    asks-new (Match w p) (Give u q) e asks =
+        subst (λ r. AsksGoal j (Give r q) is) (sym e.1)
+        (subst (λ r. AsksGoal j (Give v r) is) (sym e.2) (asks-given p e.3 e.4 (subst (λ r. AsksGoal k (Match r p) is) e.0 asks)))
+    asks-new (Match w p) (Compare op m l) e asks = absurd e
+    asks-new (Match w p) (Match u l) e asks = absurd e
+    asks-new (Compare op m l) h e asks = absurd e
+    asks-new (Give w p) h e asks = absurd e
+
+  pub asks-put : (p : Put) (g h : Goal) → PutsFirst j a p k → IsUnseen a p is → IsBefore a p g h → AsksGoal k g is → AsksGoal j h is
+  asks-put (New v) g h puts unseen_put e asks = asks-new v puts unseen_put g h e asks
+  asks-put (Given s) g h puts unseen_put e asks = asks-simple s puts unseen_put g h e asks
+
+-- ---- the goal on the first two registers
+
+pub asks-goal : (r : Relation) (is : List Step) (g : Goal) → IsGoalOf r g → AsksGoal (builtin (relation_name r) 2 ∷ is) g is
+asks-goal r is g e = record {
+  only = λ x y bs run. (
+    atom 0,
+    run.0,
+    run.1 ∙ ap (λ w. more w run.0) (sym (e.tree (atom 0) x y)),
+    subst (λ w. Runs is none w (y_behind g (atom 0) y) run.0) (sym (e.x (atom 0) x)) (subst (λ w. Runs is none x w run.0) (sym (e.y (atom 0) y)) run.2),
+  );
+  each = λ x y t cs run. (
+    cs,
+    ap (λ w. more w cs) (e.tree t x y),
+    subst (λ w. Runs is none x w cs) (e.y t y) (subst (λ w. Runs is none w (y_behind g t y) cs) (e.x t x) run),
+  );
   openly = λ o. o;
 }
-
-module _ (a : ℕ) (p : Put) (is : List Step) (h : IsUnseen a p is) (x y : ℕ → Tree) (t : Tree) (y' : ℕ → Tree) (cs : Trees) where
-  abbrev put_x : ℕ → Tree
-  put_x = set (x_put p t x) a (put_tree p t x y)
-
-  unput : Runs is none put_x y' cs → Runs is none (x_put p t x) y' cs
-  unput = go h
-    where
-      go : IsUnseen a p is → Runs is none put_x y' cs → Runs is none (x_put p t x) y' cs
-      go (inl same) run = subst (λ w. Runs is none w y' cs) (set-own (x_put p t x) a (put_tree p t x y) (same x y t)) run
-      go (inr u) run = unset-unread a is u (x_put p t x) y' (put_tree p t x y) cs run
-
-  reput : Runs is none (x_put p t x) y' cs → Runs is none put_x y' cs
-  reput = go h
-    where
-      go : IsUnseen a p is → Runs is none (x_put p t x) y' cs → Runs is none put_x y' cs
-      go (inl same) run = subst (λ w. Runs is none w y' cs) (sym (set-own (x_put p t x) a (put_tree p t x y) (same x y t))) run
-      go (inr u) run = set-unread a is u (x_put p t x) y' (put_tree p t x y) cs run
-
--- an expression that reads neither the first argument's register, unless it is in place, nor its new variable
-module _ (p : Put) (b : Part) where
-  past-new : (q : Put) → SeesNoNew b q → (x y : ℕ → Tree) (t : Tree) → part_tree b (x_put q t x) (y_put q t y) ≡ part_tree b x y
-  past-new (New v) h x y t = h x y t
-  past-new (Given c) h x y t = refl
-
-  pub apart-from : SeesNoNew b p → IsInPlace 1 p ⊎ IsPartApart (X 1) b → IsApartFrom p b
-  apart-from h (inl same) x y t = ap (λ w. part_tree b w (y_put p t y)) (set-own (x_put p t x) 1 (put_tree p t x y) (same x y t)) ∙ past-new p h x y t
-  apart-from h (inr d) x y t = d (x_put p t x) (y_put p t y) (put_tree p t x y) ∙ past-new p h x y t
-
--- ---- the goal
-
-module _ (r : Relation) (p : Put) (a : Part) (j k is : List Step) (first : PutsFirst j 1 p k) (second : PutsFirst k 2 (Given a) (builtin (relation_name r) 2 ∷ is))
-    (apart : IsApartFrom p a) (one : IsUnseen 1 p is) (two : IsUnseen 2 (Given a) is) (g : Goal) (is_goal : IsGoalOf r p a g) where
-  pub asks-goal : AsksGoal j g is
-  asks-goal = record {
-    only = λ x y bs run.
-        let q = first.only x y bs run in
-        let t : Tree = q.0 in
-        let u : Tree = put_tree p t x y in
-        let x' : ℕ → Tree = set (x_put p t x) 1 u in
-        let y' : ℕ → Tree = y_put p t y in
-        let s = second.only x' y' bs q.1 in
-        let cs : Trees = s.1.0 in
-        let e : bs ≡ more (node (relation_name r) (pair u (part_tree a x' y'))) cs = s.1.1 in
-        let b : Runs is none (x_put p t x) y' cs = unput 1 p is one x y t y' cs (unput 2 (Given a) is two x' y' (atom 0) y' cs s.1.2) in (
-          t,
-          cs,
-          e ∙ ap (λ w. more (node (relation_name r) (pair u w)) cs) (apart x y t) ∙ ap (λ w. more w cs) (sym (is_goal.tree t x y)),
-          subst (λ w. Runs is none w (y_behind g t y) cs) (sym (is_goal.x t x)) (subst (λ w. Runs is none (x_put p t x) w cs) (sym (is_goal.y t y)) b),
-        );
-    each = λ x y t cs run.
-        let u : Tree = put_tree p t x y in
-        let x' : ℕ → Tree = set (x_put p t x) 1 u in
-        let y' : ℕ → Tree = y_put p t y in
-        let b : Runs is none (x_put p t x) y' cs = subst (λ w. Runs is none (x_put p t x) w cs) (is_goal.y t y) (subst (λ w. Runs is none w (y_behind g t y) cs) (is_goal.x t x) run) in
-        let c : Runs is none (set x' 2 (part_tree a x' y')) y' cs = reput 2 (Given a) is two x' y' (atom 0) y' cs (reput 1 p is one x y t y' cs b) in
-        let e : more (goal_tree g t x y) cs ≡ more (node (relation_name r) (pair u (part_tree a x' y'))) cs =
-        ap (λ w. more w cs) (is_goal.tree t x y) ∙ ap (λ w. more (node (relation_name r) (pair u w)) cs) (sym (apart x y t))
-        in
-        first.each x y t (more (goal_tree g t x y) cs) (second.each x' y' (atom 0) (more (goal_tree g t x y) cs) (cs, e, c));
-    openly = λ o. second.openly (first.openly o);
-  }

@@ -199,18 +199,3 @@ says r (group n) = group-keeps r n
 says r (push p n) = said (is_argument r n) false r (push p n) (push-keeps r p n)
 says r wait = wait-keeps r
 says r other = tt
-
--- a register that isn't read may hold another tree
-pub set-unread : (r : ℕ) (is : List Step) → IsUnread r is → (x y : ℕ → Tree) (t : Tree) (bs : Trees) → Runs is none x y bs → Runs is none (set x r t) y bs
-set-unread r is u x y t bs run = u none x (set x r t) y bs (λ w k. go w k (w == r) refl) run
-  where
-    go : (w : ℕ) → (w ≡ r → ⊥) → (b : Bool) → (w == r) ≡ b → x w ≡ (if b then t else x w)
-    go w k true e = absurd (k ((Decides-eqb w r).0 e))
-    go w k false e = refl
-
-pub unset-unread : (r : ℕ) (is : List Step) → IsUnread r is → (x y : ℕ → Tree) (t : Tree) (bs : Trees) → Runs is none (set x r t) y bs → Runs is none x y bs
-unset-unread r is u x y t bs run = u none (set x r t) x y bs (λ w k. go w k (w == r) refl) run
-  where
-    go : (w : ℕ) → (w ≡ r → ⊥) → (b : Bool) → (w == r) ≡ b → (if b then t else x w) ≡ x w
-    go w k true e = absurd (k ((Decides-eqb w r).0 e))
-    go w k false e = refl

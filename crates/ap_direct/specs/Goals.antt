@@ -12,7 +12,7 @@ use Rattle.ap_instr.specs.Runs.{Runs, read, set_x, set_y, IsOpen, AsksOpenly}
 use Rattle.ap_direct.specs.declared.goal.Operand.{Operand}
 use Rattle.ap_direct.specs.declared.goal.Operand.TheVariants.{Register, Integer}
 use Rattle.ap_direct.specs.declared.goal.Part.{Part}
-use Rattle.ap_direct.specs.declared.goal.Part.TheVariants.{Operand as One, Operation as Two}
+use Rattle.ap_direct.specs.declared.goal.Part.TheVariants.{Operand as One, Operation as Two, Nested'}
 use Rattle.ap_direct.specs.declared.goal.Direct.{Direct}
 use Rattle.ap_direct.specs.declared.goal.Goal.{Goal}
 use Rattle.ap_direct.specs.declared.goal.Goal.TheVariants.{Compare, Match, Give}
@@ -37,6 +37,7 @@ operand_tree (Integer z) x y = int z
 abbrev pub part_tree : Part → (ℕ → Tree) → (ℕ → Tree) → Tree
 part_tree (One o) x y = operand_tree o x y
 part_tree (Two f a b) x y = node (operation_name f) (pair (operand_tree a x y) (operand_tree b x y))
+part_tree (Nested' f p a q b) x y = node (operation_name f) (pair (part_tree a x y) (part_tree b x y))
 
 -- ---- goals, where a new variable is the tree t
 

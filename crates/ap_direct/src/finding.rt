@@ -9,24 +9,33 @@ ghost use Rattle.ap_instr.specs.Runs.{read, set_x, set_y};
 ghost use Rattle.ap_instr.specs.Step.{builtin};
 ghost use Rattle.ap_instr.specs.Steps.{steps_from};
 ghost use Rattle.ap_direct.specs.Goals.{AsksFirst};
-ghost use Rattle.ap_direct.specs.Puts.{PutsFirst, FillsFirst, IsApart, IsPartApart, SeesNoNew, IsApartFrom, IsInPlace, IsUnseen, IsGoalOf};
+ghost use Rattle.ap_direct.specs.Puts.{PutsFirst, FillsFirst, IsApart, IsPartApart, IsInPlace, IsUnseen, IsGoalOf};
+ghost use Rattle.ap_direct.specs.declared.goal.Operand.TheVariants.{Register};
+ghost use Rattle.ap_direct.specs.declared.goal.Part.TheVariants.{Operand as One};
 
 use crate::goal::{Direct, Goal, Operand, Part};
 use crate::unread::{instruction_at, is_unread};
 use ap_instr::{Builtin, Code, Instr, Slot};
 use ap_term::{Atom, Operation, Relation};
 
-/// An argument that is put: a new variable, which a register gets, or an expression.
+/// An expression of one operation at most.
+#[derive(Clone, Copy)]
+pub enum Simple {
+    Operand(Operand),
+    Operation(Operation, Operand, Operand),
+}
+
+/// What is put into a register: a new variable, which another register gets too, or an expression.
 #[derive(Clone, Copy)]
 pub enum Put {
     New(Slot),
-    Part(Part),
+    Simple(Simple),
 }
 
-/// An argument of a goal, and the place behind its instructions.
+/// What is put into an X register, and the place behind its instructions.
 #[derive(Clone, Copy)]
 pub struct Placed {
-    pub argument: u32,
+    pub register: u32,
     pub put: Put,
     pub to: usize,
 }
@@ -75,7 +84,7 @@ fn operand_at(code: &Code, at: usize) -> Option<Filled>
 }
 
 /// Whether two registers are different ones.
-fn are_different(v: Slot, w: Slot) -> bool
+pub(crate) fn are_different(v: Slot, w: Slot) -> bool
     ensures { result ≡ true → (x y : ℕ → Tree) (t : Tree) → read v (set_x w t x) (set_y w t y) ≡ read v x y }
 {
     match v {
@@ -101,16 +110,22 @@ fn is_apart(operand: Operand, v: Slot) -> bool
 }
 
 /// Whether no operand of an expression is what a register holds.
-fn part_is_apart(part: Part, v: Slot) -> bool
-    ensures { result ≡ true → IsPartApart v part }
+pub(crate) fn part_is_apart(part: &Part, v: Slot) -> bool
+    ensures { result ≡ true → IsPartApart v part.now }
 {
     match part {
-        Part::Operand(operand) => is_apart(operand, v),
+        Part::Operand(operand) => is_apart(*operand, v),
         Part::Operation(_, left, right) => {
-            if !is_apart(left, v) {
+            if !is_apart(*left, v) {
                 return false;
             }
-            is_apart(right, v)
+            is_apart(*right, v)
+        }
+        Part::Nested(_, left, right) => {
+            if !part_is_apart(left, v) {
+                return false;
+            }
+            part_is_apart(right, v)
         }
     }
 }
@@ -119,7 +134,7 @@ fn part_is_apart(part: Part, v: Slot) -> bool
 #[tactic(auto, using(crate::proofs::Found::structure_puts_at))]
 fn structure_at(code: &Code, at: usize, name: Atom, count: u8, a: u32) -> Option<Placed>
     requires { slice_get code.now.instructions at ≡ Some (PutStructure name count a) }
-    ensures { IfSome result (λ p. PutsFirst (steps_from code.now at) p.argument p.put (steps_from code.now p.to)) }
+    ensures { IfSome result (λ p. PutsFirst (steps_from code.now at) p.register p.put (steps_from code.now p.to)) }
 {
     if count != 2 {
         return None;
@@ -141,24 +156,24 @@ fn structure_at(code: &Code, at: usize, name: Atom, count: u8, a: u32) -> Option
         return None;
     }
     Some(Placed {
-        argument: a,
-        put: Put::Part(Part::Operation(operation, left.operand, right.operand)),
+        register: a,
+        put: Put::Simple(Simple::Operation(operation, left.operand, right.operand)),
         to: right.to,
     })
 }
 
 /// What an integer's instruction puts.
 #[tactic(auto, using(crate::proofs::Found::integer_puts_at))]
-fn integer_put(code: &Code, at: usize, i: u32, argument: u32) -> Option<Placed>
-    requires { slice_get code.now.instructions at ≡ Some (PutInteger i argument) }
-    ensures { IfSome result (λ p. PutsFirst (steps_from code.now at) p.argument p.put (steps_from code.now p.to)) }
+fn integer_put(code: &Code, at: usize, i: u32, register: u32) -> Option<Placed>
+    requires { slice_get code.now.instructions at ≡ Some (PutInteger i register) }
+    ensures { IfSome result (λ p. PutsFirst (steps_from code.now at) p.register p.put (steps_from code.now p.to)) }
 {
     let Some(z) = integer_at(code, i) else {
         return None;
     };
     Some(Placed {
-        argument,
-        put: Put::Part(Part::Operand(Operand::Integer(z))),
+        register,
+        put: Put::Simple(Simple::Operand(Operand::Integer(z))),
         to: behind(code, at),
     })
 }
@@ -167,30 +182,30 @@ fn integer_put(code: &Code, at: usize, i: u32, argument: u32) -> Option<Placed>
 #[tactic(auto, using(crate::proofs::Found::variable_puts_at, crate::proofs::Found::value_puts_at))]
 fn put_by(code: &Code, at: usize, instr: Instr) -> Option<Placed>
     requires { slice_get code.now.instructions at ≡ Some instr }
-    ensures { IfSome result (λ p. PutsFirst (steps_from code.now at) p.argument p.put (steps_from code.now p.to)) }
+    ensures { IfSome result (λ p. PutsFirst (steps_from code.now at) p.register p.put (steps_from code.now p.to)) }
 {
     match instr {
-        Instr::PutVariable(v, argument) => Some(Placed {
-            argument,
+        Instr::PutVariable(v, register) => Some(Placed {
+            register,
             put: Put::New(v),
             to: behind(code, at),
         }),
-        Instr::PutValue(v, argument) => Some(Placed {
-            argument,
-            put: Put::Part(Part::Operand(Operand::Register(v))),
+        Instr::PutValue(v, register) => Some(Placed {
+            register,
+            put: Put::Simple(Simple::Operand(Operand::Register(v))),
             to: behind(code, at),
         }),
-        Instr::PutInteger(i, argument) => integer_put(code, at, i, argument),
-        Instr::PutStructure(name, count, argument) => {
-            structure_at(code, at, name, count, argument)
+        Instr::PutInteger(i, register) => integer_put(code, at, i, register),
+        Instr::PutStructure(name, count, register) => {
+            structure_at(code, at, name, count, register)
         }
         _ => None,
     }
 }
 
-/// An argument that is put at a place.
-fn put_at(code: &Code, at: usize) -> Option<Placed>
-    ensures { IfSome result (λ p. PutsFirst (steps_from code.now at) p.argument p.put (steps_from code.now p.to)) }
+/// What the code at a place puts into a register.
+pub(crate) fn put_at(code: &Code, at: usize) -> Option<Placed>
+    ensures { IfSome result (λ p. PutsFirst (steps_from code.now at) p.register p.put (steps_from code.now p.to)) }
 {
     let Some(instr) = instruction_at(code, at) else {
         return None;
@@ -198,25 +213,8 @@ fn put_at(code: &Code, at: usize) -> Option<Placed>
     put_by(code, at, instr)
 }
 
-/// An argument of a goal that is put at a place, or stands in its register.
-#[tactic(auto, using(crate::proofs::Found::kept_puts_at))]
-fn argument_at(code: &Code, at: usize, argument: u32) -> Placed
-    ensures { PutsFirst (steps_from code.now at) argument result.put (steps_from code.now result.to) }
-{
-    if let Some(placed) = put_at(code, at) {
-        if placed.argument == argument {
-            return placed;
-        }
-    }
-    Placed {
-        argument,
-        put: Put::Part(Part::Operand(Operand::Register(Slot::X(argument)))),
-        to: at,
-    }
-}
-
 /// Whether a register is an X register of a number.
-fn is_register(v: Slot, a: u32) -> bool
+pub(crate) fn is_register(v: Slot, a: u32) -> bool
     ensures { result ≡ true → v ≡ X a }
 {
     match v {
@@ -225,45 +223,19 @@ fn is_register(v: Slot, a: u32) -> bool
     }
 }
 
-/// Whether the argument is what its register holds without being put.
+/// Whether a register holds what is put into it before that.
 fn is_in_place(put: Put, a: u32) -> bool
     ensures { result ≡ true → IsInPlace a put }
 {
     match put {
         Put::New(v) => is_register(v, a),
-        Put::Part(Part::Operand(Operand::Register(v))) => is_register(v, a),
-        Put::Part(_) => false,
+        Put::Simple(Simple::Operand(Operand::Register(v))) => is_register(v, a),
+        Put::Simple(_) => false,
     }
 }
 
-/// Whether no operand of an expression is the new variable that a first argument is.
-fn sees_no_new(part: Part, first: Put) -> bool
-    ensures { result ≡ true → SeesNoNew part first }
-{
-    match first {
-        Put::New(v) => part_is_apart(part, v),
-        Put::Part(_) => true,
-    }
-}
-
-/// Whether an expression is the same before a first argument is put and behind it.
-fn is_apart_from(part: Part, first: Put) -> bool
-    ensures { result ≡ true → IsApartFrom first part }
-{
-    if !sees_no_new(part, first) {
-        return false;
-    }
-    if is_in_place(first, 1) {
-        return true;
-    }
-    if part_is_apart(part, Slot::X(1)) {
-        return true;
-    }
-    false
-}
-
-/// Whether the code from a place on doesn't see that an argument was put.
-fn is_unseen(code: &Code, to: usize, put: Put, a: u32) -> bool
+/// Whether the code from a place on doesn't see what was put into a register.
+pub(crate) fn is_unseen(code: &Code, to: usize, put: Put, a: u32) -> bool
     ensures { result ≡ true → IsUnseen a put (steps_from code.now to) }
 {
     if is_in_place(put, a) {
@@ -272,25 +244,7 @@ fn is_unseen(code: &Code, to: usize, put: Put, a: u32) -> bool
     is_unread(code, to, a)
 }
 
-/// The goal of a relation on two arguments, if it is arithmetic.
-fn goal_of(relation: Relation, first: Put, second: Part) -> Option<Goal>
-    ensures { IfSome result (λ g. IsGoalOf relation first second g) }
-{
-    match relation {
-        Relation::Compare(op) => match first {
-            Put::Part(part) => Some(Goal::Compare(op, part, second)),
-            Put::New(_) => None,
-        },
-        Relation::Is => match first {
-            Put::New(v) => Some(Goal::Give(v, second)),
-            Put::Part(Part::Operand(Operand::Register(v))) => Some(Goal::Match(v, second)),
-            Put::Part(_) => None,
-        },
-        _ => None,
-    }
-}
-
-/// The relation of a built-in goal, and the place behind it.
+/// The relation of a built-in goal.
 #[tactic(auto, using(crate::proofs::Found::relation_stands_at))]
 fn relation_at(code: &Code, at: usize) -> Option<Relation>
     ensures { IfSome result (λ r. steps_from code.now at ≡ builtin (relation_name r) 2 ∷ steps_from code.now (at + 1)) }
@@ -301,31 +255,38 @@ fn relation_at(code: &Code, at: usize) -> Option<Relation>
     }
 }
 
-/// The goal of arithmetic that begins at a place, where one does that can be solved straight from registers.
-#[tactic(auto, using(crate::proofs::Found::asks_first))]
-pub fn goal_at(code: &Code, at: usize) -> Option<Direct>
+fn argument(a: u32) -> Part
+    ensures { result ≡ One (Register (X a)) }
+{
+    Part::Operand(Operand::Register(Slot::X(a)))
+}
+
+/// The goal of a relation on the first two X registers, if it is arithmetic.
+fn goal_of(relation: Relation) -> Option<Goal>
+    ensures { IfSome result (λ g. IsGoalOf relation g) }
+{
+    match relation {
+        Relation::Compare(op) => Some(Goal::Compare(op, argument(1), argument(2))),
+        Relation::Is => Some(Goal::Match(Slot::X(1), argument(2))),
+        _ => None,
+    }
+}
+
+/// The goal of arithmetic on registers at whose instruction a place is.
+#[tactic(auto, using(crate::proofs::Found::asks_there))]
+pub(crate) fn goal_on_registers(code: &Code, at: usize) -> Option<Direct>
     ensures { IfSome result (λ d. AsksFirst code.now at d) }
 {
-    let first = argument_at(code, at, 1);
-    let second = argument_at(code, first.to, 2);
-    let Put::Part(part) = second.put else {
+    let Some(relation) = relation_at(code, at) else {
         return None;
     };
-    if !is_apart_from(part, first.put) {
-        return None;
-    }
-    let Some(relation) = relation_at(code, second.to) else {
-        return None;
-    };
-    let to = behind(code, second.to);
-    if !is_unseen(code, to, first.put, 1) {
-        return None;
-    }
-    if !is_unseen(code, to, second.put, 2) {
-        return None;
-    }
-    match goal_of(relation, first.put, part) {
-        Some(goal) => Some(Direct { goal, to }),
+    let to = behind(code, at);
+    match goal_of(relation) {
+        Some(goal) => Some(Direct {
+            goal,
+            to,
+            structures: 0,
+        }),
         None => None,
     }
 }

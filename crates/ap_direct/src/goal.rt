@@ -10,15 +10,17 @@ pub enum Operand {
     Integer(i64),
 }
 
-/// An expression of one operation at most.
-#[derive(Clone, Copy)]
+/// An expression.
+#[derive(Drop)]
 pub enum Part {
     Operand(Operand),
     Operation(Operation, Operand, Operand),
+    /// An operation on expressions.
+    Nested(Operation, Box<Part>, Box<Part>),
 }
 
 /// A goal on registers.
-#[derive(Clone, Copy)]
+#[derive(Drop)]
 pub enum Goal {
     /// The values of two expressions compare so.
     Compare(Op, Part, Part),
@@ -28,9 +30,10 @@ pub enum Goal {
     Give(Slot, Part),
 }
 
-/// A goal, and the place behind it.
-#[derive(Clone, Copy)]
+/// A goal, the place behind it, and how many structures its code puts.
+#[derive(Drop)]
 pub struct Direct {
     pub goal: Goal,
     pub to: usize,
+    pub structures: u32,
 }

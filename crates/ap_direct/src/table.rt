@@ -1,16 +1,20 @@
 //! The goals of code by their places.
 
-ghost use Rattle.std.specs.Prelude.{IfOk, IfSome};
+ghost use Rattle.std.specs.Prelude.{◌≡◌, ℕ, ◌<◌, length, replicate, None, true, IfOk, IfSome, OnOk};
 ghost use Rattle.ap_direct.specs.Goals.{AsksFirst};
+ghost use Rattle.ap_direct.specs.Puts.{IsUnseen};
 ghost use Rattle.ap_instr.specs.Code.{Compiled};
-ghost use Rattle.ap_direct.specs.Table.{AreGoalsOf};
+ghost use Rattle.ap_instr.specs.Steps.{steps_from};
+ghost use Rattle.ap_direct.specs.Table.{AreAsked, AreGoalsOf};
 
-use crate::finding::goal_at;
+use crate::finding::{Placed, goal_on_registers, put_at};
 use crate::goal::{Direct, Goal, Operand, Part};
+use crate::preceding::{is_part_of, preceded};
 use crate::unread::instruction_at;
 use ap_instr::{Code, Instr, Slot};
 use ap_term::NoMemory;
 use std::alloc::Global;
+use std::mem;
 
 /// By places, the goal that begins there, and the first place behind it, before the next transfer of control, at which one begins.
 #[derive(Drop)]
@@ -68,15 +72,22 @@ fn is_register(operand: Operand, a: u32) -> bool {
     }
 }
 
-fn part_reads(part: Part, a: u32) -> bool {
+/// Whether an operand of an expression is what an X register holds.
+fn part_reads(part: &Part, a: u32) -> bool {
     match part {
-        Part::Operand(operand) => is_register(operand, a),
-        Part::Operation(_, left, right) => is_register(left, a) || is_register(right, a),
+        Part::Operand(operand) => is_register(*operand, a),
+        Part::Operation(_, left, right) => is_register(*left, a) || is_register(*right, a),
+        Part::Nested(_, left, right) => {
+            if part_reads(left, a) {
+                return true;
+            }
+            part_reads(right, a)
+        }
     }
 }
 
 /// Whether an operand of a goal is what an X register holds.
-fn reads(goal: Goal, a: u32) -> bool {
+fn reads(goal: &Goal, a: u32) -> bool {
     match goal {
         Goal::Compare(_, left, right) => part_reads(left, a) || part_reads(right, a),
         Goal::Match(_, part) => part_reads(part, a),
@@ -84,19 +95,108 @@ fn reads(goal: Goal, a: u32) -> bool {
     }
 }
 
-/// The goal that begins at a place, unless an operand is a structure that was put just before, and so no integer.
-fn goal_on_integers(code: &Code, at: usize) -> Option<Direct>
-    ensures { IfSome result (λ d. AsksFirst code.now at d) }
-{
-    let direct = goal_at(code, at)?;
+/// Whether an operand of a goal that begins at a place is a structure that was put just before, and so no integer.
+fn is_on_structure(code: &Code, at: usize, direct: &Direct) -> bool {
     match structure_before(code, at) {
-        Some(a) => {
-            if reads(direct.goal, a) {
-                return None;
-            }
-            Some(direct)
-        }
-        None => Some(direct),
+        Some(a) => reads(&direct.goal, a),
+        None => false,
+    }
+}
+
+/// Takes the goal at a place out.
+fn take(code: &Code, goals: &mut Vec<Option<Direct>>, at: usize) -> Option<Direct>
+    requires within { at < length goals.old.items }
+    requires asked { AreAsked code.now goals.old.items }
+    ensures asked { AreAsked code.now goals.new.items }
+    ensures same { length goals.new.items ≡ length goals.old.items }
+    ensures found { IfSome result (λ d. AsksFirst code.now at d) }
+{
+    mem::replace(&mut goals[at], None)
+}
+
+/// Writes what was found at a place.
+fn write(code: &Code, goals: &mut Vec<Option<Direct>>, at: usize, found: Option<Direct>)
+    requires within { at < length goals.old.items }
+    requires asked { AreAsked code.now goals.old.items }
+    requires found { IfSome found (λ d. AsksFirst code.now at d) }
+    ensures asked { AreAsked code.now goals.new.items }
+    ensures same { length goals.new.items ≡ length goals.old.items }
+{
+    let _before = mem::replace(&mut goals[at], found);
+}
+
+/// Takes out the goal behind what is put, if that can be taken into it.
+fn taken(code: &Code, goals: &mut Vec<Option<Direct>>, placed: Placed) -> Option<Direct>
+    requires { AreAsked code.now goals.old.items }
+    ensures asked { AreAsked code.now goals.new.items }
+    ensures same { length goals.new.items ≡ length goals.old.items }
+    ensures found { IfSome result (λ d. AsksFirst code.now placed.to d × IsUnseen placed.register placed.put (steps_from code.now d.to)) }
+{
+    if placed.to >= goals.len() {
+        return None;
+    }
+    let direct = take(code, goals, placed.to)?;
+    if is_part_of(code, placed, &direct) {
+        return Some(direct);
+    }
+    write(code, goals, placed.to, Some(direct));
+    None
+}
+
+/// The goal of arithmetic that begins at a place, where one does that can be solved straight from registers. A goal behind what is put
+/// there becomes part of it.
+fn goal_at(
+    alloc: Global,
+    code: &Code,
+    at: usize,
+    goals: &mut Vec<Option<Direct>>,
+) -> Result<Option<Direct>, NoMemory>
+    requires { AreAsked code.now goals.old.items }
+    ensures asked { OnOk result (AreAsked code.now goals.new.items) }
+    ensures same { length goals.new.items ≡ length goals.old.items }
+    ensures found { IfOk result (λ o. IfSome o (λ d. AsksFirst code.now at d)) }
+{
+    let Some(placed) = put_at(code, at) else {
+        return Ok(goal_on_registers(code, at));
+    };
+    let Some(direct) = taken(code, goals, placed) else {
+        return Ok(None);
+    };
+    preceded(alloc, code, at, placed, direct)
+}
+
+/// No goals, at so many places.
+fn no_goals(alloc: Global, places: usize) -> Result<Vec<Option<Direct>>, NoMemory>
+    ensures { IfOk result (λ gs. gs.items ≡ replicate places None) }
+{
+    let mut goals = Vec::new(alloc);
+    let mut made = 0;
+    'places: while made < places {
+        goals.push(None)?;
+        made += 1;
+    }
+    Ok(goals)
+}
+
+/// The goals of code by their places.
+fn goals_of(alloc: Global, code: &Code) -> Result<Vec<Option<Direct>>, NoMemory>
+    ensures { IfOk result (λ gs. (length gs.items ≡ length code.now.instructions) × AreAsked code.now gs.items) }
+{
+    let mut place = code.instructions().len();
+    let mut goals = no_goals(alloc, place)?;
+    'places: while place > 0 {
+        place -= 1;
+        let found = goal_at(alloc, code, place, &mut goals)?;
+        write(code, &mut goals, place, found);
+    }
+    Ok(goals)
+}
+
+/// The goal at a place, unless an operand of it is a structure that was put just before.
+fn stands_at(code: &Code, goals: &[Option<Direct>], at: usize) -> bool {
+    match goals.get(at) {
+        Some(Some(direct)) => !is_on_structure(code, at, direct),
+        _ => false,
     }
 }
 
@@ -105,10 +205,9 @@ impl Directs {
     pub fn of(alloc: Global, code: &Code) -> Result<Directs, NoMemory>
         ensures { IfOk result (λ d. AreGoalsOf code.now d) }
     {
-        let places = code.instructions().len();
-        let mut goals = vec![in alloc; None; places]?;
-        let mut stops = vec![in alloc; usize::MAX; places]?;
-        let mut place = places;
+        let mut goals = goals_of(alloc, code)?;
+        let mut stops = vec![in alloc; usize::MAX; goals.len()]?;
+        let mut place = goals.len();
         let mut stop = usize::MAX;
         'places: while place > 0 {
             place -= 1;
@@ -116,11 +215,11 @@ impl Directs {
                 stop = usize::MAX;
             }
             stops[place] = stop;
-            let found = goal_on_integers(code, place);
-            if let Some(_) = found {
+            if stands_at(code, goals.as_slice(), place) {
                 stop = place;
+            } else {
+                let _lost = take(code, &mut goals, place);
             }
-            goals[place] = found;
         }
         Ok(Directs { goals, stops })
     }

@@ -47,7 +47,7 @@ use Rattle.ap_standing.proofs.Calls.{Begins, begins}
 use Rattle.ap_direct.specs.declared.goal.Operand.{Operand}
 use Rattle.ap_direct.specs.declared.goal.Operand.TheVariants.{Register, Integer}
 use Rattle.ap_direct.specs.declared.goal.Part.{Part}
-use Rattle.ap_direct.specs.declared.goal.Part.TheVariants.{Operand as One, Operation as Two}
+use Rattle.ap_direct.specs.declared.goal.Part.TheVariants.{Operand as One, Operation as Two, Nested'}
 use Rattle.ap_direct.specs.declared.goal.Goal.{Goal}
 use Rattle.ap_direct.specs.declared.goal.Goal.TheVariants.{Compare, Match, Give}
 use Rattle.ap_direct.specs.declared.goal.Direct.{Direct}
@@ -69,6 +69,7 @@ module _ (f : ℕ → Tree) (X' Y' : ℕ → Tree) where
   instance-part : (a : Part) → instance f (part_tree a X' Y') ≡ part_tree a (under X') (under Y')
   instance-part (One o) = instance-operand o
   instance-part (Two g o q) = ap₂ (λ t u. node (operation_name g) (pair t u)) (instance-operand o) (instance-operand q)
+  instance-part (Nested' g p a q b) = ap₂ (λ t u. node (operation_name g) (pair t u)) (instance-part a) (instance-part b)
 
   instance-left : (g : Goal) (t : Tree) → instance f (goal_left g t X' Y') ≡ goal_left g (instance f t) (under X') (under Y')
   instance-left (Compare op a b) t = instance-part a

@@ -1,10 +1,12 @@
 -- The values of expressions whose operands are integers, and of goals of them.
-use Rattle.std.proofs.Common.{◌≡◌, ℕ, ℤ, ◌+◌, ◌<◌, ◌≤◌, ◌==◌, Bool, true, false, if◌then◌else◌, List, length, Some, Ok, refl, ap, ap₂, sym, ◌∙◌, subst, arith}
+use Rattle.std.proofs.Common.{◌≡◌, ℕ, ℤ, ◌+◌, ◌<◌, ◌≤◌, ◌==◌, Bool, true, false, if◌then◌else◌, List, length, Option, Some, None, Result, Ok, Err, refl, ap, ap₂, sym, ◌∙◌, subst, arith}
+use Rattle.std.specs.Prelude.{IfSome}
 use Rattle.std.specs.Result.{result_ok}
 use Rattle.ap_term.specs.declared.builtins.Operation.{Operation}
 use Rattle.ap_term.specs.declared.builtins.Operation.TheVariants.{Add, Subtract, Multiply, Divide, Remainder, Modulo}
 use Rattle.ap_term.specs.Tree.{Tree, int, node}
-use Rattle.ap_term.specs.Arithmetic.{eval, value_of, applied, operation_named}
+use Rattle.ap_term.specs.declared.faults.Fault.{Fault}
+use Rattle.ap_term.specs.Arithmetic.{evaluated, eval, value_of, applied, operation_named}
 use Rattle.ap_cells.specs.declared.cells.Raw.{Raw}
 use Rattle.ap_cells.specs.Trees.{tree_at, trees}
 use Rattle.ap_instr.specs.declared.instruction.Slot.{Slot}
@@ -31,6 +33,16 @@ operation_named-name Multiply = refl
 operation_named-name Divide = refl
 operation_named-name Remainder = refl
 operation_named-name Modulo = refl
+
+is-ok : (r : Result ℤ Fault) (z : ℤ) → result_ok r ≡ Some z → r ≡ Ok z
+is-ok (Ok n) z e = let q : n ≡ z = cc in ap Ok q
+is-ok (Err f) z e = absurd cc
+
+pub nested_known : (f : Operation) (t u : Tree) (m n : ℤ) (o : Option ℤ) → eval t ≡ Some m → eval u ≡ Some n → o ≡ result_ok (applied f m n) → IfSome o (λ z. eval (node (operation_name f) (pair t u)) ≡ Some z)
+nested_known f t u m n None e g h = tt
+nested_known f t u m n (Some z) e g h =
+    ap₂ (λ v w. result_ok (value_of (operation_named (operation_name f)) v w)) (is-ok (evaluated t) m e) (is-ok (evaluated u) n g)
+    ∙ ap (λ k. result_ok (value_of k (Ok m) (Ok n))) (operation_named-name f) ∙ sym h
 
 module _ (cs : List Raw) (x y : List ℕ) where
   pub own_register : (v : Slot) → tree_at (trees cs) (read v (held x) (held y)) ≡ read v (own cs x) (own cs y)

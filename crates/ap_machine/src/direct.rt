@@ -68,20 +68,38 @@ fn operand_value(cells: &Cells, x: &[u32], y: &[u32], operand: &Operand) -> Opti
     }
 }
 
-/// The value of an expression whose operands are integers, if it meets no fault.
-#[inline(always)]
+/// The value of an expression of any depth whose operands are integers, if it meets no fault.
+#[inline(never)]
 #[tactic(auto, using(crate::proofs::Values::eval_one, crate::proofs::Values::eval_two))]
 fn part_value(cells: &Cells, x: &[u32], y: &[u32], part: &Part) -> Option<i64>
     requires { HoldPlaces (length cells.now.cells) x.now × HoldPlaces (length cells.now.cells) y.now }
     ensures { IfSome result (λ z. eval (own_part cells.now.cells x.now y.now part.now) ≡ Some z) }
 {
     match part {
-        Part::Operand(operand) => operand_value(cells, x, y, operand),
         Part::Operation(operation, left, right) => {
             let a = operand_value(cells, x, y, left)?;
             let b = operand_value(cells, x, y, right)?;
             applied(*operation, a, b).ok()
         }
+        Part::Nested(operation, left, right) => {
+            let first = part_value(cells, x, y, left)?;
+            let second = part_value(cells, x, y, right)?;
+            applied(*operation, first, second).ok()
+        }
+        Part::Operand(operand) => operand_value(cells, x, y, operand),
+    }
+}
+
+/// The value of a comparison's side, which is an operand mostly.
+#[inline(always)]
+#[tactic(auto, using(crate::proofs::Values::eval_one))]
+fn side_value(cells: &Cells, x: &[u32], y: &[u32], part: &Part) -> Option<i64>
+    requires { HoldPlaces (length cells.now.cells) x.now × HoldPlaces (length cells.now.cells) y.now }
+    ensures { IfSome result (λ z. eval (own_part cells.now.cells x.now y.now part.now) ≡ Some z) }
+{
+    match part {
+        Part::Operand(operand) => operand_value(cells, x, y, operand),
+        _ => part_value(cells, x, y, part),
     }
 }
 
@@ -104,8 +122,8 @@ fn goal_value(cells: &Cells, x: &[u32], y: &[u32], goal: &Goal) -> Option<Value>
 {
     match goal {
         Goal::Compare(op, left, right) => {
-            let a = part_value(cells, x, y, left)?;
-            let b = part_value(cells, x, y, right)?;
+            let a = side_value(cells, x, y, left)?;
+            let b = side_value(cells, x, y, right)?;
             Some(Value::Holds(compares(*op, a, b)))
         }
         Goal::Match(v, part) => {

@@ -6,7 +6,7 @@ use std::test::Fail;
 
 const RUN: &[&str] = &["andprolog", "run", "f.pl"];
 
-const ANSWERS: [Command; 22] = [
+const ANSWERS: [Command; 25] = [
     (
         RUN,
         "p(1). p(2).",
@@ -136,6 +136,28 @@ const ANSWERS: [Command; 22] = [
         "k(X,Y,1) :- X < Y. k(X,Y,2) :- X > Y. k(X,Y,3) :- X =:= Y. k(X,Y,4) :- X =\\= Y. k(X,Y,5) :- X =< Y. k(X,Y,6) :- X >= Y.",
         "?- k(1,2,K). ?- k(2,1,K). ?- k(1+1,2,K). ?- k(_X,2,K). ?- k(2,a,K).",
         "K = 1\nK = 4\nK = 5\nno more.\nK = 2\nK = 4\nK = 6\nno more.\nK = 3\nK = 5\nK = 6\nno more.\nno more.\nno more.\n",
+        Status::Done,
+    ),
+    // expressions in one another: on integers, on an expression, on no integer, and with a fault within
+    (
+        RUN,
+        "n(A,B,C,L,R,T,D) :- L is A - B - C, R is A - (B - C), T is A * B + C * A, D is (A - B) // (C - B) rem (A + 2 * B).",
+        "?- n(20,3,5,L,R,T,D). ?- n(10+10,3,5,L,R,T,D). ?- n(20,_B,5,_L,_R,_T,_D). ?- n(20,3,a,_L,_R,_T,_D). ?- n(20,3,3,_L,_R,_T,_D).",
+        "L = 12, R = 22, T = 160, D = 8\nno more.\nL = 12, R = 22, T = 160, D = 8\nno more.\nno more.\nno more.\nno more.\n",
+        Status::Done,
+    ),
+    (
+        RUN,
+        "c(A,B,C,1) :- A * B + C < A * (B - C). c(A,B,C,2) :- A - B - C =:= A - (B - C). c(A,B,C,3) :- 2 * (A + B) - C >= (C - A) * B.",
+        "?- c(2,3,-1,K). ?- c(2,3,0,K). ?- c(2,_B,0,_K).",
+        "K = 1\nK = 3\nno more.\nK = 2\nK = 3\nno more.\nno more.\n",
+        Status::Done,
+    ),
+    (
+        RUN,
+        "m(A,B,C,X) :- X is A * B + C. s(A,X) :- X is A+A+A+A+A+A+A+A+A+A+A+A+A+A+A+A+A+A+A+A.",
+        "?- m(4611686018427387904,1,4611686018427387903,X). ?- m(4611686018427387904,2,-1,_X). ?- m(2,3,4,10). ?- m(2,3,4,11). ?- s(3,X).",
+        "X = 9223372036854775807\nno more.\nno more.\ntrue\nno more.\nno more.\nX = 60\nno more.\n",
         Status::Done,
     ),
 ];

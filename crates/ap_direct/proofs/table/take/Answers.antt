@@ -1,0 +1,14 @@
+use Rattle.std.proofs.Common.{sym, subst}
+use Rattle.std.specs.Prelude.{IfSome}
+use Rattle.ap_direct.specs.Goals.{AsksFirst}
+use Rattle.ap_direct.proofs.Asked.{set_asked, asked_at}
+use Rattle.ap_direct.proofs.table.take.Goals as goal
+
+pub returns-clause-asked : goal.returns-clause-asked
+returns-clause-asked c =
+    set_asked c.args.code.now c.args.goals.now.items c.args.at c.replace.new.dest c.requires.within
+    (subst (λ o. IfSome o (λ d. AsksFirst c.args.code.now c.args.at d)) (sym c.replace.ensures.after) tt) c.requires.asked
+
+pub returns-clause-found : goal.returns-clause-found
+returns-clause-found c =
+    asked_at c.args.code.now c.args.goals.now.items c.args.at c.replace.result c.index_mut.result.now c.requires.within c.requires.asked c.index_mut.ensures.value c.replace.ensures.value
