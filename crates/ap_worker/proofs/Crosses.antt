@@ -12,15 +12,21 @@ use Rattle.std.specs.contracts.alloc.Global as Global
 use Rattle.std.specs.contracts.impls.GlobalAllocator.TheImpl.{ghosts as heap_ghosts}
 use Rattle.std.specs.contracts.vec.Vec as Vec
 use Rattle.ap_board.proofs.board.Board.TheSendSync as board
-use Rattle.ap_codecheck.proofs.sound.Sound.TheSendSync as sound
+use Rattle.ap_codecheck.specs.contracts.sound.Sound as Sound
 use Rattle.ap_copy.proofs.parcels.Parcelled.TheSendSync as parcel
 use Rattle.ap_desk.proofs.desk.Desk.TheSendSync as desk
+use Rattle.ap_direct.proofs.goal.Part.TheLaws.TheKnot as part_knot
+use Rattle.ap_direct.specs.contracts.goal.Direct as Direct
+use Rattle.ap_direct.specs.contracts.goal.Goal as Goal
+use Rattle.ap_direct.specs.contracts.goal.Part as Part
+use Rattle.ap_direct.specs.contracts.table.Directs as Directs
 use Rattle.ap_frames.proofs.frame.Frame.TheSendSync as frame
 use Rattle.ap_goalstack.proofs.ends.GoalStack.TheSendSync as goals
 use Rattle.ap_goalstack.proofs.ends.Thief.TheSendSync as thief
 use Rattle.ap_goalstack.specs.contracts.ends.GoalStack as GoalStack
 use Rattle.ap_goalstack.specs.contracts.rule.Unruled as Unruled
 use Rattle.ap_goalstack.specs.contracts.rule.UnruledRule.TheImpl.{ghosts}
+use Rattle.ap_instr.proofs.compiled.Code.TheSendSync as code
 use Rattle.ap_ledger.proofs.share.Share.TheSendSync as share
 use Rattle.ap_machine.proofs.state.Search.TheSendSync as machine
 use Rattle.ap_section.proofs.section.Section.TheLaws.TheKnot as knot
@@ -35,6 +41,22 @@ use Rattle.ap_stack.specs.contracts.stack.Stack as Stack
 use Rattle.ap_worker.specs.contracts.taken.Taken as Taken
 use Rattle.ap_worker.specs.contracts.worker.Worker as Worker
 
+-- expressions of arithmetic stand in one another, so that what is made of them is shown step by step
+part-sync : IsSync (Part.the_field).row
+part-sync = search (sendable, crosses, part_knot.sync-Part) depth 20
+
+goal-sync : IsSync (Goal.the_field).row
+goal-sync = search (sendable, crosses, part-sync) depth 20
+
+direct-sync : IsSync (Direct.the_field).row
+direct-sync = search (sendable, crosses, goal-sync) depth 20
+
+directs-sync : IsSync (Directs.the_field).row
+directs-sync = search (sendable, crosses, direct-sync) depth 20 fits 5000
+
+sound-sync : IsSync (Sound.the_field).row
+sound-sync = search (sendable, crosses, directs-sync, code.the_sync) depth 40 fits 20000
+
 pub section-send : IsSend (Section.the_field).row
 section-send = search (sendable, crosses, heap.the_field_send, knot.send-Section, frame.the_send, parcel.the_send, machine.the_send) depth 20
 
@@ -45,13 +67,13 @@ pub open-send : IsSend (Open.the_field).row
 open-send = search (sendable, crosses, section-send) depth 20
 
 pub stack-send : (a : NamedLft) → IsSend (Stack.the_field a).row
-stack-send a = search (sendable, crosses, sound.the_sync, share.the_send, section-send, open-send) depth 24
+stack-send a = search (sendable, crosses, sound-sync, share.the_send, section-send, open-send) depth 24
 
 pub taken-send : (a : NamedLft) → IsSend (Taken.the_field a).row
 taken-send a = search (sendable, crosses, stack-send) depth 20
 
 pub job-send : (a : NamedLft) → IsSend (Job.the_field a).row
-job-send a = search (sendable, crosses, sound.the_sync, parcel.the_send) depth 20
+job-send a = search (sendable, crosses, sound-sync, parcel.the_send) depth 20
 
 pub goals-send : IsSend (GoalStack.the_field Unruled.the_row ghosts).row
 goals-send = search (sendable, crosses, goals.the_field_send) depth 20
