@@ -92,7 +92,7 @@ pub fn annotate_sound(
     ensures scope { IfOk result (λ c. IsScopeOf entries.now c.scope) }
     ensures sound { IfOk result (λ c. IsSoundAnnotation program.now c.program (Of entries.now)) }
 {
-    if is_lone(program) {
+    if is_lone(program.as_slice()) {
         return as_written(alloc, program, entries);
     }
     annotate_by_passes(alloc, program, entries, kind)

@@ -12,3 +12,4 @@ mod lone;
 mod passes;
 
 pub use annotations::{Kind, annotate, annotate_sound};
+pub use lone::{is_lone, is_lone_clause};
