@@ -6,6 +6,8 @@
 
 mod grouping;
 mod guards;
+mod lone;
 
 pub use grouping::{Grouped, group_query};
 pub use guards::guard_law;
+pub use lone::is_lone_query;
