@@ -20,41 +20,41 @@ pub returns-clause-lines : goal.returns-clause-lines
 returns-clause-lines g c = λ p q fine asks read.
     let a = c.args.program.now in
     let b = c.args.query.now in
-    let code = c.in-Ok.sound in
+    let code = c.args.sound.now in
     let good = c.as_slice-good.ensures.kept in
     let is = c.question-asked.ensures.kept in
-    let solves = c.in-Ok-begun.ensures.solves a (is-asked code a b is c.in-Ok.ensures c.requires.asked)
-    (is-searched c.reading_law.ensures code a b good is c.requires.asked c.in-Ok.ensures c.requires.safe) in
+    let solves = c.in-Ok-begun.ensures.solves a (is-asked code a b is c.requires.code c.requires.asked)
+    (is-searched c.reading_law.ensures code a b good is c.requires.asked c.requires.code c.requires.safe) in
     let same = c.in-Ok-leading.ensures.query in
     let beside = leads-solving c.outcome_law.ensures code (rules_beside a b) b c.args.budget c.in-Ok-leading.lead.query (view_of c.in-Ok-begun.section) same.0 same.1 solves in
     subst (λ r. Finishes (g.K.Sink.pieces c.args.out.now) (g.K.Sink.pieces c.search-found.new.out) (λ e put. IsBlock (g.A.Answers.line c.args.answers.now) (joined p q) (start q) c.args.budget c.args.limit put (end_of e.end)) r) (sym c.with_total.ensures.with)
-    (read-finishes c.reading_law.ensures code a b good is c.requires.asked c.in-Ok.ensures (g.A.Answers.line c.args.answers.now) c.args.budget c.args.limit _ _ c.gathered.result c.among-taken.result c.among-stolen.result c.search-found.result p q fine asks read
+    (read-finishes c.reading_law.ensures code a b good is c.requires.asked c.requires.code (g.A.Answers.line c.args.answers.now) c.args.budget c.args.limit _ _ c.gathered.result c.among-taken.result c.among-stolen.result c.search-found.result p q fine asks read
     (c.search-found.ensures.lines (rules_beside a b) b is beside))
 
 pub returns-clause-charged : goal.returns-clause-charged
 returns-clause-charged g c = λ p q fine asks read.
     let a = c.args.program.now in
     let b = c.args.query.now in
-    let code = c.in-Ok.sound in
+    let code = c.args.sound.now in
     let good = c.as_slice-good.ensures.kept in
     let is = c.question-asked.ensures.kept in
-    let solves = c.in-Ok-begun.ensures.solves a (is-asked code a b is c.in-Ok.ensures c.requires.asked)
-    (is-searched c.reading_law.ensures code a b good is c.requires.asked c.in-Ok.ensures c.requires.safe) in
+    let solves = c.in-Ok-begun.ensures.solves a (is-asked code a b is c.requires.code c.requires.asked)
+    (is-searched c.reading_law.ensures code a b good is c.requires.asked c.requires.code c.requires.safe) in
     let same = c.in-Ok-leading.ensures.query in
     let beside = leads-solving c.outcome_law.ensures code (rules_beside a b) b c.args.budget c.in-Ok-leading.lead.query (view_of c.in-Ok-begun.section) same.0 same.1 solves in
     subst (λ r. IfOk r (λ e. Puts (g.K.Sink.pieces c.args.out.now) (g.K.Sink.pieces c.search-found.new.out) (IsChargedBlock (g.A.Answers.line c.args.answers.now) (joined p q) (start q) c.args.budget c.args.limit (IsUngrouped (joined a b)) e)))
     (sym c.with_total.ensures.with)
-    (read-charged c.reading_law.ensures code a b good is c.requires.asked c.in-Ok.ensures (g.A.Answers.line c.args.answers.now) c.args.budget c.args.limit _ _ c.gathered.result c.among-taken.result c.among-stolen.result c.search-found.result p q fine asks read
+    (read-charged c.reading_law.ensures code a b good is c.requires.asked c.requires.code (g.A.Answers.line c.args.answers.now) c.args.budget c.args.limit _ _ c.gathered.result c.among-taken.result c.among-stolen.result c.search-found.result p q fine asks read
     (c.search-found.ensures.charged (rules_beside a b) b is beside))
 
 pub returns-clause-total : goal.returns-clause-total
 returns-clause-total g c =
     let a = c.args.program.now in
     let b = c.args.query.now in
-    let code = c.in-Ok.sound in
+    let code = c.args.sound.now in
     let is = c.question-asked.ensures.kept in
-    let solves = c.in-Ok-begun.ensures.solves a (is-asked code a b is c.in-Ok.ensures c.requires.asked)
-    (is-searched c.reading_law.ensures code a b c.as_slice-good.ensures.kept is c.requires.asked c.in-Ok.ensures c.requires.safe) in
+    let solves = c.in-Ok-begun.ensures.solves a (is-asked code a b is c.requires.code c.requires.asked)
+    (is-searched c.reading_law.ensures code a b c.as_slice-good.ensures.kept is c.requires.asked c.requires.code c.requires.safe) in
     let lead = c.in-Ok-leading.lead in
     let same = c.in-Ok-leading.ensures.query in
     let beside = leads-solving c.outcome_law.ensures code (rules_beside a b) b c.args.budget lead.query (view_of c.in-Ok-begun.section) same.0 same.1 solves in
@@ -67,10 +67,10 @@ pub returns-clause-exact : goal.returns-clause-exact
 returns-clause-exact g c = λ plain.
     let a = c.args.program.now in
     let b = c.args.query.now in
-    let code = c.in-Ok.sound in
+    let code = c.args.sound.now in
     let is = c.question-asked.ensures.kept in
-    let solves = c.in-Ok-begun.ensures.solves a (is-asked code a b is c.in-Ok.ensures c.requires.asked)
-    (is-searched c.reading_law.ensures code a b c.as_slice-good.ensures.kept is c.requires.asked c.in-Ok.ensures c.requires.safe) in
+    let solves = c.in-Ok-begun.ensures.solves a (is-asked code a b is c.requires.code c.requires.asked)
+    (is-searched c.reading_law.ensures code a b c.as_slice-good.ensures.kept is c.requires.asked c.requires.code c.requires.safe) in
     let lead = c.in-Ok-leading.lead in
     let same = c.in-Ok-leading.ensures.query in
     let beside = leads-solving c.outcome_law.ensures code (rules_beside a b) b c.args.budget lead.query (view_of c.in-Ok-begun.section) same.0 same.1 solves in

@@ -2,35 +2,35 @@ use Rattle.std.proofs.Common.{◌≡◌, subst}
 use Rattle.ap_term.specs.WellFormed.{IsProgram}
 use Rattle.ap_top.proofs.Grouped.{grouped-read, grouped-asked, grouped-safe}
 use Rattle.ap_top.proofs.Parts.{part-asked, part-finishes, part-counted}
-use Rattle.ap_top.proofs.answers.put_answers.Goals as goal
+use Rattle.ap_top.proofs.answers.put_by_code.Goals as goal
 
 pub solve_with_pads-requires-clause-asked : goal.solve_with_pads-requires-clause-asked
 solve_with_pads-requires-clause-asked g c κs within =
     let p = c.args.program.now in
     let q = c.args.query.now in
-    let r = c.in-Ok.part in
-    grouped-asked _ r q c.in-Ok-group_query.grouped.program c.in-Ok-group_query.grouped.query c.in-Ok-group_query.ensures (part-asked p q r c.in-Ok.ensures c.requires.asked)
+    let r = c.args.part.now in
+    grouped-asked _ r q c.args.grouped.now c.args.grouped_query.now c.requires.groups (part-asked p q r c.requires.reached c.requires.asked)
 
 pub solve_with_pads-requires-clause-safe : goal.solve_with_pads-requires-clause-safe
-solve_with_pads-requires-clause-safe g c κs within = grouped-safe _ c.in-Ok.part c.args.query.now c.in-Ok-group_query.grouped.program c.in-Ok-group_query.grouped.query c.in-Ok-group_query.ensures
+solve_with_pads-requires-clause-safe g c κs within = grouped-safe _ c.args.part.now c.args.query.now c.args.grouped.now c.args.grouped_query.now c.requires.groups
 
 pub returns-clause-lines : goal.returns-clause-lines
 returns-clause-lines g c =
     let p = c.args.program.now in
     let q = c.args.query.now in
-    let r = c.in-Ok.part in
+    let r = c.args.part.now in
     let good : IsProgram p = subst IsProgram c.program.ensures c.as_slice-whole.ensures.kept in
-    part-finishes c.args.bounds.budget c.args.bounds.answers p c.args.atoms.now q r good c.in-Ok.ensures _ _ c.solve_with_pads.result
-    (c.solve_with_pads.ensures.lines r q c.as_slice-good.ensures.kept c.question-asked.ensures.kept (grouped-read _ r q c.in-Ok-group_query.grouped.program c.in-Ok-group_query.grouped.query c.in-Ok-group_query.ensures))
+    part-finishes c.args.bounds.budget c.args.bounds.answers p c.args.atoms.now q r good c.requires.reached _ _ c.solve_with_pads.result
+    (c.solve_with_pads.ensures.lines r q c.as_slice-good.ensures.kept c.question-asked.ensures.kept (grouped-read _ r q c.args.grouped.now c.args.grouped_query.now c.requires.groups))
 
 pub returns-clause-counted : goal.returns-clause-counted
 returns-clause-counted g c =
     let p = c.args.program.now in
     let q = c.args.query.now in
-    let r = c.in-Ok.part in
-    let a = c.in-Ok-group_query.grouped.program in
-    let b = c.in-Ok-group_query.grouped.query in
-    let groups = c.in-Ok-group_query.ensures in
+    let r = c.args.part.now in
+    let a = c.args.grouped.now in
+    let b = c.args.grouped_query.now in
+    let groups = c.requires.groups in
     let good : IsProgram p = subst IsProgram c.program.ensures c.as_slice-whole.ensures.kept in
-    part-counted c.args.bounds.budget c.args.bounds.answers p c.args.atoms.now q r good c.in-Ok.ensures c.args.bounds.kind a b groups _ _ c.solve_with_pads.result
+    part-counted c.args.bounds.budget c.args.bounds.answers p c.args.atoms.now q r good c.requires.reached c.args.bounds.kind a b groups _ _ c.solve_with_pads.result
     (c.solve_with_pads.ensures.charged r q c.as_slice-good.ensures.kept c.question-asked.ensures.kept (grouped-read _ r q a b groups)) c.solve_with_pads.ensures.exact c.solve_with_pads.ensures.plain
