@@ -2,6 +2,8 @@
 
 ghost use Rattle.std.specs.Prelude.{◌≡◌, [], length, slice_get, Some, IfOk};
 ghost use Rattle.std.specs.List.{IsDistinct};
+ghost use Rattle.std.specs.Ordering.{int_eq};
+ghost use Rattle.indexmap.specs.IndexSet.{insert_key};
 ghost use Rattle.ap_instr.specs.Table.{is_key};
 
 use ap_term::{Atom, NoMemory};
@@ -40,6 +42,8 @@ impl Tables {
     /// The number of an integer.
     pub fn integer(&mut self, z: i64) -> Result<u32, NoMemory>
         ensures number { IfOk result (λ i. slice_get self.new.integers i ≡ Some z) }
+        ensures keys { IfOk result (λ _. self.new.integers ≡ insert_key int_eq self.old.integers z) }
+        ensures predicates { self.new.predicates ≡ self.old.predicates }
         ensures grows { IfOk result (λ _. Grows self.old self.new) }
     {
         let (i, _) = self.integers.insert_full(z)?;
@@ -53,6 +57,7 @@ impl Tables {
     pub fn predicate(&mut self, name: Atom, arity: u8) -> Result<u32, NoMemory>
         ensures number { IfOk result (λ i. slice_get self.new.predicates i ≡ Some (name, arity)) }
         ensures keys { IfOk result (λ _. self.new.predicates ≡ with_key self.old.predicates (Some (name, arity))) }
+        ensures integers { self.new.integers ≡ self.old.integers }
         ensures grows { IfOk result (λ _. Grows self.old self.new) }
     {
         let (i, _) = self.predicates.insert_full((name.number(), arity))?;
