@@ -80,7 +80,9 @@ impl Search {
     }
 
     /// Counts the cells of its store, by which it is known how much a copy has cost.
-    pub fn cells(&self) -> usize {
+    pub fn cells(&self) -> usize
+        ensures { result ≡ length self.now.machine.cells }
+    {
         self.cells.len()
     }
 

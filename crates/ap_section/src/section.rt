@@ -45,7 +45,9 @@ impl Section {
     }
 
     /// Counts the cells of its store, by which it is known how much a copy has cost.
-    pub fn cells(&self) -> usize {
+    pub fn cells(&self) -> usize
+        ensures { result ≡ length (machine_in (view_of self.now)).cells }
+    {
         self.search.cells()
     }
 
