@@ -1,10 +1,10 @@
 //! The section, one move after another.
 
-ghost use Rattle.std.specs.Prelude.{◌≡◌, ◌+◌, ◌-◌, ◌≤◌, max, length, replicate, true, false, Ok, Some, IfOk, IfSome};
+ghost use Rattle.std.specs.Prelude.{◌≡◌, ◌+◌, ◌-◌, ◌<◌, ◌≤◌, max, length, replicate, true, false, Ok, Some, None, IfOk, IfSome};
 ghost use Rattle.ap_instr.specs.Code.{Compiled};
 ghost use Rattle.ap_machine.specs.View.{Paused};
 ghost use Rattle.ap_machine.specs.Stands.{IsAtEnd, IsAtGroup};
-ghost use Rattle.ap_machine.specs.Forking.{HasForked, IsAtUnchecked};
+ghost use Rattle.ap_machine.specs.Forking.{HasForked, HasGoneOn, IsAtUnchecked};
 ghost use Rattle.ap_tie.specs.Sections.{machine_in};
 ghost use Rattle.ap_ledger.specs.Counts.{capped};
 ghost use Rattle.ap_tied.specs.Ties.{Goes};
@@ -12,6 +12,7 @@ ghost use Rattle.ap_section.specs.Views.{view_of, spent_in, budget_in};
 ghost use Rattle.ap_section.specs.declared.section.Section.{out-Section};
 ghost use Rattle.ap_section.specs.Ready.{IsReady, IsShut};
 ghost use Rattle.ap_section.specs.Slots.{IsAtDueFrame};
+ghost use Rattle.ap_section.specs.Lending.{count_in};
 ghost use Rattle.ap_section.specs.Moving.{HasMoved, IsOpened, IsEndedBy, IsRested};
 ghost use Rattle.ap_section.specs.Ends.{Ends};
 ghost use Rattle.ap_section.specs.Owed.{owed};
@@ -92,6 +93,9 @@ impl Section {
         ensures spent { spent_in (view_of self.new) ≡ spent_in (view_of self.old) }
         ensures ready { IsReady sound.now self.new }
         ensures forked { result ≡ Ok true → IsAtDueFrame (view_of self.new) }
+        ensures group { result ≡ Ok true → HasForked sound.now (out-Section self.old).search (out-Section self.new).search }
+        ensures gone_on { result ≡ Ok false → HasGoneOn sound.now (out-Section self.old).search (out-Section self.new).search }
+        ensures frames { result ≡ Ok false → count_in self.new ≡ count_in self.old }
     {
         reaching_law();
         let frame = self.open_frame(sound)?;
@@ -113,6 +117,9 @@ impl Section {
         ensures ready { IsReady sound.now self.new }
         ensures forked { result ≡ Ok true → IsAtDueFrame (view_of self.new) }
         ensures unwanted { wanted ≡ false → result ≡ Ok true → IsAtUnchecked sound.now (machine_in (view_of self.old)) }
+        ensures wanted { wanted ≡ true → result ≡ Ok false → HasGoneOn sound.now (out-Section self.old).search (out-Section self.new).search }
+        ensures group { result ≡ Ok true → HasForked sound.now (out-Section self.old).search (out-Section self.new).search }
+        ensures frames { result ≡ Ok false → count_in self.new ≡ count_in self.old }
     {
         if wanted {
             return self.fork(sound);
@@ -135,6 +142,8 @@ impl Section {
         ensures ready { (code : Compiled) → IsShut code self.old → IsReady code self.new }
         ensures end { IfSome result (λ turn. (code : Compiled) → IsShut code self.old → IsRested code (view_of self.new) turn) }
         ensures running { result ≡ Some Turn.Stopped → ⊥ }
+        ensures frames { count_in self.new ≤ count_in self.old }
+        ensures dropped { result ≡ None → count_in self.new < count_in self.old }
     {
         reaching_law();
         let Some(frame) = self.frames.last() else {
@@ -162,6 +171,7 @@ impl Section {
         ensures within { spent_in (view_of self.new) ≤ max (budget_in (view_of self.old)) (spent_in (view_of self.old)) }
         ensures few { spent_in (view_of self.new) ≤ spent_in (view_of self.old) + left }
         ensures end { IfOk result (λ turn. IsEndedBy sound.now left (view_of self.old) (view_of self.new) turn) }
+        ensures frames { count_in self.new ≡ count_in self.old }
         ensures stopped { result ≡ Ok SearchTurn.Stopped → H.asked hook.new }
         ensures asked { H.asked hook.old → H.asked hook.new }
     {

@@ -1,6 +1,7 @@
-use Rattle.std.proofs.Common.{◌∙◌, ap, sym, is_some}
+use Rattle.std.proofs.Common.{◌∙◌, ap, sym, is_some, arith}
 use Rattle.ap_section.proofs.Shut.{top-last, none-last}
 use Rattle.ap_section.proofs.Back.{none-rested, not-some, back-came, back-due, fewer-came}
+use Rattle.ap_section.proofs.Counted.{count-searching, count-fewer}
 use Rattle.ap_section.proofs.section.Section.come_back.Goals as goal
 
 pub returns-in_default-clause-end : goal.returns-in_default-clause-end
@@ -30,3 +31,14 @@ returns-clause-spent c = λ code shut. (fewer-came c.reaching_law.ensures code c
 pub returns-clause-ready : goal.returns-clause-ready
 returns-clause-ready c = λ code shut. (fewer-came c.reaching_law.ensures code c.args.self.now c.forget_fork.new.self shut c.requires.end (c.forget_fork.ensures.is_for code) c.in-Some.frame.now (top-last c.args.self.now c.in-Some.frame.now c.deref.result.now c.deref.ensures.value c.in-Some.ensures.value)
     c.pop-dropped.new.self c.pop-dropped.ensures.rest (sym c.next_redo.ensures ∙ not-some c.next_redo.result (sym c.is_some.ensures ∙ c.if-is_some.false)) c.forget_fork.ensures.some).ready
+
+pub returns-then-is_some-clause-frames : goal.returns-then-is_some-clause-frames
+returns-then-is_some-clause-frames c = let same = count-searching c.args.self.now c.come_to_fork.new.self in omega arith
+
+pub returns-clause-frames : goal.returns-clause-frames
+returns-clause-frames c =
+    let fewer = count-fewer c.args.self.now c.forget_fork.new.self c.pop-dropped.new.self c.in-Some.frame.now c.pop-dropped.result (top-last c.args.self.now c.in-Some.frame.now c.deref.result.now c.deref.ensures.value c.in-Some.ensures.value) c.pop-dropped.ensures.cases in
+    omega arith
+
+pub returns-clause-dropped : goal.returns-clause-dropped
+returns-clause-dropped c = λ e. count-fewer c.args.self.now c.forget_fork.new.self c.pop-dropped.new.self c.in-Some.frame.now c.pop-dropped.result (top-last c.args.self.now c.in-Some.frame.now c.deref.result.now c.deref.ensures.value c.in-Some.ensures.value) c.pop-dropped.ensures.cases

@@ -9,6 +9,7 @@ use Rattle.ap_section.proofs.Levels.{stack_now, view_of-roll, view_of-out}
 use Rattle.ap_section.proofs.Parts.{shut-out, shut-roll}
 use Rattle.ap_section.proofs.Shut.{seen_now, moved-same, turned-now, turned-shut}
 use Rattle.ap_section.proofs.Ended.{search-ends, both-ok, ended-same}
+use Rattle.ap_section.proofs.Counted.{count-searching}
 use Rattle.ap_section.proofs.section.Section.search_on.Goals as goal
 
 pub returns-clause-moved : goal.returns-clause-moved
@@ -35,3 +36,6 @@ returns-clause-end g c =
     (λ turn h k. ended-same code c.args.left (seen_now s) (seen_now x) u v turn (view_of-out c.args.self.now) (view_of-roll x)
     (search-ends code c.args.left s.search p (stack_now s.search.older (reverse s.frames.items)) (stack_now p.older (reverse s.frames.items)) turn h k))
     c.advance.ensures.end c.advance.ensures.states
+
+pub returns-clause-frames : goal.returns-clause-frames
+returns-clause-frames g c = count-searching c.args.self.now c.advance.new.self
