@@ -28,6 +28,8 @@ impl Wish {
 impl Hook for Wish {
     ghost asked = { λ a. ⊥ };
 
+    ghost is_wanted = { λ a. a.wanted };
+
     fn poll(&mut self) -> bool {
         false
     }

@@ -131,6 +131,7 @@ fn run_file<R: Threads + Wait + Sync, G: Gate, F: Files, S: Source, K: Sink>(
 fn crew_of<'a, R, G>(rt: &'a R, gate: &'a G, workers: u64) -> Crew<'a, R, G>
     requires some { 1 ≤ workers }
     requires few { workers ≤ 32 }
+    ensures { result.workers ≡ workers }
 {
     Crew {
         rt,
