@@ -171,6 +171,12 @@ abbrev pub IsPartNamed : Program → List Called → Part → Type 0
 IsPartNamed p ks (call t) = IsNamed p ks t
 IsPartNamed p ks (group cs ts) = AreNamed p ks ts
 
+-- What is called has all that a goal of the query, of what is lifted from it, or of the clauses that are called can unify with.
+pub record Reaches (p : Program) (q : Query) (ks : List Called) : Type 0 where
+  pub question : BodyIsAmong p ks q.question
+  pub lifted : CallsAmong p ks q.lifted
+  pub called : CallsAmong p ks (all_called ks p)
+
 -- A part of a program that has all that a query's search can call: some of its clauses are called, each is there once, and
 -- among them are all that a goal of these clauses or of the query can unify with.
 pub record IsReached (p : Program) (q : Query) (r : Program) : Type 0 where

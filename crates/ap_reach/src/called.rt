@@ -79,6 +79,21 @@ fn place_call(places: &mut Places, call: Called) -> Result<Called, NoMemory>
     }
 }
 
+/// Whether two lists of what is called are equal.
+fn are_same(left: &[Called], right: &[Called]) -> bool
+    ensures { result ≡ true → left.now ≡ right.now }
+{
+    if left.len() != right.len() {
+        return false;
+    }
+    for place in 0..left.len() {
+        if left[place] != right[place] {
+            return false;
+        }
+    }
+    true
+}
+
 /// What is called, each at its number. All constants of a predicate are at one place.
 #[derive(Drop)]
 pub struct Calls {
@@ -132,6 +147,13 @@ impl Calls {
         ensures placed { ArePlaced self.now }
     {
         self.calls.as_slice()
+    }
+
+    /// Whether the same is called.
+    pub fn is_same(&self, other: &Calls) -> bool
+        ensures { result ≡ true → self.now ≡ other.now }
+    {
+        are_same(self.calls.as_slice(), other.calls.as_slice())
     }
 
     /// Whether all clauses of the predicate are called beside those for a constant.

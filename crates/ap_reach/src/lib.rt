@@ -10,6 +10,7 @@ mod laws;
 mod predicates;
 mod reaching;
 
+pub use called::Calls;
 pub use laws::{answers_law, block_law, restriction_law, same_search_law};
 pub use predicates::Predicates;
-pub use reaching::reached;
+pub use reaching::{calls_of, part_of};

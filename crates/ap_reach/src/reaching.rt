@@ -2,7 +2,8 @@
 
 ghost use Rattle.std.specs.Prelude.{◌≡◌, ◌++◌, if◌then◌else◌, [], IfOk, OnOk};
 ghost use Rattle.std.specs.List.{IsDistinct};
-ghost use Rattle.ap_reach.specs.Reached.{Extends, is_called, CallsAmong, clauses_for, all_called, contribution, gathered, is_beside, ArePlaced, IsReached};
+ghost use Rattle.ap_reach.specs.Reached.{Extends, is_called, CallsAmong, clauses_for, all_called, contribution, gathered, is_beside, ArePlaced, Reaches, IsReached};
+ghost use Rattle.ap_term.specs.Goals.{Query as Asked};
 
 use crate::called::{Called, Calls};
 use crate::calls::{add_bodies, add_body};
@@ -53,15 +54,23 @@ fn gather(alloc: Global, program: &Predicates<'_>, calls: &Calls) -> Result<Prog
     Ok(part)
 }
 
-/// The part of a program that a query can call: the clauses of each predicate that a goal of the query, of what is lifted from it, or
-/// of the part has; of a predicate whose clauses all have another first argument than a variable, those alone for the constants that
-/// goals have there, where each goal has one. Fails only for want of memory.
-pub fn reached(alloc: Global, program: &Predicates<'_>, query: &Query) -> Result<Program, NoMemory>
-    ensures { IfOk result (λ part. IsReached program.now query.now part) }
+/// What a query can call in a program: what its goals call, those of what is lifted from it, and those of all that is called.
+pub fn calls_of(alloc: Global, program: &Predicates<'_>, query: &Query) -> Result<Calls, NoMemory>
+    ensures { IfOk result (λ calls. Reaches program.now query.now calls) }
 {
     let mut calls = Calls::new(alloc);
     add_body(program, &mut calls, query.question())?;
     add_bodies(program, &mut calls, query.lifted())?;
     find(program, &mut calls)?;
-    gather(alloc, program, &calls)
+    Ok(calls)
+}
+
+/// The part of a program that is called: the clauses of each predicate that a goal of a query, of what is lifted from it, or of the
+/// part has; of a predicate whose clauses all have another first argument than a variable, those alone for the constants that goals
+/// have there, where each goal has one. It is the same for equal calls. Fails only for want of memory.
+pub fn part_of(alloc: Global, program: &Predicates<'_>, calls: &Calls) -> Result<Program, NoMemory>
+    ensures clauses { IfOk result (λ part. part ≡ gathered calls.now calls.now program.now) }
+    ensures reached { IfOk result (λ part. (q : Asked) → Reaches program.now q calls.now → IsReached program.now q part) }
+{
+    gather(alloc, program, calls)
 }
