@@ -23,7 +23,7 @@ stripped-body [] w = refl
 stripped-body (call g ∷ ps) w = ap (λ xs. call g ∷ xs) (stripped-body ps w)
 stripped-body (group cs gs ∷ ps) w = absurd (false≢true (sym w))
 
-stripped-same : (c : Clause) → not (has_groups c) ≡ true → stripped_clause c ≡ c
+pub stripped-same : (c : Clause) → not (has_groups c) ≡ true → stripped_clause c ≡ c
 stripped-same c w = ap (λ b. record { head = c.head; body = b; vars = c.vars; line = c.line }) (stripped-body c.body (not-true (has_groups c) w))
 
 stripped-plain : (P : Program) → is_plain P ≡ true → stripped P ≡ P
