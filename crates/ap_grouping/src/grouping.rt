@@ -16,7 +16,7 @@ pub struct Grouped {
     pub query: Query,
 }
 
-fn copy_names(alloc: Global, names: &[Name]) -> Result<Vec<Name>, NoMemory>
+pub(crate) fn copy_names(alloc: Global, names: &[Name]) -> Result<Vec<Name>, NoMemory>
     ensures { IfOk result (λ copy. copy.items ≡ names.now) }
 {
     let mut copy = Vec::new(alloc);

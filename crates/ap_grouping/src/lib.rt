@@ -4,8 +4,10 @@
 //! it is the program and the query that were handed in, and the call of the query is safe.
 #![tactic(auto)]
 
+mod again;
 mod grouping;
 mod guards;
 
+pub use again::{has_no_groups, regroup_query};
 pub use grouping::{Grouped, group_query};
 pub use guards::guard_law;

@@ -6,7 +6,7 @@ use std::test::Fail;
 
 const RUN: &[&str] = &["andprolog", "run", "f.pl"];
 
-const ANSWERS: [Command; 25] = [
+const ANSWERS: [Command; 26] = [
     (
         RUN,
         "p(1). p(2).",
@@ -158,6 +158,14 @@ const ANSWERS: [Command; 25] = [
         "m(A,B,C,X) :- X is A * B + C. s(A,X) :- X is A+A+A+A+A+A+A+A+A+A+A+A+A+A+A+A+A+A+A+A.",
         "?- m(4611686018427387904,1,4611686018427387903,X). ?- m(4611686018427387904,2,-1,_X). ?- m(2,3,4,10). ?- m(2,3,4,11). ?- s(3,X).",
         "X = 9223372036854775807\nno more.\nno more.\ntrue\nno more.\nno more.\nX = 60\nno more.\n",
+        Status::Done,
+    ),
+    // queries that take the groups of the one before them, and such that don't: other variables, groups of their own, disjunctions
+    (
+        RUN,
+        "e(a,b). e(b,c). l(X,Y) :- e(X,A), e(Y,B).",
+        "?- l(a,b). ?- l(b,a). ?- l(a,z). ?- l(a,X). ?- l(f(b),X). ?- l(b,Y). ?- l(X,X). ?- l(X,Y). ?- l(Y,X). ?- l(a,b) & l(b,a). ?- l(a,b), l(b,a). ?- l(b,b), l(z,a). ?- (l(a,b) ; l(b,z)). ?- l(a,a).",
+        "true\nno more.\ntrue\nno more.\nno more.\nX = a\nX = b\nno more.\nno more.\nY = a\nY = b\nno more.\nX = a\nX = b\nno more.\nX = a, Y = a\nX = a, Y = b\nX = b, Y = a\nX = b, Y = b\nno more.\nY = a, X = a\nY = a, X = b\nY = b, X = a\nY = b, X = b\nno more.\ntrue\nno more.\ntrue\nno more.\nno more.\ntrue\nno more.\ntrue\nno more.\n",
         Status::Done,
     ),
 ];

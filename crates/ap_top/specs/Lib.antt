@@ -12,3 +12,4 @@ pub mod Codes
 pub mod Loads
 pub mod Ends
 pub mod Unasked
+pub mod Last

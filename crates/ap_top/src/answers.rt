@@ -1,6 +1,6 @@
 //! Printing the block of a query. Each line is one put.
 
-ghost use Rattle.std.specs.Prelude.{◌≡◌, ℕ, List, ◌<◌, ◌≤◌, ◌^◌, length, IfOk};
+ghost use Rattle.std.specs.Prelude.{◌≡◌, ℕ, List, ◌<◌, ◌≤◌, ◌^◌, length, IfOk, IfSome};
 ghost use Rattle.ap_outside.specs.Halting.{Finishes, SinkCount};
 ghost use Rattle.ap_outside.specs.Pieces.{Puts};
 ghost use Rattle.ap_term.specs.Tree.{Trees};
@@ -9,14 +9,15 @@ ghost use Rattle.ap_worker.specs.Ends.{end_of};
 ghost use Rattle.ap_worker.specs.Sought.{MayBeAsked};
 ghost use Rattle.ap_worker.specs.Totals.{NoneTaken};
 ghost use Rattle.ap_top.specs.Output.{line_of, fault_line, end_line, is_spent, AreAnswers, IsCounted, IsQueryBlock};
+ghost use Rattle.ap_top.specs.Last.{IsLast};
 ghost use Rattle.ap_top.specs.Lines.{line_same};
 
-use ap_grouping::group_query;
+use crate::last::{Last, reach};
 use ap_lines::answer_line;
 use ap_machine::Tuple;
 use ap_mel::Kind;
 use ap_outside::{Gate, Halt, Sink, put_line};
-use ap_reach::{Predicates, reached};
+use ap_reach::Predicates;
 use ap_term::{Atoms, Fault, NoMemory, Query};
 use ap_worker::{Answers, Crew, End, Ended, PADS, solve_with_pads};
 use std::alloc::Global;
@@ -103,12 +104,14 @@ impl Answers for Lines<'_> {
     ghost names = { λ a t u h. line_same a.atoms.now a.query.now t u h };
 }
 
-/// Puts the lines of a query's answers as they are found, and gives how they end, what was charged for them, which calls were made and how many goals workers took from one another. What is annotated, compiled and searched is the part of the program that the query can
-/// call.
+/// Puts the lines of a query's answers as they are found, and gives how they end, what was charged for them, which calls were made and how
+/// many goals workers took from one another. What is annotated, compiled and searched is the part of the program that the query can call; it
+/// is that of the query before it, with its groups, where this one calls the same and is alike.
 pub fn put_answers<R: Threads + Wait + Sync, G: Gate, K: Sink>(
     alloc: Global,
     crew: &Crew<R, G>,
     program: &Predicates<'_>,
+    kept: &mut Option<Last>,
     query: &Query,
     bounds: Bounds,
     atoms: &Atoms,
@@ -116,12 +119,14 @@ pub fn put_answers<R: Threads + Wait + Sync, G: Gate, K: Sink>(
     pads: u32,
 ) -> Result<Ended, Halt>
     requires asked { MayBeAsked program.now query.now }
+    requires kept { IfSome kept.old (IsLast program.now bounds.kind) }
     requires pads { (0 < pads) × (pads ≤ 1024) }
     ensures lines { Finishes (K.pieces out.old) (K.pieces out.new) (AreAnswers bounds.budget bounds.answers program.now atoms.now query.now) result }
     ensures counted { IfOk result (λ e. Puts (K.pieces out.old) (K.pieces out.new) (IsCounted bounds.kind bounds.budget bounds.answers program.now atoms.now query.now e)) }
     ensures total { IfOk result (λ e. e.charged ≤ e.total.sum) }
     ensures one { crew.now.workers ≡ 1 → IfOk result NoneTaken }
     ensures count { SinkCount (K.faults out.old) (K.faults out.new) result }
+    ensures kept { IfSome kept.new (IsLast program.now bounds.kind) }
 {
     let lines = Lines { query, atoms };
     let Bounds {
@@ -129,26 +134,25 @@ pub fn put_answers<R: Threads + Wait + Sync, G: Gate, K: Sink>(
         answers,
         kind,
     } = bounds;
-    let Ok(part) = reached(alloc, program, query) else {
-        return Err(Halt::NoMemory);
-    };
-    let Ok(grouped) = group_query(alloc, &part, query, kind) else {
+    let Ok(last) = reach(alloc, program, query, kind, kept.take()) else {
         return Err(Halt::NoMemory);
     };
     let _whole = program.program().as_slice();
-    let _good = part.as_slice();
+    let _good = last.part.as_slice();
     let _asked = query.question();
-    solve_with_pads(
+    let ended = solve_with_pads(
         alloc,
         crew,
-        &grouped.program,
-        &grouped.query,
+        &last.grouped.program,
+        &last.grouped.query,
         budget,
         answers,
         &lines,
         out,
         pads,
-    )
+    );
+    *kept = Some(last);
+    ended
 }
 
 /// Prints the block of a query, each answer as it is found. Whether its budget was spent.
@@ -156,16 +160,19 @@ pub fn print_query<R: Threads + Wait + Sync, G: Gate, K: Sink>(
     alloc: Global,
     crew: &Crew<R, G>,
     program: &Predicates<'_>,
+    kept: &mut Option<Last>,
     query: &Query,
     bounds: Bounds,
     atoms: &Atoms,
     out: &mut K,
 ) -> Result<bool, Halt>
     requires asked { MayBeAsked program.now query.now }
+    requires kept { IfSome kept.old (IsLast program.now bounds.kind) }
     ensures lines { Finishes (K.pieces out.old) (K.pieces out.new) (IsQueryBlock bounds.budget bounds.answers program.now atoms.now query.now) result }
     ensures count { SinkCount (K.faults out.old) (K.faults out.new) result }
+    ensures kept { IfSome kept.new (IsLast program.now bounds.kind) }
 {
-    let ended = put_answers(alloc, crew, program, query, bounds, atoms, out, PADS)?;
+    let ended = put_answers(alloc, crew, program, kept, query, bounds, atoms, out, PADS)?;
     put_line(end_line(ended.end), out)?;
     Ok(is_spent(ended.end))
 }

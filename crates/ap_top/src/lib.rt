@@ -9,6 +9,7 @@ mod answers;
 mod closing;
 mod code;
 mod command;
+mod last;
 mod load;
 mod patterns;
 mod queries;

@@ -1,13 +1,15 @@
 //! The pieces of a source, each judged alone beside the program.
 
-ghost use Rattle.std.specs.Prelude.{◌≡◌, ◌≤◌, ◌^◌, [], ◌∷◌, OnOk, All, Contains};
+ghost use Rattle.std.specs.Prelude.{◌≡◌, ◌≤◌, ◌^◌, [], ◌∷◌, OnOk, IfSome, All, Contains};
 ghost use Rattle.ap_lexer.specs.Piece as lexer;
 ghost use Rattle.ap_outside.specs.Halting.{Finishes, Prints, SinkCount};
+ghost use Rattle.ap_top.specs.Last.{IsLast};
 ghost use Rattle.ap_top.specs.Output.{PieceEnds, IsOutput};
 ghost use Rattle.ap_top.specs.Refusals.{refusal_line};
 ghost use Rattle.ap_top.specs.Unasked.{LeavesQuery};
 
 use crate::answers::{Bounds, print_query};
+use crate::last::Last;
 use crate::refusals::refusal_line;
 use crate::status::Tally;
 use ap_clause::{Refusal, query};
@@ -43,22 +45,25 @@ fn print_piece<R: Threads + Wait + Sync, G: Gate, K: Sink>(
     text: &[u8],
     piece: &Piece,
     program: &Predicates<'_>,
+    kept: &mut Option<Last>,
     bounds: Bounds,
     atoms: &mut Atoms,
     out: &mut K,
 ) -> Result<Tally, Halt>
     requires budget { bounds.budget ≤ 2 ^ 54 }
     requires query { LeavesQuery program.now atoms.old }
+    requires kept { IfSome kept.old (IsLast program.now bounds.kind) }
     requires piece { Contains (lexer.pieces text.now) piece.now }
     ensures lines { Finishes (K.pieces out.old) (K.pieces out.new) (PieceEnds bounds.budget bounds.answers program.now atoms.old text.now piece.now) result }
     ensures count { SinkCount (K.faults out.old) (K.faults out.new) result }
     ensures table { OnOk result (atoms.new ≡ atoms.old) }
+    ensures kept { IfSome kept.new (IsLast program.now bounds.kind) }
 {
     let mark = atoms.mark();
     let whole = program.program();
     match query(alloc, text, piece, whole, atoms) {
         Ok(query) => {
-            let spent = print_query(alloc, crew, program, &query, bounds, atoms, out)?;
+            let spent = print_query(alloc, crew, program, kept, &query, bounds, atoms, out)?;
             atoms.cut_to(mark);
             Ok(Tally {
                 spent,
@@ -98,8 +103,11 @@ pub fn print_pieces<R: Threads + Wait + Sync, G: Gate, K: Sink>(
         spent: false,
         refused: false,
     };
+    let mut kept = None;
     for piece in pieces {
-        let here = print_piece(alloc, crew, text, piece, program, bounds, atoms, out)?;
+        let here = print_piece(
+            alloc, crew, text, piece, program, &mut kept, bounds, atoms, out,
+        )?;
         tally = tally.and(here);
     }
     Ok(tally)

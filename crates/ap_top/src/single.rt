@@ -49,7 +49,18 @@ fn answer_first<R: Threads + Wait + Sync, G: Gate, K: Sink>(
     let whole = predicates.program();
     match query(alloc, text, piece, whole, atoms) {
         Ok(query) => {
-            let ended = put_answers(alloc, crew, &predicates, &query, bounds, atoms, out, pads)?;
+            let mut kept = None;
+            let ended = put_answers(
+                alloc,
+                crew,
+                &predicates,
+                &mut kept,
+                &query,
+                bounds,
+                atoms,
+                out,
+                pads,
+            )?;
             Ok(Some(ended))
         }
         Err(Refusal::NoMemory) => Err(Halt::NoMemory),

@@ -42,6 +42,7 @@ returns-in_err-print_refusal-in-Err g c =
           c.print_refusal.result _ c.in_err-print_refusal-in-Err.field-0.0 c.in_err-print_refusal-in-Err.was same c.print_refusal.ensures.lines;
       count = search rules;
       table = search rules;
+      kept = search rules;
     }
 
 pub returns-in_ok-spent-in-Ok-clause-lines : goal.returns-in_ok-spent-in-Ok-clause-lines
@@ -70,4 +71,5 @@ returns-in_ok-print_refusal-in-Err g c =
       lines = puts_map _ _ (λ put. put ≡ refusal_line c.query.new.atoms r ∷ []) (Ends (tally false true)) (refusal_ends b n program c.args.atoms.now c.args.text.now c.args.piece.now c.query.new.atoms r c.in-Err.ensures.table refuses) c.in_ok-print_refusal-in-Err.ensures.lines;
       count = search rules;
       table = search rules;
+      kept = search rules;
     }

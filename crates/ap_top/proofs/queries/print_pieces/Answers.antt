@@ -47,4 +47,5 @@ loop-piece-preserved g c =
           (subst (λ t. Puts (g.K.Sink.pieces c.loop-piece.out) (g.K.Sink.pieces c.print_piece.new.out) (PieceEnds b n program t text x c.in_ok-here.here)) c.loop-piece.invariant.table c.in_ok-here.ensures.lines);
       count = search rules;
       table = search rules;
+      kept = search rules;
     }

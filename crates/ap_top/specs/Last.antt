@@ -1,0 +1,19 @@
+-- The part of a program that a query could call, with its groups, which the next query may take.
+use Rattle.std.specs.Prelude.{◌≡◌, true}
+use Rattle.ap_term.specs.Goals.{Program, Query}
+use Rattle.ap_reach.specs.Reached.{Reaches, IsReached}
+use Rattle.ap_mel.specs.declared.annotations.Kind.{Kind}
+use Rattle.ap_grouping.specs.Groups.{AreGroups}
+use Rattle.ap_grouping.specs.Again.{HasNoGroups}
+use Rattle.ap_top.specs.declared.last.Last.{Last}
+
+-- it is the part for what this query calls, and for others that call the same, with the groups that the part and the query get
+pub record IsLastOf (p : Program) (kind : Kind) (q : Query) (last : Last) : Type 0 where
+  pub reached : (r : Query) → Reaches p r last.calls → IsReached p r last.part
+  pub here : IsReached p q last.part
+  pub groups : AreGroups kind last.part q last.grouped.program last.grouped.query
+  pub plain : last.is_plain ≡ true → HasNoGroups q
+
+-- of some query
+abbrev pub IsLast : Program → Kind → Last → Type 0
+IsLast p kind last = (q : Query) × IsLastOf p kind q last
