@@ -3,7 +3,9 @@
 ghost use Rattle.std.specs.Prelude.{◌≡◌, ◌<◌, ◌≤◌, IfOk, IfSome};
 ghost use Rattle.ap_outside.specs.Halting.{Finishes, SinkCount};
 ghost use Rattle.ap_outside.specs.Pieces.{Puts};
+ghost use Rattle.ap_worker.specs.Sought.{MayBeAsked};
 ghost use Rattle.ap_worker.specs.Totals.{NoneTaken};
+ghost use Rattle.ap_top.specs.Output.{AreAnswers, IsCounted};
 ghost use Rattle.ap_top.specs.Single.{FirstEnds, IsFirstCounted, IsSingleCounted, SingleEnds};
 ghost use Rattle.ap_top.specs.Unasked.{LeavesQuery};
 
@@ -12,11 +14,36 @@ use ap_clause::{Refusal, program, query};
 use ap_lexer::pieces;
 use ap_outside::{Gate, Halt, Sink};
 use ap_reach::Predicates;
-use ap_term::{Atoms, Program};
+use ap_term::{Atoms, Program, Query};
 use ap_worker::{Crew, Ended};
 use std::alloc::Global;
 use std::sync::Wait;
 use std::thread::Threads;
+
+/// Puts the lines of a query's answers, of which nothing is kept for another one.
+fn put_once<R: Threads + Wait + Sync, G: Gate, K: Sink>(
+    alloc: Global,
+    crew: &Crew<R, G>,
+    program: &Predicates<'_>,
+    query: &Query,
+    bounds: Bounds,
+    atoms: &Atoms,
+    out: &mut K,
+    pads: u32,
+) -> Result<Ended, Halt>
+    requires asked { MayBeAsked program.now query.now }
+    requires pads { (0 < pads) × (pads ≤ 1024) }
+    ensures lines { Finishes (K.pieces out.old) (K.pieces out.new) (AreAnswers bounds.budget bounds.answers program.now atoms.now query.now) result }
+    ensures counted { IfOk result (λ e. Puts (K.pieces out.old) (K.pieces out.new) (IsCounted bounds.kind bounds.budget bounds.answers program.now atoms.now query.now e)) }
+    ensures total { IfOk result (λ e. e.charged ≤ e.total.sum) }
+    ensures one { crew.now.workers ≡ 1 → IfOk result NoneTaken }
+    ensures count { SinkCount (K.faults out.old) (K.faults out.new) result }
+{
+    let mut kept = None;
+    put_answers(
+        alloc, crew, program, &mut kept, query, bounds, atoms, out, pads,
+    )
+}
 
 // Answers the first query of a text beside a program.
 fn answer_first<R: Threads + Wait + Sync, G: Gate, K: Sink>(
@@ -49,18 +76,7 @@ fn answer_first<R: Threads + Wait + Sync, G: Gate, K: Sink>(
     let whole = predicates.program();
     match query(alloc, text, piece, whole, atoms) {
         Ok(query) => {
-            let mut kept = None;
-            let ended = put_answers(
-                alloc,
-                crew,
-                &predicates,
-                &mut kept,
-                &query,
-                bounds,
-                atoms,
-                out,
-                pads,
-            )?;
+            let ended = put_once(alloc, crew, &predicates, &query, bounds, atoms, out, pads)?;
             Ok(Some(ended))
         }
         Err(Refusal::NoMemory) => Err(Halt::NoMemory),

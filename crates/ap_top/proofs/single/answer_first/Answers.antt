@@ -19,8 +19,8 @@ returns-in_default-first-clause-lines g c =
     let none : slice_get c.in-Ok.pieces.items 0 ≡ None = search rules in
     no-query c.args.bounds.budget c.args.bounds.answers c.args.program.now c.args.atoms.now c.args.text.now _ (sym c.in-Ok.ensures.pieces ∙ none-of c.in-Ok.pieces.items none)
 
-pub put_answers-requires-clause-asked : goal.put_answers-requires-clause-asked
-put_answers-requires-clause-asked g c κs within =
+pub put_once-requires-clause-asked : goal.put_once-requires-clause-asked
+put_once-requires-clause-asked g c κs within =
     let same : c.program-whole.result.now ≡ c.args.program.now = search rules in
     let accepts = subst (λ p. AcceptsQuery c.args.text.now c.in-Some.piece.now p c.args.atoms.now c.in-Ok-query.query c.query.new.atoms) same c.in-Ok-query.ensures.accepts in
     subst (λ p. MayBeAsked p c.in-Ok-query.query) (sym c.in-Ok-of.ensures)
@@ -40,8 +40,8 @@ returns-in_err-ended-in-Ok-query-clause-lines g c =
     let failed : c.from_residual.result ≡ Err c.in_err-ended-in-Ok-query.field-0.0 = search rules in
     passes_halt _ _ (AreAnswers b n program c.query.new.atoms c.in-Ok-query.query) (FirstEnds b n program c.args.atoms.now c.args.text.now)
     (some-answered b n program c.args.atoms.now c.args.text.now piece first.0 c.in-Ok-query.query c.query.new.atoms is accepts)
-    c.put_answers.result _ c.in_err-ended-in-Ok-query.field-0.0 c.in_err-ended-in-Ok-query.was failed
-    (subst (λ p. Finishes (g.K.Sink.pieces c.args.out.now) (g.K.Sink.pieces c.put_answers.new.out) (AreAnswers b n p c.query.new.atoms c.in-Ok-query.query) c.put_answers.result) c.in-Ok-of.ensures c.put_answers.ensures.lines)
+    c.put_once.result _ c.in_err-ended-in-Ok-query.field-0.0 c.in_err-ended-in-Ok-query.was failed
+    (subst (λ p. Finishes (g.K.Sink.pieces c.args.out.now) (g.K.Sink.pieces c.put_once.new.out) (AreAnswers b n p c.query.new.atoms c.in-Ok-query.query) c.put_once.result) c.in-Ok-of.ensures c.put_once.ensures.lines)
 
 pub returns-in-Ok-query-clause-lines : goal.returns-in-Ok-query-clause-lines
 returns-in-Ok-query-clause-lines g c =
@@ -57,7 +57,7 @@ returns-in-Ok-query-clause-lines g c =
     let ended = c.in_ok-ended-in-Ok-query.ended in
     puts_map _ _ (AreAnswers b n program c.query.new.atoms c.in-Ok-query.query ended) (FirstEnds b n program c.args.atoms.now c.args.text.now (Some ended))
     (query-answered b n program c.args.atoms.now c.args.text.now piece first.0 c.in-Ok-query.query c.query.new.atoms is accepts ended)
-    (subst (λ p. Puts (g.K.Sink.pieces c.args.out.now) (g.K.Sink.pieces c.put_answers.new.out) (AreAnswers b n p c.query.new.atoms c.in-Ok-query.query ended)) c.in-Ok-of.ensures c.in_ok-ended-in-Ok-query.ensures.lines)
+    (subst (λ p. Puts (g.K.Sink.pieces c.args.out.now) (g.K.Sink.pieces c.put_once.new.out) (AreAnswers b n p c.query.new.atoms c.in-Ok-query.query ended)) c.in-Ok-of.ensures c.in_ok-ended-in-Ok-query.ensures.lines)
 
 pub returns-in-Ok-query-clause-counted : goal.returns-in-Ok-query-clause-counted
 returns-in-Ok-query-clause-counted g c =
@@ -73,7 +73,7 @@ returns-in-Ok-query-clause-counted g c =
     let accepts = subst (λ p. AcceptsQuery c.args.text.now piece p c.args.atoms.now c.in-Ok-query.query c.query.new.atoms) same c.in-Ok-query.ensures.accepts in
     let ended = c.in_ok-ended-in-Ok-query.ended in
     first-counted kind b n program c.args.atoms.now c.args.text.now piece first.0 c.in-Ok-query.query c.query.new.atoms _ _ ended is accepts
-    (subst (λ p. Puts (g.K.Sink.pieces c.args.out.now) (g.K.Sink.pieces c.put_answers.new.out) (IsCounted kind b n p c.query.new.atoms c.in-Ok-query.query ended)) c.in-Ok-of.ensures c.in_ok-ended-in-Ok-query.ensures.counted)
+    (subst (λ p. Puts (g.K.Sink.pieces c.args.out.now) (g.K.Sink.pieces c.put_once.new.out) (IsCounted kind b n p c.query.new.atoms c.in-Ok-query.query ended)) c.in-Ok-of.ensures c.in_ok-ended-in-Ok-query.ensures.counted)
 
 pub returns : goal.returns
 returns g c =
