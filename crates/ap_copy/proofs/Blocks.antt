@@ -1,8 +1,9 @@
 -- A block of cells to which copies are added.
 use Rattle.std.proofs.Common.{◌≡◌, ℕ, zero, suc, ◌+◌, ◌-◌, ◌<◌, ◌≤◌, List, [], ◌∷◌, ◌++◌, length, map, get_or, refl, sym, ap, ◌∙◌, subst, arith, inl, inr, append_assoc, append-nil, length-append}
 use Rattle.std.proofs.lemmas.List.{get_or_append_left, get_or-append_right, length_push, length-map}
-use Rattle.std.proofs.lemmas.Bool.{cases_lt}
+use Rattle.std.proofs.lemmas.Bool.{cases_lt, or_cases, false≢true}
 use Rattle.ap_term.specs.Tree.{Tree, var, more, to_trees}
+use Rattle.ap_term.specs.Vars.{occurs, occurs_all}
 use Rattle.ap_term.specs.Substitution.{instance, instance_all}
 use Rattle.ap_cells.specs.declared.cells.Raw.{Raw}
 use Rattle.ap_cells.specs.declared.cells.Raw.TheVariants.{Free, Same, Int, Atom, Node}
@@ -10,7 +11,7 @@ use Rattle.ap_cells.specs.Trees.{tree_at, span, step, Within, Stand, trees}
 use Rattle.ap_cells.specs.Walks.{Each}
 use Rattle.ap_cells.proofs.Stands.{step-same, Stand-push}
 use Rattle.ap_cells.proofs.Rounds.{trees_are}
-use Rattle.ap_copy.specs.Copies.{numbered, IsBound, AreCopies, IsBelow, IsBlock, IsNames, Grown}
+use Rattle.ap_copy.specs.Copies.{KnownAll, numbered, IsBound, AreCopies, IsBelow, IsBlock, IsNames, Grown}
 
 -- what a cell stands for depends on the places that it leads to
 pub step-bound : (n i : ℕ) (c : Raw) (ts us : List Tree) → ((j : ℕ) → j < n → tree_at ts j ≡ tree_at us j) → IsBound n c → step ts 0 c ≡ step us i c
@@ -81,6 +82,12 @@ copies-trees ks block (c ∷ cs) [] a = absurd a
 copies-trees ks block (c ∷ cs) (u ∷ us) a =
     ap (λ t. more t (to_trees (map (step (trees block) 0) cs))) a.0.1 ∙ ap (more (instance (numbered ks) u)) (copies-trees ks block cs us a.1)
 
+-- the variables of the trees have numbers
+pub copies-known : (ks : List ℕ) (block cs : List Raw) (us : List Tree) → AreCopies ks block cs us → KnownAll ks (to_trees us)
+copies-known ks block cs [] a x o = absurd (false≢true o)
+copies-known ks block [] (u ∷ us) a x o = absurd a
+copies-known ks block (c ∷ cs) (u ∷ us) a x o = elim (or_cases (occurs x u) (occurs_all x (to_trees us)) o) [ inl p ↦ a.0.2 x p | inr p ↦ copies-known ks block cs us a.1 x p ]
+
 -- the trees behind others
 pub span-behind : (us ts : List Tree) (p : ℕ) → p ≡ length ts → span (ts ++ us) p (length us) ≡ to_trees us
 span-behind [] ts p e = refl
@@ -106,7 +113,7 @@ laid ks block cs us B a few = record {
     room = omega (arith, B.room, length-append block cs);
     few = few;
   };
-  grown = λ c t k. (IsBound-more (length block) (length (block ++ cs)) c (omega (arith, length-append block cs)) k.0, sym (step-bound (length block) 0 c (trees block) (trees (block ++ cs)) agree k.0) ∙ k.1);
+  grown = λ c t k. (IsBound-more (length block) (length (block ++ cs)) c (omega (arith, length-append block cs)) k.0, sym (step-bound (length block) 0 c (trees block) (trees (block ++ cs)) agree k.0) ∙ k.1, k.2);
   terms =
       ap (λ ts. span ts (length block) (length cs)) now
       ∙ ap (span (trees block ++ map (step (trees block) 0) cs) (length block)) (sym (length-map cs (step (trees block) 0)))

@@ -8,13 +8,12 @@ use Rattle.ap_term.proofs.Solutions.{or_left, or_right}
 use Rattle.ap_cells.specs.declared.cells.Raw.{Raw}
 use Rattle.ap_cells.specs.declared.cells.Raw.TheVariants.{Node}
 use Rattle.ap_cells.specs.Trees.{tree_at, span, trees}
-use Rattle.ap_cells.specs.Walks.{weight_all}
-use Rattle.ap_copy.specs.Copies.{numbered, IsCopy, AreCopies, IsBlock, Grown}
+use Rattle.ap_cells.specs.Walks.{weight, weight_all}
+use Rattle.ap_cells.proofs.Walks.{span-first, weight-some}
+use Rattle.ap_copy.specs.Copies.{Known, KnownAll, numbered, IsCopy, AreCopies, IsBlock, Grown}
 use Rattle.ap_copy.specs.declared.copying.Frame.{Frame}
-use Rattle.ap_copy.specs.declared.copying.Turn.{Turn}
-use Rattle.ap_copy.specs.declared.copying.Turn.TheVariants.{Open, Close}
-use Rattle.ap_copy.specs.Copying.{items, copied, Waits, Going, Copied, weight_frames}
-use Rattle.ap_copy.proofs.Blocks.{Laid, laid, Split, AreCopies-length, AreCopies-append, AreCopies-split, AreCopies-grown, AreCopies-none}
+use Rattle.ap_copy.specs.Copying.{items, copied, Waits, IsFirst, Going, IsCopied, weight_frame, weight_frames}
+use Rattle.ap_copy.proofs.Blocks.{Laid, laid, copies-known, Split, AreCopies-length, AreCopies-append, AreCopies-split, AreCopies-grown, AreCopies-none}
 
 -- ---- the trees of places
 
@@ -76,94 +75,95 @@ weight_frames-push ts (y ∷ fs) f = omega (arith, weight_frames-push ts fs f)
 -- ---- steps
 
 module _ (ts : List Tree) (ks : List ℕ) (root : Tree) (old before : List Raw) where
-  -- a term is begun
-  pub going-node : (fs : List Frame) (loose block : List Raw) (place a p n : ℕ) → tree_at ts place ≡ node a (span ts p n) → 0 < n → p + n ≤ length ts
-      → Going ts ks root old before fs loose block (Open place) → Going ts ks root old before (fs ++ record { name = a; first = p; count = n; copied = 0 } ∷ []) loose block (Open p)
-  going-node fs loose block place a p n e h k g = record {
-    tree = tree_at ts p;
-    waits = Waits-push ts fs f root g.tree (tree_at ts p) g.waits (sym e ∙ sym g.next.0) h k (let z : p + 0 ≡ p = omega arith in ap (tree_at ts) z);
-    next = (refl, omega arith);
-    mine = g.mine;
-    split = g.split;
-    copies = subst (AreCopies ks block g.mine) (sym (append-nil (copied ts fs)) ∙ sym (copied-push ts fs f)) g.copies;
+  pub going-start : (fs : List Frame) (f : Frame) → fs ≡ [] → IsFirst ts root f → IsBlock ks old → Going ts ks root old before fs f before old
+  going-start [] f e r b = record {
+    waits = r.0;
+    inside = r.1;
+    part = let z = r.2 in omega arith;
+    mine = [];
+    split = sym (append-nil before);
+    copies = subst (λ n. AreCopies ks old [] (items ts f.first n)) (sym r.2) tt;
+    grown = λ c t k. k;
+    is_block = b;
+  }
+  going-start (g ∷ fs) f e r b = absurd (let k = ap length e in omega arith)
+
+  -- an argument is copied
+  pub going-copied : (fs : List Frame) (f : Frame) (loose block : List Raw) (c : Raw) → f.copied < f.count → IsCopy ks block c (tree_at ts (f.first + f.copied)) → Going ts ks root old before fs f loose block
+      → Going ts ks root old before fs (record { name = f.name; first = f.first; count = f.count; copied = f.copied + 1 }) (loose ++ c ∷ []) block
+  going-copied fs f loose block c h k g = record {
+    waits = g.waits;
+    inside = g.inside;
+    part = omega arith;
+    mine = g.mine ++ c ∷ [];
+    split = ap (λ xs. xs ++ c ∷ []) g.split ∙ append_assoc before g.mine (c ∷ []);
+    copies = subst (AreCopies ks block (g.mine ++ c ∷ [])) same (AreCopies-append ks block g.mine (c ∷ []) (copied ts fs ++ items ts f.first f.copied) (tree_at ts (f.first + f.copied) ∷ []) g.copies (k, tt));
     grown = g.grown;
     is_block = g.is_block;
   }
     where
-      f : Frame
-      f = record { name = a; first = p; count = n; copied = 0 }
-
-  -- with the argument that was copied, all are
-  more_copies : (fs : List Frame) (f : Frame) (block mine : List Raw) (c : Raw) (u : Tree) → AreCopies ks block mine (copied ts (fs ++ f ∷ [])) → tree_at ts (f.first + f.copied) ≡ u → IsCopy ks block c u
-      → (n : ℕ) → n ≡ f.copied + 1 → AreCopies ks block (mine ++ c ∷ []) (copied ts fs ++ items ts f.first n)
-  more_copies fs f block mine c u a e k n q =
-      subst (AreCopies ks block (mine ++ c ∷ [])) same (AreCopies-append ks block mine (c ∷ []) (copied ts (fs ++ f ∷ [])) (u ∷ []) a (k, tt))
-    where
-      s : suc f.copied ≡ n
+      s : suc f.copied ≡ f.copied + 1
       s = omega arith
 
-      same : copied ts (fs ++ f ∷ []) ++ u ∷ [] ≡ copied ts fs ++ items ts f.first n
+      same : (copied ts fs ++ items ts f.first f.copied) ++ tree_at ts (f.first + f.copied) ∷ [] ≡ copied ts fs ++ items ts f.first (f.copied + 1)
       same =
-          ap (λ xs. xs ++ u ∷ []) (copied-push ts fs f) ∙ append_assoc (copied ts fs) (items ts f.first f.copied) (u ∷ [])
-          ∙ ap (λ v. copied ts fs ++ (items ts f.first f.copied ++ v ∷ [])) (sym e)
+          append_assoc (copied ts fs) (items ts f.first f.copied) (tree_at ts (f.first + f.copied) ∷ [])
           ∙ ap (λ xs. copied ts fs ++ xs) (sym (items-more ts f.first f.copied)) ∙ ap (λ m. copied ts fs ++ items ts f.first m) s
 
-  -- another argument is to come
-  pub going-next : (fs : List Frame) (f : Frame) (loose block : List Raw) (c : Raw) → f.copied + 1 < f.count → Going ts ks root old before (fs ++ f ∷ []) loose block (Close c)
-      → Going ts ks root old before (fs ++ record { name = f.name; first = f.first; count = f.count; copied = f.copied + 1 } ∷ []) (loose ++ c ∷ []) block (Open (f.first + (f.copied + 1)))
-  going-next fs f loose block c h g =
-      let P = Waits-pop ts fs f root g.tree g.waits in
-      record {
-        tree = tree_at ts (f.first + (f.copied + 1));
-        waits = Waits-push ts fs next root (node f.name (span ts f.first f.count)) (tree_at ts (f.first + (f.copied + 1))) P.waits refl h P.inside refl;
-        next = (refl, let i = P.inside in omega arith);
-        mine = g.mine ++ c ∷ [];
-        split = ap (λ xs. xs ++ c ∷ []) g.split ∙ append_assoc before g.mine (c ∷ []);
-        copies = subst (AreCopies ks block (g.mine ++ c ∷ [])) (sym (copied-push ts fs next)) (more_copies fs f block g.mine c g.tree g.copies P.next g.next (f.copied + 1) refl);
-        grown = g.grown;
-        is_block = g.is_block;
-      }
-    where
-      next : Frame
-      next = record { name = f.name; first = f.first; count = f.count; copied = f.copied + 1 }
+  -- an argument is begun
+  pub going-begun : (fs : List Frame) (f h : Frame) (loose block : List Raw) → f.copied < f.count → IsFirst ts (tree_at ts (f.first + f.copied)) h → Going ts ks root old before fs f loose block
+      → Going ts ks root old before (fs ++ f ∷ []) h loose block
+  going-begun fs f h loose block l b g = record {
+    waits = Waits-push ts fs f root (node f.name (span ts f.first f.count)) (node h.name (span ts h.first h.count)) g.waits refl l g.inside b.0;
+    inside = b.1;
+    part = let z = b.2 in omega arith;
+    mine = g.mine;
+    split = g.split;
+    copies = subst (λ n. AreCopies ks block g.mine (copied ts (fs ++ f ∷ []) ++ items ts h.first n)) (sym b.2)
+        (subst (AreCopies ks block g.mine) (sym (copied-push ts fs f) ∙ sym (append-nil (copied ts (fs ++ f ∷ [])))) g.copies);
+    grown = g.grown;
+    is_block = g.is_block;
+  }
 
   -- the arguments get their places, and the term is copied
-  pub record Settled (fs : List Frame) (f : Frame) (loose block block' : List Raw) : Type 0 where
+  pub record Settled (fs : List Frame) (f : Frame) (loose' block block' : List Raw) : Type 0 where
     pub mine : List Raw
     pub waits : Waits ts fs root (node f.name (span ts f.first f.count))
-    pub split : loose ≡ before ++ mine
+    pub split : loose' ≡ before ++ mine
     pub copies : AreCopies ks block' mine (copied ts fs)
     pub placed : IsCopy ks block' (Node f.name (length block) f.count) (node f.name (span ts f.first f.count))
     pub grown : Grown ks block block'
+    pub longer : Grown ks old block'
     pub is_block : IsBlock ks block'
 
-  pub settled : (fs : List Frame) (f : Frame) (loose block : List Raw) (c : Raw) (rest : ℕ) (loose' block' : List Raw) → f.copied + 1 ≡ f.count → rest ≡ length (loose ++ c ∷ []) - f.count
-      → loose' ≡ take rest (loose ++ c ∷ []) → block' ≡ block ++ drop rest (loose ++ c ∷ []) → length block' ≤ 4294967295
-      → Going ts ks root old before (fs ++ f ∷ []) loose block (Close c) → Settled fs f loose' block block'
-  settled fs f loose block c rest loose' block' h r el eb few g = record {
+  pub settled : (fs : List Frame) (f : Frame) (loose block loose' block' : List Raw) → f.copied ≡ f.count
+      → loose' ≡ take (length loose - f.count) loose → block' ≡ block ++ drop (length loose - f.count) loose → length block' ≤ 4294967295
+      → Going ts ks root old before fs f loose block → Settled fs f loose' block block'
+  settled fs f loose block loose' block' h el eb few g = record {
     mine = S.front;
-    waits = P.waits;
+    waits = g.waits;
     split = el ∙ ap (take rest) all ∙ ap (λ n. take n ((before ++ S.front) ++ S.back)) rest_is ∙ take-append_seam (before ++ S.front) S.back;
     copies = subst (λ b. AreCopies ks b S.front (copied ts fs)) (sym laid_is) (AreCopies-grown ks block (block ++ S.back) S.front (copied ts fs) L.grown S.first);
     placed = subst (λ b. IsCopy ks b (Node f.name (length block) f.count) (node f.name (span ts f.first f.count))) (sym laid_is) placed;
-    grown = λ d t k. subst (λ b. IsCopy ks b d t) (sym laid_is) (L.grown d t k);
+    grown = grown;
+    longer = λ d t k. grown d t (g.grown d t k);
     is_block = subst (IsBlock ks) (sym laid_is) L.is_block;
   }
     where
-      P : Popped ts fs f root g.tree
-      P = Waits-pop ts fs f root g.tree g.waits
+      rest : ℕ
+      rest = length loose - f.count
 
-      S : Split ks block (g.mine ++ c ∷ []) (copied ts fs) (items ts f.first f.count)
-      S = AreCopies-split ks block (g.mine ++ c ∷ []) (copied ts fs) (items ts f.first f.count) (more_copies fs f block g.mine c g.tree g.copies P.next g.next f.count (sym h))
+      S : Split ks block g.mine (copied ts fs) (items ts f.first f.count)
+      S = AreCopies-split ks block g.mine (copied ts fs) (items ts f.first f.count) (subst (λ n. AreCopies ks block g.mine (copied ts fs ++ items ts f.first n)) h g.copies)
 
-      all : loose ++ c ∷ [] ≡ (before ++ S.front) ++ S.back
-      all = ap (λ xs. xs ++ c ∷ []) g.split ∙ append_assoc before g.mine (c ∷ []) ∙ ap (λ xs. before ++ xs) S.whole ∙ sym (append_assoc before S.front S.back)
+      all : loose ≡ (before ++ S.front) ++ S.back
+      all = g.split ∙ ap (λ xs. before ++ xs) S.whole ∙ sym (append_assoc before S.front S.back)
 
       count : length S.back ≡ f.count
       count = AreCopies-length ks block S.back (items ts f.first f.count) S.second ∙ items-length ts f.first f.count
 
       rest_is : rest ≡ length (before ++ S.front)
-      rest_is = let l = ap length all in let n = count in let q = r in omega (arith, length-append (before ++ S.front) S.back)
+      rest_is = let l = ap length all in let n = count in omega (arith, length-append (before ++ S.front) S.back)
 
       laid_is : block' ≡ block ++ S.back
       laid_is = eb ∙ ap (λ xs. block ++ drop rest xs) all ∙ ap (λ n. block ++ drop n ((before ++ S.front) ++ S.back)) rest_is ∙ ap (λ xs. block ++ xs) (drop-append_seam (before ++ S.front) S.back)
@@ -171,64 +171,84 @@ module _ (ts : List Tree) (ks : List ℕ) (root : Tree) (old before : List Raw) 
       L : Laid ks block S.back (items ts f.first f.count)
       L = laid ks block S.back (items ts f.first f.count) g.is_block S.second (subst (λ b. length b ≤ 4294967295) laid_is few)
 
+      grown : Grown ks block block'
+      grown d t k = subst (λ b. IsCopy ks b d t) (sym laid_is) (L.grown d t k)
+
       placed : IsCopy ks (block ++ S.back) (Node f.name (length block) f.count) (node f.name (span ts f.first f.count))
       placed = (
         (let n = count in omega (arith, length-append block S.back)),
         ap (λ n. node f.name (span (trees (block ++ S.back)) (length block) n)) (sym count) ∙ ap (node f.name) (L.terms ∙ ap (instance_all (numbered ks)) (to_trees-items ts f.first f.count)),
+        subst (KnownAll ks) (to_trees-items ts f.first f.count) (copies-known ks block S.back (items ts f.first f.count) S.second),
       )
 
-  pub going-settled : (fs : List Frame) (f : Frame) (loose block : List Raw) (c : Raw) (loose' block' : List Raw) → Going ts ks root old before (fs ++ f ∷ []) loose block (Close c)
-      → Settled fs f loose' block block' → Going ts ks root old before fs loose' block' (Close (Node f.name (length block) f.count))
-  going-settled fs f loose block c loose' block' g s = record {
-    tree = node f.name (span ts f.first f.count);
-    waits = s.waits;
-    next = s.placed;
-    mine = s.mine;
-    split = s.split;
-    copies = s.copies;
-    grown = λ d t k. s.grown d t (g.grown d t k);
-    is_block = s.is_block;
-  }
+  -- what the term was an argument of goes on
+  pub going-settled : (all fs : List Frame) (o f : Frame) (loose' block block' : List Raw) → all ≡ fs ++ o ∷ [] → Settled all f loose' block block'
+      → Going ts ks root old before fs (record { name = o.name; first = o.first; count = o.count; copied = o.copied + 1 }) (loose' ++ Node f.name (length block) f.count ∷ []) block'
+  going-settled all fs o f loose' block block' e s =
+      going-copied fs o loose' block' (Node f.name (length block) f.count) P.some (subst (IsCopy ks block' (Node f.name (length block) f.count)) (sym P.next) s.placed)
+      (record {
+        waits = P.waits;
+        inside = P.inside;
+        part = let h = P.some in omega arith;
+        mine = s.mine;
+        split = s.split;
+        copies = subst (AreCopies ks block' s.mine) (ap (copied ts) e ∙ copied-push ts fs o) s.copies;
+        grown = s.longer;
+        is_block = s.is_block;
+      })
+    where
+      P : Popped ts fs o root (node f.name (span ts f.first f.count))
+      P = Waits-pop ts fs o root (node f.name (span ts f.first f.count)) (subst (λ xs. Waits ts xs root (node f.name (span ts f.first f.count))) e s.waits)
 
   -- the whole is copied
-  pub going-done : (fs : List Frame) (loose block : List Raw) (c : Raw) → fs ≡ [] → Going ts ks root old before fs loose block (Close c) → Copied ks old block before (loose ++ c ∷ []) root
-  going-done [] loose block c e g = record {
-    cell = c;
-    split = ap (λ xs. xs ++ c ∷ []) (g.split ∙ ap (λ xs. before ++ xs) (AreCopies-none ks block g.mine g.copies) ∙ append-nil before);
-    copy = subst (IsCopy ks block c) (sym g.waits) g.next;
-    grown = g.grown;
+  pub going-done : (fs : List Frame) (f : Frame) (loose' block block' : List Raw) → fs ≡ [] → Settled fs f loose' block block' → IsCopied ks old block' before (loose' ++ Node f.name (length block) f.count ∷ []) root
+  going-done [] f loose' block block' e s = record {
+    cell = Node f.name (length block) f.count;
+    split = ap (λ xs. xs ++ Node f.name (length block) f.count ∷ []) (s.split ∙ ap (λ xs. before ++ xs) (AreCopies-none ks block' s.mine s.copies) ∙ append-nil before);
+    copy = subst (IsCopy ks block' (Node f.name (length block) f.count)) (sym s.waits) s.placed;
+    grown = s.longer;
   }
-  going-done (f ∷ fs) loose block c e g = absurd (let k = ap length e in omega arith)
+  going-done (g ∷ fs) f loose' block block' e s = absurd (let k = ap length e in omega arith)
 
-  pub going-start : (place : ℕ) (fs : List Frame) → fs ≡ [] → tree_at ts place ≡ root → place < length ts → IsBlock ks old → Going ts ks root old before fs before old (Open place)
-  going-start place [] e r h b = record {
-    tree = root;
-    waits = refl;
-    next = (sym r, h);
-    mine = [];
-    split = sym (append-nil before);
-    copies = tt;
-    grown = λ c t k. k;
-    is_block = b;
-  }
-  going-start place (f ∷ fs) e r h b = absurd (let k = ap length e in omega arith)
-
-  -- numbers that hold of the last frame
-  pub record Counts (f : Frame) (loose block : List Raw) : Type 0 where
-    pub left : f.copied < f.count
-    pub inside : f.first + f.count ≤ length ts
-    pub enough : f.copied ≤ length loose
-    pub few : length block ≤ 4294967295
-
-  pub going-counts : (all fs : List Frame) (f : Frame) (loose block : List Raw) (t : Turn) → all ≡ fs ++ f ∷ [] → Going ts ks root old before all loose block t → Counts f loose block
-  going-counts all fs f loose block t e g =
-      let P = Waits-pop ts fs f root g.tree (subst (λ xs. Waits ts xs root g.tree) e g.waits) in
+  -- all cells of the newest frame are there
+  pub going-enough : (fs : List Frame) (f : Frame) (loose block : List Raw) → f.copied ≡ f.count → Going ts ks root old before fs f loose block → f.count ≤ length loose
+  going-enough fs f loose block h g =
       let l = ap length g.split in
-      let m = AreCopies-length ks block g.mine (copied ts all) g.copies ∙ ap (λ xs. length (copied ts xs)) e ∙ ap length (copied-push ts fs f) in
+      let m = AreCopies-length ks block g.mine (copied ts fs ++ items ts f.first f.copied) g.copies in
       let n = items-length ts f.first f.copied in
-      record {
-        left = P.some;
-        inside = P.inside;
-        enough = omega (arith, length-append before g.mine, length-append (copied ts fs) (items ts f.first f.copied));
-        few = g.is_block.few;
-      }
+      omega (arith, length-append before g.mine, length-append (copied ts fs) (items ts f.first f.copied))
+
+  -- variables of the next argument are variables of the whole
+  pub going-known : (fs : List Frame) (f : Frame) (loose block : List Raw) → f.copied < f.count → Going ts ks root old before fs f loose block → Known ks root → Known ks (tree_at ts (f.first + f.copied))
+  going-known fs f loose block h g k x o = k x (Waits-occurs ts fs root (node f.name (span ts f.first f.count)) x g.waits (span-occurs ts x f.first f.count f.copied h o))
+
+-- ---- turns
+
+-- a leaf is copied, or a term is begun
+pub less-copied : (ts : List Tree) (fs : List Frame) (f : Frame) → f.copied < f.count
+    → weight_frames ts fs + weight_frame ts (record { name = f.name; first = f.first; count = f.count; copied = f.copied + 1 }) < weight_frames ts fs + weight_frame ts f
+less-copied ts fs f h =
+    let w = ap weight_all (span-first ts (f.first + f.copied) (f.count - f.copied) (omega arith)) in
+    let a : (f.first + f.copied) + 1 ≡ f.first + (f.copied + 1) = omega arith in
+    let b : (f.count - f.copied) - 1 ≡ f.count - (f.copied + 1) = omega arith in
+    let v = ap (λ p. weight_all (span ts p ((f.count - f.copied) - 1))) a ∙ ap (λ n. weight_all (span ts (f.first + (f.copied + 1)) n)) b in
+    let p = weight-some (tree_at ts (f.first + f.copied)) in
+    omega arith
+
+pub less-begun : (ts : List Tree) (fs : List Frame) (f h : Frame) → f.copied < f.count → IsFirst ts (tree_at ts (f.first + f.copied)) h
+    → weight_frames ts (fs ++ f ∷ []) + weight_frame ts h < weight_frames ts fs + weight_frame ts f
+less-begun ts fs f h l b =
+    let w = ap weight_all (span-first ts (f.first + f.copied) (f.count - f.copied) (omega arith)) in
+    let a : (f.first + f.copied) + 1 ≡ f.first + (f.copied + 1) = omega arith in
+    let c : (f.count - f.copied) - 1 ≡ f.count - (f.copied + 1) = omega arith in
+    let v = ap (λ p. weight_all (span ts p ((f.count - f.copied) - 1))) a ∙ ap (λ n. weight_all (span ts (f.first + (f.copied + 1)) n)) c in
+    let t = ap weight b.0 in
+    let p : h.first + h.copied ≡ h.first = let z = b.2 in omega arith in
+    let q : h.count - h.copied ≡ h.count = let z = b.2 in omega arith in
+    let u = ap (λ i. weight_all (span ts i (h.count - h.copied))) p ∙ ap (λ n. weight_all (span ts h.first n)) q in
+    omega (arith, weight_frames-push ts fs f)
+
+-- a term is ended
+pub less-ended : (ts : List Tree) (all fs : List Frame) (o f : Frame) → all ≡ fs ++ o ∷ []
+    → weight_frames ts fs + weight_frame ts (record { name = o.name; first = o.first; count = o.count; copied = o.copied + 1 }) < weight_frames ts all + weight_frame ts f
+less-ended ts all fs o f e = let w = ap (weight_frames ts) e in omega (arith, weight_frames-push ts fs o)

@@ -9,7 +9,7 @@ use Rattle.ap_term.proofs.Solutions.{or_left, or_right}
 use Rattle.ap_cells.specs.Trees.{tree_at}
 use Rattle.ap_cells.specs.declared.cells.Raw.{Raw}
 use Rattle.ap_copy.specs.Copies.{tuple_at, Known, KnownAll, AreCopies}
-use Rattle.ap_copy.specs.Copying.{Copied}
+use Rattle.ap_copy.specs.Copying.{IsCopied}
 use Rattle.ap_copy.proofs.Blocks.{AreCopies-append, AreCopies-grown}
 
 push-occurs : (ts : List Tree) (rs : List ℕ) (r x : ℕ) → occurs_all x (tuple_at ts (rs ++ r ∷ [])) ≡ true → (occurs_all x (tuple_at ts rs) ≡ true) ⊎ (occurs x (tree_at ts r) ≡ true)
@@ -41,7 +41,7 @@ to_trees-map ts (r ∷ roots) = ap (more (tree_at ts r)) (to_trees-map ts roots)
 
 -- one more term is copied
 pub copies-more : (ks : List ℕ) (ts : List Tree) (roots : List ℕ) (i : ℕ) (old new before after : List Raw) → i < length roots → AreCopies ks old before (map (tree_at ts) (take i roots))
-    → Copied ks old new before after (tree_at ts (get_or roots i 0)) → AreCopies ks new after (map (tree_at ts) (take (i + 1) roots))
+    → IsCopied ks old new before after (tree_at ts (get_or roots i 0)) → AreCopies ks new after (map (tree_at ts) (take (i + 1) roots))
 copies-more ks ts roots i old new before after h a c =
     subst (λ cs. AreCopies ks new cs (map (tree_at ts) (take (i + 1) roots))) (sym c.split)
     (subst (AreCopies ks new (before ++ c.cell ∷ [])) (sym same)

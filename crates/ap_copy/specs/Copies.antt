@@ -32,9 +32,9 @@ IsBound n (Int z) = Unit {0}
 IsBound n (Atom a) = Unit {0}
 IsBound n (Node a p k) = p + k ≤ n
 
--- a cell, for which a place behind the block is meant, stands for a copy of the tree
+-- a cell, for which a place behind the block is meant, stands for a copy of the tree, whose variables have numbers
 abbrev pub IsCopy : List ℕ → List Raw → Raw → Tree → Type 0
-IsCopy ks block c t = IsBound (length block) c × (step (trees block) 0 c ≡ instance (numbered ks) t)
+IsCopy ks block c t = IsBound (length block) c × (step (trees block) 0 c ≡ instance (numbered ks) t) × Known ks t
 
 abbrev pub AreCopies : List ℕ → List Raw → List Raw → List Tree → Type 0
 AreCopies ks block [] [] = Unit {0}

@@ -3,11 +3,11 @@ use Rattle.std.specs.Prelude.{◌≡◌, ℕ, zero, suc, ◌+◌, ◌-◌, ◌*�
 use Rattle.ap_term.specs.Tree.{Tree, node}
 use Rattle.ap_cells.specs.declared.cells.Raw.{Raw}
 use Rattle.ap_cells.specs.Trees.{tree_at, span}
-use Rattle.ap_cells.specs.Walks.{weight, weight_all}
-use Rattle.ap_copy.specs.Copies.{IsCopy, AreCopies, IsBlock, Grown}
+use Rattle.ap_cells.specs.Walks.{weight_all}
+use Rattle.ap_copy.specs.Copies.{Known, IsCopy, AreCopies, IsBlock, Grown}
 use Rattle.ap_copy.specs.declared.copying.Frame.{Frame}
-use Rattle.ap_copy.specs.declared.copying.Turn.{Turn}
-use Rattle.ap_copy.specs.declared.copying.Turn.TheVariants.{Open, Close}
+use Rattle.ap_copy.specs.declared.copying.Begun.{Begun}
+use Rattle.ap_copy.specs.declared.copying.Begun.TheVariants.{Copied, Term, Unknown}
 
 -- the trees of n places from p on
 abbrev pub items : List Tree → ℕ → ℕ → List Tree
@@ -25,32 +25,37 @@ Waits ts [] t u = t ≡ u
 Waits ts (f ∷ fs) t u =
     (node f.name (span ts f.first f.count) ≡ t) × (f.copied < f.count) × (f.first + f.count ≤ length ts) × Waits ts fs (tree_at ts (f.first + f.copied)) u
 
-abbrev pub IsTurn : List Tree → List ℕ → List Raw → Tree → Turn → Type 0
-IsTurn ts ks block u (Open place) = (u ≡ tree_at ts place) × (place < length ts)
-IsTurn ts ks block u (Close c) = IsCopy ks block c u
+-- the frame is of the tree, and none of its arguments is copied
+abbrev pub IsFirst : List Tree → Tree → Frame → Type 0
+IsFirst ts t f = (t ≡ node f.name (span ts f.first f.count)) × (f.first + f.count ≤ length ts) × (f.copied ≡ 0)
 
--- the loose cells behind `before` are the copied arguments, and the block has grown from `old`
-pub record Going (ts : List Tree) (ks : List ℕ) (root : Tree) (old before : List Raw) (frames : List Frame) (loose block : List Raw) (turn : Turn) : Type 0 where
-  pub tree : Tree
-  pub waits : Waits ts frames root tree
-  pub next : IsTurn ts ks block tree turn
+-- what the beginning of a copy of the tree came to: where a variable has no number, not all have
+abbrev pub IsBegun : List Tree → List ℕ → List Raw → Tree → Begun → Type 0
+IsBegun ts ks block t (Copied c) = IsCopy ks block c t
+IsBegun ts ks block t (Term f) = IsFirst ts t f
+IsBegun ts ks block t Unknown = Known ks t → ⊥
+
+-- the loose cells behind `before` are the copied arguments, those of the newest frame last, and the block has grown from `old`
+pub record Going (ts : List Tree) (ks : List ℕ) (root : Tree) (old before : List Raw) (frames : List Frame) (frame : Frame) (loose block : List Raw) : Type 0 where
+  pub waits : Waits ts frames root (node frame.name (span ts frame.first frame.count))
+  pub inside : frame.first + frame.count ≤ length ts
+  pub part : frame.copied ≤ frame.count
   pub mine : List Raw
   pub split : loose ≡ before ++ mine
-  pub copies : AreCopies ks block mine (copied ts frames)
+  pub copies : AreCopies ks block mine (copied ts frames ++ items ts frame.first frame.copied)
   pub grown : Grown ks old block
   pub is_block : IsBlock ks block
 
 -- one more loose cell, a copy of the tree
-pub record Copied (ks : List ℕ) (old new before after : List Raw) (t : Tree) : Type 0 where
+pub record IsCopied (ks : List ℕ) (old new before after : List Raw) (t : Tree) : Type 0 where
   pub cell : Raw
   pub split : after ≡ before ++ cell ∷ []
   pub copy : IsCopy ks new cell t
   pub grown : Grown ks old new
 
 -- turns left
-abbrev pub weight_turn : List Tree → Turn → ℕ
-weight_turn ts (Open place) = 2 * weight (tree_at ts place)
-weight_turn ts (Close c) = 1
+abbrev pub weight_frame : List Tree → Frame → ℕ
+weight_frame ts f = 2 * weight_all (span ts (f.first + f.copied) (f.count - f.copied)) + 1
 
 abbrev pub weight_frames : List Tree → List Frame → ℕ
 weight_frames ts [] = 0

@@ -1,16 +1,16 @@
 //! The copy of a term, cell by cell, without recursion: a node comes behind its arguments.
 
-ghost use Rattle.std.specs.Prelude.{◌≡◌, ℕ, ◌+◌, ◌-◌, ◌<◌, ◌≤◌, List, [], ◌∷◌, ◌++◌, length, map, take, drop, IfOk, OnOk};
-ghost use Rattle.ap_term.specs.Tree.{Tree};
-ghost use Rattle.ap_cells.specs.Trees.{tree_at, trees};
+ghost use Rattle.std.specs.Prelude.{◌≡◌, ◌+◌, ◌-◌, ◌<◌, ◌≤◌, true, false, List, [], ◌∷◌, ◌++◌, length, map, take, drop, IfOk, OnOk};
+ghost use Rattle.ap_term.specs.Tree.{node};
+ghost use Rattle.ap_cells.specs.Trees.{tree_at, trees, span};
 ghost use Rattle.ap_cells.specs.declared.cells.Raw.{Raw};
 ghost use Rattle.ap_cells.specs.Walks.{Each};
 ghost use Rattle.ap_copy.specs.Copies.{Known, KnownAll, tuple_at, AreCopies, IsBlock, IsNames};
-ghost use Rattle.ap_copy.specs.Copying.{Going, Copied, weight_turn, weight_frames};
-ghost use Rattle.ap_copy.specs.Memory.{Remembers};
+ghost use Rattle.ap_copy.specs.Copying.{IsBegun, IsCopied};
+ghost use Rattle.ap_copy.specs.Memory.{IsWith, Remembers};
+ghost use Rattle.ap_cells.specs.declared.cells.Raw.TheVariants.{Node};
 
 use crate::memory::{Entry, Memory};
-use crate::variables::number_of;
 use ap_cells::{Cells, MAX_CELLS, Raw, Top};
 use ap_marks::Marks;
 use ap_term::{Atom, NoMemory};
@@ -25,11 +25,13 @@ pub struct Frame {
     pub copied: u32,
 }
 
-/// What comes next: a place whose term is to be copied, or the cell of a copy.
+/// What the beginning of a copy came to: the cell of the copy, a compound term whose arguments are to be copied, or a variable
+/// that has no number.
 #[derive(Clone, Copy)]
-pub enum Turn {
-    Open(usize),
-    Close(Raw),
+pub enum Begun {
+    Copied(Raw),
+    Term(Frame),
+    Unknown,
 }
 
 /// The block so far; behind it, cells that aren't in their places yet; and the terms whose copies have begun.
@@ -81,122 +83,170 @@ pub fn unbound(alloc: Global, count: usize) -> Result<Vec<Raw>, NoMemory>
 }
 
 /// Copies the terms of some places; their cells are put with the loose ones. What they share is copied once, as far as the
-/// memory goes, which begins empty.
+/// memory goes, which begins empty. It gives up at a variable that has no number.
 pub fn copy_terms(
     cells: &Cells,
     marks: &Marks,
     roots: &[usize],
     memory: &mut Memory,
     copying: &mut Copying,
-) -> Result<(), NoMemory>
+) -> Result<bool, NoMemory>
     requires inside { Each (λ r. r < length cells.now.cells) roots.now }
-    requires known { KnownAll marks.now (tuple_at (trees cells.now.cells) roots.now) }
     requires idle { copying.old.frames.items ≡ [] }
     requires empty { copying.old.loose.items ≡ [] }
     requires block { IsBlock marks.now copying.old.block.items }
     requires nothing { memory.old.entries.items ≡ [] }
-    ensures copies { OnOk result (AreCopies marks.now copying.new.block.items copying.new.loose.items (map (tree_at (trees cells.now.cells)) roots.now)) }
-    ensures block { OnOk result (IsBlock marks.now copying.new.block.items) }
+    ensures copies { IfOk result (λ done. done ≡ true → AreCopies marks.now copying.new.block.items copying.new.loose.items (map (tree_at (trees cells.now.cells)) roots.now)) }
+    ensures block { IfOk result (λ done. done ≡ true → IsBlock marks.now copying.new.block.items) }
+    ensures unknown { IfOk result (λ done. done ≡ false → KnownAll marks.now (tuple_at (trees cells.now.cells) roots.now) → ⊥) }
 {
     for root in roots {
-        copy_term(cells, marks, *root, memory, copying)?;
+        if !copy_term(cells, marks, *root, memory, copying)? {
+            return Ok(false);
+        }
     }
-    Ok(())
+    Ok(true)
 }
 
-/// Copies a place's term; its cell is put with the loose ones.
+/// Copies a place's term; its cell is put with the loose ones. It gives up at a variable that has no number.
 fn copy_term(
     cells: &Cells,
     marks: &Marks,
     place: usize,
     memory: &mut Memory,
     copying: &mut Copying,
-) -> Result<(), NoMemory>
+) -> Result<bool, NoMemory>
     requires inside { place < length cells.now.cells }
-    requires known { Known marks.now (tree_at (trees cells.now.cells) place) }
     requires idle { copying.old.frames.items ≡ [] }
     requires block { IsBlock marks.now copying.old.block.items }
     requires memory { Remembers (trees cells.now.cells) marks.now copying.old.block.items memory.old.entries.items }
-    ensures copied { OnOk result (Copied marks.now copying.old.block.items copying.new.block.items copying.old.loose.items copying.new.loose.items (tree_at (trees cells.now.cells) place)) }
-    ensures idle { OnOk result (copying.new.frames.items ≡ []) }
-    ensures block { OnOk result (IsBlock marks.now copying.new.block.items) }
-    ensures memory { OnOk result (Remembers (trees cells.now.cells) marks.now copying.new.block.items memory.new.entries.items) }
+    ensures copied { IfOk result (λ done. done ≡ true → IsCopied marks.now copying.old.block.items copying.new.block.items copying.old.loose.items copying.new.loose.items (tree_at (trees cells.now.cells) place)) }
+    ensures idle { IfOk result (λ done. done ≡ true → copying.new.frames.items ≡ []) }
+    ensures block { IfOk result (λ done. done ≡ true → IsBlock marks.now copying.new.block.items) }
+    ensures memory { IfOk result (λ done. done ≡ true → Remembers (trees cells.now.cells) marks.now copying.new.block.items memory.new.entries.items) }
+    ensures unknown { IfOk result (λ done. done ≡ false → Known marks.now (tree_at (trees cells.now.cells) place) → ⊥) }
 {
-    let places = cells.len();
-    prove!(place < places);
-    let mut turn = Turn::Open(place);
-    loop {
-        turn = match turn {
-            Turn::Open(at) => open(cells, marks, at, memory, &mut copying.frames)?,
-            Turn::Close(cell) => match copying.frames.pop() {
-                Some(frame) => close(frame, cell, memory, copying)?,
-                None => {
-                    copying.loose.push(cell)?;
-                    return Ok(());
-                }
-            },
-        };
+    match begin(cells, marks, place, memory) {
+        Begun::Copied(cell) => {
+            put(&mut copying.loose, cell)?;
+            Ok(true)
+        }
+        Begun::Term(frame) => copy_begun(cells, marks, frame, memory, copying),
+        Begun::Unknown => Ok(false),
     }
 }
 
 /// Begins the copy of a place's term, unless it is in memory.
-fn open(
-    cells: &Cells,
-    marks: &Marks,
-    place: usize,
-    memory: &mut Memory,
-    frames: &mut Vec<Frame>,
-) -> Result<Turn, NoMemory>
+#[inline(always)]
+fn begin(cells: &Cells, marks: &Marks, place: usize, memory: &mut Memory) -> Begun
     requires inside { place < length cells.now.cells }
-    requires known { Known marks.now (tree_at (trees cells.now.cells) place) }
     requires few { length marks.now ≤ 4294967295 }
-    ensures going { IfOk result (λ turn. (root : Tree) (old block before loose : List Raw) → Remembers (trees cells.now.cells) marks.now block memory.old.entries.items → Going (trees cells.now.cells) marks.now root old before frames.old.items loose block (Turn.Open place) → Going (trees cells.now.cells) marks.now root old before frames.new.items loose block turn) }
-    ensures less { IfOk result (λ turn. weight_frames (trees cells.now.cells) frames.new.items + weight_turn (trees cells.now.cells) turn < weight_frames (trees cells.now.cells) frames.old.items + weight_turn (trees cells.now.cells) (Turn.Open place)) }
+    ensures begun { (block : List Raw) → IsBlock marks.now block → Remembers (trees cells.now.cells) marks.now block memory.old.entries.items → IsBegun (trees cells.now.cells) marks.now block (tree_at (trees cells.now.cells) place) result }
     ensures memory { memory.new.entries.items ≡ memory.old.entries.items }
 {
     match cells.top(place) {
-        Top::Free(variable) => Ok(Turn::Close(Raw::Same(number_of(marks, variable) as u32))),
-        Top::Int(z) => Ok(Turn::Close(Raw::Int(z))),
-        Top::Atom(a) => Ok(Turn::Close(Raw::Atom(a))),
+        Top::Free(variable) => match marks.number_of(variable) {
+            Some(number) => Begun::Copied(Raw::Same(number as u32)),
+            None => Begun::Unknown,
+        },
+        Top::Int(z) => Begun::Copied(Raw::Int(z)),
+        Top::Atom(a) => Begun::Copied(Raw::Atom(a)),
         Top::Node(name, first, count) => {
-            if count == 0 {
-                return Ok(Turn::Close(Raw::Node(name, 0, 0)));
-            }
             if let Some(copies) = memory.find(name, first, count) {
-                return Ok(Turn::Close(Raw::Node(name, copies, count)));
+                return Begun::Copied(Raw::Node(name, copies, count));
             }
-            frames.push(Frame {
+            Begun::Term(Frame {
                 name,
                 first,
                 count,
                 copied: 0,
-            })?;
-            Ok(Turn::Open(first))
+            })
         }
     }
 }
 
-/// Puts the cell of an argument with the loose ones; behind the last one the arguments get their places.
-fn close(
-    frame: Frame,
-    cell: Raw,
+/// Copies a term that is begun, argument by argument; behind the last one they get their places, and the term is an argument
+/// that is copied.
+fn copy_begun(
+    cells: &Cells,
+    marks: &Marks,
+    begun: Frame,
     memory: &mut Memory,
     copying: &mut Copying,
-) -> Result<Turn, NoMemory>
-    requires left { frame.copied < frame.count }
-    requires fits { frame.first + frame.count ≤ 4294967295 }
-    requires loose { frame.copied ≤ length copying.old.loose.items }
-    requires few { length copying.old.block.items ≤ 4294967295 }
-    ensures going { IfOk result (λ turn. (ts : List Tree) (ks : List ℕ) (root : Tree) (old before : List Raw) → Going ts ks root old before (copying.old.frames.items ++ frame ∷ []) copying.old.loose.items copying.old.block.items (Turn.Close cell) → Going ts ks root old before copying.new.frames.items copying.new.loose.items copying.new.block.items turn) }
-    ensures memory { OnOk result ((ts : List Tree) (ks : List ℕ) (root : Tree) (old before : List Raw) → Going ts ks root old before (copying.old.frames.items ++ frame ∷ []) copying.old.loose.items copying.old.block.items (Turn.Close cell) → Remembers ts ks copying.old.block.items memory.old.entries.items → Remembers ts ks copying.new.block.items memory.new.entries.items) }
-    ensures less { IfOk result (λ turn. (ts : List Tree) → weight_frames ts copying.new.frames.items + weight_turn ts turn < weight_frames ts (copying.old.frames.items ++ frame ∷ []) + 1) }
+) -> Result<bool, NoMemory>
+    requires inside { begun.first + begun.count ≤ length cells.now.cells }
+    requires none { begun.copied ≡ 0 }
+    requires idle { copying.old.frames.items ≡ [] }
+    requires block { IsBlock marks.now copying.old.block.items }
+    requires memory { Remembers (trees cells.now.cells) marks.now copying.old.block.items memory.old.entries.items }
+    ensures copied { IfOk result (λ done. done ≡ true → IsCopied marks.now copying.old.block.items copying.new.block.items copying.old.loose.items copying.new.loose.items (node begun.name (span (trees cells.now.cells) begun.first begun.count))) }
+    ensures idle { IfOk result (λ done. done ≡ true → copying.new.frames.items ≡ []) }
+    ensures block { IfOk result (λ done. done ≡ true → IsBlock marks.now copying.new.block.items) }
+    ensures memory { IfOk result (λ done. done ≡ true → Remembers (trees cells.now.cells) marks.now copying.new.block.items memory.new.entries.items) }
+    ensures unknown { IfOk result (λ done. done ≡ false → Known marks.now (node begun.name (span (trees cells.now.cells) begun.first begun.count)) → ⊥) }
 {
-    copying.loose.push(cell)?;
-    let copied = frame.copied + 1;
-    if copied < frame.count {
-        copying.frames.push(Frame { copied, ..frame })?;
-        return Ok(Turn::Open(frame.first + copied as usize));
+    let places = cells.len();
+    prove!(places <= MAX_CELLS);
+    let mut frame = begun;
+    loop {
+        if frame.copied < frame.count {
+            match begin(cells, marks, frame.first + frame.copied as usize, memory) {
+                Begun::Copied(cell) => {
+                    put(&mut copying.loose, cell)?;
+                    frame.copied += 1;
+                }
+                Begun::Term(inner) => {
+                    wait(&mut copying.frames, frame)?;
+                    frame = inner;
+                }
+                Begun::Unknown => return Ok(false),
+            }
+        } else {
+            let cell = end_term(frame, memory, copying)?;
+            put(&mut copying.loose, cell)?;
+            match copying.frames.pop() {
+                Some(outer) => {
+                    frame = outer;
+                    frame.copied += 1;
+                }
+                None => return Ok(true),
+            }
+        }
     }
+}
+
+/// Puts a cell behind others.
+#[inline(always)]
+fn put(cells: &mut Vec<Raw>, cell: Raw) -> Result<(), NoMemory>
+    ensures { OnOk result (cells.new.items ≡ cells.old.items ++ cell ∷ []) }
+{
+    cells.reserve(1)?;
+    cells.push_reserved(cell);
+    Ok(())
+}
+
+/// Puts a term aside until an argument is copied.
+#[inline(always)]
+fn wait(frames: &mut Vec<Frame>, frame: Frame) -> Result<(), NoMemory>
+    ensures { OnOk result (frames.new.items ≡ frames.old.items ++ frame ∷ []) }
+{
+    frames.reserve(1)?;
+    frames.push_reserved(frame);
+    Ok(())
+}
+
+/// Gives the arguments of a term their places, when all are copied; the term's cell.
+#[inline(always)]
+fn end_term(frame: Frame, memory: &mut Memory, copying: &mut Copying) -> Result<Raw, NoMemory>
+    requires enough { frame.count ≤ length copying.old.loose.items }
+    requires few { length copying.old.block.items ≤ 4294967295 }
+    ensures cell { IfOk result (λ cell. cell ≡ Node frame.name (length copying.old.block.items) frame.count) }
+    ensures block { OnOk result (copying.new.block.items ≡ copying.old.block.items ++ drop (length copying.old.loose.items - frame.count) copying.old.loose.items) }
+    ensures loose { OnOk result (copying.new.loose.items ≡ take (length copying.old.loose.items - frame.count) copying.old.loose.items) }
+    ensures frames { OnOk result (copying.new.frames.items ≡ copying.old.frames.items) }
+    ensures few { OnOk result (length copying.new.block.items ≤ 4294967295) }
+    ensures memory { OnOk result (IsWith (record { name = frame.name; count = frame.count; from = frame.first; first = length copying.old.block.items }) memory.old.entries.items memory.new.entries.items) }
+{
     let first = copying.block.len();
     settle(frame.count as usize, copying)?;
     memory.keep(Entry {
@@ -205,7 +255,7 @@ fn close(
         from: frame.first,
         first: first as u32,
     })?;
-    Ok(Turn::Close(Raw::Node(frame.name, first as u32, frame.count)))
+    Ok(Raw::Node(frame.name, first as u32, frame.count))
 }
 
 /// Moves the last loose cells into the block.
@@ -221,16 +271,7 @@ pub fn settle(count: usize, copying: &mut Copying) -> Result<(), NoMemory>
     if count > MAX_CELLS - copying.block.len() {
         return Err(NoMemory);
     }
-    append(&mut copying.block, &copying.loose[rest..])?;
+    copying.block.extend_from_slice(&copying.loose[rest..])?;
     copying.loose.truncate(rest);
-    Ok(())
-}
-
-fn append(block: &mut Vec<Raw>, cells: &[Raw]) -> Result<(), NoMemory>
-    ensures { OnOk result (block.new.items ≡ block.old.items ++ cells.now) }
-{
-    for cell in cells {
-        block.push(*cell)?;
-    }
     Ok(())
 }

@@ -1,6 +1,6 @@
 //! Parcels: a tuple out of a store, and into another.
 
-ghost use Rattle.std.specs.Prelude.{◌≡◌, ◌+◌, ◌<◌, ◌≤◌, ◌++◌, length, map, take, IfOk, OnOk, OnErr};
+ghost use Rattle.std.specs.Prelude.{◌≡◌, ◌+◌, ◌<◌, ◌≤◌, true, false, ◌++◌, length, map, take, IfOk, OnOk, OnErr};
 ghost use Rattle.ap_term.specs.Tree.{count_trees};
 ghost use Rattle.ap_term.specs.Substitution.{instance, instance_all, shift};
 ghost use Rattle.ap_term.specs.UpToNames.{SameUpToNames};
@@ -8,13 +8,13 @@ ghost use Rattle.ap_term.specs.Search.{variables};
 ghost use Rattle.ap_cells.specs.Trees.{trees, span, Stand};
 ghost use Rattle.ap_cells.specs.Store.{Keeps};
 ghost use Rattle.ap_cells.specs.Walks.{Each};
-ghost use Rattle.ap_copy.specs.Copies.{tuple_at, IsBelow};
-ghost use Rattle.ap_copy.specs.Parcels.{raw_moved};
+ghost use Rattle.ap_copy.specs.Copies.{KnownAll, tuple_at, IsBelow};
+ghost use Rattle.ap_copy.specs.Parcels.{IsPacked, raw_moved};
 ghost use Rattle.ap_cells.specs.Raws.{raw_of};
 
 use crate::copying::{Copying, copy_terms, settle, unbound};
 use crate::memory::Memory;
-use crate::variables::mark_variables;
+use crate::variables::{mark_unbound, mark_variables};
 use ap_cells::{Cell, Cells, MAX_CELLS, Raw, Walk};
 use ap_marks::Marks;
 use ap_term::NoMemory;
@@ -95,6 +95,53 @@ pub fn new_variables(alloc: Global, count: usize) -> Result<Parcelled, NoMemory>
     Ok(Parcelled { cells, count })
 }
 
+/// Copies the terms of some places into a new block, in which the variables that are marked come first. It gives up at a
+/// variable that isn't marked.
+fn pack(
+    alloc: Global,
+    cells: &Cells,
+    roots: &[usize],
+    packing: &mut Packing,
+) -> Result<bool, NoMemory>
+    requires inside { Each (λ r. r < length cells.now.cells) roots.now }
+    ensures packed { IfOk result (λ done. done ≡ true → IsPacked (trees cells.now.cells) roots.now packing.new.copying.block.items) }
+    ensures unknown { IfOk result (λ done. done ≡ false → KnownAll packing.old.marks (tuple_at (trees cells.now.cells) roots.now) → ⊥) }
+{
+    packing.copying.start(alloc, packing.marks.len())?;
+    packing.memory.clear();
+    if !copy_terms(
+        cells,
+        &packing.marks,
+        roots,
+        &mut packing.memory,
+        &mut packing.copying,
+    )? {
+        return Ok(false);
+    }
+    settle(roots.len(), &mut packing.copying)?;
+    Ok(true)
+}
+
+/// Copies the terms of some places into a new block. Only where a variable stands within a term are all variables marked first.
+fn pack_known(
+    alloc: Global,
+    cells: &Cells,
+    roots: &[usize],
+    packing: &mut Packing,
+) -> Result<(), NoMemory>
+    requires inside { Each (λ r. r < length cells.now.cells) roots.now }
+    ensures packed { OnOk result (IsPacked (trees cells.now.cells) roots.now packing.new.copying.block.items) }
+{
+    mark_unbound(cells, roots, &mut packing.marks)?;
+    if pack(alloc, cells, roots, packing)? {
+        return Ok(());
+    }
+    mark_variables(cells, roots, &mut packing.walk, &mut packing.marks)?;
+    let packed = pack(alloc, cells, roots, packing)?;
+    prove!(packed);
+    Ok(())
+}
+
 /// Copies the terms of some places out of a store, which stays as it is. Variables that they share stay shared, and so do
 /// compound terms, but for the first few.
 pub fn copy_out(
@@ -106,17 +153,7 @@ pub fn copy_out(
     requires { Each (λ r. r < length cells.now.cells) roots.now }
     ensures { IfOk result (λ parcel. SameUpToNames parcel (tuple_at (trees cells.now.cells) roots.now)) }
 {
-    mark_variables(cells, roots, &mut packing.walk, &mut packing.marks)?;
-    packing.copying.start(alloc, packing.marks.len())?;
-    packing.memory.clear();
-    copy_terms(
-        cells,
-        &packing.marks,
-        roots,
-        &mut packing.memory,
-        &mut packing.copying,
-    )?;
-    settle(roots.len(), &mut packing.copying)?;
+    pack_known(alloc, cells, roots, packing)?;
     Ok(Parcelled {
         cells: mem::replace(&mut packing.copying.block, Vec::new(alloc)),
         count: roots.len(),

@@ -1,13 +1,11 @@
 //! The variables of a tuple, each with a number of its own: which one it is among those that are marked.
 
-ghost use Rattle.std.specs.Prelude.{◌≡◌, ℕ, ◌<◌, ◌||◌, true, nat_eq, length, OnOk};
-ghost use Rattle.std.specs.List.{list_any, position_or_len};
-ghost use Rattle.ap_term.specs.Vars.{occurs};
+ghost use Rattle.std.specs.Prelude.{◌<◌, ◌||◌, length, OnOk};
 ghost use Rattle.ap_cells.specs.Trees.{tree_at, trees};
 ghost use Rattle.ap_cells.specs.Walks.{Each};
 ghost use Rattle.ap_copy.specs.Copies.{KnownAll, tuple_at};
 
-use ap_cells::{Cells, Walk};
+use ap_cells::{Cells, Top, Walk};
 use ap_marks::Marks;
 use ap_term::NoMemory;
 
@@ -28,11 +26,15 @@ pub fn mark_variables(
     Ok(())
 }
 
-/// The number of a variable.
-pub fn number_of(marks: &Marks, variable: usize) -> usize
-    requires { list_any (nat_eq variable) marks.now ≡ true }
-    ensures number { result ≡ position_or_len (nat_eq variable) marks.now }
-    ensures below { result < length marks.now }
+/// Marks the places that are unbound themselves.
+pub fn mark_unbound(cells: &Cells, roots: &[usize], marks: &mut Marks) -> Result<(), NoMemory>
+    requires { Each (λ r. r < length cells.now.cells) roots.now }
 {
-    marks.number_of(variable).unwrap()
+    marks.clear();
+    for root in roots {
+        if let Top::Free(variable) = cells.top(*root) {
+            marks.insert(variable)?;
+        }
+    }
+    Ok(())
 }
