@@ -31,14 +31,18 @@ pub enum Next {
     Linked(Link),
 }
 
-/// The choice at a place: what it names, what the head of its clause asks of the arguments of a call, and what is known of the choices
-/// behind it.
+/// So many choices are looked at to tell whether a key serves from one of them on.
+const AHEAD: u32 = 64;
+
+/// The choice at a place: what it names, what the head of its clause asks of the arguments of a call, what is known of the choices
+/// behind it, and whether a key may tell more of those from it on.
 #[derive(Drop)]
 pub struct Choice {
     pub(crate) at: u32,
     pub named: Named,
     pub head: Head,
     pub next: Next,
+    pub takes_key: bool,
 }
 
 /// What a choice at a place names, if one stands there.
@@ -82,6 +86,21 @@ fn next_of(rows: &Rows, behind: Option<usize>) -> Next
     }
 }
 
+/// Whether a row or a link is known of one of the choices from a place on, or they are more than are looked at.
+fn takes_key(code: &Code, rows: &Rows, at: u32) -> bool {
+    for place in at..at.saturating_add(AHEAD) {
+        let Some(named) = named_at(code, place) else {
+            return false;
+        };
+        match next_of(rows, named.behind) {
+            Next::Any if named.behind.is_none() => return false,
+            Next::Any => {}
+            _ => return true,
+        }
+    }
+    true
+}
+
 /// The choice at a place, if one stands there.
 pub(crate) fn choice_at(
     alloc: Global,
@@ -101,5 +120,6 @@ pub(crate) fn choice_at(
         named,
         head,
         next: next_of(rows, named.behind),
+        takes_key: takes_key(code, rows, at),
     }))
 }
