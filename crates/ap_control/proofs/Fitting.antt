@@ -1,12 +1,15 @@
 -- How the arguments of a call stand to what a head asks of them.
-use Rattle.std.proofs.Common.{◌≡◌, ℕ, zero, suc, ◌+◌, ◌≤◌, List, [], ◌∷◌, ◌++◌, take, slice_get, Option, Some, None, Bool, true, false, refl, ap, sym, ◌∙◌, subst, arith}
+use Rattle.std.proofs.Common.{◌≡◌, ℕ, zero, suc, ◌+◌, List, [], ◌∷◌, ◌++◌, take, slice_get, Option, Some, None, Bool, true, false, refl, ap, sym, ◌∙◌, subst, arith}
 use Rattle.std.specs.Prelude.{IfSome, if◌then◌else◌}
 use Rattle.std.specs.List.{AllByRecursion}
-use Rattle.ap_term.specs.Tree.{Tree}
+use Rattle.ap_term.specs.Tree.{Tree, var, atom, int, node}
 use Rattle.ap_cells.specs.declared.cells.Raw.{Raw}
 use Rattle.ap_cells.specs.Trees.{tree_at, trees}
 use Rattle.ap_instr.specs.Code.{Compiled}
+use Rattle.ap_instr.specs.Runs.{spread}
+use Rattle.ap_instr.proofs.Registers.{count-spread}
 use Rattle.ap_index.specs.declared.key.Key.{Key}
+use Rattle.ap_index.specs.declared.key.Key.TheVariants.{Atom, Integer, Structure}
 use Rattle.ap_index.specs.declared.hashing.Hashed.{Hashed}
 use Rattle.ap_index.specs.declared.head.Ask.{Ask}
 use Rattle.ap_index.specs.declared.head.Head.{Head}
@@ -20,7 +23,8 @@ use Rattle.ap_control.specs.declared.choosing.Fit.TheVariants.{Has, Takes, Lacks
 use Rattle.ap_control.specs.Heads.{IsShut}
 use Rattle.ap_control.specs.Taking.{CanTake}
 use Rattle.ap_control.proofs.Keys.{clash}
-use Rattle.ap_control.specs.Choosing.{Under, both, chance_by, fit_known, Alike, AreFit, IsAskFit, IsChance, HasKey}
+use Rattle.ap_control.proofs.Unifying.{takes-tree}
+use Rattle.ap_control.specs.Choosing.{Under, both, chance_by, fit_known, Alike, AreFit, IsFit, IsAskFit, IsChance, HasKey}
 
 -- two things at once
 both-under : (cs : List Raw) (P Q : (ℕ → Tree) → Type 0) (f g : Fit) → Under cs P f → Under cs Q g → Under cs (λ k. P k × Q k) (both f g)
@@ -107,16 +111,22 @@ pub has-key : (cs : List Raw) (x : ℕ → ℕ) (o : Option Hashed) (p : ℕ) �
 has-key cs x None p e h = tt
 has-key cs x (Some own) p e h = subst (λ p. (k : ℕ → Tree) → Fits cs k → IsKeyOf own.key (k p)) e h
 
--- an argument of a known key
-pub known-fit : (cs : List Raw) (x : ℕ → ℕ) (arity : ℕ) (own : Key) (a : Ask) → ((k : ℕ → Tree) → Fits cs k → IsKeyOf own (k (x 1))) → a.argument ≡ 1 → a.argument ≤ arity → IsAskFit cs x arity a (fit_known own a.key)
-known-fit cs x arity own a known first within = λ z alike. go z (alike a.argument within) (same_key own a.key) refl
+-- a place at which a term of a known key is
+pub bound-fit : (cs : List Raw) (p : ℕ) (own asked : Key) → ((k : ℕ → Tree) → Fits cs k → IsKeyOf own (k p)) → IsFit cs p asked (fit_known own asked)
+bound-fit cs p own asked known = go (same_key own asked) refl
   where
-    there : (z : ℕ → ℕ) → z a.argument ≡ x a.argument → z a.argument ≡ x 1
-    there z e = e ∙ ap x first
+    go : (b : Bool) → same_key own asked ≡ b → Under cs (λ k. IsKeyOf asked (k p)) (if b then Has else Lacks)
+    go true q = λ k fits. subst (λ key. IsKeyOf key (k p)) (true-same own asked q) (known k fits)
+    go false q = λ k fits met. clash own asked (k p) q (known k fits) met
 
-    go : (z : ℕ → ℕ) → z a.argument ≡ x a.argument → (b : Bool) → same_key own a.key ≡ b → Under cs (λ k. IsMet (λ w. k (z w)) a) (if b then Has else Lacks)
-    go z e true q = λ k fits. subst (λ p. IsKeyOf a.key (k p)) (sym (there z e)) (subst (λ key. IsKeyOf key (k (x 1))) (true-same own a.key q) (known k fits))
-    go z e false q = λ k fits met. clash own a.key (k (x 1)) q (known k fits) (subst (λ p. IsKeyOf a.key (k p)) (there z e) met)
+-- an unbound variable takes a term of each key
+pub takes-key : (cs : List Raw) (p x : ℕ) (asked : Key) → tree_at (trees cs) p ≡ var x → IsFit cs p asked Takes
+takes-key cs p x (Atom a) e = takes-tree cs p x (atom a) e
+takes-key cs p x (Integer z) e = takes-tree cs p x (int z) e
+takes-key cs p x (Structure f n) e =
+    let ts = spread (λ w. atom 0) 0 n in
+    let h = takes-tree cs p x (node f ts) e in
+    (h.0, h.1, (ts, count-spread (λ w. atom 0) 0 n, h.2))
 
 -- ---- the clause
 

@@ -5,10 +5,9 @@ ghost use Rattle.std.specs.Prelude.{◌≡◌, ℕ, ◌+◌, ◌<◌, List, [], 
 ghost use Rattle.ap_term.specs.Tree.{Tree};
 ghost use Rattle.ap_cells.specs.declared.cells.Raw.{Raw};
 ghost use Rattle.ap_instr.specs.StandsFor.{clause_places};
-ghost use Rattle.ap_index.specs.declared.key.Key.TheVariants.{Atom as AtomKey, Integer as IntegerKey, Structure as StructureKey};
 ghost use Rattle.ap_index.specs.Keys.{same_key, IsKeyOf};
 ghost use Rattle.ap_instr.specs.Code.{Compiled};
-ghost use Rattle.ap_index.specs.Index.{named_from, IsChoiceOf};
+ghost use Rattle.ap_index.specs.Index.{named_from, IsChoiceAt, IsChoiceOf};
 ghost use Rattle.ap_match.specs.Fits.{Fits};
 ghost use Rattle.ap_steps.specs.Moves.{held, HoldPlaces};
 ghost use Rattle.ap_standing.specs.Machine.{places_from};
@@ -54,6 +53,18 @@ fn own_of(cells: &Cells, place: usize) -> Option<Hashed>
     }
 }
 
+/// What is looked up of the first argument, where that may tell more of the choices from one on.
+#[inline(always)]
+fn key_for(cells: &Cells, x: &[u32], choice: &Choice) -> Option<Hashed>
+    requires { HoldPlaces (length cells.now.cells) x.now }
+    ensures { HasKey cells.now.cells (held x.now) result }
+{
+    if !choice.takes_key {
+        return None;
+    }
+    own_of(cells, place_in(x, 1))
+}
+
 /// How what there is stands to what is asked.
 #[derive(Clone, Copy)]
 pub(crate) enum Fit {
@@ -65,76 +76,6 @@ pub(crate) enum Fit {
     Lacks,
     /// That isn't told.
     Open,
-}
-
-/// How a place's term stands to an atom.
-#[inline(always)]
-fn fit_atom(cells: &Cells, place: usize, name: u32) -> Fit
-    requires { place < length cells.now.cells }
-    ensures { IsFit cells.now.cells place (AtomKey name) result }
-{
-    match cells.top(place) {
-        Top::Free(_) => Fit::Takes,
-        Top::Atom(found) => {
-            if found.number() == name {
-                Fit::Has
-            } else {
-                Fit::Lacks
-            }
-        }
-        Top::Int(_) => Fit::Lacks,
-        Top::Node(_, _, _) => Fit::Lacks,
-    }
-}
-
-/// How a place's term stands to an integer.
-#[inline(always)]
-fn fit_integer(cells: &Cells, place: usize, value: i64) -> Fit
-    requires { place < length cells.now.cells }
-    ensures { IsFit cells.now.cells place (IntegerKey value) result }
-{
-    match cells.top(place) {
-        Top::Free(_) => Fit::Takes,
-        Top::Int(found) => { if found == value { Fit::Has } else { Fit::Lacks } }
-        Top::Atom(_) => Fit::Lacks,
-        Top::Node(_, _, _) => Fit::Lacks,
-    }
-}
-
-/// How a place's term stands to structures of that name with so many arguments.
-#[inline(always)]
-fn fit_structure(cells: &Cells, place: usize, name: u32, count: u8) -> Fit
-    requires { place < length cells.now.cells }
-    ensures { IsFit cells.now.cells place (StructureKey name count) result }
-{
-    match cells.top(place) {
-        Top::Free(_) => Fit::Takes,
-        Top::Node(found, _, arity) => {
-            if arity != count as u32 {
-                return Fit::Lacks;
-            }
-            if found.number() == name {
-                Fit::Has
-            } else {
-                Fit::Lacks
-            }
-        }
-        Top::Int(_) => Fit::Lacks,
-        Top::Atom(_) => Fit::Lacks,
-    }
-}
-
-/// How a place's term stands to a key.
-#[inline(always)]
-fn fit_key(cells: &Cells, place: usize, key: Key) -> Fit
-    requires { place < length cells.now.cells }
-    ensures { IsFit cells.now.cells place key result }
-{
-    match key {
-        Key::Atom(name) => fit_atom(cells, place, name),
-        Key::Integer(value) => fit_integer(cells, place, value),
-        Key::Structure(name, count) => fit_structure(cells, place, name, count),
-    }
 }
 
 /// Whether two keys are the same.
@@ -163,23 +104,35 @@ fn fit_known(own: Key, asked: Key) -> Fit
     }
 }
 
-/// How an argument of a call with so many stands to what it is asked, where the first one's key may be known.
+/// How a place's term stands to a key. Its chain is followed once, whatever is asked; of more arguments than code has it isn't told.
 #[inline(always)]
-fn fit_ask(cells: &Cells, x: &[u32], arity: u8, key: Option<Hashed>, ask: &Ask) -> Fit
+fn fit_key(cells: &Cells, place: usize, asked: Key) -> Fit
+    requires { place < length cells.now.cells }
+    ensures { IsFit cells.now.cells place asked result }
+{
+    match cells.top(place) {
+        Top::Free(_) => Fit::Takes,
+        Top::Atom(name) => fit_known(Key::Atom(name.number()), asked),
+        Top::Int(value) => fit_known(Key::Integer(value), asked),
+        Top::Node(name, _, count) => {
+            if count > 255 {
+                return Fit::Open;
+            }
+            fit_known(Key::Structure(name.number(), count as u8), asked)
+        }
+    }
+}
+
+/// How an argument of a call with so many stands to what it is asked.
+#[inline(always)]
+fn fit_ask(cells: &Cells, x: &[u32], arity: u8, ask: &Ask) -> Fit
     requires holds { HoldPlaces (length cells.now.cells) x.now }
-    requires key { HasKey cells.now.cells (held x.now) key }
     ensures { IsAskFit cells.now.cells (held x.now) arity ask.now result }
 {
     if ask.argument > arity as u32 {
         return Fit::Open;
     }
-    if ask.argument != 1 {
-        return fit_key(cells, place_in(x, ask.argument), ask.key);
-    }
-    match key {
-        Some(own) => fit_known(own.key(), ask.key),
-        None => fit_key(cells, place_in(x, ask.argument), ask.key),
-    }
+    fit_key(cells, place_in(x, ask.argument), ask.key)
 }
 
 /// How all of what is asked is, where some of it was so and one more is so. Of two that take a variable it isn't told, since that may be
@@ -199,14 +152,13 @@ fn both(some: Fit, one: Fit) -> Fit
 
 /// How the arguments of a call stand to what they are asked.
 #[inline(always)]
-fn fit_all(cells: &Cells, x: &[u32], arity: u8, key: Option<Hashed>, asks: &[Ask]) -> Fit
+fn fit_all(cells: &Cells, x: &[u32], arity: u8, asks: &[Ask]) -> Fit
     requires holds { HoldPlaces (length cells.now.cells) x.now }
-    requires key { HasKey cells.now.cells (held x.now) key }
     ensures { AreFit cells.now.cells (held x.now) arity asks.now result }
 {
     let mut fit = Fit::Has;
     for ask in asks {
-        match fit_ask(cells, x, arity, key, ask) {
+        match fit_ask(cells, x, arity, ask) {
             Fit::Has => {}
             Fit::Lacks => return Fit::Lacks,
             other => fit = both(fit, other),
@@ -243,15 +195,11 @@ fn chance_by(fit: Fit, head: &Head) -> Chance
 
 /// Whether the clause of a choice can be entered by a call on so many argument registers, by what its head asks of them.
 #[inline(always)]
-fn chance_of(cells: &Cells, x: &[u32], arity: u8, key: Option<Hashed>, choice: &Choice) -> Chance
+fn chance_of(cells: &Cells, x: &[u32], arity: u8, choice: &Choice) -> Chance
     requires holds { HoldPlaces (length cells.now.cells) x.now }
-    requires key { HasKey cells.now.cells (held x.now) key }
     ensures { (code : Compiled) → IsChoiceOf code choice.now → IsChance code cells.now.cells (held x.now) arity choice.now.named.place result }
 {
-    chance_by(
-        fit_all(cells, x, arity, key, choice.head.asks()),
-        &choice.head,
-    )
+    chance_by(fit_all(cells, x, arity, choice.head.asks()), &choice.head)
 }
 
 /// From a place behind a choice the next choice for the first argument, by the row that may go on there.
@@ -332,7 +280,7 @@ fn possible_from(
             place: choice.named.place,
             behind: choice.named.behind,
         };
-        match chance_of(cells, x, arity, key, choice) {
+        match chance_of(cells, x, arity, choice) {
             Chance::Never => rest = next_choice(sound, key, choice),
             Chance::Sure => {
                 return Some(Possible {
@@ -351,6 +299,23 @@ fn possible_from(
     None
 }
 
+/// The choice before a place, where that is the place behind it.
+#[inline(always)]
+fn choice_before(sound: &Sound, at: usize) -> Option<&Choice>
+    ensures { IfSome result (λ choice. IsChoiceOf sound.now choice.now × (choice.now.named.behind ≡ Some at)) }
+{
+    if at == 0 {
+        return None;
+    }
+    match sound.choice(at - 1) {
+        Some(choice) => match choice.named.behind {
+            Some(after) if after == at => Some(choice),
+            _ => None,
+        },
+        None => None,
+    }
+}
+
 /// From a place behind a choice the next choice for the first argument, by what is known of the choice before it.
 #[inline(always)]
 fn next_behind(sound: &Sound, key: Option<Hashed>, behind: Option<usize>) -> Option<usize>
@@ -359,19 +324,10 @@ fn next_behind(sound: &Sound, key: Option<Hashed>, behind: Option<usize>) -> Opt
     let Some(at) = behind else {
         return None;
     };
-    if at == 0 {
-        return behind;
+    match choice_before(sound, at) {
+        Some(choice) => next_choice(sound, key, choice),
+        None => behind,
     }
-    let Some(choice) = sound.choice(at - 1) else {
-        return behind;
-    };
-    let Some(after) = choice.named.behind else {
-        return behind;
-    };
-    if after != at {
-        return behind;
-    }
-    next_choice(sound, key, choice)
 }
 
 /// The next clause behind a choice that isn't passed over, for a call on so many argument registers.
@@ -386,11 +342,14 @@ pub fn next_possible(
     ensures passes { PassesOver sound.now cells.now.cells (held x.now) (places_from sound.now behind) (possible_places sound.now result) }
     ensures sure { IfSome result (λ p. p.sure ≡ true → (z : ℕ → ℕ) → Alike arity (held x.now) z → CanTake sound.now cells.now.cells z p.alternative.place) }
 {
-    if behind.is_none() {
+    let Some(at) = behind else {
         return None;
-    }
-    let key = own_of(cells, place_in(x, 1));
-    let from = next_behind(sound, key, behind);
+    };
+    let Some(choice) = choice_before(sound, at) else {
+        return possible_from(cells, x, arity, sound, None, behind);
+    };
+    let key = key_for(cells, x, choice);
+    let from = next_choice(sound, key, choice);
     possible_from(cells, x, arity, sound, key, from)
 }
 
@@ -426,7 +385,7 @@ fn chosen_among(
         behind: found.named.behind,
     };
     let next = possible_from(cells, x, arity, sound, key, from);
-    match chance_of(cells, x, arity, key, found) {
+    match chance_of(cells, x, arity, found) {
         Chance::Never => {
             let Some(second) = next else {
                 return None;
@@ -504,6 +463,18 @@ fn first_of_row(sound: &Sound, start: u32, key: Option<Hashed>) -> Option<usize>
     }
 }
 
+/// The choice at a place, where another one is known that stands at its own.
+#[inline(always)]
+fn choice_or<'a>(sound: &'a Sound, begin: &'a Choice, start: u32, at: usize) -> Option<&'a Choice>
+    requires { IsChoiceAt sound.now start begin.now }
+    ensures { IfSome result (λ choice. IsChoiceAt sound.now at choice.now) }
+{
+    if at == start as usize {
+        return Some(begin);
+    }
+    sound.choice(at)
+}
+
 /// The clauses of a predicate that a call on its argument registers may enter.
 #[inline(always)]
 pub fn choose(cells: &Cells, x: &[u32], sound: &Sound, predicate: &Predicate) -> Option<Chosen>
@@ -519,11 +490,11 @@ pub fn choose(cells: &Cells, x: &[u32], sound: &Sound, predicate: &Predicate) ->
     if !begin.named.is_first {
         return chosen_plainly(sound, predicate);
     }
-    let key = own_of(cells, place_in(x, 1));
+    let key = key_for(cells, x, begin);
     let Some(at) = first_of_row(sound, predicate.start, key) else {
         return None;
     };
-    match sound.choice(at) {
+    match choice_or(sound, begin, predicate.start, at) {
         Some(found) => chosen_from(cells, x, predicate.arity, sound, key, found),
         None => chosen_plainly(sound, predicate),
     }
