@@ -2,6 +2,8 @@
 use Rattle.std.proofs.Common.{◌≡◌, ℕ, zero, suc, ◌+◌, ◌-◌, ◌<◌, ◌≤◌, List, [], ◌∷◌, ◌++◌, length, take, drop, get_or, slice_get, Option, Some, None, refl, ap, ap₂, sym, ◌∙◌, subst, arith}
 use Rattle.std.specs.List.{AllByRecursion}
 use Rattle.std.specs.Option.{IfSome, option_to_list}
+use Rattle.std.specs.Prelude.{slice_set}
+use Rattle.std.proofs.Math.Seq.{set-append_seam}
 use Rattle.std.proofs.lemmas.List.{append-nil, length-append, length-take-le, take-append-drop, take_all, take-take, take_at, take-append-le, drop_at, drop-append-le, get_or-take, get_or_append_left, get_or_at}
 use Rattle.ap_steps.specs.Standing.{Return}
 use Rattle.ap_environments.specs.declared.environments.Choice.{Choice}
@@ -337,6 +339,12 @@ moment-choice_is c (w ∷ ws) = refl
 pub moment-choice : (c d : Choice) (ws : List Return) → moment_of d ws ≡ record { choice = d; returns = (moment_of c ws).returns; arguments = (moment_of c ws).arguments }
 moment-choice c d [] = refl
 moment-choice c d (w ∷ ws) = refl
+
+-- the last of a list is another one
+pub put-last : {X : Type 0} (xs ys : List X) (x y : X) (n : ℕ) → xs ≡ ys ++ x ∷ [] → n ≡ length xs → slice_set xs (n - 1) y ≡ ys ++ y ∷ []
+put-last xs ys x y n e l =
+    let at : n - 1 ≡ length ys = omega (arith, l, ap length e, length-append ys (x ∷ [])) in
+    ap (λ i. slice_set xs i y) at ∙ ap (λ zs. slice_set zs (length ys) y) e ∙ set-append_seam ys x [] y
 
 pub Rising-replace : (n : ℕ) (qs : List Point) (all : ℕ) (q r : Point) → r.frames ≡ q.frames → Rising n (qs ++ q ∷ []) all → Rising n (qs ++ r ∷ []) all
 Rising-replace n [] all q r e h = let k : n ≤ q.frames = h.0 in let l : q.frames ≤ all = h.2 in let p : 0 < q.frames = h.1 in (omega arith, omega arith, omega arith)

@@ -336,13 +336,12 @@ impl Environments {
         ensures none { self.old.moments ≡ [] → self.new ≡ self.old }
         ensures newest { (m : Moment) (ms : List Moment) → self.old.moments ≡ m ∷ ms → self.new ≡ record self.old { moments = record { choice = record m.choice { place = place; behind = behind }; returns = m.returns; arguments = m.arguments } ∷ ms } }
     {
-        match self.points.pop() {
-            Some(point) => {
-                let entry = point.entry.with_place(place, behind);
-                self.points.push_reserved(Point { entry, ..point });
-            }
-            None => {}
-        }
+        let Some(point) = last_point(&self.points) else {
+            return;
+        };
+        let last = self.points.len() - 1;
+        let entry = point.entry.with_place(place, behind);
+        self.points[last] = Point { entry, ..point };
     }
 
     /// Forgets the newest choice point. Without one it changes nothing.
