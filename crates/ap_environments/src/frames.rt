@@ -5,6 +5,7 @@ ghost use Rattle.ap_steps.specs.Moves.{held};
 ghost use Rattle.ap_environments.specs.Frames.{LeadUp, AreFrames, chain, chains};
 
 use crate::environments::Frame;
+use crate::registers::{clear, copy};
 use ap_term::NoMemory;
 
 /// The most that 32 bits count.
@@ -92,6 +93,6 @@ pub fn fill_registers(registers: &mut [u32], places: &[u32])
 {
     let count = places.len().min(registers.len());
     let (first, others) = registers.split_at_mut(count);
-    first.copy_from_slice(&places[..count]);
-    others.fill(0);
+    copy(first, &places[..count]);
+    clear(others);
 }
