@@ -1,6 +1,7 @@
 //! Instructions of control, and control that comes back.
 
-ghost use Rattle.std.specs.Prelude.{◌≡◌, ℕ, ◌+◌, ◌<◌, ◌≤◌, List, [], length, drop, slice_get, None, Some, true, false, IfOk, IfSome, IfNone, MatchOption, OnOk, OnErr};
+ghost use Rattle.std.specs.Prelude.{◌≡◌, ℕ, ◌+◌, ◌<◌, ◌≤◌, List, [], length, drop, replicate, slice_get, None, Some, true, false, IfOk, IfSome, IfNone, MatchOption, OnOk, OnErr};
+ghost use Rattle.std.specs.Vec.{vec_len};
 ghost use Rattle.ap_tracked.specs.Tracked.{Tracked};
 ghost use Rattle.ap_cells.specs.Store.{Keeps};
 ghost use Rattle.ap_instr.specs.declared.compiled.Predicate.{Predicate};
@@ -23,10 +24,29 @@ use crate::goals::behind as next_place;
 use crate::state::{Now, Search};
 use ap_cells::Cells;
 use ap_control::{instruction_at, run_to_stop, used};
+use ap_environments::{clear, copy};
 use ap_instr::{Code, Instr};
 use ap_needs::Room;
 use ap_term::NoMemory;
 use ap_unify::Work;
+
+/// Puts 0 into all registers.
+#[inline(always)]
+fn clear_all(registers: &mut Vec<u32>)
+    ensures items { registers.new.items ≡ replicate (vec_len registers.old) 0 }
+    ensures len { vec_len registers.new ≡ vec_len registers.old }
+{
+    clear(registers.as_mut_slice());
+}
+
+/// Copies registers over as many.
+#[inline(always)]
+fn copy_all(saved: &mut Vec<u32>, registers: &[u32])
+    requires { vec_len saved.old ≡ length registers.now }
+    ensures { saved.new.items ≡ registers.now }
+{
+    copy(saved.as_mut_slice(), registers);
+}
 
 /// Keeps what registers hold, if that may be needed, in a vector whose memory is used again.
 #[inline(always)]
@@ -37,7 +57,7 @@ pub(crate) fn save(needed: bool, saved: &mut Vec<u32>, registers: &[u32]) -> Res
         return Ok(());
     }
     if saved.len() == registers.len() {
-        saved.copy_from_slice(registers);
+        copy_all(saved, registers);
         return Ok(());
     }
     saved.clear();
@@ -159,8 +179,8 @@ impl Search {
                 Ok(Some(to))
             }
             Ok(None) => {
-                self.x.fill(0);
-                self.y.fill(0);
+                clear_all(&mut self.x);
+                clear_all(&mut self.y);
                 self.next = Now::Failed;
                 Ok(None)
             }
@@ -270,7 +290,7 @@ impl Search {
         match self.environments.pop(&mut self.y) {
             Some(place) => {
                 self.cells.is_store();
-                self.x.fill(0);
+                clear_all(&mut self.x);
                 self.next = Now::Inside(place as usize);
                 true
             }

@@ -68,7 +68,7 @@ invariant_of-self-in-Ok-None c =
     let keeps : Keeps a.cells w = Keeps-trans a.cells c.reserve.new.self w (Keeps-same a.cells c.reserve.new.self c.reserve.ensures.cells c.reserve.ensures.trail) c.run_or_undo.ensures.keeps in
     let e = ap length c.reserve.ensures.cells in
     let l = c.run_or_undo.ensures.longer in
-    sane-cleared a.cells w a.environments a.x.items a.y.items c.fill.new.self.items c.fill-in-Ok-None.new.self.items a.roots.items a.x.len a.y.len c.self.invariant keeps (omega (arith, e, l)) (c.fill.ensures.items (λ z f. cc)) (c.fill-in-Ok-None.ensures.items (λ z f. cc))
+    sane-cleared a.cells w a.environments a.x.items a.y.items c.clear_all.new.registers.items c.clear_all-in-Ok-None.new.registers.items a.roots.items a.x.len a.y.len c.self.invariant keeps (omega (arith, e, l)) c.clear_all.ensures.items c.clear_all-in-Ok-None.ensures.items
     (sym c.deref_mut.ensures.len ∙ ap length c.deref_mut.ensures.value) (sym c.deref_mut-2.ensures.len ∙ ap length c.deref_mut-2.ensures.value)
 
 pub returns-in-Ok-None-clause-holds : goal.returns-in-Ok-None-clause-holds
@@ -80,7 +80,7 @@ returns-in-Ok-None-clause-holds c = λ ss h₀.
     let h = subst (λ o. RanOrStuck c.args.code.now c.args.at c.reserve.new.self.cells c.deref_mut.result.now c.deref_mut-2.result.now o w.cells r.x r.y) c.in-Ok-None.field-0-is c.in-Ok-None.ensures.ran in
     let stuck = moved-ran c.args.code.now c.args.at a.cells.cells c.reserve.new.self.cells w.cells a.x.items c.deref_mut.result.now a.y.items c.deref_mut-2.result.now r.x r.x r.y r.y None
     c.reserve.ensures.cells c.deref_mut.ensures.value c.deref_mut-2.ensures.value refl refl h in
-    stuck-holds c.args.code.now a.cells w a.environments a.x.items a.y.items c.fill.new.self.items c.fill-in-Ok-None.new.self.items a.roots.items c.args.at c.self.invariant keeps stuck ss
+    stuck-holds c.args.code.now a.cells w a.environments a.x.items a.y.items c.clear_all.new.registers.items c.clear_all-in-Ok-None.new.registers.items a.roots.items c.args.at c.self.invariant keeps stuck ss
     (opened c.args.code.now ss c.args.self.now (machine_of a.cells a.environments a.x.items a.y.items a.roots.items a.next) (inside c.args.at) (ap (λ s. s.machine) c.self.view_is) c.requires.here h₀)
 
 pub invariant_of-self-in-Err : goal.invariant_of-self-in-Err
@@ -143,9 +143,9 @@ pub returns-in-Ok-None-clause-stays : goal.returns-in-Ok-None-clause-stays
 returns-in-Ok-None-clause-stays c =
     let a = c.self.inside in
     let keeps : Keeps a.cells c.run_or_undo.new.cells = Keeps-trans a.cells c.reserve.new.self c.run_or_undo.new.cells (Keeps-same a.cells c.reserve.new.self c.reserve.ensures.cells c.reserve.ensures.trail) c.run_or_undo.ensures.keeps in
-    stays-ran a.cells c.run_or_undo.new.cells a.environments a.x.items a.y.items c.fill.new.self.items c.fill-in-Ok-None.new.self.items a.roots.items a.next Failed a.spent a.budget c.args.self.now c.self.view_is c.self.invariant keeps
-    (ap length (c.fill.ensures.items (λ z f. cc)) ∙ length-replicate a.x.len 0 ∙ sym c.deref_mut.ensures.len ∙ ap length c.deref_mut.ensures.value)
-    (ap length (c.fill-in-Ok-None.ensures.items (λ z f. cc)) ∙ length-replicate a.y.len 0 ∙ sym c.deref_mut-2.ensures.len ∙ ap length c.deref_mut-2.ensures.value)
+    stays-ran a.cells c.run_or_undo.new.cells a.environments a.x.items a.y.items c.clear_all.new.registers.items c.clear_all-in-Ok-None.new.registers.items a.roots.items a.next Failed a.spent a.budget c.args.self.now c.self.view_is c.self.invariant keeps
+    (ap length c.clear_all.ensures.items ∙ length-replicate a.x.len 0 ∙ sym c.deref_mut.ensures.len ∙ ap length c.deref_mut.ensures.value)
+    (ap length c.clear_all-in-Ok-None.ensures.items ∙ length-replicate a.y.len 0 ∙ sym c.deref_mut-2.ensures.len ∙ ap length c.deref_mut-2.ensures.value)
 
 pub returns-in-Err-clause-stays : goal.returns-in-Err-clause-stays
 returns-in-Err-clause-stays c =
