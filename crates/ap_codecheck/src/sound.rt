@@ -15,6 +15,7 @@ use ap_direct::{Direct, Directs};
 use ap_index::{Choice, Index, Row, index_of};
 use ap_instr::{Code, Predicate};
 use ap_needs::{Room, Widths, widths_of};
+use ap_term::NoMemory;
 use std::alloc::Global;
 use std::marker::Model;
 
@@ -93,21 +94,29 @@ pub fn check(alloc: Global, code: Code) -> Result<Sound, CodeErr>
 {
     check_query(&code)?;
     check_predicates(alloc, &code)?;
-    let index = index_of(alloc, &code)?;
-    let room = Room::of(alloc, &code)?;
-    let widths = widths_of(&code);
-    let directs = Directs::of(alloc, &code)?;
-    Ok(Sound {
-        code,
-        index,
-        room,
-        widths,
-        directs,
-    })
+    Ok(Sound::of_sound(alloc, code)?)
 }
 
 impl Sound {
-    /// The code that was checked.
+    /// Makes the tables of sound code. Code that was compiled is sound, so it isn't checked.
+    pub fn of_sound(alloc: Global, code: Code) -> Result<Sound, NoMemory>
+        requires { IsSound code }
+        ensures { IfOk result (λ sound. sound ≡ code) }
+    {
+        let index = index_of(alloc, &code)?;
+        let room = Room::of(alloc, &code)?;
+        let widths = widths_of(&code);
+        let directs = Directs::of(alloc, &code)?;
+        Ok(Sound {
+            code,
+            index,
+            room,
+            widths,
+            directs,
+        })
+    }
+
+    /// The code that it is.
     pub fn code(&self) -> &Code
         ensures same { result.now ≡ self.now }
         ensures sound { IsSound self.now }
