@@ -1,24 +1,27 @@
 -- The predicates of clauses in a table, and those that are listed.
-use Rattle.std.proofs.Common.{◌≡◌, ℕ, zero, suc, ◌+◌, ◌<◌, ◌≤◌, nat_lt, Bool, true, false, not, ◌&&◌, ◌||◌, is_some, is_none, if◌then◌else◌, inl, inr, List, [], ◌∷◌, ◌++◌, map, length, take, drop, get_or, slice_get, Option, Some, None, refl, ap, sym, ◌∙◌, subst, arith, append_assoc}
+use Rattle.std.proofs.Common.{◌≡◌, ℕ, zero, suc, ◌+◌, ◌<◌, ◌≤◌, nat_lt, ◌==◌, Bool, true, false, not, ◌&&◌, ◌||◌, is_some, is_none, if◌then◌else◌, inl, inr, List, [], ◌∷◌, ◌++◌, map, length, take, drop, get_or, slice_get, Option, Some, None, refl, ap, sym, ◌∙◌, subst, arith, append_assoc}
 use Rattle.std.specs.List.{filter, list_any}
 use Rattle.std.proofs.lemmas.Bool.{false≢true}
 use Rattle.std.proofs.lemmas.Bool.Decides.{nat_tests}
 use Rattle.std.proofs.lemmas.List.{drop_more, drop_all, take_all}
 use Rattle.ap_term.specs.declared.builtins.Relation.{Relation}
-use Rattle.ap_term.specs.Tree.{Tree}
+use Rattle.ap_term.specs.declared.fixed.TheConstants.{TRUE, FAIL}
+use Rattle.ap_term.specs.Tree.{Tree, Trees, atom, node, none, more, count_trees}
 use Rattle.ap_term.specs.Substitution.{Subst}
-use Rattle.ap_term.specs.Builtins.{named_answer}
+use Rattle.ap_term.specs.Builtins.{relation_named, named_answer}
 use Rattle.ap_term.specs.Goals.{Clause, Program}
+use Rattle.ap_term.specs.WellFormed.{callable}
 use Rattle.ap_term.proofs.Lists.{same_key, own_key}
 use Rattle.ap_tracked.specs.Tracked.{IsOneOf}
 use Rattle.ap_instr.specs.declared.compiled.Predicate.{Predicate}
 use Rattle.ap_instr.specs.Table.{Key, is_key, key_of, head_key, first, predicates_of, AreTiled}
 use Rattle.ap_codegen.specs.Assembled.{Keeps}
 use Rattle.ap_codegen.specs.Heads.{with_key, with_heads}
+use Rattle.ap_codegen.specs.Permanent.{is_builtin_key}
 
 -- ---- keys
 
-turned_key : (k l : Key) → is_key k l ≡ is_key l k
+pub turned_key : (k l : Key) → is_key k l ≡ is_key l k
 turned_key k l = go (is_key k l) (is_key l k) refl refl
   where
     go : (b c : Bool) → is_key k l ≡ b → is_key l k ≡ c → b ≡ c
@@ -40,6 +43,54 @@ control_answer false false = refl
 named : (o : Option Relation) (t u : Tree) → is_none (named_answer o t u) ≡ not (is_some o)
 named None t u = refl
 named (Some r) t u = refl
+
+abbrev pub some_key : ℕ → ℕ → Option Key
+some_key a n = Some (a, n)
+
+-- the predicate of a head, by its name and arity
+pub atom_key : (a : ℕ) → head_key (atom a) ≡ (if is_builtin_key (a, 0) then None else some_key a 0)
+atom_key a = ap (λ b. if b then some_key a 0 else None) (control_answer (a == TRUE) (a == FAIL)) ∙ go ((a == TRUE) || (a == FAIL)) (is_some (relation_named a))
+  where
+    go : (b d : Bool) → (if not b then some_key a 0 else None) ≡ (if (b && true) || (d && false) then None else some_key a 0)
+    go true d = refl
+    go false true = refl
+    go false false = refl
+
+pub node_key : (a : ℕ) (ts : Trees) → callable (node a ts) ≡ true → head_key (node a ts) ≡ (if is_builtin_key (a, count_trees ts) then None else some_key a (count_trees ts))
+node_key a none c = absurd (false≢true c)
+node_key a (more t none) c = go ((a == TRUE) || (a == FAIL)) (is_some (relation_named a))
+  where
+    go : (b d : Bool) → some_key a 1 ≡ (if (b && false) || (d && false) then None else some_key a 1)
+    go true true = refl
+    go true false = refl
+    go false true = refl
+    go false false = refl
+node_key a (more t (more u none)) c = ap (λ b. if b then some_key a 2 else None) (named (relation_named a) t u) ∙ go ((a == TRUE) || (a == FAIL)) (is_some (relation_named a))
+  where
+    go : (b d : Bool) → (if not d then some_key a 2 else None) ≡ (if (b && false) || (d && true) then None else some_key a 2)
+    go true true = refl
+    go true false = refl
+    go false true = refl
+    go false false = refl
+node_key a (more t (more u (more v ts))) c = go ((a == TRUE) || (a == FAIL)) (is_some (relation_named a)) (count_trees ts + 1 + 1 + 1 == 0) (count_trees ts + 1 + 1 + 1 == 2) zeroth second
+  where
+    n : ℕ
+    n = count_trees ts + 1 + 1 + 1
+
+    zeroth : (n == 0) ≡ false
+    zeroth = grind (arith, nat_tests)
+
+    second : (n == 2) ≡ false
+    second = grind (arith, nat_tests)
+
+    go : (b d e f : Bool) → e ≡ false → f ≡ false → some_key a n ≡ (if (b && e) || (d && f) then None else some_key a n)
+    go b d e f i j = ap (λ q. if q then None else some_key a n) (sym (ap (λ e. (b && e) || (d && f)) i ∙ ap (λ f. (b && false) || (d && f)) j ∙ none b d))
+      where
+        none : (b d : Bool) → ((b && false) || (d && false)) ≡ false
+        none true true = refl
+        none true false = refl
+        none false true = refl
+        none false false = refl
 
 -- ---- keys that are put into a table
 
@@ -95,7 +146,7 @@ still_lacked ks k (l ∷ ps) h = go (is_key k l) refl (still_lacked ks k ps h)
     go false d e = ap (λ ps. if lacks ks l then l ∷ ps else ps) e
 
 -- the table has its keys, and then those of the clauses that it lacks
-heads_behind : (ks : List Key) (cs : Program) → with_heads ks cs ≡ ks ++ filter (lacks ks) (predicates_of cs)
+pub heads_behind : (ks : List Key) (cs : Program) → with_heads ks cs ≡ ks ++ filter (lacks ks) (predicates_of cs)
 heads_behind ks [] = sym (append_nil ks)
   where
     append_nil : (xs : List Key) → xs ++ [] ≡ xs
@@ -139,7 +190,7 @@ one_found k (l ∷ ks) h = go (is_key k l) refl h (λ h. one_found k ks h)
     go true e h ih = inl (same_key k l e)
     go false e h ih = inr (ih h)
 
-one_filtered : (f : Key → Bool) (k : Key) (ks : List Key) → IsOneOf k (filter f ks) → IsOneOf k ks
+pub one_filtered : (f : Key → Bool) (k : Key) (ks : List Key) → IsOneOf k (filter f ks) → IsOneOf k ks
 one_filtered f k [] h = absurd h
 one_filtered f k (l ∷ ks) h = go (f l) h (λ h. one_filtered f k ks h)
   where
@@ -156,11 +207,11 @@ key_stays k ks (Some l) h = go (list_any (is_key l) ks)
     go true = h
     go false = one_append k ks (l ∷ []) h
 
-heads_stay : (k : Key) (ks : List Key) (cs : Program) → IsOneOf k ks → IsOneOf k (with_heads ks cs)
+pub heads_stay : (k : Key) (ks : List Key) (cs : Program) → IsOneOf k ks → IsOneOf k (with_heads ks cs)
 heads_stay k ks [] h = h
 heads_stay k ks (c ∷ cs) h = heads_stay k (with_key ks (head_key c.head)) cs (key_stays k ks (head_key c.head) h)
 
-key_there : (k : Key) (ks : List Key) → IsOneOf k (with_key ks (Some k))
+pub key_there : (k : Key) (ks : List Key) → IsOneOf k (with_key ks (Some k))
 key_there k ks = go (list_any (is_key k) ks) refl
   where
     go : (b : Bool) → list_any (is_key k) ks ≡ b → IsOneOf k (if b then ks else ks ++ k ∷ [])
@@ -176,7 +227,7 @@ heads_there k ks (c ∷ cs) h = go (head_key c.head) h (λ ks h. heads_there k k
     go (Some l) (inl e) ih = heads_stay k (with_key ks (Some l)) cs (subst (λ l. IsOneOf k (with_key ks (Some l))) e (key_there k ks))
     go (Some l) (inr h) ih = ih (with_key ks (Some l)) (one_filtered (λ m. not (is_key l m)) k (predicates_of cs) h)
 
-one_at : {A : Type 0} (x : A) (xs : List A) → IsOneOf x xs → (i : ℕ) × (slice_get xs i ≡ Some x)
+pub one_at : {A : Type 0} (x : A) (xs : List A) → IsOneOf x xs → (i : ℕ) × (slice_get xs i ≡ Some x)
 one_at x [] h = absurd h
 one_at x (y ∷ xs) (inl e) = (0, ap Some (sym e))
 one_at x (y ∷ xs) (inr h) = let r = one_at x xs h in (suc r.0, r.1)
@@ -189,7 +240,7 @@ at_one x (y ∷ xs) (suc i) e = inr (at_one x xs i e)
 pub one_kept : {A : Type 0} (x : A) (xs ys : List A) → Keeps xs ys → IsOneOf x xs → IsOneOf x ys
 one_kept x xs ys k h = let r = one_at x xs h in at_one x ys r.0 (k r.0 x r.1)
 
-none_there : {A : Type 0} (x : A) (n : ℕ) → slice_get [] n ≡ Some x → ⊥
+pub none_there : {A : Type 0} (x : A) (n : ℕ) → slice_get [] n ≡ Some x → ⊥
 none_there x zero e = cc
 none_there x (suc n) e = cc
 

@@ -14,6 +14,7 @@ pub mod Laying
 pub mod Blocks
 pub mod Growing
 pub mod Making
+pub mod Keeping
 pub mod AskedClause
 pub mod BuiltinGoals
 pub mod Pacing

@@ -15,7 +15,7 @@ use Rattle.ap_codegen.specs.CodeOf.{calls_apart}
 use Rattle.ap_instr.specs.Code.{Compiled}
 use Rattle.ap_instr.specs.StandsFor.{IsOfClauses, IsOfBuiltin, called_by}
 use Rattle.ap_instr.specs.Groups.{AsksUnmarked}
-use Rattle.ap_instr.specs.Table.{Key, is_key, key_of, AreTiled}
+use Rattle.ap_instr.specs.Table.{Key, is_key, key_of, predicates_of, AreTiled}
 use Rattle.ap_tracked.specs.Tracked.{IsOneOf}
 use Rattle.ap_codegen.specs.Assembled.{Numbered, Grows, Holds, Keeps, AreCallsApart, AreSequences, AreInstructionsOf, AreCoded, chosen, choices, together, heads, clauses_for, IsStanding, IsBlock, IsMade, StandsBeside}
 use Rattle.ap_codegen.specs.Permanent.{is_builtin_key}
@@ -25,7 +25,7 @@ use Rattle.ap_codegen.proofs.Straight.{both_sequences, sequence_at}
 use Rattle.ap_codegen.proofs.Laying.{length_both}
 use Rattle.ap_codegen.proofs.Blocks.{both_apart, builtin_key}
 use Rattle.ap_codegen.specs.Heads.{with_heads}
-use Rattle.ap_codegen.proofs.Heads.{tiled_push, one_kept, heads_there, heads_first, take_map, kept_first, keys_same}
+use Rattle.ap_codegen.proofs.Heads.{tiled_push, heads_first, take_map, kept_first, keys_same}
 
 get_some : {A : Type 0} (xs : List A) (i : ℕ) → i < length xs → (x : A) × (slice_get xs i ≡ Some x)
 get_some [] i l = absurd (omega arith)
@@ -106,8 +106,9 @@ of_clauses code p q (inr h) e =
 -- where all predicates are made, the code stands for the program
 pub made_all : (t : Numbered) (is : List Instr) (qs : List Predicate) (p : Program) (code : Compiled) (m : ℕ) (k : ℕ × ℕ) → IsMade t is qs p → slice_get t.predicates (length qs) ≡ None
     → slice_get t.predicates m ≡ Some k → code.instructions ≡ is → code.integers ≡ t.integers → code.predicates ≡ qs → code.query ≡ Some m
-    → (own : Program) (first both : List Key) → first ≡ with_heads [] own → both ≡ with_heads first p → Keeps both t.predicates → Keeps first both → IsDistinct is_key t.predicates → filter (λ q. q.is_listed) qs ≡ take (length first) qs → StandsBeside code k own p
-made_all t is qs p code m k made ended at ei ez eq em own first both e1 e2 k2 k1 once flags = record {
+    → (own : Program) (first : List Key) → first ≡ with_heads [] own → Keeps first t.predicates → ((j : Key) → IsOneOf j (predicates_of p) → IsOneOf j t.predicates)
+    → IsDistinct is_key t.predicates → filter (λ q. q.is_listed) qs ≡ take (length first) qs → StandsBeside code k own p
+made_all t is qs p code m k made ended at ei ez eq em own first e1 kept has once flags = record {
   number = m;
   predicate = q.0;
   is_query = em;
@@ -122,14 +123,14 @@ made_all t is qs p code m k made ended at ei ez eq em own first both e1 e2 k2 k1
         subst (λ n. AsksUnmarked code n l) n (sequence_at code 0 is i l j (made.sequences code [] holds whole) (ap (λ is. slice_get is i) (sym ei) ∙ e) o);
   };
   whole = record {
-    has = λ j h. subst (IsOneOf j) (sym keys) (one_kept j both t.predicates k2 (subst (IsOneOf j) (sym e2) (heads_there j first p h)));
+    has = λ j h. subst (IsOneOf j) (sym keys) (has j h);
     once = subst (IsDistinct is_key) (sym keys) once;
     listed =
         ap (λ qs. map key_of (filter (λ q. q.is_listed) qs)) eq
         ∙ ap (map key_of) flags
         ∙ take_map key_of (length first) qs
         ∙ ap (take (length first)) same
-        ∙ kept_first first t.predicates (λ i x e. k2 i x (k1 i x e))
+        ∙ kept_first first t.predicates kept
         ∙ e1
         ∙ heads_first own;
     tiled = subst (λ qs. AreTiled 0 qs (length code.instructions)) (sym eq) (subst (λ is. AreTiled 0 qs (length is)) (sym ei) made.tiled);

@@ -12,3 +12,5 @@ pub mod Framed
 pub mod Relocated
 pub mod Paces
 pub mod Index
+pub mod Kept
+pub mod KeptCode

@@ -54,6 +54,16 @@ fn add_clauses(alloc: Global, clauses: &[Clause], out: &mut Program) -> Result<(
     Ok(())
 }
 
+/// The query's clauses, in that form.
+pub fn asked_clauses(alloc: Global, query: &Query) -> Result<Program, NoMemory>
+    ensures { IfOk result (λ p. p ≡ asked query.now ∷ query.now.lifted) }
+{
+    let mut own = Program::new(alloc);
+    own.push(asked(alloc, query)?)?;
+    add_clauses(alloc, query.lifted(), &mut own)?;
+    Ok(own)
+}
+
 /// The program with the query, in that form, behind it.
 pub fn asked_program(alloc: Global, program: &[Clause], query: &Query) -> Result<Program, NoMemory>
     ensures { IfOk result (λ p. p ≡ joined program.now (asked_query query.now)) }

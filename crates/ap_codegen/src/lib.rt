@@ -13,6 +13,7 @@ mod builtin_goals;
 mod choosing;
 mod groups;
 mod index;
+mod kept;
 mod layout;
 mod permanent;
 mod programs;
@@ -21,4 +22,5 @@ mod steps;
 mod tables;
 mod temporary;
 
+pub use kept::Kept;
 pub use programs::compile;

@@ -1,16 +1,16 @@
 //! Code for a whole program beside a query.
 
-ghost use Rattle.std.specs.Prelude.{◌≡◌, ℕ, ◌+◌, nat_lt, if◌then◌else◌, List, ◌++◌, map, length, take, slice_get, Some, None, IfOk, OnOk};
+ghost use Rattle.std.specs.Prelude.{◌≡◌, ℕ, ◌+◌, nat_lt, if◌then◌else◌, List, [], ◌++◌, map, length, take, slice_get, Some, None, IfOk, OnOk};
 ghost use Rattle.std.specs.List.{filter, IsDistinct};
 ghost use Rattle.ap_term.specs.declared.fixed.TheConstants.{QUERY};
 ghost use Rattle.ap_term.specs.Goals.{Program as Clauses, joined};
 ghost use Rattle.ap_instr.specs.declared.instruction.Instr.{Instr};
 ghost use Rattle.ap_instr.specs.Code.{Compiled};
 ghost use Rattle.ap_instr.specs.StandsFor.{StandsForQuery, asked_query};
-ghost use Rattle.ap_instr.specs.Table.{is_key, head_key};
+ghost use Rattle.ap_instr.specs.Table.{is_key, key_of, head_key};
 ghost use Rattle.ap_codecheck.specs.Rules.{IsSound};
-ghost use Rattle.ap_codegen.specs.Assembled.{Grows, Holds, AreInstructionsOf, AreCoded, chosen, IsBlock, IsMade, StandsBeside};
-ghost use Rattle.ap_codegen.specs.Index.{clauses_at, Indexes};
+ghost use Rattle.ap_codegen.specs.Assembled.{Numbered, Grows, Holds, AreInstructionsOf, AreCoded, chosen, IsBlock, IsMade, StandsBeside};
+ghost use Rattle.ap_codegen.specs.Index.{clauses_at, HasClauses, IndexesBeside};
 ghost use Rattle.ap_codegen.specs.Permanent.{is_builtin_key};
 ghost use Rattle.ap_codegen.specs.Heads.{with_key, with_heads};
 
@@ -94,7 +94,7 @@ fn lay_predicate(
     out: &mut Vec<Instr>,
 ) -> Result<(), NoMemory>
     ensures grows { OnOk result (Grows tables.old tables.new) }
-    ensures block { OnOk result ((p : Clauses) → Indexes index.now p → (own : List Instr) × (out.new.items ≡ out.old.items ++ own) × IsBlock tables.new out.old.items own (name, arity) p) }
+    ensures block { OnOk result ((p : Clauses) → HasClauses index.now (name, arity) p → (own : List Instr) × (out.new.items ≡ out.old.items ++ own) × IsBlock tables.new out.old.items own (name, arity) p) }
 {
     if let Some(builtin) = builtin_named(Atom::at(name), arity) {
         lay_builtin(builtin, out)?;
@@ -108,9 +108,9 @@ fn lay_predicate(
 
 /// Instructions and predicates so far.
 #[derive(Drop)]
-struct Made {
-    instructions: Vec<Instr>,
-    predicates: Vec<Predicate>,
+pub struct Made {
+    pub instructions: Vec<Instr>,
+    pub predicates: Vec<Predicate>,
 }
 
 /// The predicate of the next number, which calls or groups name or clauses have.
@@ -126,7 +126,7 @@ fn add_predicate(
     ensures grows { OnOk result (Grows tables.old tables.new) }
     ensures count { OnOk result (length made.new.predicates.items ≡ length made.old.predicates.items + 1) }
     ensures listed { OnOk result ((m : ℕ) → is_listed ≡ nat_lt (length made.old.predicates.items) m → filter (λ q. q.is_listed) made.old.predicates.items ≡ take m made.old.predicates.items → filter (λ q. q.is_listed) made.new.predicates.items ≡ take m made.new.predicates.items) }
-    ensures made { OnOk result ((p : Clauses) → Indexes index.now p → slice_get tables.old.predicates (length made.old.predicates.items) ≡ Some (name, arity) → IsMade tables.old made.old.instructions.items made.old.predicates.items p → IsMade tables.new made.new.instructions.items made.new.predicates.items p) }
+    ensures made { OnOk result ((p : Clauses) → HasClauses index.now (name, arity) p → slice_get tables.old.predicates (length made.old.predicates.items) ≡ Some (name, arity) → IsMade tables.old made.old.instructions.items made.old.predicates.items p → IsMade tables.new made.new.instructions.items made.new.predicates.items p) }
 {
     let start = above(0, made.instructions.len())?;
     lay_predicate(alloc, tables, index, name, arity, &mut made.instructions)?;
@@ -168,7 +168,7 @@ fn add_clause_head(tables: &mut Tables, clause: &Clause) -> Result<(), NoMemory>
 }
 
 /// Numbers for the predicates of clauses, in order.
-fn add_heads(tables: &mut Tables, clauses: &[Clause]) -> Result<(), NoMemory>
+pub fn add_heads(tables: &mut Tables, clauses: &[Clause]) -> Result<(), NoMemory>
     ensures keys { OnOk result (tables.new.predicates ≡ with_heads tables.old.predicates clauses.now) }
     ensures grows { OnOk result (Grows tables.old tables.new) }
 {
@@ -178,31 +178,39 @@ fn add_heads(tables: &mut Tables, clauses: &[Clause]) -> Result<(), NoMemory>
     Ok(())
 }
 
-/// All predicates that clauses have or calls name, of which so many are listed.
-fn predicates(
+/// Makes all predicates that clauses have or calls name, behind those that are made. So many are listed.
+pub fn add_predicates(
     alloc: Global,
     tables: &mut Tables,
     index: &Index,
     listed: usize,
-) -> Result<Made, NoMemory>
+    made: &mut Made,
+) -> Result<(), NoMemory>
     ensures grows { OnOk result (Grows tables.old tables.new) }
-    ensures all { IfOk result (λ made. slice_get tables.new.predicates (length made.predicates.items) ≡ None) }
-    ensures once { IfOk result (λ made. IsDistinct is_key tables.new.predicates) }
-    ensures listed { IfOk result (λ made. filter (λ q. q.is_listed) made.predicates.items ≡ take listed made.predicates.items) }
-    ensures made { IfOk result (λ made. (p : Clauses) → Indexes index.now p → IsMade tables.new made.instructions.items made.predicates.items p) }
+    ensures all { OnOk result (slice_get tables.new.predicates (length made.new.predicates.items) ≡ None) }
+    ensures once { OnOk result (IsDistinct is_key tables.new.predicates) }
+    ensures listed { OnOk result (filter (λ q. q.is_listed) made.old.predicates.items ≡ take listed made.old.predicates.items → filter (λ q. q.is_listed) made.new.predicates.items ≡ take listed made.new.predicates.items) }
+    ensures made { OnOk result ((p : Clauses) → IndexesBeside (map key_of made.old.predicates.items) index.now p → IsMade tables.old made.old.instructions.items made.old.predicates.items p → IsMade tables.new made.new.instructions.items made.new.predicates.items p) }
 {
-    let mut made = Made {
-        instructions: Vec::new(alloc),
-        predicates: Vec::new(alloc),
-    };
-    for number in 0..4294967295usize {
+    for number in made.predicates.len()..4294967295usize {
         let Some((name, arity)) = tables.predicate_at(number) else {
-            return Ok(made);
+            return Ok(());
         };
         let is_listed = number < listed;
-        add_predicate(alloc, tables, index, name, arity, is_listed, &mut made)?;
+        add_predicate(alloc, tables, index, name, arity, is_listed, made)?;
     }
     Err(NoMemory)
+}
+
+/// Nothing yet.
+pub fn none_made(alloc: Global) -> Made
+    ensures none { result.predicates.items ≡ [] }
+    ensures made { (t : Numbered) (p : Clauses) → IsMade t result.instructions.items result.predicates.items p }
+{
+    Made {
+        instructions: Vec::new(alloc),
+        predicates: Vec::new(alloc),
+    }
 }
 
 /// Code for clauses, the query's among them, whose head has so many arguments. The predicates of `own` are listed.
@@ -220,10 +228,12 @@ fn compile_clauses(
     add_heads(&mut tables, clauses)?;
     let query = tables.predicate(Atom::at(fixed::QUERY), arity)?;
     let index = index_of(alloc, clauses)?;
+    let mut made = none_made(alloc);
+    add_predicates(alloc, &mut tables, &index, listed, &mut made)?;
     let Made {
         instructions,
         predicates,
-    } = predicates(alloc, &mut tables, &index, listed)?;
+    } = made;
     let integers = Vec::from_slice(alloc, tables.integers())?;
     Ok(Code::new(instructions, integers, predicates, Some(query)))
 }

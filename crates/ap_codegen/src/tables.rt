@@ -1,7 +1,7 @@
 //! The numbers of integers and predicates, and instructions that have them.
 
-ghost use Rattle.std.specs.Prelude.{◌≡◌, [], length, slice_get, Some, IfOk};
-ghost use Rattle.std.specs.List.{IsDistinct};
+ghost use Rattle.std.specs.Prelude.{◌≡◌, [], length, take, slice_get, Some, IfOk};
+ghost use Rattle.std.specs.List.{IsDistinct, list_any};
 ghost use Rattle.std.specs.Ordering.{int_eq};
 ghost use Rattle.indexmap.specs.IndexSet.{insert_key};
 ghost use Rattle.ap_instr.specs.Table.{is_key};
@@ -82,6 +82,27 @@ impl Tables {
         ensures { result ≡ length self.now.predicates }
     {
         self.predicates.len()
+    }
+
+    /// Whether a predicate has a number.
+    pub fn has(&self, name: Atom, arity: u8) -> bool
+        ensures { result ≡ list_any (is_key (name, arity)) self.now.predicates }
+    {
+        self.predicates.contains(&(name.number(), arity))
+    }
+
+    pub fn integer_count(&self) -> usize
+        ensures { result ≡ length self.now.integers }
+    {
+        self.integers.len()
+    }
+
+    /// Lets go what has a greater number.
+    pub fn cut_to(&mut self, integers: usize, predicates: usize)
+        ensures { self.new ≡ record { integers = take integers self.old.integers; predicates = take predicates self.old.predicates } }
+    {
+        self.integers.truncate(integers);
+        self.predicates.truncate(predicates);
     }
 
     pub fn integers(&self) -> &[i64]

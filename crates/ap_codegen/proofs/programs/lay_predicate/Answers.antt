@@ -23,7 +23,7 @@ returns-clause-block c p indexed =
     let start : c.in_ok-start.start ≡ length c.args.out.now.items = search rules in
     let first : c.in_ok-start.start + chosen (length c.in_ok-codes.codes.items) ≡ length c.args.out.now.items + chosen (length codes) =
     ap (λ n. n + chosen (length c.in_ok-codes.codes.items)) start ∙ ap (λ n. length c.args.out.now.items + chosen n) (sym (length_codes (λ (v : Vec Instr Global). v.items) c.in_ok-codes.codes.items)) in
-    let same = indexed (c.args.name, c.args.arity) in (
+    let same = indexed away in (
       _,
       laid_is (λ (v : Vec Instr Global). v.items) c.as_slice.result.now c.in_ok-codes.codes.items c.args.out.now.items c.lay.new.out.items c.as_slice.ensures.value c.in_ok-lay.ensures,
       clauses_block c.predicate_codes.new.tables c.args.out.now.items codes (c.args.name, c.args.arity) p

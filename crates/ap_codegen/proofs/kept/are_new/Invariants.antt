@@ -1,0 +1,6 @@
+use Rattle.std.proofs.Common.{◌≡◌, true, take}
+use Rattle.ap_codegen.specs.Kept.{are_new}
+use Rattle.ap_codegen.proofs.kept.are_new.Given as goal
+
+abbrev pub invariant-loop-clause : goal.invariant-loop-clause
+invariant-loop-clause l = are_new l.tables.predicates (take l.clause-index l.clauses) ≡ true
