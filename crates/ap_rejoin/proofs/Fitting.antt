@@ -3,9 +3,10 @@ use Rattle.std.proofs.Common.{◌≡◌, ℕ, zero, suc, ◌+◌, ◌-◌, ◌<�
 use Rattle.std.proofs.lemmas.Bool.{cases_lt, lt-ltb, le-ltb}
 use Rattle.std.proofs.lemmas.List.{get_or-take, take_all}
 use Rattle.ap_group.specs.Meets.{IsInstance}
+use Rattle.ap_rejoin.specs.Meets.{AreEqual}
 use Rattle.ap_term.specs.Tuples.{tuple_under}
 use Rattle.ap_term.proofs.TreeLists.{count_trees-instance_all, first-same, rest-same, count-under}
-use Rattle.ap_term.specs.Tree.{Tree, Trees, var, none, more, count_trees}
+use Rattle.ap_term.specs.Tree.{Tree, Trees, var, more, count_trees}
 use Rattle.ap_term.specs.Substitution.{instance, instance_all, shift}
 use Rattle.ap_term.proofs.Copies.{instance_all_twice}
 use Rattle.ap_term.proofs.Solutions.{instance_all_agree}
@@ -23,7 +24,7 @@ use Rattle.ap_match.proofs.Matches.{Becomes-asked}
 
 -- ---- tuples
 
-Each-at : (n : ℕ) (rs : List ℕ) → Each (λ r. r < n) rs → (i : ℕ) → i < length rs → get_or rs i 0 < n
+pub Each-at : (n : ℕ) (rs : List ℕ) → Each (λ r. r < n) rs → (i : ℕ) → i < length rs → get_or rs i 0 < n
 Each-at n [] h i l = absurd (omega arith)
 Each-at n (r ∷ rs) h zero l = h.0
 Each-at n (r ∷ rs) h (suc i) l = Each-at n rs h.1 i (omega arith)
@@ -134,16 +135,13 @@ module _ (old new : List Raw) (trail : List ℕ) (store : IsStore old trail) (fi
 
 -- ---- places that are made equal one by one
 
-abbrev pub AreEqual : List ℕ → ℕ → ℕ → (ℕ → Tree) → Type 0
-AreEqual rs first n k = (j : ℕ) → j < n → k (get_or rs j 0) ≡ k (first + j)
-
 as-tuples : (k : ℕ → Tree) (rs : List ℕ) (p : ℕ) → AreEqual rs p (length rs) k → tuple_under k rs ≡ spread k p (length rs)
 as-tuples k [] p h = refl
 as-tuples k (r ∷ rs) p h =
     let here : p + 0 ≡ p = omega arith in
     ap₂ more (h 0 (omega arith) ∙ ap k here) (as-tuples k rs (p + 1) (λ j l. let e : p + suc j ≡ p + 1 + j = omega arith in h (suc j) (omega arith) ∙ ap k e))
 
-one-by-one : (k : ℕ → Tree) (rs : List ℕ) (p : ℕ) → tuple_under k rs ≡ spread k p (length rs) → AreEqual rs p (length rs) k
+pub one-by-one : (k : ℕ → Tree) (rs : List ℕ) (p : ℕ) → tuple_under k rs ≡ spread k p (length rs) → AreEqual rs p (length rs) k
 one-by-one k [] p e j l = absurd (omega arith)
 one-by-one k (r ∷ rs) p e zero l = let here : p ≡ p + 0 = omega arith in first-same e ∙ ap k here
 one-by-one k (r ∷ rs) p e (suc j) l = let q : p + 1 + j ≡ p + suc j = omega arith in one-by-one k rs (p + 1) (rest-same e) j (omega arith) ∙ ap k q

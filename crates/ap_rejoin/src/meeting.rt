@@ -1,14 +1,17 @@
 //! Places and the terms of an answer.
 
-ghost use Rattle.std.specs.Prelude.{◌≡◌, ◌+◌, ◌<◌, ◌≤◌, length, IfOk};
+ghost use Rattle.std.specs.Prelude.{◌≡◌, ℕ, ◌+◌, ◌<◌, ◌≤◌, length, IfOk};
+ghost use Rattle.ap_term.specs.Vars.{Local};
+ghost use Rattle.ap_cells.specs.Trees.{tree_at, trees};
 ghost use Rattle.ap_cells.specs.Store.{Keeps};
 ghost use Rattle.ap_cells.specs.Walks.{Each};
 ghost use Rattle.ap_instr.specs.Runs.{spread};
 ghost use Rattle.ap_match.specs.Fits.{Answered};
 ghost use Rattle.ap_group.specs.Meets.{IsInstance, MeetAll, AreInside};
+ghost use Rattle.ap_rejoin.specs.Meets.{AreEqual, Narrows};
 ghost use Rattle.ap_term.specs.Tuples.{tuple_under};
 
-use ap_cells::Cells;
+use ap_cells::{Cells, Top};
 use ap_copy::{Parcelled, copy_in};
 use ap_group::Goals;
 use ap_match::equate;
@@ -32,9 +35,48 @@ pub fn meet(
     if places.len() != answer.len() {
         return Ok(false);
     }
+    let base = cells.len();
     let roots = copy_in(cells, answer)?;
+    bind_unbound(cells, places, base, roots.first);
     let met = equate_all(cells, places, roots.first, work)?;
     Ok(met)
+}
+
+/// Binds the places that are unbound to the compound terms of an answer, the first of which is at `first`. No variable before
+/// `base` stands in these, so that none has to be walked over. The other terms are left to be made equal.
+fn bind_unbound(cells: &mut Cells, places: &[u32], base: usize, first: usize)
+    requires inside { Each (λ r. r < length cells.old.cells) places.now }
+    requires behind { first + length places.now ≤ length cells.old.cells }
+    requires fresh { (j : ℕ) → j < length places.now → Local (λ x. base ≤ x) (tree_at (trees cells.old.cells) (first + j)) }
+    ensures narrows { Narrows cells.old.cells cells.new.cells (AreEqual places.now first (length places.now)) }
+    ensures keeps { Keeps cells.old cells.new }
+{
+    let mut root = first;
+    for place in places {
+        let _few = cells.len();
+        bind_new(cells, *place as usize, root, base);
+        root += 1;
+    }
+}
+
+/// Binds a place, if it is unbound and came before `base`, to the term of another, if that is a compound term.
+fn bind_new(cells: &mut Cells, place: usize, root: usize, base: usize)
+    requires inside { (place < length cells.old.cells) × (root < length cells.old.cells) }
+    requires fresh { Local (λ x. base ≤ x) (tree_at (trees cells.old.cells) root) }
+    ensures narrows { Narrows cells.old.cells cells.new.cells (λ k. k place ≡ k root) }
+    ensures same { (i : ℕ) → i < length cells.old.cells → Local (λ x. base ≤ x) (tree_at (trees cells.old.cells) i) → tree_at (trees cells.new.cells) i ≡ tree_at (trees cells.old.cells) i }
+    ensures keeps { Keeps cells.old cells.new }
+{
+    let Top::Free(variable) = cells.top(place) else {
+        return;
+    };
+    if variable >= base {
+        return;
+    }
+    let Top::Node(_, _, _) = cells.top(root) else {
+        return;
+    };
+    cells.bind(variable, root);
 }
 
 /// Makes the terms of some places equal to those of as many places from `first` on, if they can be.

@@ -1,7 +1,7 @@
 use Rattle.std.proofs.Common.{◌≡◌, ◌+◌, length}
 use Rattle.ap_cells.specs.Store.{Keeps}
 use Rattle.ap_match.specs.Fits.{Becomes}
-use Rattle.ap_rejoin.proofs.Fitting.{AreEqual}
+use Rattle.ap_rejoin.specs.Meets.{AreEqual}
 use Rattle.ap_rejoin.proofs.meeting.equate_all.Given as goal
 
 abbrev pub invariant-loop-place : goal.invariant-loop-place
