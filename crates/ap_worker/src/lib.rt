@@ -10,6 +10,7 @@
 
 mod answers;
 mod bounds;
+mod coding;
 mod crew;
 mod emission;
 mod found;
@@ -22,6 +23,7 @@ mod taken;
 mod worker;
 
 pub use answers::Answers;
+pub use coding::{sound_beside, sound_code};
 pub use crew::Crew;
 pub use emission::{End, Ended};
 pub use solving::{PADS, solve, solve_with_pads};

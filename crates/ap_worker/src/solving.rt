@@ -34,6 +34,7 @@ ghost use Rattle.ap_worker.specs.Sought.{MayBeAsked};
 
 use crate::answers::Answers;
 use crate::bounds::Bounds;
+use crate::coding::sound_code;
 use crate::crew::Crew;
 use crate::emission::{Answered, Ended, with_total};
 use crate::found::put_found;
@@ -42,8 +43,7 @@ use crate::lead::Lead;
 use crate::serving::serve_all;
 use crate::worker::Worker;
 use ap_board::{BoardSeat, open_board};
-use ap_codecheck::{CodeErr, Sound, check};
-use ap_codegen::compile;
+use ap_codecheck::Sound;
 use ap_copy::new_variables;
 use ap_ledger::{Total, gather};
 use ap_open::{outcome_law, reading_law, solving_law};
@@ -58,18 +58,6 @@ use std::thread::{Threads, join_mut};
 
 /// How many pads a worker has, and so how many of its goals may be out at a time, where that isn't told.
 pub const PADS: u32 = 64;
-
-/// Sound code for a program beside a query, with its groups.
-fn sound_code(alloc: Global, program: &Program, query: &Query) -> Result<Sound, NoMemory>
-    ensures { IfOk result (λ sound. StandsForQuery sound program.now query.now) }
-{
-    let code = compile(alloc, program, query)?;
-    match check(alloc, code) {
-        Ok(sound) => Ok(sound),
-        Err(CodeErr::Bad { .. }) => unreachable!(),
-        Err(CodeErr::NoMemory) => Err(NoMemory),
-    }
-}
 
 /// The search of a query where it begins.
 fn begun(alloc: Global, sound: &Sound, query: &Query, budget: u64) -> Result<Section, NoMemory>
@@ -259,7 +247,7 @@ fn among(others: &Vec<Worker<'_, '_>>, count: u64) -> u64
     count
 }
 
-/// Searches a query beside a program by code, with its groups, and puts the lines of its answers as they are found, as many as
+/// Searches a query beside a program by code for both, with their groups, and puts the lines of its answers as they are found, as many as
 /// the limit at most. They are a block of any query and program that these are without their groups, however many workers there are
 /// however many goals each may have out (1 to 1,024, its pads), and however they take turns. With fewer calls than were charged for them sequential search hasn't ended, and all calls that were
 /// charged were made, and no other ones where neither has a group. One worker, and several where there is no group, take nothing
@@ -267,6 +255,7 @@ fn among(others: &Vec<Worker<'_, '_>>, count: u64) -> u64
 pub fn solve_with_pads<R: Threads + Wait + Sync, G: Gate, A: Answers, K: Sink>(
     alloc: Global,
     crew: &Crew<R, G>,
+    sound: &Sound,
     program: &Program,
     query: &Query,
     budget: u64,
@@ -275,6 +264,7 @@ pub fn solve_with_pads<R: Threads + Wait + Sync, G: Gate, A: Answers, K: Sink>(
     out: &mut K,
     pads: u32,
 ) -> Result<Ended, Halt>
+    requires code { StandsForQuery sound.now program.now query.now }
     requires pads { (0 < pads) × (pads ≤ 1024) }
     requires width { A.width answers.now ≡ length query.now.names }
     requires asked { MayBeAsked program.now query.now }
@@ -289,9 +279,6 @@ pub fn solve_with_pads<R: Threads + Wait + Sync, G: Gate, A: Answers, K: Sink>(
 {
     reading_law();
     outcome_law();
-    let Ok(sound) = sound_code(alloc, program, query) else {
-        return Err(Halt::NoMemory);
-    };
     let _good = program.as_slice();
     let _asked = query.question();
     let count = workers_for(crew.workers, program, query);
@@ -305,10 +292,10 @@ pub fn solve_with_pads<R: Threads + Wait + Sync, G: Gate, A: Answers, K: Sink>(
     let Some(first) = workers.pop() else {
         return Err(Halt::NoMemory);
     };
-    let Ok(section) = begun(alloc, &sound, query, budget) else {
+    let Ok(section) = begun(alloc, sound, query, budget) else {
         return Err(Halt::NoMemory);
     };
-    let Ok(mut lead) = leading(alloc, &sound, section, first) else {
+    let Ok(mut lead) = leading(alloc, sound, section, first) else {
         return Err(Halt::NoMemory);
     };
     let width = query.names().len();
@@ -328,7 +315,7 @@ pub fn solve_with_pads<R: Threads + Wait + Sync, G: Gate, A: Answers, K: Sink>(
     with_total(found, gathered(alloc, lead, workers), taken, stolen)
 }
 
-/// The same, where each worker has 64 pads.
+/// The same by code that is compiled for it, where each worker has 64 pads.
 pub fn solve<R: Threads + Wait + Sync, G: Gate, A: Answers, K: Sink>(
     alloc: Global,
     crew: &Crew<R, G>,
@@ -350,7 +337,10 @@ pub fn solve<R: Threads + Wait + Sync, G: Gate, A: Answers, K: Sink>(
     ensures plain { IsUngrouped (joined program.now query.now) → IfOk result NoneTaken }
     ensures count { SinkCount (K.faults out.old) (K.faults out.new) result }
 {
+    let Ok(sound) = sound_code(alloc, program, query) else {
+        return Err(Halt::NoMemory);
+    };
     solve_with_pads(
-        alloc, crew, program, query, budget, limit, answers, out, PADS,
+        alloc, crew, &sound, program, query, budget, limit, answers, out, PADS,
     )
 }

@@ -20,41 +20,41 @@ pub returns-clause-lines : goal.returns-clause-lines
 returns-clause-lines g c = λ p q fine asks read.
     let a = c.args.program.now in
     let b = c.args.query.now in
-    let code = c.in-Ok.sound in
+    let code = c.args.sound.now in
     let good = c.as_slice-good.ensures.kept in
     let is = c.question-asked.ensures.kept in
-    let solves = c.in-Ok-begun.ensures.solves a (is-asked code a b is c.in-Ok.ensures c.requires.asked)
-    (is-searched c.reading_law.ensures code a b good is c.requires.asked c.in-Ok.ensures c.requires.safe) in
+    let solves = c.in-Ok-begun.ensures.solves a (is-asked code a b is c.requires.code c.requires.asked)
+    (is-searched c.reading_law.ensures code a b good is c.requires.asked c.requires.code c.requires.safe) in
     let same = c.in-Ok-leading.ensures.query in
     let beside = leads-solving c.outcome_law.ensures code (rules_beside a b) b c.args.budget c.in-Ok-leading.lead.query (view_of c.in-Ok-begun.section) same.0 same.1 solves in
     subst (λ r. Finishes (g.K.Sink.pieces c.args.out.now) (g.K.Sink.pieces c.search-found.new.out) (λ e put. IsBlock (g.A.Answers.line c.args.answers.now) (joined p q) (start q) c.args.budget c.args.limit put (end_of e.end)) r) (sym c.with_total.ensures.with)
-    (read-finishes c.reading_law.ensures code a b good is c.requires.asked c.in-Ok.ensures (g.A.Answers.line c.args.answers.now) c.args.budget c.args.limit _ _ c.gathered.result c.among-taken.result c.among-stolen.result c.search-found.result p q fine asks read
+    (read-finishes c.reading_law.ensures code a b good is c.requires.asked c.requires.code (g.A.Answers.line c.args.answers.now) c.args.budget c.args.limit _ _ c.gathered.result c.among-taken.result c.among-stolen.result c.search-found.result p q fine asks read
     (c.search-found.ensures.lines (rules_beside a b) b is beside))
 
 pub returns-clause-charged : goal.returns-clause-charged
 returns-clause-charged g c = λ p q fine asks read.
     let a = c.args.program.now in
     let b = c.args.query.now in
-    let code = c.in-Ok.sound in
+    let code = c.args.sound.now in
     let good = c.as_slice-good.ensures.kept in
     let is = c.question-asked.ensures.kept in
-    let solves = c.in-Ok-begun.ensures.solves a (is-asked code a b is c.in-Ok.ensures c.requires.asked)
-    (is-searched c.reading_law.ensures code a b good is c.requires.asked c.in-Ok.ensures c.requires.safe) in
+    let solves = c.in-Ok-begun.ensures.solves a (is-asked code a b is c.requires.code c.requires.asked)
+    (is-searched c.reading_law.ensures code a b good is c.requires.asked c.requires.code c.requires.safe) in
     let same = c.in-Ok-leading.ensures.query in
     let beside = leads-solving c.outcome_law.ensures code (rules_beside a b) b c.args.budget c.in-Ok-leading.lead.query (view_of c.in-Ok-begun.section) same.0 same.1 solves in
     subst (λ r. IfOk r (λ e. Puts (g.K.Sink.pieces c.args.out.now) (g.K.Sink.pieces c.search-found.new.out) (IsChargedBlock (g.A.Answers.line c.args.answers.now) (joined p q) (start q) c.args.budget c.args.limit (IsUngrouped (joined a b)) e)))
     (sym c.with_total.ensures.with)
-    (read-charged c.reading_law.ensures code a b good is c.requires.asked c.in-Ok.ensures (g.A.Answers.line c.args.answers.now) c.args.budget c.args.limit _ _ c.gathered.result c.among-taken.result c.among-stolen.result c.search-found.result p q fine asks read
+    (read-charged c.reading_law.ensures code a b good is c.requires.asked c.requires.code (g.A.Answers.line c.args.answers.now) c.args.budget c.args.limit _ _ c.gathered.result c.among-taken.result c.among-stolen.result c.search-found.result p q fine asks read
     (c.search-found.ensures.charged (rules_beside a b) b is beside))
 
 pub returns-clause-total : goal.returns-clause-total
 returns-clause-total g c =
     let a = c.args.program.now in
     let b = c.args.query.now in
-    let code = c.in-Ok.sound in
+    let code = c.args.sound.now in
     let is = c.question-asked.ensures.kept in
-    let solves = c.in-Ok-begun.ensures.solves a (is-asked code a b is c.in-Ok.ensures c.requires.asked)
-    (is-searched c.reading_law.ensures code a b c.as_slice-good.ensures.kept is c.requires.asked c.in-Ok.ensures c.requires.safe) in
+    let solves = c.in-Ok-begun.ensures.solves a (is-asked code a b is c.requires.code c.requires.asked)
+    (is-searched c.reading_law.ensures code a b c.as_slice-good.ensures.kept is c.requires.asked c.requires.code c.requires.safe) in
     let lead = c.in-Ok-leading.lead in
     let same = c.in-Ok-leading.ensures.query in
     let beside = leads-solving c.outcome_law.ensures code (rules_beside a b) b c.args.budget lead.query (view_of c.in-Ok-begun.section) same.0 same.1 solves in
@@ -67,17 +67,17 @@ pub returns-clause-exact : goal.returns-clause-exact
 returns-clause-exact g c = λ plain.
     let a = c.args.program.now in
     let b = c.args.query.now in
-    let code = c.in-Ok.sound in
+    let code = c.args.sound.now in
     let is = c.question-asked.ensures.kept in
-    let solves = c.in-Ok-begun.ensures.solves a (is-asked code a b is c.in-Ok.ensures c.requires.asked)
-    (is-searched c.reading_law.ensures code a b c.as_slice-good.ensures.kept is c.requires.asked c.in-Ok.ensures c.requires.safe) in
+    let solves = c.in-Ok-begun.ensures.solves a (is-asked code a b is c.requires.code c.requires.asked)
+    (is-searched c.reading_law.ensures code a b c.as_slice-good.ensures.kept is c.requires.asked c.requires.code c.requires.safe) in
     let lead = c.in-Ok-leading.lead in
     let same = c.in-Ok-leading.ensures.query in
     let beside = leads-solving c.outcome_law.ensures code (rules_beside a b) b c.args.budget lead.query (view_of c.in-Ok-begun.section) same.0 same.1 solves in
     let bare = c.reading_law.ensures.ungrouped a b plain in
     let fresh = c.in-Ok-begun.ensures.fresh in
     let lone = c.in-Ok-leading.ensures.lone (fresh-spent (view_of c.in-Ok-begun.section) fresh.owes) in
-    let one : length c.in-Ok-workers_of.workers.items ≡ 1 = c.in-Ok-workers_of.ensures.count ∙ ap length c.in-Ok-open_board.ensures.seats ∙ seats-count _ _ _ _ _ _ ∙ c.workers_for-count.ensures.one plain in
+    let one : length c.in-Ok-workers_of.workers.items ≡ 1 = c.in-Ok-workers_of.ensures.count ∙ ap length c.in-Ok.ensures.seats ∙ seats-count _ _ _ _ _ _ ∙ c.workers_for-count.ensures.one plain in
     let none = none-left c.in-Ok-workers_of.workers.items c.pop.new.self.items c.in-Some.first c.in-Some.ensures.items one in
     let found = c.search-found.ensures.exact (rules_beside a b) b is beside bare.0 bare.1 lone c.in-Ok-leading.ensures.share none in
     subst (λ r. IfOk r (λ e. e.total.sum ≡ e.charged)) (sym c.with_total.ensures.with)
@@ -86,13 +86,13 @@ returns-clause-exact g c = λ plain.
 pub returns-clause-one : goal.returns-clause-one
 returns-clause-one g c = λ is.
     let some = c.workers_for-count.ensures.some in
-    let one : length c.in-Ok-workers_of.workers.items ≡ 1 = c.in-Ok-workers_of.ensures.count ∙ ap length c.in-Ok-open_board.ensures.seats ∙ seats-count _ _ _ _ _ _ ∙ one-of _ _ some.0 some.1 is in
+    let one : length c.in-Ok-workers_of.workers.items ≡ 1 = c.in-Ok-workers_of.ensures.count ∙ ap length c.in-Ok.ensures.seats ∙ seats-count _ _ _ _ _ _ ∙ one-of _ _ some.0 some.1 is in
     let none = c.search-found.ensures.none (none-left c.in-Ok-workers_of.workers.items c.pop.new.self.items c.in-Some.first c.in-Some.ensures.items one) in
     subst (λ r. IfOk r NoneTaken) (sym c.with_total.ensures.with) (none-taken c.gathered.result c.among-taken.result c.among-stolen.result c.search-found.result (c.among-taken.ensures none) (c.among-stolen.ensures none))
 
 pub returns-clause-plain : goal.returns-clause-plain
 returns-clause-plain g c = λ plain.
-    let one : length c.in-Ok-workers_of.workers.items ≡ 1 = c.in-Ok-workers_of.ensures.count ∙ ap length c.in-Ok-open_board.ensures.seats ∙ seats-count _ _ _ _ _ _ ∙ c.workers_for-count.ensures.one plain in
+    let one : length c.in-Ok-workers_of.workers.items ≡ 1 = c.in-Ok-workers_of.ensures.count ∙ ap length c.in-Ok.ensures.seats ∙ seats-count _ _ _ _ _ _ ∙ c.workers_for-count.ensures.one plain in
     let none = c.search-found.ensures.none (none-left c.in-Ok-workers_of.workers.items c.pop.new.self.items c.in-Some.first c.in-Some.ensures.items one) in
     subst (λ r. IfOk r NoneTaken) (sym c.with_total.ensures.with) (none-taken c.gathered.result c.among-taken.result c.among-stolen.result c.search-found.result (c.among-taken.ensures none) (c.among-stolen.ensures none))
 
@@ -108,4 +108,4 @@ pub search-found-requires-clause-idle : goal.search-found-requires-clause-idle
 search-found-requires-clause-idle g c κs within = (last-idle c.in-Ok-workers_of.workers.items c.pop.new.self.items c.in-Some.first c.in-Some.ensures.items c.in-Ok-workers_of.ensures.idle).0
 
 pub workers_of-requires-clause-new : goal.workers_of-requires-clause-new
-workers_of-requires-clause-new g c = λ k d lt. (c.args.pads, c.in-Ok-open_board.ensures.roles k d lt)
+workers_of-requires-clause-new g c = λ k d lt. (c.args.pads, c.in-Ok.ensures.roles k d lt)
