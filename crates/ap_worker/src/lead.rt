@@ -1,7 +1,8 @@
 //! The worker that searches the query.
 
-ghost use Rattle.std.specs.Prelude.{◌≡◌, ◌^◌, ◌≤◌, [], min, IfOk};
+ghost use Rattle.std.specs.Prelude.{◌≡◌, ◌+◌, IfOk};
 ghost use Rattle.ap_ledger.specs.Counts.{capped};
+ghost use Rattle.ap_worker.specs.Totals.{shares_of};
 ghost use Rattle.ap_worker.specs.Leads.{IsLeading, LeadGoes, LeadStays, StaysAlone, IsStepOfQuery};
 
 use crate::patience::Patience;
@@ -107,8 +108,7 @@ impl<'a, 'b> Lead<'a, 'b> {
 
     /// Drops the searches one after another, however deep frames are nested in them, and gives the calls that were made.
     pub(crate) fn release(self, alloc: Global) -> Share
-        ensures least { min self.entry.query.share (2 ^ 64) ≤ result }
-        ensures alone { self.entry.worker.taken.items ≡ [] → result ≡ capped self.entry.query.share }
+        ensures { result ≡ capped (self.entry.query.share + shares_of self.entry.worker.taken.items) }
     {
         let Lead { worker, query } = self;
         let mut share = query.release(alloc);

@@ -28,7 +28,7 @@ ghost use Rattle.ap_worker.specs.Charged.{IsChargedBlock, IsChargedEnd};
 ghost use Rattle.ap_worker.specs.Ends.{end_of};
 ghost use Rattle.ap_worker.specs.Grouped.{is_grouped};
 ghost use Rattle.ap_worker.specs.Leads.{IsAlone, IsLeading, MadeNoMore};
-ghost use Rattle.ap_worker.specs.Totals.{IsFresh, NoneTaken};
+ghost use Rattle.ap_worker.specs.Totals.{IsFresh, NoneTaken, shares_in, shares_of};
 ghost use Rattle.ap_worker.specs.Workers.{IsStaffed, IsIdle};
 ghost use Rattle.ap_worker.specs.Sought.{MayBeAsked};
 
@@ -227,6 +227,7 @@ fn search<R: Threads + Wait + Sync, G: Gate, A: Answers, K: Sink>(
 
 /// Gathers the calls that all workers made, those of the search that leads among them.
 fn gathered(alloc: Global, lead: Lead<'_, '_>, others: Vec<Worker<'_, '_>>) -> Total
+    ensures all { result.sum ≡ min (lead.entry.query.share + shares_of lead.entry.worker.taken.items + shares_in others.entry.items) (2 ^ 64 - 1) }
     ensures least { min lead.entry.query.share (2 ^ 64 - 1) ≤ result.sum }
     ensures alone { others.entry.items ≡ [] → lead.entry.worker.taken.items ≡ [] → result.sum ≤ lead.entry.query.share }
 {
@@ -239,7 +240,8 @@ fn gathered(alloc: Global, lead: Lead<'_, '_>, others: Vec<Worker<'_, '_>>) -> T
 
 /// So much of what workers do for one another; nothing where the one that leads has no others.
 fn among(others: &Vec<Worker<'_, '_>>, count: u64) -> u64
-    ensures { others.now.items ≡ [] → result ≡ 0 }
+    ensures none { others.now.items ≡ [] → result ≡ 0 }
+    ensures some { 0 < length others.now.items → result ≡ count }
 {
     if others.is_empty() {
         return 0;

@@ -9,6 +9,8 @@ ghost use Rattle.ap_post.specs.Jobs.{IsOf, cause_of};
 ghost use Rattle.ap_post.specs.Posts.{IsNew, SamePosted, jobs_in, asked_in};
 ghost use Rattle.ap_stack.specs.Outcomes.{IsOutcome, IsUnasked};
 ghost use Rattle.ap_stack.specs.Stacks.{IsGood};
+ghost use Rattle.ap_ledger.specs.Counts.{capped};
+ghost use Rattle.ap_worker.specs.Totals.{shares_of};
 ghost use Rattle.ap_worker.specs.Workers.{IsIdle, IsStaffed, IsShort, IsOff, IsAwaiting, IsStepOf, WorkerGoes, WorkerHelps};
 
 use crate::taken::Taken;
@@ -45,7 +47,7 @@ impl<'a, 'b> Worker<'a, 'b> {
 
     /// Drops the searches of others' goals, and gives the calls that were made for them.
     pub(crate) fn release(self, alloc: Global) -> Share
-        ensures none { self.entry.taken.items ≡ [] → result ≡ 0 }
+        ensures { result ≡ capped (shares_of self.entry.taken.items) }
     {
         let Worker { taken, .. } = self;
         let mut share = Share::new();
@@ -65,7 +67,10 @@ impl<'a, 'b> Worker<'a, 'b> {
     }
 
     /// Tells the gate that a goal was begun, or has ended, and whether a search went on.
-    pub(crate) fn pass<G: Gate>(&self, gate: &G, step: Step) -> bool {
+    pub(crate) fn pass<G: Gate>(&self, gate: &G, step: Step) -> bool
+        ensures waits { step ≡ Step.Waits → result ≡ false }
+        ensures goes { step ≢ Step.Waits → result ≡ true }
+    {
         match step {
             Step::Waits => return false,
             Step::Began(place) => gate.pass(Spot::Began {

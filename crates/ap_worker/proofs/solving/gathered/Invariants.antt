@@ -1,9 +1,10 @@
-use Rattle.std.proofs.Common.{◌≡◌, ◌^◌, ◌≤◌, min, []}
+use Rattle.std.proofs.Common.{◌≡◌, ◌+◌, ◌^◌, ◌≤◌}
 use Rattle.ap_ledger.specs.Counts.{capped}
+use Rattle.ap_worker.specs.Totals.{shares_of, shares_in}
 use Rattle.ap_worker.proofs.solving.gathered.Given as goal
 
 abbrev pub invariant-loop-worker : goal.invariant-loop-worker
 invariant-loop-worker l = record {
-  least : min l.fn.lead.query.share (2 ^ 64) ≤ l.share;
-  alone : l.fn.others.items ≡ [] → l.fn.lead.worker.taken.items ≡ [] → (l.share ≡ capped l.fn.lead.query.share) × (l.worker-iterator.rest.items ≡ []);
+  all : capped (l.share + shares_in l.worker-iterator.rest.items) ≡ capped (l.fn.lead.query.share + shares_of l.fn.lead.worker.taken.items + shares_in l.fn.others.items);
+  few : l.share ≤ 2 ^ 64;
 }

@@ -88,13 +88,13 @@ returns-clause-one g c = λ is.
     let some = c.workers_for-count.ensures.some in
     let one : length c.in-Ok-workers_of.workers.items ≡ 1 = c.in-Ok-workers_of.ensures.count ∙ ap length c.in-Ok.ensures.seats ∙ seats-count _ _ _ _ _ _ ∙ one-of _ _ some.0 some.1 is in
     let none = c.search-found.ensures.none (none-left c.in-Ok-workers_of.workers.items c.pop.new.self.items c.in-Some.first c.in-Some.ensures.items one) in
-    subst (λ r. IfOk r NoneTaken) (sym c.with_total.ensures.with) (none-taken c.gathered.result c.among-taken.result c.among-stolen.result c.search-found.result (c.among-taken.ensures none) (c.among-stolen.ensures none))
+    subst (λ r. IfOk r NoneTaken) (sym c.with_total.ensures.with) (none-taken c.gathered.result c.among-taken.result c.among-stolen.result c.search-found.result (c.among-taken.ensures.none none) (c.among-stolen.ensures.none none))
 
 pub returns-clause-plain : goal.returns-clause-plain
 returns-clause-plain g c = λ plain.
     let one : length c.in-Ok-workers_of.workers.items ≡ 1 = c.in-Ok-workers_of.ensures.count ∙ ap length c.in-Ok.ensures.seats ∙ seats-count _ _ _ _ _ _ ∙ c.workers_for-count.ensures.one plain in
     let none = c.search-found.ensures.none (none-left c.in-Ok-workers_of.workers.items c.pop.new.self.items c.in-Some.first c.in-Some.ensures.items one) in
-    subst (λ r. IfOk r NoneTaken) (sym c.with_total.ensures.with) (none-taken c.gathered.result c.among-taken.result c.among-stolen.result c.search-found.result (c.among-taken.ensures none) (c.among-stolen.ensures none))
+    subst (λ r. IfOk r NoneTaken) (sym c.with_total.ensures.with) (none-taken c.gathered.result c.among-taken.result c.among-stolen.result c.search-found.result (c.among-taken.ensures.none none) (c.among-stolen.ensures.none none))
 
 pub returns-clause-count : goal.returns-clause-count
 returns-clause-count g c =
