@@ -1,15 +1,20 @@
-//! The part of a program that the last query could call, with its groups, for the next query that can call the same and is alike.
+//! The part of a program that the last query could call, with its groups and its code, for the next query that can call the same and is alike.
 
-ghost use Rattle.std.specs.Prelude.{IfOk, IfSome};
-ghost use Rattle.ap_term.specs.Goals.{Program as Clauses};
+ghost use Rattle.std.specs.Prelude.{IfOk, IfSome, OnOk};
+ghost use Rattle.ap_term.specs.Goals.{Program as Clauses, Query as Asked};
+ghost use Rattle.ap_instr.specs.StandsFor.{StandsForQuery};
+ghost use Rattle.ap_codegen.specs.KeptCode.{IsKept};
 ghost use Rattle.ap_reach.specs.Reached.{Reaches};
 ghost use Rattle.ap_mel.specs.declared.annotations.Kind.{Kind as KindOf};
 ghost use Rattle.ap_top.specs.Last.{IsLast, IsLastOf};
 
+use ap_codecheck::Sound;
+use ap_codegen::Kept;
 use ap_grouping::{Grouped, group_query, has_no_groups, regroup_query};
 use ap_mel::Kind;
 use ap_reach::{Calls, Predicates, calls_of, part_of};
 use ap_term::{NoMemory, Program, Query};
+use ap_worker::sound_beside;
 use std::alloc::Global;
 
 /// What a query can call, and the part of a program that this is.
@@ -19,11 +24,13 @@ pub struct Last {
     pub part: Program,
     /// The part and the query, with their groups.
     pub grouped: Grouped,
+    /// The code of the part with its groups.
+    pub code: Kept,
     /// Whether the query was written without groups, and nothing was lifted from it.
     pub is_plain: bool,
 }
 
-/// The part of a program for what a query calls, with the groups that both get.
+/// The part of a program for what a query calls, with the groups that both get, and its code.
 fn group_part(
     alloc: Global,
     program: &Predicates<'_>,
@@ -36,16 +43,18 @@ fn group_part(
 {
     let part = part_of(alloc, program, &calls)?;
     let grouped = group_query(alloc, &part, query, kind)?;
+    let code = Kept::of(alloc, &grouped.program)?;
     let is_plain = has_no_groups(query);
     Ok(Last {
         calls,
         part,
         grouped,
+        code,
         is_plain,
     })
 }
 
-/// The same part with the same groups, for a query that calls this. None where it calls something else, or isn't alike.
+/// The same part with the same groups and code, for a query that calls this. None where it calls something else, or isn't alike.
 fn take_again(
     alloc: Global,
     last: Last,
@@ -65,6 +74,7 @@ fn take_again(
         calls,
         part,
         grouped,
+        code,
         ..
     } = last;
     let Grouped { program, .. } = grouped;
@@ -77,13 +87,14 @@ fn take_again(
         calls,
         part,
         grouped,
+        code,
         is_plain,
     }))
 }
 
 /// The part of a program that a query can call, with the groups that both get: that of the last query, where this one calls the same and is
-/// alike, so that neither is analysed again.
-pub fn reach(
+/// alike, so that neither is analysed and the part isn't compiled again.
+fn reach(
     alloc: Global,
     program: &Predicates<'_>,
     query: &Query,
@@ -100,4 +111,35 @@ pub fn reach(
         }
     }
     group_part(alloc, program, calls, query, kind)
+}
+
+/// Sound code for the part and the query that it was reached for. The part's stays kept.
+fn sound_of(alloc: Global, last: &mut Last) -> Result<Sound, NoMemory>
+    requires { IsKept last.old.code last.old.grouped.program }
+    ensures stands { IfOk result (λ sound. StandsForQuery sound last.new.grouped.program last.new.grouped.query) }
+    ensures kept { OnOk result ((p : Clauses) (kind : KindOf) (q : Asked) → IsLastOf p kind q last.old → IsLastOf p kind q last.new) }
+{
+    sound_beside(
+        alloc,
+        &mut last.code,
+        &last.grouped.program,
+        &last.grouped.query,
+    )
+}
+
+/// The part of a program that a query can call, with the groups that both get, and sound code for them.
+pub fn prepare(
+    alloc: Global,
+    program: &Predicates<'_>,
+    query: &Query,
+    kind: Kind,
+    kept: Option<Last>,
+) -> Result<(Last, Sound), NoMemory>
+    requires { IfSome kept (IsLast program.now kind) }
+    ensures last { IfOk result (λ found. IsLastOf program.now kind query.now found.0) }
+    ensures stands { IfOk result (λ found. StandsForQuery found.1 found.0.grouped.program found.0.grouped.query) }
+{
+    let mut last = reach(alloc, program, query, kind, kept)?;
+    let sound = sound_of(alloc, &mut last)?;
+    Ok((last, sound))
 }
