@@ -46,7 +46,34 @@ impl Model for Parcelled {
     ghost invariant = { IsParcel };
 }
 
+fn same_raw(a: Raw, b: Raw) -> bool {
+    match (a, b) {
+        (Raw::Free, Raw::Free) => true,
+        (Raw::Same(x), Raw::Same(y)) => x == y,
+        (Raw::Int(x), Raw::Int(y)) => x == y,
+        (Raw::Atom(x), Raw::Atom(y)) => x == y,
+        (Raw::Node(x, i, k), Raw::Node(y, j, l)) => x == y && i == j && k == l,
+        _ => false,
+    }
+}
+
 impl Parcelled {
+    pub fn cells(&self) -> usize {
+        self.cells.len()
+    }
+
+    pub fn is_same(&self, other: &Parcelled) -> bool {
+        if self.count != other.count || self.cells.len() != other.cells.len() {
+            return false;
+        }
+        for i in 0..self.cells.len() {
+            if !same_raw(self.cells[i], other.cells[i]) {
+                return false;
+            }
+        }
+        true
+    }
+
     /// How many terms the tuple has.
     pub fn len(&self) -> usize
         ensures { result ≡ count_trees self.now }

@@ -140,6 +140,10 @@ fn kept_frames(points: &[Point]) -> u32
 }
 
 impl Environments {
+    pub fn height(&self) -> u32 {
+        self.top
+    }
+
     /// Takes no memory.
     pub fn new(alloc: Global) -> Environments
         ensures { result ≡ record { returns = []; moments = []; forks = [] } }

@@ -76,13 +76,50 @@ fn guard_part(alloc: Global, part: &Part) -> Result<Part, NoMemory>
     }
 }
 
+fn own_guard(alloc: Global, goals: &[Term], i: usize) -> Result<Option<Check>, NoMemory> {
+    let found = vars(alloc, &goals[i])?;
+    let Some(x) = found.first() else {
+        return Ok(None);
+    };
+    for k in 0..goals.len() {
+        if k != i {
+            if let Some(y) = other_variable(alloc, &goals[k], *x)? {
+                return Ok(Some(Check::Indep(*x, y)));
+            }
+        }
+    }
+    Ok(None)
+}
+
+fn singles(alloc: Global, own: &[Check], calls: &[Term], body: &mut Body) -> Result<(), NoMemory> {
+    for i in 0..calls.len() {
+        let mut checks = Checks::new(alloc);
+        for check in own {
+            checks.push(*check)?;
+        }
+        if own.is_empty() {
+            if let Some(check) = own_guard(alloc, calls, i)? {
+                checks.push(check)?;
+            }
+        }
+        let one = instances(alloc, &Same, &calls[i..i + 1])?;
+        body.push(Part::Group { checks, calls: one })?;
+    }
+    Ok(())
+}
+
 /// The parts of a body, each group without checks with one.
 fn guard_parts(alloc: Global, parts: &[Part]) -> Result<Body, NoMemory>
     ensures { IfOk result (λ body. AllZip IsGuardedPart (map part_of parts.now) body) }
 {
     let mut body = Body::new(alloc);
     for part in parts {
-        body.push(guard_part(alloc, part)?)?;
+        match part {
+            Part::Group { checks, calls } => {
+                singles(alloc, checks.as_slice(), calls.as_slice(), &mut body)?;
+            }
+            Part::Call(_) => body.push(instance_part(alloc, &Same, part)?)?,
+        }
     }
     Ok(body)
 }

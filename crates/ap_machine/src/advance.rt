@@ -51,6 +51,9 @@ pub trait Hook {
 
     /// Whether goals of groups are wanted by others. Where they aren't, a group that has a check runs its goals in turn.
     fn wants(&self) -> bool;
+
+    /// Whether the search is to stop at the group at a place, with so many returns.
+    fn halts(&self, place: usize, height: u32) -> bool;
 }
 
 impl Search {

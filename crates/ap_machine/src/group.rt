@@ -19,6 +19,7 @@ use crate::control::{behind, save};
 use crate::state::{Now, Search};
 use ap_cells::{Cells, Walk};
 use ap_codecheck::Sound;
+use ap_copy::{Packing, Parcelled, copy_out};
 use ap_control::{instruction_at, used};
 use ap_environments::{Environments, Fork};
 use ap_group::{Gathered, Goals, gather, plain_way};
@@ -186,7 +187,93 @@ fn goals_from(code: &Code, at: usize) -> usize
     0
 }
 
+/// The place behind the group at a place.
+fn end_of(code: &Code, at: usize) -> Option<usize> {
+    let places = code.instructions().len();
+    for place in at..places {
+        let Some(instr) = instruction_at(code, place) else {
+            return None;
+        };
+        if let Instr::WaitAll = instr {
+            return match instruction_at(code, place + 1) {
+                Some(Instr::Jump(to)) => Some(to as usize),
+                _ => Some(place + 1),
+            };
+        }
+    }
+    None
+}
+
+fn is_group_at(code: &Code, at: usize) -> bool {
+    match instruction_at(code, at) {
+        Some(Instr::CheckGround(_, _) | Instr::CheckIndep(_, _, _) | Instr::AllocParcall(_)) => {
+            true
+        }
+        _ => false,
+    }
+}
+
 impl Search {
+    pub fn group_place(&self) -> Option<usize> {
+        match self.next {
+            Now::Inside(at) => Some(at),
+            _ => None,
+        }
+    }
+
+    pub fn height(&self) -> u32 {
+        self.environments.height()
+    }
+
+    pub fn next_group(&self, sound: &Sound, at: usize) -> Option<usize> {
+        let to = end_of(sound.code(), at)?;
+        if is_group_at(sound.code(), to) {
+            Some(to)
+        } else {
+            None
+        }
+    }
+
+    /// The goal of a group that lies ahead, where its checks hold.
+    pub fn ahead(
+        &mut self,
+        sound: &Sound,
+        at: usize,
+    ) -> Result<Option<(u32, Parcelled)>, NoMemory> {
+        save(true, &mut self.before_x, &self.x)?;
+        save(true, &mut self.before_y, &self.y)?;
+        let mark = self.cells.mark();
+        let mut walk = Walk::new(self.alloc);
+        let mut marks = Marks::new(self.alloc);
+        let found = gather(
+            &mut self.cells,
+            &mut self.x,
+            &mut self.y,
+            sound,
+            at,
+            &mut self.goals,
+            &mut self.work,
+            &mut walk,
+            &mut marks,
+        );
+        let mut goal = None;
+        if let Ok(Some(Gathered::Pushed(_))) = found {
+            if let Some((predicate, arguments)) = self.goals.goal(0) {
+                let mut places = Vec::new(self.alloc);
+                for register in arguments {
+                    places.push(*register as usize)?;
+                }
+                let mut packing = Packing::new(self.alloc);
+                let parcel = copy_out(self.alloc, &self.cells, &places, &mut packing)?;
+                goal = Some((predicate, parcel));
+            }
+        }
+        self.cells.undo_to(mark);
+        self.x.copy_from_slice(&self.before_x);
+        self.y.copy_from_slice(&self.before_y);
+        Ok(goal)
+    }
+
     /// Counts the goals of the group at which the search stands, as many as a fork there has.
     pub fn group_goals(&self, sound: &Sound) -> usize
         requires here { IsAtGroup sound.now self.now.machine }

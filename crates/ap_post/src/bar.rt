@@ -3,13 +3,13 @@
 use std::cell::Cell;
 
 /// The calls for which a worker may fork once; a fork and its join take the time of some 60 calls.
-const PRICE: i64 = 2_000;
+const PRICE: i64 = 300;
 
 /// The highest price.
-const HIGHEST: i64 = 16_000;
+const HIGHEST: i64 = 4_000;
 
 /// A goal of fewer calls wasn't worth its fork.
-const SMALL: u64 = 2_000;
+const SMALL: u64 = 500;
 
 /// Where a goal makes fewer calls than that, no group of the next goal of its frame is forked, as it would have small goals.
 const LARGE: u64 = 4 * SMALL;
@@ -68,11 +68,7 @@ impl Bar {
     }
 
     fn cost(&self) -> i64 {
-        if self.is_inside.get() {
-            self.price.get().saturating_mul(INSIDE)
-        } else {
-            self.price.get()
-        }
+        self.price.get()
     }
 
     fn pay(&self, calls: i64) {
@@ -95,6 +91,12 @@ impl Bar {
         }
     }
 
+    pub fn offered(&self, cells: usize) {
+        self.pay(self.cost());
+        self.pay_copy(cells);
+        self.was_narrow.set(false);
+    }
+
     /// Notes that a group was forked.
     pub fn forked(&self) {
         self.pay(self.cost());
@@ -104,7 +106,7 @@ impl Bar {
     // To copy a cell takes as long as a call.
     fn pay_copy(&self, cells: usize) {
         let count = i64::try_from(cells).unwrap_or(i64::MAX);
-        self.pay(count.saturating_mul(self.price.get() / PRICE));
+        self.pay(count.saturating_mul(self.price.get() / PRICE) / 4);
     }
 
     /// Notes that a section begins a goal, whose terms are so many cells. It is taken to be

@@ -2,6 +2,7 @@
 
 ghost use Rattle.std.specs.Prelude.{◌≡◌};
 
+use ap_copy::Parcelled;
 use ap_ledger::Share;
 use ap_section::Section;
 use std::alloc::Global;
@@ -36,6 +37,7 @@ pub enum Ending {
 pub struct Outcome {
     pub ending: Ending,
     pub share: Share,
+    pub tuple: Option<Parcelled>,
 }
 
 impl Outcome {
@@ -46,6 +48,7 @@ impl Outcome {
         Outcome {
             ending,
             share: Share::new(),
+            tuple: None,
         }
     }
 
@@ -53,7 +56,7 @@ impl Outcome {
     pub fn release(self, alloc: Global) -> Share
         ensures { result ≡ self.share }
     {
-        let Outcome { ending, share } = self;
+        let Outcome { ending, share, .. } = self;
         if let Ending::Answer { section, .. } = ending {
             section.release(alloc);
         }

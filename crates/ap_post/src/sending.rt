@@ -249,6 +249,16 @@ impl<'a, 'b> Post<'a, 'b> {
         }
     }
 
+    pub fn leave_one(&mut self, number: u64) {
+        let count = self.desk.count_out();
+        for back in 0..count {
+            let k = count - 1 - back;
+            if self.desk.note(k).frame == number {
+                self.drop_note(k);
+            }
+        }
+    }
+
     /// Leaves the goals of all frames from a number on: each is taken back and dropped, or its taker is asked to stop. So none of these
     /// frames has a goal out.
     pub fn leave(&mut self, from: u64)

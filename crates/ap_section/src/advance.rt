@@ -42,6 +42,8 @@ pub enum Turn {
     Stopped,
     /// It stands at its newest frame, which is to be settled.
     Fork,
+    /// It stands at a group.
+    Group,
 }
 
 /// Whether a round is over.
@@ -64,6 +66,29 @@ fn quiet_goals(alloc: Global, count: usize) -> Result<Vec<bool>, NoMemory>
 }
 
 impl Section {
+    pub fn group_place(&self) -> usize {
+        match self.search.group_place() {
+            Some(place) => place,
+            None => 0,
+        }
+    }
+
+    pub fn height(&self) -> u32 {
+        self.search.height()
+    }
+
+    pub fn next_group(&self, sound: &Sound, at: usize) -> Option<usize> {
+        self.search.next_group(sound, at)
+    }
+
+    pub fn ahead(&mut self, sound: &Sound, at: usize) -> Result<Option<(u32, Parcelled)>, NoMemory> {
+        self.search.ahead(sound, at)
+    }
+
+    pub fn pass_group(&mut self, sound: &Sound, forks: bool) -> Result<bool, NoMemory> {
+        self.take_group(sound, forks)
+    }
+
     /// Whether the newest frame's round is open.
     fn is_open(&self) -> bool
         ensures open { result ≡ true → (code : Compiled) → IsReady code self.now → IsAtDueFrame (view_of self.now) }
@@ -207,7 +232,12 @@ impl Section {
             SearchTurn::More => Ok(Some(Turn::More)),
             SearchTurn::Stopped => Ok(Some(Turn::Stopped)),
             SearchTurn::Group => {
-                if self.take_group(sound, hook.wants())? {
+                if let Some(place) = self.search.group_place() {
+                    if hook.halts(place, self.search.height()) {
+                        return Ok(Some(Turn::Group));
+                    }
+                }
+                if self.take_group(sound, false)? {
                     return Ok(Some(Turn::Fork));
                 }
                 Ok(None)

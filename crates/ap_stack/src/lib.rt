@@ -10,6 +10,7 @@
 //! tied to then, and it touches no goal of another search.
 #![tactic(auto)]
 
+mod early;
 mod leaving;
 mod offering;
 mod outcomes;

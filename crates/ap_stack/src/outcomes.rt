@@ -31,6 +31,7 @@ impl<'a> Stack<'a> {
                 has_more,
             },
             share,
+            tuple: None,
         }
     }
 
@@ -48,10 +49,12 @@ impl<'a> Stack<'a> {
             Ending::Failed => Outcome {
                 ending: Came::Failed { spent },
                 share,
+                tuple: None,
             },
             Ending::Spent => Outcome {
                 ending: Came::Spent,
                 share,
+                tuple: None,
             },
         }
     }
@@ -67,6 +70,7 @@ impl<'a> Stack<'a> {
         Outcome {
             ending: Came::Stopped { spent },
             share,
+            tuple: None,
         }
     }
 
@@ -79,6 +83,7 @@ impl<'a> Stack<'a> {
         Outcome {
             ending: Came::GivenBack,
             share,
+            tuple: None,
         }
     }
 
@@ -91,6 +96,7 @@ impl<'a> Stack<'a> {
         Outcome {
             ending: Came::NoMemory,
             share,
+            tuple: None,
         }
     }
 }

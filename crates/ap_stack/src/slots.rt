@@ -57,6 +57,7 @@ impl<'a> Stack<'a> {
         self.outer.reserve(1)?;
         let frame = post.number()?;
         self.newest.start_slot(i);
+        self.drop_early(post, self.outer.len(), u32::MAX);
         post.bar().began(section.cells());
         self.push(section, i, 0, frame);
         Ok(())
@@ -76,6 +77,7 @@ impl<'a> Stack<'a> {
         sharing_law();
         self.outer.reserve(1)?;
         let frame = post.number()?;
+        self.drop_early(post, self.outer.len(), u32::MAX);
         let section = self.newest.take_section(i);
         let since = section.spent();
         self.push(section, i, since, frame);

@@ -13,6 +13,7 @@ ghost use Rattle.ap_post.specs.declared.post.Post.{Post as Posting};
 ghost use Rattle.ap_post.specs.Posts.{posted_in};
 ghost use Rattle.ap_stack.specs.Stacks.{IsGood, section_in, spent_outside};
 
+use crate::early::Early;
 use ap_codecheck::Sound;
 use ap_ledger::Share;
 use ap_machine::Tuple;
@@ -81,6 +82,7 @@ pub struct Stack<'a> {
     pub(crate) oldest: usize,
     /// How many frames are open around the search's goal.
     pub(crate) around: usize,
+    pub(crate) early: Vec<Early>,
 }
 
 impl<'a> Stack<'a> {
@@ -110,6 +112,7 @@ impl<'a> Stack<'a> {
             turns: 0,
             oldest: 0,
             around,
+            early: Vec::new(alloc),
         }
     }
 

@@ -118,7 +118,7 @@ impl<'a> Stack<'a> {
     }
 
     /// Searches on in the newest section, which has no open frame.
-    fn search_on(&mut self, post: &mut Post<'a, '_>) -> Result<Step, NoMemory>
+    fn search_on(&mut self, alloc: Global, post: &mut Post<'a, '_>) -> Result<Step, NoMemory>
         requires good { IsGood post.old self.old }
         requires runs { self.old.tends ≡ false }
         ensures goes { Goes post.old self.old post.new self.new }
@@ -126,7 +126,8 @@ impl<'a> Stack<'a> {
         ensures lone { StaysLone self.old self.new result }
     {
         sharing_law();
-        let mut wish = Wish::new(post.may_fork(self.depth()));
+        let wanted = post.may_fork(self.depth()) && post.serves();
+        let mut wish = Wish::new(wanted, self.early.as_slice(), self.outer.len());
         let before = self.newest.spent();
         let turn = self
             .newest
@@ -143,6 +144,7 @@ impl<'a> Stack<'a> {
                 post.bar().forked();
                 Ok(Step::Went)
             }
+            Turn::Group => self.at_group(alloc, post),
         }
     }
 
@@ -175,7 +177,7 @@ impl<'a> Stack<'a> {
         if self.tends {
             self.tend(alloc, post)
         } else {
-            self.search_on(post)
+            self.search_on(alloc, post)
         }
     }
 }

@@ -1,5 +1,6 @@
 //! Goals that were taken from other workers.
 
+use ap_copy::Parcelled;
 use ap_stack::Stack;
 
 /// The search of a goal that was taken, and the goal's place in its group.
@@ -7,4 +8,5 @@ use ap_stack::Stack;
 pub struct Taken<'a> {
     pub(crate) stack: Stack<'a>,
     pub(crate) place: usize,
+    pub(crate) tuple: Option<Parcelled>,
 }

@@ -126,6 +126,7 @@ impl<'a, 'b> Worker<'a, 'b> {
         self.taken.push_reserved(Taken {
             stack,
             place: job.place,
+            tuple: None,
         });
         Ok(())
     }
@@ -143,7 +144,10 @@ impl<'a, 'b> Worker<'a, 'b> {
             self.post.finish(Outcome::none(Ending::NoMemory));
             return Ok(Step::Went);
         }
-        Ok(Step::Began(job.place))
+        let place = job.place;
+        let count = self.taken.len();
+        self.taken[count - 1].tuple = Some(job.tuple);
+        Ok(Step::Began(place))
     }
 
     /// Looks once for a goal that another worker offers, and begins its search. Tells whether there was one.
@@ -190,9 +194,10 @@ impl<'a, 'b> Worker<'a, 'b> {
         requires within { asked < length (jobs_in self.old.post) }
         ensures goes { WorkerGoes self.old self.new }
     {
-        let Taken { stack, place } = newest;
+        let Taken { stack, place, tuple } = newest;
         let first = stack.first();
-        let outcome = self.left(alloc, stack, asked);
+        let mut outcome = self.left(alloc, stack, asked);
+        outcome.tuple = tuple;
         self.finish(first, outcome);
         Step::Finished(place)
     }
@@ -203,9 +208,10 @@ impl<'a, 'b> Worker<'a, 'b> {
         requires step { IsStepOf self.old newest.stack step }
         ensures goes { WorkerGoes self.old self.new }
     {
-        let Taken { stack, place } = newest;
+        let Taken { stack, place, tuple } = newest;
         let first = stack.first();
-        let outcome = self.ended(alloc, stack, step);
+        let mut outcome = self.ended(alloc, stack, step);
+        outcome.tuple = tuple;
         self.finish(first, outcome);
         Step::Finished(place)
     }
