@@ -17,3 +17,4 @@ pub mod Grown
 pub mod Weaker
 pub mod Parts
 pub mod FirstQuery
+pub mod Counting

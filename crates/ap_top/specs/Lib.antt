@@ -11,5 +11,6 @@ pub mod TextLines
 pub mod Codes
 pub mod Loads
 pub mod Ends
+pub mod Counted
 pub mod Unasked
 pub mod Last

@@ -8,6 +8,7 @@ ghost use Rattle.ap_machine.specs.Lent.{terms_of};
 ghost use Rattle.ap_worker.specs.Ends.{end_of};
 ghost use Rattle.ap_worker.specs.Sought.{MayBeAsked};
 ghost use Rattle.ap_worker.specs.Totals.{NoneTaken};
+ghost use Rattle.ap_top.specs.Counted.{IsCountedBlock};
 ghost use Rattle.ap_top.specs.Output.{line_of, fault_line, end_line, is_spent, AreAnswers, IsCounted, IsQueryBlock};
 ghost use Rattle.ap_top.specs.Last.{IsLast};
 ghost use Rattle.ap_top.specs.Lines.{line_same};
@@ -169,6 +170,7 @@ pub fn print_query<R: Threads + Wait + Sync, G: Gate, K: Sink>(
     requires asked { MayBeAsked program.now query.now }
     requires kept { IfSome kept.old (IsLast program.now bounds.kind) }
     ensures lines { Finishes (K.pieces out.old) (K.pieces out.new) (IsQueryBlock bounds.budget bounds.answers program.now atoms.now query.now) result }
+    ensures counted { IfOk result (λ _. Puts (K.pieces out.old) (K.pieces out.new) (IsCountedBlock bounds crew.now.workers program.now atoms.now query.now)) }
     ensures count { SinkCount (K.faults out.old) (K.faults out.new) result }
     ensures kept { IfSome kept.new (IsLast program.now bounds.kind) }
 {

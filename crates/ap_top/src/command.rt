@@ -1,11 +1,13 @@
 //! The run, layer by layer: command line, file, program, source, queries.
 
-ghost use Rattle.std.specs.Prelude.{◌≡◌, ◌≤◌, ◌^◌, [], ◌∷◌, map, ◌⊎◌};
+ghost use Rattle.std.specs.Prelude.{◌≡◌, ◌≤◌, ◌^◌, [], ◌∷◌, map, IfOk, ◌⊎◌};
 ghost use Rattle.ap_outside.specs.Faults.{Rises};
 ghost use Rattle.ap_outside.specs.Pieces.{Puts, CutOf};
 ghost use Rattle.ap_outside.specs.Halting.{Finishes, SinkCount};
+ghost use Rattle.ap_words.specs.Asked as words_asked;
 ghost use Rattle.ap_words.specs.Asked.{asked_of, run_of, runs};
 ghost use Rattle.ap_words.specs.Reading.{InRange, IsRead, asks, reading_of, usage};
+ghost use Rattle.ap_top.specs.Counted.{AskedCounted, FileCounted, HasAnswered, SourceCounted, TextCounted};
 ghost use Rattle.ap_top.specs.Words.{Asked, IsCommand};
 ghost use Rattle.ap_top.specs.Ends.{AskedEnds, FailsBehind, IsAnswering, NamesProgram, ShowsProgram, CodesProgram, IsShowing, SaysNoMemory, SourceEnds, TextEnds, FileEnds, RunEnds, WordsEnd, Whole};
 ghost use Rattle.ap_top.specs.Unasked.{LeavesQuery};
@@ -43,8 +45,10 @@ fn run_source<R: Threads + Wait + Sync, G: Gate, S: Source, K: Sink>(
     out: &mut K,
 ) -> Result<Status, Halt>
     requires budget { command.now.budget ≤ 2 ^ 54 }
+    requires workers { crew.now.workers ≡ command.now.workers }
     requires query { LeavesQuery program.now atoms.old }
     ensures lines { Finishes (K.pieces out.old) (K.pieces out.new) (SourceEnds (run_of command.now) program.now atoms.old (S.left queries.old) (FailsBehind (S.left queries.old) (S.left queries.new) (Rises (S.faults queries.old) (S.faults queries.new)))) result }
+    ensures counted { IfOk result (λ s. HasAnswered s → Puts (K.pieces out.old) (K.pieces out.new) (SourceCounted (run_of command.now) program.now atoms.old (S.left queries.old) s)) }
     ensures sink { SinkCount (K.faults out.old) (K.faults out.new) result }
     ensures source { SourceCount (S.faults queries.old) (S.faults queries.new) result }
     ensures end { EndsSource (S.left queries.new) result }
@@ -81,8 +85,10 @@ fn run_text<R: Threads + Wait + Sync, G: Gate, S: Source, K: Sink>(
     queries: &mut S,
     out: &mut K,
 ) -> Result<Status, Halt>
-    requires { command.now.budget ≤ 2 ^ 54 }
+    requires budget { command.now.budget ≤ 2 ^ 54 }
+    requires workers { crew.now.workers ≡ command.now.workers }
     ensures lines { Finishes (K.pieces out.old) (K.pieces out.new) (TextEnds (run_of command.now) text.now (S.left queries.old) (FailsBehind (S.left queries.old) (S.left queries.new) (Rises (S.faults queries.old) (S.faults queries.new)))) result }
+    ensures counted { IfOk result (λ s. HasAnswered s → Puts (K.pieces out.old) (K.pieces out.new) (TextCounted (run_of command.now) text.now (S.left queries.old) s)) }
     ensures sink { SinkCount (K.faults out.old) (K.faults out.new) result }
     ensures source { SourceCount (S.faults queries.old) (S.faults queries.new) result }
     ensures end { EndsSource (S.left queries.new) result }
@@ -110,9 +116,11 @@ fn run_file<R: Threads + Wait + Sync, G: Gate, F: Files, S: Source, K: Sink>(
     queries: &mut S,
     out: &mut K,
 ) -> Result<Status, Halt>
-    requires { command.now.budget ≤ 2 ^ 54 }
+    requires budget { command.now.budget ≤ 2 ^ 54 }
+    requires workers { crew.now.workers ≡ command.now.workers }
     ensures lines { Finishes (K.pieces out.old) (K.pieces out.new)
         (FileEnds (run_of command.now) (F.entries files.old) (S.left queries.old) (Rises (F.faults files.old) (F.faults files.new)) (FailsBehind (S.left queries.old) (S.left queries.new) (Rises (S.faults queries.old) (S.faults queries.new)))) result }
+    ensures counted { IfOk result (λ s. HasAnswered s → Puts (K.pieces out.old) (K.pieces out.new) (FileCounted (run_of command.now) (F.entries files.old) (S.left queries.old) s)) }
     ensures sink { SinkCount (K.faults out.old) (K.faults out.new) result }
     ensures source { SourceCount (S.faults queries.old) (S.faults queries.new) result }
     ensures files { FilesCount (F.faults files.old) (F.faults files.new) result }
@@ -131,6 +139,7 @@ fn run_file<R: Threads + Wait + Sync, G: Gate, F: Files, S: Source, K: Sink>(
 fn crew_of<'a, R, G>(rt: &'a R, gate: &'a G, workers: u64) -> Crew<'a, R, G>
     requires some { 1 ≤ workers }
     requires few { workers ≤ 32 }
+    ensures { result.workers ≡ workers }
 {
     Crew {
         rt,
@@ -152,6 +161,7 @@ fn run_asked<R: Threads + Wait + RandomSource + Sync, G: Gate, F: Files, S: Sour
     requires { InRange (asks (asked_of asked)) }
     ensures lines { Finishes (K.pieces out.old) (K.pieces out.new)
         (AskedEnds (asks (asked_of asked.entry)) (F.entries files.old) (S.left queries.old) (Rises (F.faults files.old) (F.faults files.new)) (FailsBehind (S.left queries.old) (S.left queries.new) (Rises (S.faults queries.old) (S.faults queries.new)))) result }
+    ensures counted { (what : words_asked.Asked) → asks (asked_of asked.entry) ≡ asks what → IfOk result (λ s. HasAnswered s → Puts (K.pieces out.old) (K.pieces out.new) (AskedCounted what (F.entries files.old) (S.left queries.old) s)) }
     ensures sink { SinkCount (K.faults out.old) (K.faults out.new) result }
     ensures source { SourceCount (S.faults queries.old) (S.faults queries.new) result }
     ensures files { FilesCount (F.faults files.old) (F.faults files.new) result }
@@ -189,6 +199,7 @@ fn run_reading<R: Threads + Wait + RandomSource + Sync, G: Gate, F: Files, S: So
     requires { InRange (reading_of reading) }
     ensures lines { Finishes (K.pieces out.old) (K.pieces out.new)
         (AskedEnds (reading_of reading.entry) (F.entries files.old) (S.left queries.old) (Rises (F.faults files.old) (F.faults files.new)) (FailsBehind (S.left queries.old) (S.left queries.new) (Rises (S.faults queries.old) (S.faults queries.new)))) result }
+    ensures counted { (what : words_asked.Asked) → reading_of reading.entry ≡ asks what → IfOk result (λ s. HasAnswered s → Puts (K.pieces out.old) (K.pieces out.new) (AskedCounted what (F.entries files.old) (S.left queries.old) s)) }
     ensures sink { SinkCount (K.faults out.old) (K.faults out.new) result }
     ensures source { SourceCount (S.faults queries.old) (S.faults queries.new) result }
     ensures files { FilesCount (F.faults files.old) (F.faults files.new) result }
@@ -214,6 +225,7 @@ fn run_words<R: Threads + Wait + RandomSource + Sync, G: Gate, F: Files, S: Sour
 ) -> Result<Status, Halt>
     ensures lines { Finishes (K.pieces out.old) (K.pieces out.new)
         (WordsEnd (map (λ w. w.now) words.now) (F.entries files.old) (S.left queries.old) (Rises (F.faults files.old) (F.faults files.new)) (FailsBehind (S.left queries.old) (S.left queries.new) (Rises (S.faults queries.old) (S.faults queries.new)))) result }
+    ensures counted { (what : words_asked.Asked) → IsRead (map (λ w. w.now) words.now) (asks what) → IfOk result (λ s. HasAnswered s → Puts (K.pieces out.old) (K.pieces out.new) (AskedCounted what (F.entries files.old) (S.left queries.old) s)) }
     ensures sink { SinkCount (K.faults out.old) (K.faults out.new) result }
     ensures source { SourceCount (S.faults queries.old) (S.faults queries.new) result }
     ensures files { FilesCount (F.faults files.old) (F.faults files.new) result }
@@ -273,6 +285,10 @@ pub fn run<R: Threads + Wait + RandomSource + Sync, F: Files, S: Source, K: Sink
 
     // Where `run` answered the queries, the source has nothing left.
     ensures end { (what : Asked) → IsCommand (map (λ w. w.now) words.now) what → RunEndsSource (S.left queries.new) result }
+
+    // Where queries were answered, each had the groups of the annotator that was asked for, and what it was charged; one worker
+    // alone took no goal of another.
+    ensures counted { HasAnswered result → (what : words_asked.Asked) → IsRead (map (λ w. w.now) words.now) (asks what) → Puts (K.pieces out.old) (K.pieces out.new) (AskedCounted what (F.entries files.old) (S.left queries.old) result) }
 
     // The usage only where the words are no command line, so never where they are plain.
     ensures usage { result ≡ Status.Usage → IsRead (map (λ w. w.now) words.now) usage }

@@ -4,6 +4,8 @@ ghost use Rattle.std.specs.Prelude.{◌≡◌, ◌<◌, ◌≤◌, ◌^◌, fals
 ghost use Rattle.ap_outside.specs.Halting.{Finishes, Prints, SinkCount};
 ghost use Rattle.ap_gen.specs.Generator.{workload};
 ghost use Rattle.ap_gen.specs.Summary.{summary};
+ghost use Rattle.ap_outside.specs.Pieces.{Puts};
+ghost use Rattle.ap_top.specs.Counted.{HasAnswered, LoadCounted, QuestionCounted};
 ghost use Rattle.ap_top.specs.Loads.{IsSummed, LoadEnds, QuestionEnds};
 ghost use Rattle.ap_top.specs.Unasked.{LeavesQuery};
 
@@ -76,6 +78,7 @@ fn load_program<R: Threads + Wait + Sync, G: Gate, K: Sink>(
 ) -> Result<Status, Halt>
     requires query { LeavesQuery program.now atoms.old }
     ensures lines { Finishes (K.pieces out.old) (K.pieces out.new) (QuestionEnds seed size program.now atoms.old) result }
+    ensures counted { IfOk result (λ _. Puts (K.pieces out.old) (K.pieces out.new) (QuestionCounted seed size crew.now.workers program.now atoms.old)) }
     ensures sink { SinkCount (K.faults out.old) (K.faults out.new) result }
 {
     let mut block = SteadySink::new(alloc);
@@ -102,6 +105,7 @@ fn load_text<R: Threads + Wait + Sync, G: Gate, K: Sink>(
 ) -> Result<Status, Halt>
     requires { text.now ≡ workload seed size }
     ensures lines { Finishes (K.pieces out.old) (K.pieces out.new) (LoadEnds seed size) result }
+    ensures counted { IfOk result (λ s. HasAnswered s → Puts (K.pieces out.old) (K.pieces out.new) (LoadCounted seed size crew.now.workers)) }
     ensures sink { SinkCount (K.faults out.old) (K.faults out.new) result }
 {
     let Ok(mut atoms) = Atoms::new(alloc) else {
@@ -127,6 +131,7 @@ pub fn load<R: Threads + Wait + Sync, G: Gate, K: Sink>(
     out: &mut K,
 ) -> Result<Status, Halt>
     ensures lines { Finishes (K.pieces out.old) (K.pieces out.new) (LoadEnds seed size) result }
+    ensures counted { IfOk result (λ s. HasAnswered s → Puts (K.pieces out.old) (K.pieces out.new) (LoadCounted seed size crew.now.workers)) }
     ensures sink { SinkCount (K.faults out.old) (K.faults out.new) result }
 {
     let Ok(text) = workload(alloc, seed, size) else {

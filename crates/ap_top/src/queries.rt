@@ -1,8 +1,10 @@
 //! The pieces of a source, each judged alone beside the program.
 
-ghost use Rattle.std.specs.Prelude.{◌≡◌, ◌≤◌, ◌^◌, [], ◌∷◌, OnOk, IfSome, All, Contains};
+ghost use Rattle.std.specs.Prelude.{◌≡◌, ◌≤◌, ◌^◌, [], ◌∷◌, IfOk, OnOk, IfSome, All, Contains};
 ghost use Rattle.ap_lexer.specs.Piece as lexer;
 ghost use Rattle.ap_outside.specs.Halting.{Finishes, Prints, SinkCount};
+ghost use Rattle.ap_outside.specs.Pieces.{Puts};
+ghost use Rattle.ap_top.specs.Counted.{IsCountedOutput, IsCountedPiece};
 ghost use Rattle.ap_top.specs.Last.{IsLast};
 ghost use Rattle.ap_top.specs.Output.{PieceEnds, IsOutput};
 ghost use Rattle.ap_top.specs.Refusals.{refusal_line};
@@ -55,6 +57,7 @@ fn print_piece<R: Threads + Wait + Sync, G: Gate, K: Sink>(
     requires kept { IfSome kept.old (IsLast program.now bounds.kind) }
     requires piece { Contains (lexer.pieces text.now) piece.now }
     ensures lines { Finishes (K.pieces out.old) (K.pieces out.new) (PieceEnds bounds.budget bounds.answers program.now atoms.old text.now piece.now) result }
+    ensures counted { IfOk result (λ _. Puts (K.pieces out.old) (K.pieces out.new) (IsCountedPiece bounds crew.now.workers program.now atoms.old text.now piece.now)) }
     ensures count { SinkCount (K.faults out.old) (K.faults out.new) result }
     ensures table { OnOk result (atoms.new ≡ atoms.old) }
     ensures kept { IfSome kept.new (IsLast program.now bounds.kind) }
@@ -96,6 +99,7 @@ pub fn print_pieces<R: Threads + Wait + Sync, G: Gate, K: Sink>(
     requires query { LeavesQuery program.now atoms.old }
     requires pieces { All (Contains (lexer.pieces text.now)) pieces.now }
     ensures lines { Finishes (K.pieces out.old) (K.pieces out.new) (IsOutput bounds.budget bounds.answers program.now atoms.old text.now pieces.now) result }
+    ensures counted { IfOk result (λ _. Puts (K.pieces out.old) (K.pieces out.new) (IsCountedOutput bounds crew.now.workers program.now atoms.old text.now pieces.now)) }
     ensures count { SinkCount (K.faults out.old) (K.faults out.new) result }
     ensures table { OnOk result (atoms.new ≡ atoms.old) }
 {

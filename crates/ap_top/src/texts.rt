@@ -2,6 +2,8 @@
 
 ghost use Rattle.std.specs.Prelude.{◌≡◌, ◌≤◌, ◌^◌, IfOk, OnOk};
 ghost use Rattle.ap_outside.specs.Halting.{Finishes, SinkCount};
+ghost use Rattle.ap_outside.specs.Pieces.{Puts};
+ghost use Rattle.ap_top.specs.Counted.{IsCountedOutput};
 ghost use Rattle.ap_top.specs.Output.{IsOutput, judged};
 ghost use Rattle.ap_top.specs.Unasked.{LeavesQuery};
 
@@ -43,6 +45,7 @@ pub fn print_text<R: Threads + Wait + Sync, G: Gate, K: Sink>(
     requires budget { bounds.budget ≤ 2 ^ 54 }
     requires query { LeavesQuery program.now atoms.old }
     ensures lines { Finishes (K.pieces out.old) (K.pieces out.new) (IsOutput bounds.budget bounds.answers program.now atoms.old text.now (judged whole text.now)) result }
+    ensures counted { IfOk result (λ _. Puts (K.pieces out.old) (K.pieces out.new) (IsCountedOutput bounds crew.now.workers program.now atoms.old text.now (judged whole text.now))) }
     ensures count { SinkCount (K.faults out.old) (K.faults out.new) result }
     ensures table { OnOk result (atoms.new ≡ atoms.old) }
 {

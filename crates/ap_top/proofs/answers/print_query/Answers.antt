@@ -1,4 +1,5 @@
 use Rattle.std.proofs.Common.{◌≡◌, Err, rules}
+use Rattle.ap_top.proofs.Counting.{block_counts}
 use Rattle.ap_top.proofs.Printing.{query_puts, answers_halt, end_halts}
 use Rattle.ap_top.proofs.answers.print_query.Goals as goal
 
@@ -17,3 +18,8 @@ pub returns-clause-lines : goal.returns-clause-lines
 returns-clause-lines g c =
     query_puts c.args.bounds.budget c.args.bounds.answers c.args.program.now c.args.atoms.now c.args.query.now c.in_ok-ended.ended _ _ _ c.end_line.result.now c.is_spent.result c.end_line.ensures c.is_spent.ensures
     c.in_ok-ended.ensures.lines c.in_ok-put_line.ensures.lines
+
+pub returns-clause-counted : goal.returns-clause-counted
+returns-clause-counted g c =
+    block_counts c.args.bounds c.args.crew.now.workers c.args.program.now c.args.atoms.now c.args.query.now c.in_ok-ended.ended _ _ _ c.end_line.result.now c.end_line.ensures
+    c.in_ok-ended.ensures.total c.in_ok-ended.ensures.one c.in_ok-ended.ensures.counted c.in_ok-put_line.ensures.lines

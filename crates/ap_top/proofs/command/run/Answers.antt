@@ -9,6 +9,7 @@ use Rattle.ap_top.specs.declared.status.Status.TheVariants as status
 use Rattle.ap_top.specs.Counts.{RunSinkCount}
 use Rattle.ap_top.specs.declared.status.Status.{Status}
 use Rattle.ap_top.proofs.Complete.{run_answers, run_shows, run_codes, given_up, shown_given_up}
+use Rattle.ap_top.proofs.Counting.{given_up_counts}
 use Rattle.ap_top.proofs.Statuses.{memory_stays, sink_kept, sink_rose}
 use Rattle.ap_top.proofs.Weaker.{run_weaker}
 use Rattle.ap_top.proofs.Layers.{given_up_usage, run_status, run_usage, sink_lines, memory_lines, end_given_up}
@@ -140,3 +141,12 @@ returns-in-Err-NoMemory-clause-lines g c =
     end_given_up _ _ _ F c.give_up.result
     (memory_lines _ _ F c.in-Err-NoMemory.field-0 c.in-Err-NoMemory.field-0-is (halts_map _ _ E F (λ ls any. (any.0, weaker any.0 ls any.1)) c.in-Err-NoMemory.field-0 c.in-Err-NoMemory.ensures.lines))
     c.give_up.ensures.memory c.give_up.ensures.sink c.give_up.ensures.only
+
+pub returns-in-Ok-clause-counted : goal.returns-in-Ok-clause-counted
+returns-in-Ok-clause-counted g c = λ h what is. c.in-Ok.ensures.counted what is h
+
+pub returns-in-Err-Sink-clause-counted : goal.returns-in-Err-Sink-clause-counted
+returns-in-Err-Sink-clause-counted g c = λ h. absurd h
+
+pub returns-in-Err-NoMemory-clause-counted : goal.returns-in-Err-NoMemory-clause-counted
+returns-in-Err-NoMemory-clause-counted g c = λ h. given_up_counts _ c.give_up.result c.give_up.ensures.only h

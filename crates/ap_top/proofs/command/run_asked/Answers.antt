@@ -1,11 +1,14 @@
-use Rattle.std.proofs.Common.{◌≡◌, ap, refl}
+use Rattle.std.proofs.Common.{◌≡◌, ap, refl, IfOk, sym, ◌∙◌, subst}
 use Rattle.ap_outside.specs.Faults.{Rises}
+use Rattle.ap_outside.specs.Pieces.{Puts}
 use Rattle.ap_outside.proofs.Halts.{finishes_map}
-use Rattle.ap_words.specs.Asked.{asked_of, codes_of, run_of, runs, show_of, shows}
+use Rattle.ap_words.specs.Asked.{asked_of, codes_of, loads, run_of, runs, show_of, shows}
 use Rattle.ap_words.specs.Reading.{asks}
 use Rattle.ap_top.specs.Shows.{FileShows}
 use Rattle.ap_top.specs.Codes.{FileCodes}
 use Rattle.ap_top.specs.Loads.{LoadEnds}
+use Rattle.ap_top.specs.Counted.{AskedCounted, HasAnswered, LoadCounted}
+use Rattle.ap_top.proofs.Counting.{none_counts}
 use Rattle.ap_top.specs.Ends.{AskedEnds, FileEnds, FailsBehind}
 use Rattle.ap_top.specs.declared.status.Status.TheVariants as status
 use Rattle.ap_top.proofs.Statuses.{source_kept}
@@ -61,3 +64,33 @@ returns-in-Show-clause-source g c =
     let Fault = Rises (g.F.Files.faults c.args.files.now) (g.F.Files.faults c.show_file.new.files) in
     let what = show_of c.in-Show.command in
     source_kept _ _ (FileShows what entries Fault) (λ ls ends. (show_status what entries Fault status.SourceFault ls ends).1 refl) _ c.show_file.result c.show_file.ensures.lines
+
+-- ---- what is told of each query
+
+pub returns-in-Run-clause-counted : goal.returns-in-Run-clause-counted
+returns-in-Run-clause-counted g c = λ what is.
+    let named : asks (runs (run_of c.in-Run.command)) ≡ asks what = sym (ap (λ w. asks (asked_of w)) c.in-Run.is) ∙ is in
+    let same : runs (run_of c.in-Run.command) ≡ what = cc in
+    subst (λ w. IfOk c.run_file.result (λ s. HasAnswered s → Puts (g.K.Sink.pieces c.args.out.now) (g.K.Sink.pieces c.run_file.new.out) (AskedCounted w (g.F.Files.entries c.args.files.now) (g.S.Source.left c.args.queries.now) s))) same
+    c.run_file.ensures.counted
+
+pub returns-in-Show-clause-counted : goal.returns-in-Show-clause-counted
+returns-in-Show-clause-counted g c = λ what is.
+    let named : asks (shows (show_of c.in-Show.command)) ≡ asks what = sym (ap (λ w. asks (asked_of w)) c.in-Show.is) ∙ is in
+    let same : shows (show_of c.in-Show.command) ≡ what = cc in
+    subst (λ w. IfOk c.show_file.result (λ s. HasAnswered s → Puts (g.K.Sink.pieces c.args.out.now) (g.K.Sink.pieces c.show_file.new.out) (AskedCounted w (g.F.Files.entries c.args.files.now) (g.S.Source.left c.args.queries.now) s))) same
+    (none_counts _ _ _ c.show_file.result c.show_file.ensures.lines)
+
+pub returns-in-Code-clause-counted : goal.returns-in-Code-clause-counted
+returns-in-Code-clause-counted g c = λ what is.
+    let named : asks (codes_of c.in-Code.file.now) ≡ asks what = sym (ap (λ w. asks (asked_of w)) c.in-Code.is) ∙ is in
+    let same : codes_of c.in-Code.file.now ≡ what = cc in
+    subst (λ w. IfOk c.code_file.result (λ s. HasAnswered s → Puts (g.K.Sink.pieces c.args.out.now) (g.K.Sink.pieces c.code_file.new.out) (AskedCounted w (g.F.Files.entries c.args.files.now) (g.S.Source.left c.args.queries.now) s))) same
+    (none_counts _ _ _ c.code_file.result c.code_file.ensures.lines)
+
+pub returns-in-Load-clause-counted : goal.returns-in-Load-clause-counted
+returns-in-Load-clause-counted g c = λ what is.
+    let named : asks (loads c.in-Load.seed c.in-Load.size c.in-Load.workers) ≡ asks what = sym (ap (λ w. asks (asked_of w)) c.in-Load.is) ∙ is in
+    let same : loads c.in-Load.seed c.in-Load.size c.in-Load.workers ≡ what = cc in
+    let counted = subst (λ n. IfOk c.load.result (λ s. HasAnswered s → Puts (g.K.Sink.pieces c.args.out.now) (g.K.Sink.pieces c.load.new.out) (LoadCounted c.in-Load.seed c.in-Load.size n))) c.crew_of-crew-in-Load.ensures c.load.ensures.counted in
+    subst (λ w. IfOk c.load.result (λ s. HasAnswered s → Puts (g.K.Sink.pieces c.args.out.now) (g.K.Sink.pieces c.load.new.out) (AskedCounted w (g.F.Files.entries c.args.files.now) (g.S.Source.left c.args.queries.now) s))) same counted

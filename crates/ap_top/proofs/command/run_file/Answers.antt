@@ -3,7 +3,9 @@ use Rattle.ap_outside.specs.Faults.{Rises}
 use Rattle.ap_outside.specs.Files.{HasContent}
 use Rattle.ap_outside.proofs.Halts.{finishes_map, halts_at_once}
 use Rattle.ap_words.specs.Asked.{run_of}
+use Rattle.ap_top.specs.Counted.{FileCounted, TextCounted}
 use Rattle.ap_top.specs.Ends.{FileEnds, TextEnds, FailsBehind}
+use Rattle.ap_top.proofs.Counting.{closed_counts, counts_map, file_counts}
 use Rattle.ap_top.proofs.Layers.{file_fault, file_too_long, file_read, text_status}
 use Rattle.ap_top.specs.declared.status.Status.TheVariants as status
 use Rattle.ap_top.proofs.Statuses.{files_kept}
@@ -53,3 +55,21 @@ returns-clause-files g c =
     let left = g.S.Source.left c.args.queries.now in
     let Rose = FailsBehind (g.S.Source.left c.args.queries.now) (g.S.Source.left c.run_text.new.queries) (Rises (g.S.Source.faults c.args.queries.now) (g.S.Source.faults c.run_text.new.queries)) in
     files_kept _ _ (TextEnds what text left Rose) (λ ls ends. (text_status what text left Rose status.FileFault ls ends).0 refl) _ _ c.run_text.result (search rules) c.run_text.ensures.lines
+
+-- ---- what is told of each query
+
+pub returns-in-Err-Failed-clause-counted : goal.returns-in-Err-Failed-clause-counted
+returns-in-Err-Failed-clause-counted g c = closed_counts _ status.FileFault (λ h. h) c.close.result c.close.ensures.status
+
+pub returns-in-Ok-TooLong-clause-counted : goal.returns-in-Ok-TooLong-clause-counted
+returns-in-Ok-TooLong-clause-counted g c = closed_counts _ status.ProgramRefused (λ h. h) c.close-in-Ok-TooLong.result c.close-in-Ok-TooLong.ensures.status
+
+pub returns-clause-counted : goal.returns-clause-counted
+returns-clause-counted g c =
+    let what = run_of c.args.command.now in
+    let entries = g.F.Files.entries c.args.files.now in
+    let left = g.S.Source.left c.args.queries.now in
+    let text = c.deref.result.now in
+    let whole = c.in-Ok-Whole.ensures.whole (cc) in
+    let has : HasContent entries what.file (λ content. text ≡ content) = rw c.deref.ensures.value whole in
+    counts_map _ _ (TextCounted what text left) (FileCounted what entries left) (file_counts what entries left text has) c.run_text.result c.run_text.ensures.counted

@@ -44,3 +44,6 @@ returns-in-Asks-clause-lines g c =
 
 pub returns-in-Asks-clause-end : goal.returns-in-Asks-clause-end
 returns-in-Asks-clause-end g c = λ what is. c.run_asked.ensures.end what (sym (ap reading_of c.in-Asks.is) ∙ is)
+
+pub returns-in-Asks-clause-counted : goal.returns-in-Asks-clause-counted
+returns-in-Asks-clause-counted g c = λ what is. c.run_asked.ensures.counted what (sym (ap reading_of c.in-Asks.is) ∙ is)

@@ -6,9 +6,11 @@ use Rattle.ap_term.specs.AtomTable.{fixed_names}
 use Rattle.ap_clause.specs.Reads.{AcceptsProgram, RefusesProgram}
 use Rattle.ap_clause.specs.declared.refusal.Refusal.TheVariants as refusal
 use Rattle.ap_words.specs.Asked.{run_of}
+use Rattle.ap_top.specs.Counted.{SourceCounted, TextCounted}
 use Rattle.ap_top.specs.Refusals.{refusal_line}
 use Rattle.ap_top.specs.Ends.{SourceEnds, TextEnds, FailsBehind}
 use Rattle.ap_top.specs.declared.status.Status.TheVariants as status
+use Rattle.ap_top.proofs.Counting.{counts_map}
 use Rattle.ap_top.proofs.Layers.{text_refused}
 use Rattle.ap_top.proofs.Pieces.{refused}
 use Rattle.ap_top.proofs.Uncalled.{program-leaves}
@@ -47,6 +49,7 @@ returns-in_err-print_refusal-in-Err g c =
     record {
       lines = passes_halt _ _ (λ _ put. put ≡ refusal_line c.program.new.atoms r ∷ []) (TextEnds what text left Rose) (λ ls any. (status.ProgramRefused, text_refused what text left Rose c.program.new.atoms r fixed refuses ls any.1))
           c.print_refusal.result _ c.in_err-print_refusal-in-Err.field-0.0 c.in_err-print_refusal-in-Err.was same c.print_refusal.ensures.lines;
+      counted = search rules;
       sink = search rules;
       source = search rules;
       end = search rules;
@@ -64,7 +67,18 @@ returns g c =
     let fixed = c.in-Err.ensures.table ∙ c.in-Ok.ensures in
     record {
       lines = puts_map _ _ (λ put. put ≡ refusal_line c.program.new.atoms r ∷ []) (TextEnds what text left Rose status.ProgramRefused) (text_refused what text left Rose c.program.new.atoms r fixed refuses) c.in_ok-print_refusal-in-Err.ensures.lines;
+      counted = λ h. absurd h;
       sink = search rules;
       source = search rules;
       end = search rules;
     }
+
+pub returns-in-Ok-program-clause-counted : goal.returns-in-Ok-program-clause-counted
+returns-in-Ok-program-clause-counted g c =
+    let what = run_of c.args.command.now in
+    let text = c.args.text.now in
+    let left = g.S.Source.left c.args.queries.now in
+    let program = c.in-Ok-program.program in
+    let table = c.program.new.atoms in
+    let accepts : AcceptsProgram text fixed_names program table = subst (λ t. AcceptsProgram text t program table) c.in-Ok.ensures c.in-Ok-program.ensures.accepts in
+    counts_map _ _ (SourceCounted what program table left) (TextCounted what text left) (λ s ls h. (program, table, accepts, h)) c.run_source.result c.run_source.ensures.counted

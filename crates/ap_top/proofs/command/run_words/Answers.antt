@@ -18,3 +18,6 @@ returns-clause-lines g c =
 
 pub returns-clause-end : goal.returns-clause-end
 returns-clause-end g c = λ what is. c.run_reading.ensures.end what (c.in-Ok.ensures.alone (runs what) is)
+
+pub returns-clause-counted : goal.returns-clause-counted
+returns-clause-counted g c = λ what is. c.run_reading.ensures.counted what (c.in-Ok.ensures.alone what is)

@@ -1,11 +1,13 @@
-use Rattle.std.proofs.Common.{◌≡◌, ◌≤◌, map, length, Err, refl, arith, rules}
+use Rattle.std.proofs.Common.{◌≡◌, ◌≤◌, true, map, length, Err, refl, arith, rules}
 use Rattle.std.proofs.lemmas.List.{length-map}
 use Rattle.ap_outside.proofs.Puts.{puts_map}
 use Rattle.ap_outside.proofs.Halts.{passes_halt}
 use Rattle.ap_gen.specs.Generator.{question}
 use Rattle.ap_top.specs.Status.{status_of}
+use Rattle.ap_top.specs.Counted.{IsCountedOutput, QuestionCounted, usual}
+use Rattle.ap_top.specs.Output.{judged}
 use Rattle.ap_top.specs.Loads.{IsSummed, QuestionEnds}
-use Rattle.ap_top.proofs.LoadLayers.{block_size, one_question, question_kept}
+use Rattle.ap_top.proofs.LoadLayers.{block_size, kept_lines, one_question, question_kept}
 use Rattle.ap_top.proofs.load.load_program.Goals as goal
 
 pub print_summed-requires-clause-few : goal.print_summed-requires-clause-few
@@ -43,3 +45,12 @@ returns-clause-lines g c =
     let ends = question_kept c.args.program.now c.args.atoms.now _ _ kept t c.new-block.ensures c.pieces.ensures c.in-Ok.ensures.lines in
     puts_map _ _ (IsSummed c.args.seed c.args.size t.refused kept) (QuestionEnds c.args.seed c.args.size c.args.program.now c.args.atoms.now c.status.result)
     (λ ls h. QuestionEnds.asked one_question.0 t c.status.result kept ls one_question.1 ends h c.status.ensures) c.in_ok-print_summed-in-Ok.ensures.lines
+
+pub returns-clause-counted : goal.returns-clause-counted
+returns-clause-counted g c =
+    let kept = map (λ line. line.items) c.pieces.result.now in
+    let workers = c.args.crew.now.workers in
+    let t = c.in-Ok.tally in
+    let counted = kept_lines _ _ (IsCountedOutput usual workers c.args.program.now c.args.atoms.now question (judged true question)) kept c.new-block.ensures c.pieces.ensures c.in-Ok.ensures.counted in
+    puts_map _ _ (IsSummed c.args.seed c.args.size t.refused kept) (QuestionCounted c.args.seed c.args.size workers c.args.program.now c.args.atoms.now)
+    (λ ls h. (kept, t.refused, counted, h)) c.in_ok-print_summed-in-Ok.ensures.lines

@@ -3,6 +3,7 @@ use Rattle.ap_outside.proofs.Puts.{puts_map}
 use Rattle.ap_outside.proofs.Halts.{passes_halt}
 use Rattle.ap_clause.specs.Reads.{AcceptsQuery, RefusesQuery}
 use Rattle.ap_clause.specs.declared.refusal.Refusal.TheVariants as refusal
+use Rattle.ap_top.specs.Counted.{IsCountedBlock, IsCountedPiece}
 use Rattle.ap_top.specs.Output.{IsQueryBlock, PieceEnds}
 use Rattle.ap_top.specs.Refusals.{refusal_line}
 use Rattle.ap_top.specs.Status.{tally}
@@ -40,6 +41,7 @@ returns-in_err-print_refusal-in-Err g c =
     record {
       lines = passes_halt _ _ (λ _ put. put ≡ refusal_line c.query.new.atoms r ∷ []) Ends (some_refusal_ends b n program c.args.atoms.now c.args.text.now c.args.piece.now c.query.new.atoms r c.in-Err.ensures.table refuses)
           c.print_refusal.result _ c.in_err-print_refusal-in-Err.field-0.0 c.in_err-print_refusal-in-Err.was same c.print_refusal.ensures.lines;
+      counted = search rules;
       count = search rules;
       table = search rules;
       kept = search rules;
@@ -69,7 +71,14 @@ returns-in_ok-print_refusal-in-Err g c =
     let refuses = subst (λ p. RefusesQuery c.args.text.now c.args.piece.now p c.args.atoms.now r) c.program-whole.ensures (refused (RefusesQuery c.args.text.now c.args.piece.now c.program-whole.result.now c.args.atoms.now) r other c.in-Err.ensures.refuses) in
     record {
       lines = puts_map _ _ (λ put. put ≡ refusal_line c.query.new.atoms r ∷ []) (Ends (tally false true)) (refusal_ends b n program c.args.atoms.now c.args.text.now c.args.piece.now c.query.new.atoms r c.in-Err.ensures.table refuses) c.in_ok-print_refusal-in-Err.ensures.lines;
+      counted = puts_map _ _ (λ put. put ≡ refusal_line c.query.new.atoms r ∷ []) (IsCountedPiece c.args.bounds c.args.crew.now.workers program c.args.atoms.now c.args.text.now c.args.piece.now) (λ ls is. IsCountedPiece.refused r ls refuses) c.in_ok-print_refusal-in-Err.ensures.lines;
       count = search rules;
       table = search rules;
       kept = search rules;
     }
+
+pub returns-in_ok-spent-in-Ok-clause-counted : goal.returns-in_ok-spent-in-Ok-clause-counted
+returns-in_ok-spent-in-Ok-clause-counted g c =
+    let program = c.args.program.now in
+    puts_map _ _ (IsCountedBlock c.args.bounds c.args.crew.now.workers program c.query.new.atoms c.in-Ok.query) (IsCountedPiece c.args.bounds c.args.crew.now.workers program c.args.atoms.now c.args.text.now c.args.piece.now)
+    (λ ls block. IsCountedPiece.answered c.in-Ok.query c.query.new.atoms ls (subst (λ p. AcceptsQuery c.args.text.now c.args.piece.now p c.args.atoms.now c.in-Ok.query c.query.new.atoms) c.program-whole.ensures c.in-Ok.ensures.accepts) block) c.in_ok-spent-in-Ok.ensures.counted

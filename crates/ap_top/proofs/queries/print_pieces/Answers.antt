@@ -4,9 +4,11 @@ use Rattle.ap_outside.specs.Pieces.{Puts}
 use Rattle.ap_outside.specs.Halting.{Finishes}
 use Rattle.ap_outside.proofs.Puts.{puts_then}
 use Rattle.ap_outside.proofs.Halts.{passes_on}
+use Rattle.ap_top.specs.Counted.{IsCountedOutput, IsCountedPiece}
 use Rattle.ap_top.specs.Output.{PieceEnds, IsOutput}
 use Rattle.ap_top.specs.Unasked.{LeavesQuery}
 use Rattle.ap_top.specs.declared.status.Tally.{Tally}
+use Rattle.ap_top.proofs.Counting.{one_more_counted}
 use Rattle.ap_top.proofs.Outputs.{goes_on, stops, one_more}
 use Rattle.ap_top.proofs.queries.print_pieces.Goals as goal
 
@@ -45,6 +47,9 @@ loop-piece-preserved g c =
       put = puts_then _ _ _ (IsOutput b n program table text (take i xs) c.loop-piece.tally) (PieceEnds b n program table text x c.in_ok-here.here) _
           (one_more b n program table text xs i d c.loop-piece-test.true c.loop-piece.tally c.in_ok-here.here c.and-tally.result c.and-tally.ensures) c.loop-piece.invariant.put
           (subst (λ t. Puts (g.K.Sink.pieces c.loop-piece.out) (g.K.Sink.pieces c.print_piece.new.out) (PieceEnds b n program t text x c.in_ok-here.here)) c.loop-piece.invariant.table c.in_ok-here.ensures.lines);
+      counted = puts_then _ _ _ (IsCountedOutput c.args.bounds c.args.crew.now.workers program table text (take i xs)) (IsCountedPiece c.args.bounds c.args.crew.now.workers program table text x) _
+          (one_more_counted c.args.bounds c.args.crew.now.workers program table text xs i d c.loop-piece-test.true) c.loop-piece.invariant.counted
+          (subst (λ t. Puts (g.K.Sink.pieces c.loop-piece.out) (g.K.Sink.pieces c.print_piece.new.out) (IsCountedPiece c.args.bounds c.args.crew.now.workers program t text x)) c.loop-piece.invariant.table c.in_ok-here.ensures.counted);
       count = search rules;
       table = search rules;
       kept = search rules;
