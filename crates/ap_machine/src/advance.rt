@@ -1,6 +1,6 @@
 //! The search, one call after another.
 
-ghost use Rattle.std.specs.Prelude.{◌≡◌, ◌+◌, ◌-◌, ◌^◌, ◌<◌, ◌≤◌, List, max, true, false, None, Some, Ok, IfOk, IfSome, IfNone, OnErr, slice_get};
+ghost use Rattle.std.specs.Prelude.{◌≡◌, ◌+◌, ◌-◌, ◌^◌, ◌<◌, ◌≤◌, List, max, Bool, true, false, None, Some, Ok, IfOk, IfSome, IfNone, OnErr, slice_get};
 ghost use Rattle.ap_tracked.specs.Tracked.{Tracked};
 ghost use Rattle.ap_ledger.specs.Counts.{capped};
 ghost use Rattle.ap_instr.specs.declared.instruction.Instr.TheVariants.{Builtin as builtin_instr};
@@ -43,6 +43,9 @@ pub trait Hook {
     /// It was asked to stop, which stays so.
     ghost asked: { Self → Type 0 };
 
+    /// Whether goals of groups are wanted.
+    ghost is_wanted: { Self → Bool };
+
     /// Whether it was asked to stop.
     fn poll(&mut self) -> bool
         ensures yes { result ≡ true → asked self.new }
@@ -50,7 +53,8 @@ pub trait Hook {
         ensures stays { asked self.old → asked self.new };
 
     /// Whether goals of groups are wanted by others. Where they aren't, a group that has a check runs its goals in turn.
-    fn wants(&self) -> bool;
+    fn wants(&self) -> bool
+        ensures { result ≡ is_wanted self.now };
 }
 
 impl Search {

@@ -13,7 +13,7 @@ ghost use Rattle.ap_section.specs.declared.section.Section.{out-Section};
 ghost use Rattle.ap_section.specs.Ready.{IsReady, IsShut};
 ghost use Rattle.ap_section.specs.Slots.{IsAtDueFrame};
 ghost use Rattle.ap_section.specs.Lending.{count_in};
-ghost use Rattle.ap_section.specs.Moving.{HasMoved, IsOpened, IsEndedBy, IsRested};
+ghost use Rattle.ap_section.specs.Moving.{HasMoved, IsOpened, IsEndedBy, IsRested, ForksUnasked, GoesPast};
 ghost use Rattle.ap_section.specs.Ends.{Ends};
 ghost use Rattle.ap_section.specs.Owed.{owed};
 
@@ -195,6 +195,9 @@ impl Section {
         ensures end { IfOk result (λ found. IfSome found (λ turn. Ends sound.now left (view_of self.old) (view_of self.new) turn)) }
         ensures stopped { result ≡ Ok (Some Turn.Stopped) → H.asked hook.new }
         ensures asked { H.asked hook.old → H.asked hook.new }
+        ensures wanted { result ≡ Ok None → H.is_wanted hook.new ≡ true → GoesPast sound.now self.old self.new }
+        ensures unwanted { result ≡ Ok (Some Turn.Fork) → H.is_wanted hook.new ≡ false → ForksUnasked sound.now self.old self.new }
+        ensures frames { result ≡ Ok None → count_in self.new ≤ count_in self.old }
     {
         reaching_law();
         if self.is_open() {
@@ -230,6 +233,7 @@ impl Section {
         ensures end { IfOk result (λ turn. Ends sound.now inferences (view_of self.old) (view_of self.new) turn) }
         ensures stopped { result ≡ Ok Turn.Stopped → H.asked hook.new }
         ensures asked { H.asked hook.old → H.asked hook.new }
+        ensures unwanted { result ≡ Ok Turn.Fork → H.is_wanted hook.new ≡ false → ForksUnasked sound.now self.old self.new }
     {
         reaching_law();
         let before = self.spent();
@@ -265,6 +269,7 @@ impl Section {
         ensures end { IfOk result (λ turn. Ends sound.now inferences (view_of self.old) (view_of self.new) turn) }
         ensures stopped { result ≡ Ok Turn.Stopped → H.asked hook.new }
         ensures asked { H.asked hook.old → H.asked hook.new }
+        ensures unwanted { result ≡ Ok Turn.Fork → H.is_wanted hook.new ≡ false → ForksUnasked sound.now self.old self.new }
     {
         let before = self.spent();
         let turn = self.advance_by(sound, inferences, hook);

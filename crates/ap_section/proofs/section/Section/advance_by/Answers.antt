@@ -1,4 +1,5 @@
 use Rattle.ap_section.specs.Views.{view_of, spent_in, budget_in}
+use Rattle.ap_section.proofs.Counted.{unasked-on}
 use Rattle.ap_section.proofs.Shut.{moved-on, within-on, few-on}
 use Rattle.ap_section.proofs.section.Section.advance_by.Goals as goal
 
@@ -16,6 +17,10 @@ moves-preserved g c = record {
       c.moves.invariant.moved.budget c.moves.invariant.moved.more c.moves.invariant.within c.move_on.ensures.within;
   few = few-on (spent_in (view_of c.args.self.now)) (spent_in (view_of c.moves.self)) (spent_in (view_of c.move_on.new.self)) c.args.inferences c.spent-before.result c.spent.result
       c.moves.invariant.begins c.spent.ensures c.moves.invariant.moved.more c.moves.invariant.few c.move_on.ensures.few;
+  frames = let fewer = c.move_on.ensures.frames _ in let few = c.moves.invariant.frames in omega arith;
   begins = c.moves.invariant.begins;
   asked = λ h. c.move_on.ensures.asked (c.moves.invariant.asked h);
 }
+
+pub returns-in-Some-clause-unwanted : goal.returns-in-Some-clause-unwanted
+returns-in-Some-clause-unwanted g c = λ e w. unasked-on c.args.sound.now c.args.self.now c.moves.self c.move_on.new.self c.moves.invariant.frames (c.move_on.ensures.unwanted (cc) w)

@@ -1,6 +1,7 @@
 use Rattle.std.proofs.Common.{◌≡◌, ◌+◌, ◌≤◌, max}
 use Rattle.ap_section.specs.Views.{view_of, spent_in, budget_in}
 use Rattle.ap_section.specs.Ready.{IsReady}
+use Rattle.ap_section.specs.Lending.{count_in}
 use Rattle.ap_section.specs.Moving.{HasMoved}
 use Rattle.ap_section.proofs.section.Section.advance_by.Given as goal
 
@@ -10,6 +11,7 @@ invariant-moves g l = record {
   ready : IsReady l.sound l.self;
   within : spent_in (view_of l.self) ≤ max (budget_in (view_of l.fn.self)) (spent_in (view_of l.fn.self));
   few : spent_in (view_of l.self) ≤ spent_in (view_of l.fn.self) + l.inferences;
+  frames : count_in l.self ≤ count_in l.fn.self;
   begins : l.before ≡ spent_in (view_of l.fn.self);
   asked : g.H.Hook.asked l.fn.hook → g.H.Hook.asked l.hook;
 }

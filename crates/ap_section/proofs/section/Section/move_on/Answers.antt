@@ -1,6 +1,8 @@
-use Rattle.std.proofs.Common.{◌+◌, ◌≤◌, max, sym, subst}
+use Rattle.std.proofs.Common.{◌≡◌, ◌∙◌, ◌+◌, ◌≤◌, max, ap, sym, subst, inl, inr, Ok, Some, None, arith}
 use Rattle.ap_section.specs.Views.{view_of, spent_in, budget_in}
 use Rattle.ap_section.specs.Moving.{IsEndedBy}
+use Rattle.ap_section.specs.declared.section.Section.{out-Section}
+use Rattle.ap_section.proofs.Counted.{unchecked-now}
 use Rattle.ap_section.proofs.Shut.{moved-on, shut-view}
 use Rattle.ap_section.proofs.Ended.{answer-ends}
 use Rattle.ap_section.proofs.section.Section.move_on.Goals as goal
@@ -39,3 +41,26 @@ returns-in-Failed-clause-within g c =
 
 pub returns-in-Failed-clause-few : goal.returns-in-Failed-clause-few
 returns-in-Failed-clause-few g c = subst (λ n. n ≤ spent_in (view_of c.args.self.now) + c.args.left) (sym (c.come_back.ensures.spent c.args.sound.now c.search_on.ensures.shut)) c.search_on.ensures.few
+
+pub returns-in-Failed-clause-wanted : goal.returns-in-Failed-clause-wanted
+returns-in-Failed-clause-wanted g c = λ e w.
+    let none : c.come_back.result ≡ None = cc in
+    let fewer = c.come_back.ensures.dropped none in
+    let same = c.search_on.ensures.frames in
+    inl (omega arith)
+
+pub returns-in-Failed-clause-unwanted : goal.returns-in-Failed-clause-unwanted
+returns-in-Failed-clause-unwanted g c = λ e w. let few = c.come_back.ensures.frames in let same = c.search_on.ensures.frames in inl (omega arith)
+
+pub returns-then-branch-clause-unwanted : goal.returns-then-branch-clause-unwanted
+returns-then-branch-clause-unwanted g c = λ e w. inr (record {
+  from = (out-Section c.search_on.new.self).search;
+  forked = c.take_group.ensures.group (ap Ok c.if-branch.true);
+  unchecked = unchecked-now c.args.sound.now c.search_on.new.self (c.take_group.ensures.unwanted (c.wants.ensures ∙ w) (ap Ok c.if-branch.true));
+})
+
+pub returns-else-branch-clause-wanted : goal.returns-else-branch-clause-wanted
+returns-else-branch-clause-wanted g c = λ e w. inr (record {
+  from = (out-Section c.search_on.new.self).search;
+  gone_on = c.take_group.ensures.wanted (c.wants.ensures ∙ w) (ap Ok c.if-branch.false);
+})
