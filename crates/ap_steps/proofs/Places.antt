@@ -1,9 +1,9 @@
 -- The instructions from a place of code on.
-use Rattle.std.proofs.Common.{◌≡◌, ℕ, zero, suc, ◌+◌, ◌-◌, ◌<◌, ◌≤◌, true, false, if◌then◌else◌, List, length, take, drop, min, get_or, slice_get, Some, refl, ap, ◌∙◌, subst, arith}
-use Rattle.std.proofs.Math.Nat.{le-min}
-use Rattle.std.proofs.lemmas.List.{get_or-drop, get_or-take, length-drop, length-take}
+use Rattle.std.proofs.Common.{◌≡◌, ℕ, zero, suc, ◌+◌, ◌-◌, ◌<◌, ◌≤◌, true, false, if◌then◌else◌, List, length, take, drop, min, get_or, slice_get, Some, None, refl, sym, ap, ◌∙◌, subst, arith}
+use Rattle.std.proofs.Math.Nat.{le-min, min-le_left, min-le_right}
+use Rattle.std.proofs.lemmas.List.{get_or-drop, get_or-take, length-drop, length-take, length-take-le}
 use Rattle.std.proofs.lemmas.List.Folds.{list_any_kept, list_any_at}
-use Rattle.std.proofs.lemmas.Option.{slice_get_within, get_or_from_slice_get}
+use Rattle.std.proofs.lemmas.Option.{slice_get_within, slice_get_past, slice_get-get_or, get_or_from_slice_get}
 use borrow.Author.Count.{below_more}
 use Rattle.ap_instr.specs.declared.instruction.Instr.{Instr}
 use Rattle.ap_instr.specs.declared.instruction.Instr.TheVariants.{Allocate, Deallocate}
@@ -63,3 +63,48 @@ module _ (is : List Instr) (at n : ℕ) (i : Instr) (here : slice_get is (at + n
       let all : length (take count (drop at is)) ≡ min count (length (drop at is)) = length-take count (drop at is) in
       let least : suc n ≤ min count (length (drop at is)) = le-min (omega arith) (let l : n < length (drop at is) = behind in omega arith) in
       list_any_at is_value (take count (drop at is)) n i (omega arith) (ap is_value (get_or-take count (drop at is) n i less ∙ found) ∙ value)
+
+-- ---- the instructions from a place on: so many, or those up to the code's end
+
+module _ (is : List Instr) (from count end i : ℕ) (ends : end ≡ min (length is) (from + count)) (inside : from ≤ length is) where
+  part-length : length (take (end - from) (drop from is)) ≡ end - from
+  part-length =
+      let l : end ≤ length is = subst (λ n. n ≤ length is) (sym ends) (min-le_left (length is) (from + count)) in
+      let d : length (drop from is) ≡ length is - from = length-drop from is in
+      length-take-le (end - from) (drop from is) (omega arith)
+
+  part-from : from ≤ end
+  part-from = subst (λ n. from ≤ n) (sym ends) (le-min inside (omega arith))
+
+  pub part-few : i < length (take (end - from) (drop from is)) → i < count
+  part-few l =
+      let q : length (take (end - from) (drop from is)) ≡ end - from = part-length in
+      let r : end ≤ from + count = subst (λ n. n ≤ from + count) (sym ends) (min-le_right (length is) (from + count)) in
+      omega arith
+
+  -- each of them stands in the code
+  pub part-item : (instr d : Instr) → instr ≡ get_or (take (end - from) (drop from is)) i d → i < length (take (end - from) (drop from is)) → slice_get is (from + i) ≡ Some instr
+  part-item instr d e l =
+      let q : length (take (end - from) (drop from is)) ≡ end - from = part-length in
+      let few : end ≤ length is = subst (λ n. n ≤ length is) (sym ends) (min-le_left (length is) (from + count)) in
+      let a : i < end - from = omega arith in
+      slice_get-get_or is (from + i) d (omega arith) ∙ ap Some (sym (e ∙ get_or-take (end - from) (drop from is) i d a ∙ get_or-drop from is i d))
+
+  -- behind the last one: so many were taken
+  pub part-all : length (take (end - from) (drop from is)) ≤ i → i ≤ count → from + count ≤ end → i ≡ count
+  part-all l few whole = let q : length (take (end - from) (drop from is)) ≡ end - from = part-length in omega arith
+
+  -- or the code ends there
+  pub part-past : length (take (end - from) (drop from is)) ≤ i → end < from + count → slice_get is (from + i) ≡ None
+  part-past l short =
+      let q : length (take (end - from) (drop from is)) ≡ end - from = part-length in
+      let w : min (length is) (from + count) < from + count = subst (λ n. n < from + count) ends short in
+      let e : length is ≤ end = subst (λ n. length is ≤ n) (sym ends) (omega arith) in
+      slice_get_past is (from + i) (omega arith)
+
+  pub part-within : i < length (take (end - from) (drop from is)) → i < end - from
+  part-within l = let q : length (take (end - from) (drop from is)) ≡ end - from = part-length in omega arith
+
+  -- fewer than so many were taken where the code ends before
+  pub part-short : i ≤ end - from → end < from + count → i < count
+  part-short l short = let w : from ≤ end = part-from in omega arith

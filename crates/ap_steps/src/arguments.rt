@@ -16,7 +16,7 @@ ghost use Rattle.ap_steps.specs.Arguments.{Built, BuiltOr, BuiltOrStuck, are_bui
 ghost use Rattle.ap_steps.specs.Ways.{NoneOfControl};
 
 use crate::registers::{read, write};
-use crate::tables::{instruction_in, integer_at};
+use crate::tables::integer_at;
 use ap_cells::{Cell, Cells, Raw};
 use ap_instr::{Code, Instr, Slot};
 use ap_match::{push_new, push_value};
@@ -234,16 +234,18 @@ pub fn build_arguments(
     let instructions = code.instructions();
     let places = instructions.len();
     prove!(at <= places);
+    let _places = cells.len();
+    let end = places.min(at + count);
     let mut values = false;
-    for i in 0..count {
-        match instruction_in(instructions, at + i) {
-            Some(instr) => match build_argument(cells, x, y, code, instr) {
-                Parts::Fresh => {}
-                Parts::Values => values = true,
-                Parts::Stuck => return Parts::Stuck,
-            },
-            None => return Parts::Stuck,
+    for instr in &instructions[at..end] {
+        match build_argument(cells, x, y, code, instr) {
+            Parts::Fresh => {}
+            Parts::Values => values = true,
+            Parts::Stuck => return Parts::Stuck,
         }
+    }
+    if end < at + count {
+        return Parts::Stuck;
     }
     if values { Parts::Values } else { Parts::Fresh }
 }

@@ -10,7 +10,7 @@ ghost use Rattle.ap_steps.specs.Found.{Matched, MatchedAll};
 ghost use Rattle.ap_steps.specs.Ways.{NoneOfControl};
 
 use crate::registers::{read, write};
-use crate::tables::{instruction_in, integer_at};
+use crate::tables::integer_at;
 use ap_cells::Cells;
 use ap_instr::{Code, Instr, Slot};
 use ap_match::{equate, match_atom, match_integer};
@@ -160,16 +160,17 @@ pub fn match_arguments(
     let places = instructions.len();
     prove!(at <= places);
     let _places = cells.len();
-    for i in 0..count {
-        match instruction_in(instructions, at + i) {
-            Some(instr) => {
-                let matched = match_argument(cells, x, y, code, instr, first + i, work)?;
-                if !matched {
-                    return Ok(false);
-                }
-            }
-            None => return Ok(false),
+    let end = places.min(at + count);
+    let mut place = first;
+    for instr in &instructions[at..end] {
+        let matched = match_argument(cells, x, y, code, instr, place, work)?;
+        if !matched {
+            return Ok(false);
         }
+        place += 1;
+    }
+    if end < at + count {
+        return Ok(false);
     }
     Ok(true)
 }
