@@ -2,6 +2,7 @@ pub mod Numbers
 pub mod Lexemes
 pub mod Turn
 pub mod Toks
+pub mod NextPiece
 pub mod Valid
 pub mod Ends
 pub mod Within

@@ -5,3 +5,4 @@ pub mod LexErr
 pub mod Ahead
 pub mod Law
 pub mod Row
+pub mod Cutter

@@ -39,10 +39,16 @@ pub(crate) fn feeds(text: &[u8]) -> usize
 }
 
 /// Where a piece began, and on which line.
-type Begun = Option<(usize, u64)>;
+pub(crate) type Begun = Option<(usize, u64)>;
 
 /// The piece that a lexeme on a line ends.
-fn ended(kind: LexemeKind, from: usize, first: u64, to: usize, line: u64) -> Option<Piece>
+pub(crate) fn ended(
+    kind: LexemeKind,
+    from: usize,
+    first: u64,
+    to: usize,
+    line: u64,
+) -> Option<Piece>
     ensures { (text : Text) (at : ℕ) → first ≡ spec.line_at text from → line ≡ spec.line_at text at → option_to_list result ≡ spec.ended_by (spec.role kind) text from at to }
 {
     match kind {
@@ -64,7 +70,7 @@ fn ended(kind: LexemeKind, from: usize, first: u64, to: usize, line: u64) -> Opt
     }
 }
 
-fn start(begun: Begun, at: usize, line: u64) -> (usize, u64)
+pub(crate) fn start(begun: Begun, at: usize, line: u64) -> (usize, u64)
     ensures { (text : Text) (b : Option ℕ) → spec.Begins text begun b → line ≡ spec.line_at text at → (result.0 ≡ spec.start b at) × (result.1 ≡ spec.line_at text result.0) }
 {
     match begun {
@@ -74,7 +80,7 @@ fn start(begun: Begun, at: usize, line: u64) -> (usize, u64)
 }
 
 /// Where the piece began that goes on behind a lexeme.
-fn begun_after(kind: LexemeKind, begun: Begun, from: usize, first: u64) -> Begun
+pub(crate) fn begun_after(kind: LexemeKind, begun: Begun, from: usize, first: u64) -> Begun
     ensures { (text : Text) (b : Option ℕ) (at : ℕ) → spec.Begins text begun b → from ≡ spec.start b at → first ≡ spec.line_at text from → spec.Begins text result (spec.begun_after (spec.role kind) b at) }
 {
     match kind {
@@ -94,7 +100,7 @@ fn put(out: &mut Vec<Piece>, piece: Option<Piece>) -> Result<(), NoMemory>
 }
 
 /// A last piece without an end.
-fn unended(begun: Begun, to: usize) -> Option<Piece>
+pub(crate) fn unended(begun: Begun, to: usize) -> Option<Piece>
     ensures { (text : Text) (b : Option ℕ) → spec.Begins text begun b → option_to_list result ≡ spec.unended text to b }
 {
     match begun {

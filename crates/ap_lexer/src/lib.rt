@@ -5,12 +5,13 @@
 // What it stands on: nothing but std.
 // The contract that is used above it: `pieces` and `tokens` answer exactly what `pieces` and `tokens`
 // of specs/Piece.antt and specs/Token.antt make of the text; `tokens` refuses a piece that has a
-// bad token and no other.
+// bad token and no other. `Cutter` gives the same pieces one after another, each with its tokens.
 #![tactic(auto)]
 
 mod ahead;
 mod bytes;
 mod cut;
+mod cutter;
 mod digits;
 mod error;
 mod kind;
@@ -19,6 +20,7 @@ mod recognize;
 mod split;
 
 pub use cut::{Piece, pieces};
+pub use cutter::Cutter;
 pub use digits::number;
 pub use error::{LexErr, NoMemory};
 pub use kind::{LexemeKind, TokenKind};

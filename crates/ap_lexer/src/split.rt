@@ -26,7 +26,12 @@ pub struct Token<'a> {
 }
 
 /// The token that a lexeme is, if it is one.
-fn token_of<'a>(kind: LexemeKind, text: &'a [u8], at: usize, line: u64) -> Option<Token<'a>>
+pub(crate) fn token_of<'a>(
+    kind: LexemeKind,
+    text: &'a [u8],
+    at: usize,
+    line: u64,
+) -> Option<Token<'a>>
     requires { at + length text.now < 2 ^ 64 }
     ensures { (whole : Text) → text.now ≡ take (length text.now) (drop at whole) → line ≡ line_at whole at → map spec.view (option_to_list result) ≡ spec.token_of kind whole at (length text.now) }
 {
@@ -42,7 +47,7 @@ fn token_of<'a>(kind: LexemeKind, text: &'a [u8], at: usize, line: u64) -> Optio
     }
 }
 
-fn put<'a>(out: &mut Vec<Token<'a>>, token: Option<Token<'a>>) -> Result<(), NoMemory>
+pub(crate) fn put<'a>(out: &mut Vec<Token<'a>>, token: Option<Token<'a>>) -> Result<(), NoMemory>
     ensures { OnOk result (map spec.view out.new.items ≡ map spec.view out.old.items ++ map spec.view (option_to_list token.entry)) }
 {
     if let Some(token) = token {
