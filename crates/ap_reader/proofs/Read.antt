@@ -1,5 +1,5 @@
 -- What reading says of the tokens before the end token.
-use Rattle.std.proofs.Common.{◌≡◌, ◌≤◌, List, [], Result, Ok, Err, map, sym, ◌∙◌, subst, ap, inl, inr, refl}
+use Rattle.std.proofs.Common.{◌≡◌, List, sym, ◌∙◌, ap}
 use Rattle.std.proofs.lemmas.List.{same_from_push}
 use Rattle.ap_lexer.specs.Token.{Placed}
 use Rattle.ap_reader.specs.Grammar.{Tree}

@@ -3,7 +3,7 @@
 ghost use Rattle.std.specs.Prelude.{◌≡◌, List, [], ◌∷◌, ◌++◌, IfOk, map, codes, slice_get};
 ghost use Rattle.ap_lexer.specs.Lexeme.{Text};
 ghost use Rattle.ap_term.specs.AtomTable.{insert_names};
-ghost use Rattle.ap_term.specs.TermView.{tree_of};
+ghost use Rattle.ap_term.specs.TermView.{tree_of, trees_of};
 ghost use Rattle.ap_term.specs.Tree.{node, more, none};
 ghost use Rattle.ap_reader.specs.Written.{Written, Node, Cons, Nil, cell, leaf_of, leaf_at, meaning};
 ghost use Rattle.ap_reader.specs.Evaluated as spec;
@@ -74,6 +74,15 @@ fn compound2(alloc: Global, name: Atom, x: Term, y: Term) -> Result<Term, NoMemo
     args.push(x)?;
     args.push(y)?;
     Ok(Term::Node(name, Args::from_vec(args)))
+}
+
+/// The arguments, in no more room than they need: most of a program's memory are such lists.
+fn arguments(items: Vec<Term>) -> Args
+    ensures { result ≡ trees_of items.items }
+{
+    let mut items = items;
+    items.shrink_to_fit();
+    Args::from_vec(items)
 }
 
 /// The list of items in front of a tail.
@@ -161,7 +170,7 @@ fn compound(
 {
     match atom(alloc, atoms, name) {
         Ok(functor) => match pop_all(alloc, stack) {
-            Ok(items) => Ok(Value::Term(Term::Node(functor, Args::from_vec(items)))),
+            Ok(items) => Ok(Value::Term(Term::Node(functor, arguments(items)))),
             Err(_) => Err(InternErr::NoMemory),
         },
         Err(e) => Err(e),

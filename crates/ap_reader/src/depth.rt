@@ -164,10 +164,13 @@ fn height_after(stack: &mut Vec<Height>, leaves: &[Leaf], step: Step) -> Height
     }
 }
 
-/// Whether a term is deeper than MAX_DEPTH.
+/// Whether a term is deeper than MAX_DEPTH. It has no more levels than steps.
 pub(crate) fn is_too_deep(alloc: Global, leaves: &[Leaf], steps: &[Step]) -> Result<bool, NoMemory>
     ensures { IfOk result (λ b. (t : Tree) → steps.now ≡ postfix t → b ≡ nat_lt MAX_DEPTH (depth (meaning (map leaf_of leaves.now) t))) }
 {
+    if steps.len() as u64 <= MAX_DEPTH {
+        return Ok(false);
+    }
     let mut stack = Vec::new(alloc);
     let mut rest = steps;
     while let [step, after @ ..] = rest {

@@ -1,8 +1,9 @@
 //! Tokens as a term: its steps, then the term itself.
 
-ghost use Rattle.std.specs.Prelude.{◌≡◌, List, IfOk, MatchOption, map};
+ghost use Rattle.std.specs.Prelude.{◌≡◌, List, IfOk, MatchOption, map, nat_lt};
 ghost use Rattle.ap_lexer.specs.Token.{Placed, view};
 ghost use Rattle.ap_reader.specs.Reading as spec;
+ghost use Rattle.ap_reader.specs.Bracket.{most_open};
 ghost use Rattle.ap_reader.specs.Leaves.{texts};
 
 use crate::bracket::most_open;
@@ -47,6 +48,16 @@ fn first_line(tokens: &[Token]) -> u64
     }
 }
 
+/// Whether more than `MAX_OPEN` brackets are open at once. No more are than there are tokens.
+fn is_too_open(tokens: &[Token]) -> bool
+    ensures { result ≡ nat_lt MAX_OPEN (most_open 0 (map view tokens.now)) }
+{
+    if tokens.len() <= MAX_OPEN {
+        return false;
+    }
+    most_open(tokens) > MAX_OPEN
+}
+
 /// The tokens before the end token that is the last.
 fn before_end<'t, 'a>(tokens: &'t [Token<'a>]) -> Option<&'t [Token<'a>]>
     ensures { MatchOption result ((front : List Placed) → spec.EndsAs (map view tokens.now) front → ⊥) (λ front. spec.EndsAs (map view tokens.now) (map view front.now)) }
@@ -69,7 +80,7 @@ pub fn parse<'a>(alloc: Global, tokens: &[Token<'a>]) -> Result<WrittenTerm<'a>,
     ensures { spec.Parsed (map view tokens.now) result }
 {
     let line = first_line(tokens);
-    if most_open(tokens) > MAX_OPEN {
+    if is_too_open(tokens) {
         return Err(ReadErr::TooDeep { line });
     }
     let Some(front) = before_end(tokens) else {

@@ -9,5 +9,5 @@ returns-in-Ok-pop_all-clause-value c = λ more vs e.
     let ns = insert_names c.atom.new.atoms more in
     let name = c.in-Ok.ensures.place more in
     let all = c.in-Ok-pop_all.ensures ns vs e in
-    let row = c.from_vec.ensures ∙ arguments-in ns c.in-Ok-pop_all.items.items (top_items (below vs)) (top_term vs) all.0 in
+    let row = c.arguments.ensures ∙ arguments-in ns c.in-Ok-pop_all.items.items (top_items (below vs)) (top_term vs) all.0 in
     (cc (name, row), all.1)
