@@ -1,6 +1,7 @@
 pub mod Walks
 pub mod Forms
 pub mod Arities
+pub mod Bodies
 pub mod Names
 pub mod Limits
 pub mod Proper

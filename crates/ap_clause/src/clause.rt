@@ -1,6 +1,6 @@
 //! The head and the body that a term is.
 
-ghost use Rattle.std.specs.Prelude.{◌≡◌, ◌++◌, IfOk, OnOk, MatchOption, None, Some, false};
+ghost use Rattle.std.specs.Prelude.{◌≡◌, ◌+◌, ◌<◌, [], ◌∷◌, ◌++◌, vec_len, IfOk, OnOk, MatchOption, MatchResult, None, Some, false};
 ghost use Rattle.ap_term.specs.Tree.{none, more};
 ghost use Rattle.ap_term.specs.TermView.{tree_of};
 ghost use Rattle.ap_lifting.specs.Body as body;
@@ -47,16 +47,27 @@ fn only(args: &Args) -> Option<&Term>
     Some(&terms[0])
 }
 
-/// The two arguments, where there are two.
-#[tactic(auto, using(crate::proofs::Arities::arities))]
-fn pair(args: &Args) -> Option<(&Term, &Term)>
-    ensures { MatchOption result (is_pair args.now ≡ false) (λ p. args.now ≡ more (tree_of p.0.now) (more (tree_of p.1.now) none)) }
+/// Takes the last term off; there is one.
+fn pop(terms: &mut Vec<Term>) -> Term
+    requires { 0 < vec_len terms.old }
+    ensures items { terms.old.items ≡ terms.new.items ++ result ∷ [] }
+    ensures len { vec_len terms.new + 1 ≡ vec_len terms.old }
 {
-    let terms = args.as_slice();
+    terms.pop().unwrap()
+}
+
+/// The two arguments, where there are two; else the arguments again.
+#[tactic(auto, using(crate::proofs::Bodies::bodies))]
+fn pair(args: Args) -> Result<(Term, Term), Args>
+    ensures { MatchResult result (λ p. args ≡ more (tree_of p.0) (more (tree_of p.1) none)) (λ again. (again ≡ args) × (is_pair args ≡ false)) }
+{
+    let mut terms = args.into_vec();
     if terms.len() != 2 {
-        return None;
+        return Err(Args::from_vec(terms));
     }
-    Some((&terms[0], &terms[1]))
+    let last = pop(&mut terms);
+    let first = pop(&mut terms);
+    Ok((first, last))
 }
 
 /// Adds the conditions that stand before `=>`.
@@ -95,29 +106,6 @@ fn conditions_in(alloc: Global, t: &Term) -> Result<Vec<Condition>, NoMemory>
     Ok(conditions)
 }
 
-/// A term of its own with the same tree. Its list of arguments takes no more room than it needs: most of a program's
-/// memory are such lists.
-#[tactic(auto, using(ap_term::proofs::TermLists::arguments))]
-fn copy(alloc: Global, t: &Term) -> Result<Term, NoMemory>
-    ensures { IfOk result (λ u. tree_of u ≡ tree_of t.now) }
-{
-    let Term::Node(name, args) = t else {
-        return copy_term(alloc, t);
-    };
-    let mut copies = Vec::with_capacity(alloc, args.len())?;
-    for arg in args.as_slice() {
-        copies.push(copy_term(alloc, arg)?)?;
-    }
-    Ok(Term::Node(*name, Args::from_vec(copies)))
-}
-
-fn goal(alloc: Global, t: &Term) -> Result<Body, NoMemory>
-    ensures { IfOk result (λ b. body_of b ≡ body.goal (tree_of t.now)) }
-{
-    let copy = copy(alloc, t)?;
-    Ok(Body::Goal(copy))
-}
-
 fn conjunction(alloc: Global, a: Body, b: Body) -> Result<Body, NoMemory>
     ensures { IfOk result (λ x. body_of x ≡ body.conjunction (body_of a) (body_of b)) }
 {
@@ -149,57 +137,54 @@ fn conditional(alloc: Global, conditions: Vec<Condition>, b: Body) -> Result<Bod
     Ok(Body::Conditional(conditions, inner))
 }
 
-/// The body that a term is.
-fn body_in(alloc: Global, t: &Term) -> Result<Body, NoMemory>
-    ensures { IfOk result (λ b. body_of b ≡ spec.body_in (tree_of t.now)) }
+/// The body that a term is, made of its parts.
+#[tactic(auto, using(crate::proofs::Bodies::bodies))]
+fn body_in(alloc: Global, t: Term) -> Result<Body, NoMemory>
+    ensures { IfOk result (λ b. body_of b ≡ spec.body_in (tree_of t)) }
 {
     let Term::Node(name, args) = t else {
-        return goal(alloc, t);
+        return Ok(Body::Goal(t));
     };
-    let Some((a, b)) = pair(args) else {
-        return goal(alloc, t);
+    let connective = connective_at(name);
+    if let Connective::Other = connective {
+        return Ok(Body::Goal(Term::Node(name, args)));
+    }
+    let (a, b) = match pair(args) {
+        Ok(pair) => pair,
+        Err(args) => return Ok(Body::Goal(Term::Node(name, args))),
     };
-    match connective_at(*name) {
+    match connective {
         Connective::And => conjunction(alloc, body_in(alloc, a)?, body_in(alloc, b)?),
         Connective::Or => disjunction(alloc, body_in(alloc, a)?, body_in(alloc, b)?),
         Connective::Par => parallel(alloc, body_in(alloc, a)?, body_in(alloc, b)?),
-        Connective::If => conditional(alloc, conditions_in(alloc, a)?, body_in(alloc, b)?),
-        Connective::Other => goal(alloc, t),
+        // Other was a goal.
+        Connective::If | Connective::Other => {
+            conditional(alloc, conditions_in(alloc, &a)?, body_in(alloc, b)?)
+        }
     }
 }
 
-/// What stands before `:-`, and behind it; a fact has none.
-fn about_neck(t: &Term) -> Option<(&Term, &Term)>
-    ensures { MatchOption result (spec.clause_halves (tree_of t.now) ≡ (tree_of t.now, None)) (λ p. spec.clause_halves (tree_of t.now) ≡ (tree_of p.0.now, Some (spec.body_in (tree_of p.1.now)))) }
-{
-    let Term::Node(name, args) = t else {
-        return None;
-    };
-    let Some(halves) = pair(args) else {
-        return None;
-    };
-    if name.number() != fixed::NECK {
-        return None;
-    }
-    Some(halves)
-}
-
-/// The head and the body of a rule; a fact is its head, which isn't copied.
+/// The head and the body of a rule; a fact is its head.
+#[tactic(auto, using(crate::proofs::Bodies::bodies))]
 fn clause_halves(alloc: Global, t: Term) -> Result<(Term, Option<Body>), NoMemory>
     ensures { IfOk result (λ h. (tree_of h.0, body_if h.1) ≡ spec.clause_halves (tree_of t)) }
 {
-    if let Some((head, rest)) = about_neck(&t) {
-        let head = copy(alloc, head)?;
-        let body = body_in(alloc, rest)?;
-        return Ok((head, Some(body)));
+    let Term::Node(name, args) = t else {
+        return Ok((t, None));
+    };
+    if name.number() != fixed::NECK {
+        return Ok((Term::Node(name, args), None));
     }
-    Ok((t, None))
+    match pair(args) {
+        Ok((head, rest)) => Ok((head, Some(body_in(alloc, rest)?))),
+        Err(args) => Ok((Term::Node(name, args), None)),
+    }
 }
 
 fn question(alloc: Global, t: &Term) -> Result<(Term, Option<Body>), NoMemory>
     ensures { IfOk result (λ h. (tree_of h.0, body_if h.1) ≡ spec.question (tree_of t.now)) }
 {
-    let body = body_in(alloc, t)?;
+    let body = body_in(alloc, copy_term(alloc, t)?)?;
     Ok((Term::Atom(Atom::at(fixed::QUERY)), Some(body)))
 }
 
