@@ -1,10 +1,9 @@
 -- Verdicts on what the tokens of a piece spell.
-use Rattle.std.proofs.Common.{◌≡◌, ℕ, ◌+◌, ◌≤◌, ◌<◌, Bool, true, List, [], map, length, Some, None, Result, Ok, Err, sym, ap, subst, ◌∙◌, inl, inr, arith}
-use Rattle.std.specs.Prelude.{nat_lt, not}
+use Rattle.std.proofs.Common.{◌≡◌, ℕ, ◌+◌, ◌≤◌, ◌<◌, Bool, true, List, [], map, length, Option, Some, None, Result, Ok, Err, sym, ap, subst, ◌∙◌, inl, inr, arith}
+use Rattle.std.specs.Prelude.{nat_lt, not, ◌⊎◌}
 use Rattle.std.proofs.lemmas.Bool.{lt-ltb, le-ltb}
 use Rattle.ap_lexer.specs.Lexeme.{Text}
-use Rattle.ap_lexer.specs.declared.cut.Piece.{Piece}
-use Rattle.ap_lexer.specs.Token.{Placed, tokens}
+use Rattle.ap_lexer.specs.Token.{Placed}
 use Rattle.ap_term.specs.AtomTable.{insert_names, capacity, IsAtomTable}
 use Rattle.ap_term.specs.Tree as term
 use Rattle.ap_term.specs.TermView.{tree_of}
@@ -31,7 +30,7 @@ use Rattle.ap_clause.specs.Shape.{form_of}
 use Rattle.ap_clause.specs.Clause.{halves, rule_of}
 use Rattle.ap_clause.specs.Outside.{first_outside}
 use Rattle.ap_clause.specs.Limit.{passed}
-use Rattle.ap_clause.specs.Reads.{Verdict, Refused, Took, Sentence, fits, refused_if, refused_outside, refused_past, judged_term, judged_sentence, Position, JudgesOpen, JudgesBy, Judges}
+use Rattle.ap_clause.specs.Reads.{Verdict, Refused, Took, Sentence, fits, refused_if, refused_outside, refused_past, judged_term, judged_sentence, Position, JudgesOpen, JudgesBy}
 use Rattle.ap_clause.specs.Verdict.{CanBeRule, position, Gives}
 use Rattle.ap_clause.proofs.Proper.{spelled_proper}
 use Rattle.ap_clause.proofs.CanBe.{can_be_rule}
@@ -103,5 +102,10 @@ pub judges_none : (source : Source) (p : Position) (ts : List Placed) (line : �
 judges_none source p ts line few first none =
     subst (λ b. JudgesOpen b source p ts (Refused (refusal.NotAClause line))) (sym (le-ltb MAX_OPEN (most_open 0 ts) few)) (None, none, ap (λ l. Refused (refusal.NotAClause l)) first)
 
-pub judges_piece : (source : Source) (text : Text) (p : Position) (piece : Piece) (ts : List Placed) (v : Verdict) → piece.bad ≡ None → ts ≡ tokens text piece → JudgesOpen (nat_lt MAX_OPEN (most_open 0 ts)) source p ts v → Judges source text p piece v
-judges_piece source text p piece ts v bad e h = subst (λ b. JudgesBy b source p (tokens text piece) v) (sym bad) (subst (λ us. JudgesOpen (nat_lt MAX_OPEN (most_open 0 us)) source p us v) e h)
+-- so is what is judged of tokens none of which is bad
+pub judges_by : (bad : Option ℕ) (source : Source) (p : Position) (us ts : List Placed) (v : Verdict) → bad ≡ None → us ≡ ts → JudgesBy None source p us v → JudgesBy bad source p ts v
+judges_by bad source p us ts v none e h = subst (λ b. JudgesBy b source p ts v) (sym none) (subst (λ xs. JudgesBy None source p xs v) e h)
+
+pub refused_by : (bad : Option ℕ) (source : Source) (p : Position) (us ts : List Placed) (r : Refusal) → bad ≡ None → us ≡ ts → (r ≡ refusal.NoMemory) ⊎ ((s : Source) (q : Position) → JudgesBy None s q us (Refused r)) → (r ≡ refusal.NoMemory) ⊎ JudgesBy bad source p ts (Refused r)
+refused_by bad source p us ts r none e (inl h) = inl h
+refused_by bad source p us ts r none e (inr h) = inr (judges_by bad source p us ts (Refused r) none e (h source p))

@@ -1,8 +1,9 @@
 -- What judging a clause answers.
-use Rattle.std.specs.Prelude.{◌≡◌, ℕ, ◌+◌, ◌≤◌, true, List, length, ◌⊎◌, Some, None, Result, Ok, Err}
+use Rattle.std.specs.Prelude.{◌≡◌, ℕ, ◌+◌, ◌≤◌, true, List, [], ◌∷◌, length, ◌⊎◌, Option, Some, None, Result, Ok, Err}
 use Rattle.std.specs.declared.alloc.Global.{Global}
 use Rattle.std.specs.declared.vec.Vec.{Vec}
 use Rattle.ap_lexer.specs.Lexeme.{Text}
+use Rattle.ap_lexer.specs.declared.cut.Piece.{Piece}
 use Rattle.ap_term.specs.Tree.{Tree}
 use Rattle.ap_term.specs.AtomTable.{capacity}
 use Rattle.ap_lifting.specs.Rule.{Rule, IsRule}
@@ -11,13 +12,14 @@ use Rattle.ap_clause.specs.declared.refusal.What.{What}
 use Rattle.ap_clause.specs.declared.refusal.Refusal.{Refusal}
 use Rattle.ap_clause.specs.declared.refusal.Refusal.TheVariants as refusal
 use Rattle.ap_clause.specs.declared.source.Source.{Source}
+use Rattle.ap_clause.specs.declared.source.Source.TheVariants as source
 use Rattle.ap_clause.specs.declared.judge.Counts.{Counts}
 use Rattle.ap_clause.specs.declared.judge.Read.{Read}
 use Rattle.ap_clause.specs.declared.limit.TheConstants.{MAX_VARIABLES}
 use Rattle.ap_clause.specs.Clause.{halves, rule_of}
 use Rattle.ap_clause.specs.Outside.{first_outside}
 use Rattle.ap_clause.specs.Limit.{is_narrow, passed, clauses_after}
-use Rattle.ap_clause.specs.Reads.{Position, Taken, Verdict, Refused, Took, Outcome, Stopped, Whole}
+use Rattle.ap_clause.specs.Reads.{Position, Taken, Verdict, Refused, Took, Judges, Outcome, Stopped, Whole}
 
 -- a term whose head and goals can be called, once it isn't too large and has no name from outside
 abbrev pub CanBeRule : Source → Tree → ℕ → ℕ → Type 0
@@ -46,6 +48,14 @@ AreCounted rules counts table = (length table + counts.lifted ≤ capacity) × (
 abbrev pub Gives : (Verdict → Type 0) → List Text → Result Read Refusal → Type 0
 Gives J table (Ok r) = J (Took (taken_of table r))
 Gives J table (Err e) = (e ≡ refusal.NoMemory) ⊎ J (Refused e)
+
+-- What reading on answers where these pieces are left: the next clause, behind which the others are left; that none is;
+-- a refusal; or want of memory.
+abbrev pub ReadsOn : Text → List Piece → List Piece → Counts → List Text → List Text → Result (Option Read) Refusal → Type 0
+ReadsOn text ps others before old new (Ok (Some r)) = (piece : Piece) × (ps ≡ piece ∷ others) × Judges source.Program text (position old before) piece (Took (taken_of new r))
+ReadsOn text ps others before old new (Ok None) = (ps ≡ []) × (new ≡ old)
+ReadsOn text ps others before old new (Err e) =
+    (e ≡ refusal.NoMemory) ⊎ ((piece : Piece) × (behind : List Piece) × (ps ≡ piece ∷ behind) × Judges source.Program text (position old before) piece (Refused e))
 
 abbrev pub GivesAll : (Outcome → Type 0) → List Text → Result (Vec Rule Global × Counts) Refusal → Type 0
 GivesAll J table (Ok p) = J (Whole p.0.items (position table p.1))

@@ -1,55 +1,80 @@
 //! Reads a program, and a query beside one.
 
-ghost use Rattle.std.specs.Prelude.{◌≡◌, ◌≤◌, ◌⊎◌, List, [], length, slice_index, IfOk, IfErr, OnErr, Contains};
+ghost use Rattle.std.specs.Prelude.{◌≡◌, ◌<◌, ◌≤◌, ◌⊎◌, List, [], length, slice_index, IfOk, IfErr, IfSome, OnOk, OnErr, Contains};
 ghost use Rattle.ap_term.specs.declared.fixed.TheConstants.{QUERY};
 ghost use Rattle.ap_term.specs.Tree.{atom};
 ghost use Rattle.ap_lifting.specs.Sizes.{predicates_if};
 ghost use Rattle.ap_lexer.specs.Piece.{pieces as pieces_of};
+ghost use Rattle.ap_lexer.specs.Cutter.{Stands, text_of, left};
 ghost use Rattle.ap_reader.specs.Build.{Extends};
 ghost use Rattle.ap_clause.specs.declared.refusal.Refusal.TheVariants as refusal;
 ghost use Rattle.ap_clause.specs.Reads as spec;
 ghost use Rattle.ap_clause.specs.Reads.{AcceptsProgram, RefusesProgram, AcceptsQuery, RefusesQuery};
-ghost use Rattle.ap_clause.specs.Verdict.{GivesAll, AreCounted};
+ghost use Rattle.ap_clause.specs.Verdict.{ReadsOn, GivesAll, IsCounted, AreCounted};
 
 use crate::fresh::fresh_names;
 use crate::judge::{Counts, Read};
 use crate::refusal::Refusal;
 use crate::source::Source;
-use crate::take::take_piece;
-use ap_lexer::{Piece, pieces};
+use crate::take::{take_piece, take_tokens};
+use ap_lexer::{Cutter, Piece, Token};
 use ap_lifting::{Lifted, Rule, lift_program, lift_question};
 use ap_term::{Atom, Atoms, Name, NoMemory, Program, Query};
 use std::alloc::Global;
 
-/// The clauses of a text's pieces, before anything is lifted.
-fn take_all(
+/// Reads the next clause of a text, if there is one.
+fn take_next<'a>(
     alloc: Global,
-    text: &[u8],
-    pieces: &[Piece],
+    cutter: &mut Cutter<'a>,
+    tokens: &mut Vec<Token<'a>>,
+    before: Counts,
     atoms: &mut Atoms,
-) -> Result<(Vec<Rule>, Counts), Refusal>
-    requires { pieces.now ≡ pieces_of text.now }
-    ensures verdict { GivesAll (λ out. spec.Reads text.now pieces.now (spec.start atoms.old) [] out) atoms.new result }
+) -> Result<Option<Read>, Refusal>
+    requires { Stands cutter.old }
+    ensures text { text_of cutter.new ≡ text_of cutter.old }
+    ensures stands { OnOk result (Stands cutter.new) }
+    ensures next { ReadsOn (text_of cutter.old) (left cutter.old) (left cutter.new) before atoms.old atoms.new result }
+    ensures fewer { IfOk result (λ r. IfSome r (λ read. length (left cutter.new) < length (left cutter.old))) }
+    ensures counted { IfOk result (λ r. IfSome r (λ read. IsCounted before read atoms.new)) }
+    ensures grows { Extends atoms.old atoms.new }
+{
+    let piece = match cutter.next(tokens) {
+        Ok(Some(piece)) => piece,
+        Ok(None) => return Ok(None),
+        Err(_) => return Err(Refusal::NoMemory),
+    };
+    match take_tokens(alloc, Source::Program, &piece, tokens, before, atoms) {
+        Ok(read) => Ok(Some(read)),
+        Err(refusal) => Err(refusal),
+    }
+}
+
+/// The clauses of a text, before anything is lifted.
+fn take_all(alloc: Global, text: &[u8], atoms: &mut Atoms) -> Result<(Vec<Rule>, Counts), Refusal>
+    ensures verdict { GivesAll (λ out. spec.Reads text.now (pieces_of text.now) (spec.start atoms.old) [] out) atoms.new result }
     ensures counted { IfOk result (λ p. AreCounted p.0.items p.1 atoms.new) }
     ensures grows { Extends atoms.old atoms.new }
 {
     let _room = atoms.mark();
+    let mut cutter = Cutter::new(text);
+    let mut tokens = Vec::new(alloc);
     let mut rules = Vec::new(alloc);
     let mut counts = Counts {
         lifted: 0,
         clauses: 0,
     };
-    for piece in pieces {
-        let read = match take_piece(alloc, Source::Program, text, piece, counts, atoms) {
-            Ok(read) => read,
+    loop {
+        match take_next(alloc, &mut cutter, &mut tokens, counts, atoms) {
+            Ok(Some(read)) => {
+                counts = read.counts;
+                let Ok(()) = rules.push(read.rule) else {
+                    return Err(Refusal::NoMemory);
+                };
+            }
+            Ok(None) => return Ok((rules, counts)),
             Err(refusal) => return Err(refusal),
-        };
-        counts = read.counts;
-        let Ok(()) = rules.push(read.rule) else {
-            return Err(Refusal::NoMemory);
-        };
+        }
     }
-    Ok((rules, counts))
 }
 
 fn read_program(alloc: Global, text: &[u8], atoms: &mut Atoms) -> Result<Program, Refusal>
@@ -57,10 +82,7 @@ fn read_program(alloc: Global, text: &[u8], atoms: &mut Atoms) -> Result<Program
     ensures refuses { IfErr result (λ r. (r ≡ refusal.NoMemory) ⊎ RefusesProgram text.now atoms.old r) }
     ensures grows { Extends atoms.old atoms.new }
 {
-    let Ok(pieces) = pieces(alloc, text) else {
-        return Err(Refusal::NoMemory);
-    };
-    let (rules, counts) = match take_all(alloc, text, &pieces, atoms) {
+    let (rules, counts) = match take_all(alloc, text, atoms) {
         Ok(all) => all,
         Err(refusal) => return Err(refusal),
     };

@@ -1,7 +1,7 @@
 //! The verdict on a piece of a text.
 
 ghost use Rattle.std.specs.Prelude.{◌≡◌, ◌⊎◌, List, None, Ok, IfOk, IfErr, Contains, map};
-ghost use Rattle.ap_lexer.specs.Token.{Placed, tokens as tokens_of};
+ghost use Rattle.ap_lexer.specs.Token.{Placed, view};
 ghost use Rattle.ap_lexer.specs.Piece.{pieces as pieces_of};
 ghost use Rattle.ap_term.specs.AtomTable.{capacity};
 ghost use Rattle.ap_term.specs.TermView.{tree_of};
@@ -20,10 +20,13 @@ use crate::form::{Form, form_by};
 use crate::judge::{Counts, Read, judge};
 use crate::refusal::Refusal;
 use crate::source::Source;
-use ap_lexer::{LexErr, Piece, tokens};
+use ap_lexer::{LexErr, Piece, Token, tokens};
 use ap_reader::{ReadErr, WrittenTerm, parse};
 use ap_term::{Atoms, NoMemory};
 use std::alloc::Global;
+
+/// How many tokens room is kept for from one clause to the next.
+const COMMON_ROOM: usize = 1024;
 
 fn fits(source: Source, form: Form) -> bool
     ensures { (x : Written) → form ≡ form_of x → result ≡ spec.fits source x }
@@ -80,23 +83,49 @@ fn take(
     }
 }
 
-/// What stands for the term that a piece's tokens spell. The tokens are let go before it is built.
-fn written_in<'a>(alloc: Global, text: &'a [u8], piece: &Piece) -> Result<WrittenTerm<'a>, Refusal>
-    requires { Contains (pieces_of text.now) piece.now }
-    ensures ok { IfOk result (λ w. (piece.now.bad ≡ None) × Parsed (tokens_of text.now piece.now) (Ok w)) }
-    ensures err { IfErr result (λ r. (r ≡ refusal.NoMemory) ⊎ ((source : Source) (p : Position) → spec.Judges source text.now p piece.now (spec.Refused r))) }
+/// Lets tokens go, but for the room of those of a common clause.
+fn let_go(tokens: &mut Vec<Token>) {
+    tokens.clear();
+    tokens.shrink_to(COMMON_ROOM);
+}
+
+/// What stands for the term that tokens spell, none of which is bad.
+fn written_in<'a>(alloc: Global, tokens: &[Token<'a>]) -> Result<WrittenTerm<'a>, Refusal>
+    ensures ok { IfOk result (λ w. Parsed (map view tokens.now) (Ok w)) }
+    ensures err { IfErr result (λ r. (r ≡ refusal.NoMemory) ⊎ ((source : Source) (p : Position) → spec.JudgesBy None source p (map view tokens.now) (spec.Refused r))) }
 {
-    let tokens = match tokens(alloc, text, piece) {
-        Ok(tokens) => tokens,
-        Err(LexErr::BadToken { line }) => return Err(Refusal::BadToken { line }),
-        Err(LexErr::NoMemory) => return Err(Refusal::NoMemory),
-    };
-    match parse(alloc, &tokens) {
+    match parse(alloc, tokens) {
         Ok(written) => Ok(written),
         Err(ReadErr::NotAClause { line }) => Err(Refusal::NotAClause { line }),
         Err(ReadErr::TooDeep { line }) => Err(Refusal::TooDeep { line }),
         Err(ReadErr::TooManyAtoms { line }) => Err(Refusal::TooManyAtoms { line }),
         Err(ReadErr::NoMemory) => Err(Refusal::NoMemory),
+    }
+}
+
+/// The verdict on a piece by its tokens, behind so many lifted predicates and clauses. The tokens are let go before
+/// their term is built; the table may have some of its names after an error.
+pub(crate) fn take_tokens(
+    alloc: Global,
+    source: Source,
+    piece: &Piece,
+    tokens: &mut Vec<Token>,
+    before: Counts,
+    atoms: &mut Atoms,
+) -> Result<Read, Refusal>
+    ensures verdict { Gives (λ v. spec.JudgesBy piece.now.bad source (position atoms.old before) (map view tokens.old.items) v) atoms.new result }
+    ensures counted { IfOk result (λ r. IsCounted before r atoms.new) }
+    ensures grows { Extends atoms.old atoms.new }
+{
+    if let Some(line) = piece.bad {
+        return Err(Refusal::BadToken { line });
+    }
+    match written_in(alloc, tokens.as_slice()) {
+        Ok(written) => {
+            let_go(tokens);
+            take(alloc, source, written, before, atoms)
+        }
+        Err(refusal) => Err(refusal),
     }
 }
 
@@ -115,8 +144,10 @@ pub(crate) fn take_piece(
     ensures counted { IfOk result (λ r. IsCounted before r atoms.new) }
     ensures grows { Extends atoms.old atoms.new }
 {
-    match written_in(alloc, text, piece) {
-        Ok(written) => take(alloc, source, written, before, atoms),
-        Err(refusal) => Err(refusal),
-    }
+    let mut tokens = match tokens(alloc, text, piece) {
+        Ok(tokens) => tokens,
+        Err(LexErr::BadToken { line }) => return Err(Refusal::BadToken { line }),
+        Err(LexErr::NoMemory) => return Err(Refusal::NoMemory),
+    };
+    take_tokens(alloc, source, piece, &mut tokens, before, atoms)
 }
