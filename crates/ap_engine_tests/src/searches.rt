@@ -103,6 +103,8 @@ struct After(u32);
 impl Hook for After {
     ghost asked = { λ h. h.0 ≡ 0 };
 
+    ghost is_wanted = { λ h. true };
+
     fn poll(&mut self) -> bool {
         if self.0 > 0 {
             self.0 -= 1;

@@ -29,6 +29,8 @@ struct Never(bool);
 impl Hook for Never {
     ghost asked = { λ h. ⊥ };
 
+    ghost is_wanted = { λ h. h.0 };
+
     fn poll(&mut self) -> bool {
         false
     }

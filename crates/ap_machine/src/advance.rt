@@ -1,6 +1,6 @@
 //! The search, one call after another.
 
-ghost use Rattle.std.specs.Prelude.{◌≡◌, ◌+◌, ◌-◌, ◌^◌, ◌<◌, ◌≤◌, List, max, true, false, None, Some, Ok, IfOk, IfSome, IfNone, OnErr, slice_get};
+ghost use Rattle.std.specs.Prelude.{◌≡◌, ◌+◌, ◌-◌, ◌^◌, ◌<◌, ◌≤◌, List, max, Bool, true, false, None, Some, Ok, IfOk, IfSome, IfNone, OnErr, slice_get};
 ghost use Rattle.ap_tracked.specs.Tracked.{Tracked};
 ghost use Rattle.ap_ledger.specs.Counts.{capped};
 ghost use Rattle.ap_instr.specs.declared.instruction.Instr.TheVariants.{Builtin as builtin_instr};
@@ -43,14 +43,19 @@ pub trait Hook {
     /// It was asked to stop, which stays so.
     ghost asked: { Self → Type 0 };
 
+    /// Goals of groups are wanted, or they aren't, which stays so.
+    ghost is_wanted: { Self → Bool };
+
     /// Whether it was asked to stop.
     fn poll(&mut self) -> bool
         ensures yes { result ≡ true → asked self.new }
         ensures no { result ≡ false → asked self.new → asked self.old }
-        ensures stays { asked self.old → asked self.new };
+        ensures stays { asked self.old → asked self.new }
+        ensures wish { is_wanted self.new ≡ is_wanted self.old };
 
     /// Whether goals of groups are wanted by others. Where they aren't, a group that has a check runs its goals in turn.
-    fn wants(&self) -> bool;
+    fn wants(&self) -> bool
+        ensures { result ≡ is_wanted self.now };
 }
 
 impl Search {
@@ -156,6 +161,7 @@ impl Search {
         ensures end { IfOk result (λ found. IfSome found (λ end. Ends sound.now left self.old self.new end)) }
         ensures stopped { result ≡ Ok (Some Turn.Stopped) → H.asked hook.new }
         ensures asked { H.asked hook.old → H.asked hook.new }
+        ensures wish { H.is_wanted hook.new ≡ H.is_wanted hook.old }
     {
         let due = self.find_due(sound)?;
         if let Some(end) = self.end_at(due) {
@@ -185,6 +191,7 @@ impl Search {
         ensures end { IfOk result (λ turn. Ends sound.now inferences self.old self.new turn) }
         ensures stopped { result ≡ Ok Turn.Stopped → H.asked hook.new }
         ensures asked { H.asked hook.old → H.asked hook.new }
+        ensures wish { H.is_wanted hook.new ≡ H.is_wanted hook.old }
     {
         let mut left = inferences;
         'turns: loop {
@@ -215,6 +222,7 @@ impl Search {
         ensures states { IfOk result (λ turn. (ss : List Tracked) → Holds sound.now self.new.machine ss → AreStates self.new.machine ss turn) }
         ensures stopped { result ≡ Ok Turn.Stopped → H.asked hook.new }
         ensures asked { H.asked hook.old → H.asked hook.new }
+        ensures wish { H.is_wanted hook.new ≡ H.is_wanted hook.old }
     {
         let before = self.spent();
         let turn = self.advance_by(sound, inferences, hook);

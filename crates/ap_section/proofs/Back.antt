@@ -169,6 +169,12 @@ take-length (x ∷ xs) y = ap (λ ys. x ∷ ys) (take-length xs y)
 take-front : {A : Type 0} (xs : List A) (y : A) (n : ℕ) → n ≡ length xs → take n (xs ++ y ∷ []) ≡ xs
 take-front xs y n e = ap (λ k. take k (xs ++ y ∷ [])) e ∙ take-length xs y
 
+-- the frames that are left are those before it
+pub left-before : (s : Section) (p : Paused) (v : Vec (Frame Section Trees) Global) (f : Frame Section Trees) (t : Top s f)
+    → v.items ≡ take (vec_len (out-Section (searching s p)).frames - 1) (out-Section (searching s p)).frames.items → v.items ≡ t.before
+left-before s p v f t rest = rest ∙ ap (λ z. take (vec_len z.frames - 1) z.frames.items) (out-roll-Section (record (out-Section s) { search = p })) ∙ ap (take (vec_len (out-Section s).frames - 1)) t.items
+    ∙ take-front t.before f (vec_len (out-Section s).frames - 1) (sym (length-before (out-Section s).frames t.before f t.items))
+
 module _ (law : ReachingLaw) (code : Compiled) (s : Section) (p : Paused) (shut : IsShut code s) (end : IsAtEnd (machine_in (view_of s))) (is_for : IsFor code (out-Section s).search → IsFor code p) (f : Frame Section Trees) (t : Top s f) where
   shut-now : IsShutNow code (out-Section s)
   shut-now = shut-out code s shut
@@ -194,10 +200,6 @@ module _ (law : ReachingLaw) (code : Compiled) (s : Section) (p : Paused) (shut 
     is-searching : out-Section (searching s p) ≡ record (out-Section s) { search = p }
     is-searching = out-roll-Section (record (out-Section s) { search = p })
 
-    fewer : v.items ≡ t.before
-    fewer = rest ∙ ap (λ z. take (vec_len z.frames - 1) z.frames.items) is-searching ∙ ap (take (vec_len (out-Section s).frames - 1)) t.items
-        ∙ take-front t.before f (vec_len (out-Section s).frames - 1) (sym (length-before (out-Section s).frames t.before f t.items))
-
     pub fewer-came : Came code s (with_fewer s p v)
     fewer-came = subst (Came code s) (sym (ap (λ z. roll-Section (record z { frames = v })) is-searching))
-        (came code s (record (out-Section s) { search = p; frames = v }) (dropped-leads law code (out-Section s) p shut-now (at-end s end) (is_for shut-now.0.0) f t.before t.items v fewer none come))
+        (came code s (record (out-Section s) { search = p; frames = v }) (dropped-leads law code (out-Section s) p shut-now (at-end s end) (is_for shut-now.0.0) f t.before t.items v (left-before s p v f t rest) none come))

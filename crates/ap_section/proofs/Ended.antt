@@ -16,7 +16,7 @@ use Rattle.ap_tie.specs.Sections.{section, Stack}
 use Rattle.ap_tie.specs.Settled.{AreClosed}
 use Rattle.ap_tied.specs.Settling as tied
 use Rattle.ap_tied.specs.Ties.{stack_in}
-use Rattle.ap_section.specs.declared.advance.Turn.TheVariants.{Answer, Spent, More}
+use Rattle.ap_section.specs.declared.advance.Turn.TheVariants.{Answer}
 use Rattle.ap_section.specs.Ends.{IsCallNext, Ends}
 use Rattle.ap_section.specs.Moving.{IsEndedBy}
 

@@ -18,7 +18,7 @@ use Rattle.ap_tied.specs.Reaching.{ReachingLaw}
 use Rattle.ap_section.specs.declared.section.Section.{Section, out-Section}
 use Rattle.ap_section.specs.declared.section.Section.TheOpen.{Section-F}
 use Rattle.ap_section.specs.Views.{view_of, spent_in}
-use Rattle.ap_section.specs.Ready.{Shape, shape_of, AreMatched, AreShut, AreInOrder, IsAtNewest, IsReady, IsShut}
+use Rattle.ap_section.specs.Ready.{shape_of, AreMatched, AreShut, AreInOrder, IsAtNewest, IsReady, IsShut}
 use Rattle.ap_section.specs.Slots.{IsAtFrame, IsAtDueFrame, IsSlotOf}
 use Rattle.ap_section.specs.Moving.{HasMoved}
 use Rattle.ap_section.proofs.Levels.{slots_now, stack_now, seen_as, view_of-out}

@@ -1,5 +1,5 @@
 -- What is told of slots once one of them stands otherwise, or those behind one are readied.
-use Rattle.std.proofs.Common.{◌≡◌, ◌∙◌, ℕ, zero, suc, ◌-◌, ◌<◌, ◌≤◌, List, [], ◌∷◌, length, slice_get, ap, sym, subst, refl, Option, Some, None, Bool, true, false, rules}
+use Rattle.std.proofs.Common.{◌≡◌, ◌∙◌, ℕ, zero, suc, ◌-◌, ◌<◌, ◌≤◌, length, slice_get, ap, sym, subst, refl, Option, Some, None, Bool, true, false, rules}
 use Rattle.std.proofs.lemmas.Bool.{false≢true}
 use Rattle.ap_frames.specs.declared.slots.Stand.{Stand}
 use Rattle.ap_frames.specs.declared.slots.Stand.TheVariants.{Ready, Waiting, Running, Answered, Replayed, Ended, GivenBack}

@@ -1,10 +1,13 @@
 -- A section lends its newest frame.
-use Rattle.std.specs.Prelude.{ℕ, ◌-◌, vec_len}
+use Rattle.std.specs.Prelude.{ℕ, ◌-◌, List, vec_len}
 use Rattle.std.specs.Vec.{with_item}
 use Rattle.ap_term.specs.Tree.{Trees}
 use Rattle.ap_frames.specs.declared.frame.Frame.{Frame}
-use Rattle.ap_frames.specs.contracts.frame.Frame as frames
 use Rattle.ap_section.specs.declared.section.Section.{Section, roll-Section, out-Section}
+
+-- the oldest one first
+abbrev pub frames_in : Section → List (Frame Section Trees)
+frames_in s = (out-Section s).frames.items
 
 abbrev pub count_in : Section → ℕ
 count_in s = vec_len (out-Section s).frames

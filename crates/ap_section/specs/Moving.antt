@@ -1,18 +1,21 @@
 -- What a section is after some moves.
-use Rattle.std.specs.Prelude.{◌≡◌, ℕ, ◌+◌, ◌-◌, ◌<◌, ◌≤◌, replicate, false}
+use Rattle.std.specs.Prelude.{◌≡◌, ℕ, ◌+◌, ◌-◌, ◌<◌, ◌≤◌, ◌⊎◌, replicate, false}
 use Rattle.ap_term.specs.Tree.{Trees}
+use Rattle.ap_term.specs.Blocks.{IsPrefix}
 use Rattle.ap_frames.specs.declared.frame.Frame.{Frame}
 use Rattle.ap_frames.specs.Rows.{row, opened}
 use Rattle.ap_instr.specs.Code.{Compiled}
 use Rattle.ap_machine.specs.declared.advance.Turn.{Turn as SearchTurn}
 use Rattle.ap_machine.specs.declared.advance.Turn.TheVariants.{Answer, Failed, Spent, More, Stopped, Group}
 use Rattle.ap_machine.specs.Stands.{IsAtEnd, IsAtGroup}
+use Rattle.ap_machine.specs.Forking.{HasForked, HasGoneOn, IsAtUnchecked}
 use Rattle.ap_tie.specs.Sections as seen
 use Rattle.ap_tie.specs.Sections.{section}
 use Rattle.ap_tie.specs.Tied.{IsAtAnswer}
 use Rattle.ap_tied.specs.Ties.{Goes}
-use Rattle.ap_section.specs.declared.section.Section.{Section}
-use Rattle.ap_section.specs.Views.{spent_in, budget_in}
+use Rattle.ap_section.specs.declared.section.Section.{Section, out-Section}
+use Rattle.ap_section.specs.Views.{view_of, spent_in, budget_in}
+use Rattle.ap_section.specs.Lending.{frames_in, count_in}
 use Rattle.ap_section.specs.declared.advance.Turn.{Turn}
 use Rattle.ap_section.specs.Ends.{IsCallNext, Ends}
 use Rattle.ap_section.specs.Owed.{owed}
@@ -41,3 +44,28 @@ IsEndedBy code left s (section m c b st) Group = IsAtGroup code m
 -- why it comes back there, wherever it began
 abbrev pub IsRested : Compiled → seen.Section → Turn → Type 0
 IsRested code t turn = (n : ℕ) (s : seen.Section) → Ends code n s t turn
+
+-- ---- what is wanted
+
+-- the group that was forked last has no check
+pub record ForksUnchecked (code : Compiled) (s t : Section) : Type 0 where
+  pub from : Section
+  pub moved : HasMoved code (view_of s) (view_of from)
+  pub frames : IsPrefix (frames_in from) (frames_in s)
+  pub forked : HasForked code (out-Section from).search (out-Section t).search
+  pub unchecked : IsAtUnchecked code (out-Section from).search.machine
+
+-- no frame is new, or the newest one is of a group without a check
+abbrev pub ForksUnasked : Compiled → Section → Section → Type 0
+ForksUnasked code s t = IsPrefix (frames_in t) (frames_in s) ⊎ ForksUnchecked code s t
+
+-- a group was left, a check of which doesn't hold, or an instruction of which can't be taken
+pub record LeavesGroup (code : Compiled) (s t : Section) : Type 0 where
+  pub from : Section
+  pub moved : HasMoved code (view_of s) (view_of from)
+  pub frames : frames_in t ≡ frames_in s
+  pub gone_on : HasGoneOn code (out-Section from).search (out-Section t).search
+
+-- a frame was dropped, or a group was left as it can't be forked
+abbrev pub GoesPast : Compiled → Section → Section → Type 0
+GoesPast code s t = (count_in t < count_in s) ⊎ LeavesGroup code s t

@@ -1,6 +1,7 @@
 //! The section, one move after another.
 
 ghost use Rattle.std.specs.Prelude.{◌≡◌, ◌+◌, ◌-◌, ◌<◌, ◌≤◌, max, length, replicate, true, false, Ok, Some, None, IfOk, IfSome};
+ghost use Rattle.ap_term.specs.Blocks.{IsPrefix};
 ghost use Rattle.ap_instr.specs.Code.{Compiled};
 ghost use Rattle.ap_machine.specs.View.{Paused};
 ghost use Rattle.ap_machine.specs.Stands.{IsAtEnd, IsAtGroup};
@@ -12,8 +13,8 @@ ghost use Rattle.ap_section.specs.Views.{view_of, spent_in, budget_in};
 ghost use Rattle.ap_section.specs.declared.section.Section.{out-Section};
 ghost use Rattle.ap_section.specs.Ready.{IsReady, IsShut};
 ghost use Rattle.ap_section.specs.Slots.{IsAtDueFrame};
-ghost use Rattle.ap_section.specs.Lending.{count_in};
-ghost use Rattle.ap_section.specs.Moving.{HasMoved, IsOpened, IsEndedBy, IsRested};
+ghost use Rattle.ap_section.specs.Lending.{frames_in, count_in};
+ghost use Rattle.ap_section.specs.Moving.{HasMoved, IsOpened, IsEndedBy, IsRested, ForksUnasked, GoesPast};
 ghost use Rattle.ap_section.specs.Ends.{Ends};
 ghost use Rattle.ap_section.specs.Owed.{owed};
 
@@ -95,7 +96,7 @@ impl Section {
         ensures forked { result ≡ Ok true → IsAtDueFrame (view_of self.new) }
         ensures group { result ≡ Ok true → HasForked sound.now (out-Section self.old).search (out-Section self.new).search }
         ensures gone_on { result ≡ Ok false → HasGoneOn sound.now (out-Section self.old).search (out-Section self.new).search }
-        ensures frames { result ≡ Ok false → count_in self.new ≡ count_in self.old }
+        ensures frames { result ≡ Ok false → frames_in self.new ≡ frames_in self.old }
     {
         reaching_law();
         let frame = self.open_frame(sound)?;
@@ -119,7 +120,7 @@ impl Section {
         ensures unwanted { wanted ≡ false → result ≡ Ok true → IsAtUnchecked sound.now (machine_in (view_of self.old)) }
         ensures wanted { wanted ≡ true → result ≡ Ok false → HasGoneOn sound.now (out-Section self.old).search (out-Section self.new).search }
         ensures group { result ≡ Ok true → HasForked sound.now (out-Section self.old).search (out-Section self.new).search }
-        ensures frames { result ≡ Ok false → count_in self.new ≡ count_in self.old }
+        ensures frames { result ≡ Ok false → frames_in self.new ≡ frames_in self.old }
     {
         if wanted {
             return self.fork(sound);
@@ -142,7 +143,7 @@ impl Section {
         ensures ready { (code : Compiled) → IsShut code self.old → IsReady code self.new }
         ensures end { IfSome result (λ turn. (code : Compiled) → IsShut code self.old → IsRested code (view_of self.new) turn) }
         ensures running { result ≡ Some Turn.Stopped → ⊥ }
-        ensures frames { count_in self.new ≤ count_in self.old }
+        ensures frames { IsPrefix (frames_in self.new) (frames_in self.old) }
         ensures dropped { result ≡ None → count_in self.new < count_in self.old }
     {
         reaching_law();
@@ -171,9 +172,10 @@ impl Section {
         ensures within { spent_in (view_of self.new) ≤ max (budget_in (view_of self.old)) (spent_in (view_of self.old)) }
         ensures few { spent_in (view_of self.new) ≤ spent_in (view_of self.old) + left }
         ensures end { IfOk result (λ turn. IsEndedBy sound.now left (view_of self.old) (view_of self.new) turn) }
-        ensures frames { count_in self.new ≡ count_in self.old }
+        ensures frames { frames_in self.new ≡ frames_in self.old }
         ensures stopped { result ≡ Ok SearchTurn.Stopped → H.asked hook.new }
         ensures asked { H.asked hook.old → H.asked hook.new }
+        ensures wish { H.is_wanted hook.new ≡ H.is_wanted hook.old }
     {
         reaching_law();
         let mut counted = Share::new();
@@ -195,6 +197,10 @@ impl Section {
         ensures end { IfOk result (λ found. IfSome found (λ turn. Ends sound.now left (view_of self.old) (view_of self.new) turn)) }
         ensures stopped { result ≡ Ok (Some Turn.Stopped) → H.asked hook.new }
         ensures asked { H.asked hook.old → H.asked hook.new }
+        ensures wish { H.is_wanted hook.new ≡ H.is_wanted hook.old }
+        ensures wanted { result ≡ Ok None → H.is_wanted hook.old ≡ true → GoesPast sound.now self.old self.new }
+        ensures unwanted { result ≡ Ok (Some Turn.Fork) → H.is_wanted hook.old ≡ false → ForksUnasked sound.now self.old self.new }
+        ensures frames { result ≡ Ok None → IsPrefix (frames_in self.new) (frames_in self.old) }
     {
         reaching_law();
         if self.is_open() {
@@ -230,6 +236,8 @@ impl Section {
         ensures end { IfOk result (λ turn. Ends sound.now inferences (view_of self.old) (view_of self.new) turn) }
         ensures stopped { result ≡ Ok Turn.Stopped → H.asked hook.new }
         ensures asked { H.asked hook.old → H.asked hook.new }
+        ensures wish { H.is_wanted hook.new ≡ H.is_wanted hook.old }
+        ensures unwanted { result ≡ Ok Turn.Fork → H.is_wanted hook.old ≡ false → ForksUnasked sound.now self.old self.new }
     {
         reaching_law();
         let before = self.spent();
@@ -265,6 +273,8 @@ impl Section {
         ensures end { IfOk result (λ turn. Ends sound.now inferences (view_of self.old) (view_of self.new) turn) }
         ensures stopped { result ≡ Ok Turn.Stopped → H.asked hook.new }
         ensures asked { H.asked hook.old → H.asked hook.new }
+        ensures wish { H.is_wanted hook.new ≡ H.is_wanted hook.old }
+        ensures unwanted { result ≡ Ok Turn.Fork → H.is_wanted hook.old ≡ false → ForksUnasked sound.now self.old self.new }
     {
         let before = self.spent();
         let turn = self.advance_by(sound, inferences, hook);

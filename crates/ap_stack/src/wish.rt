@@ -1,5 +1,7 @@
 //! What a section is told while it goes on.
 
+ghost use Rattle.std.specs.Prelude.{◌≡◌};
+
 use ap_machine::Hook;
 use std::cell::Cell;
 
@@ -13,7 +15,9 @@ pub(crate) struct Wish {
 }
 
 impl Wish {
-    pub(crate) fn new(wanted: bool) -> Wish {
+    pub(crate) fn new(wanted: bool) -> Wish
+        ensures { result.wanted ≡ wanted }
+    {
         Wish {
             wanted,
             passed: Cell::new(false),
@@ -27,6 +31,8 @@ impl Wish {
 
 impl Hook for Wish {
     ghost asked = { λ a. ⊥ };
+
+    ghost is_wanted = { λ a. a.wanted };
 
     fn poll(&mut self) -> bool {
         false

@@ -1,4 +1,4 @@
-use Rattle.std.proofs.Common.{◌≡◌, ◌+◌, ◌<◌, subst, arith}
+use Rattle.std.proofs.Common.{◌≡◌, ◌∙◌, ◌+◌, ◌<◌, subst, refl, arith}
 use Rattle.std.specs.Prelude.{IfNone}
 use Rattle.std.proofs.Math.Nat.{le-max_right}
 use Rattle.ap_machine.proofs.Progress.{stopped, Advanced-then, for-after}
@@ -10,6 +10,7 @@ turns-init g c = record {
   made = omega arith;
   within = le-max_right c.args.self.now.budget c.args.self.now.spent;
   asked = λ h. h;
+  wish = refl;
 }
 
 pub turn-requires : goal.turn-requires
@@ -30,4 +31,5 @@ turns-preserved g c =
       made = omega (arith, c.turns.invariant.made, made.0, made.1);
       within = omega (arith, c.turns.invariant.within);
       asked = λ h. c.turn.ensures.asked (c.turns.invariant.asked h);
+      wish = c.turn.ensures.wish ∙ c.turns.invariant.wish;
     }

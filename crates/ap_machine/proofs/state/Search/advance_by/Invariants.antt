@@ -11,4 +11,5 @@ invariant-turns g l = record {
   made : l.self.spent + l.left ≡ l.fn.self.spent + l.inferences;
   within : l.self.spent ≤ max l.fn.self.budget l.fn.self.spent;
   asked : g.H.Hook.asked l.fn.hook → g.H.Hook.asked l.hook;
+  wish : g.H.Hook.is_wanted l.hook ≡ g.H.Hook.is_wanted l.fn.hook;
 }

@@ -1,6 +1,6 @@
 use Rattle.std.proofs.Common.{ap, Ok}
 use Rattle.ap_section.proofs.Forked.{room-came, same-came, past-came, last-came, last-due, last-forked}
-use Rattle.ap_section.proofs.Counted.{count-room, past-group}
+use Rattle.ap_section.proofs.Counted.{frames-room, past-group}
 use Rattle.ap_section.proofs.section.Section.fork.Goals as goal
 
 pub returns-in_err-reserve-clause-moved : goal.returns-in_err-reserve-clause-moved
@@ -54,4 +54,4 @@ pub returns-else-forked-clause-gone_on : goal.returns-else-forked-clause-gone_on
 returns-else-forked-clause-gone_on c = λ e. past-group c.args.sound.now c.args.self.now c.reserve.new.self c.fork.new.self (c.in_ok-forked.ensures.gone_on (ap Ok c.if-forked.false))
 
 pub returns-else-forked-clause-frames : goal.returns-else-forked-clause-frames
-returns-else-forked-clause-frames c = λ e. count-room c.args.self.now c.reserve.new.self c.fork.new.self c.reserve.ensures.items
+returns-else-forked-clause-frames c = λ e. frames-room c.args.self.now c.reserve.new.self c.fork.new.self c.reserve.ensures.items

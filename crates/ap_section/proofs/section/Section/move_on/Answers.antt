@@ -1,6 +1,10 @@
-use Rattle.std.proofs.Common.{◌+◌, ◌≤◌, max, sym, subst}
+use Rattle.std.proofs.Common.{◌≡◌, ◌∙◌, ◌+◌, ◌≤◌, max, ap, sym, subst, inl, inr, Ok, None, arith}
+use Rattle.ap_term.specs.Blocks.{IsPrefix}
+use Rattle.ap_term.proofs.Lists.{prefix-refl}
 use Rattle.ap_section.specs.Views.{view_of, spent_in, budget_in}
 use Rattle.ap_section.specs.Moving.{IsEndedBy}
+use Rattle.ap_section.specs.Lending.{frames_in}
+use Rattle.ap_section.proofs.Counted.{frames-same, count-same, unchecked-now}
 use Rattle.ap_section.proofs.Shut.{moved-on, shut-view}
 use Rattle.ap_section.proofs.Ended.{answer-ends}
 use Rattle.ap_section.proofs.section.Section.move_on.Goals as goal
@@ -39,3 +43,39 @@ returns-in-Failed-clause-within g c =
 
 pub returns-in-Failed-clause-few : goal.returns-in-Failed-clause-few
 returns-in-Failed-clause-few g c = subst (λ n. n ≤ spent_in (view_of c.args.self.now) + c.args.left) (sym (c.come_back.ensures.spent c.args.sound.now c.search_on.ensures.shut)) c.search_on.ensures.few
+
+pub returns-in-Failed-clause-wanted : goal.returns-in-Failed-clause-wanted
+returns-in-Failed-clause-wanted g c = λ e w.
+    let none : c.come_back.result ≡ None = cc in
+    let fewer = c.come_back.ensures.dropped none in
+    let same = count-same c.args.self.now c.search_on.new.self c.search_on.ensures.frames in
+    inl (omega arith)
+
+pub returns-in-Failed-clause-unwanted : goal.returns-in-Failed-clause-unwanted
+returns-in-Failed-clause-unwanted g c = λ e w. inl (subst (IsPrefix (frames_in c.come_back.new.self)) c.search_on.ensures.frames c.come_back.ensures.frames)
+
+pub returns-in-Failed-clause-frames : goal.returns-in-Failed-clause-frames
+returns-in-Failed-clause-frames g c = λ e. subst (IsPrefix (frames_in c.come_back.new.self)) c.search_on.ensures.frames c.come_back.ensures.frames
+
+pub returns-then-is_open-clause-unwanted : goal.returns-then-is_open-clause-unwanted
+returns-then-is_open-clause-unwanted g c = λ e w. inl (prefix-refl (frames_in c.args.self.now))
+
+pub returns-then-branch-clause-unwanted : goal.returns-then-branch-clause-unwanted
+returns-then-branch-clause-unwanted g c = λ e w. inr (record {
+  from = c.search_on.new.self;
+  moved = c.search_on.ensures.moved;
+  frames = frames-same c.args.self.now c.search_on.new.self c.search_on.ensures.frames;
+  forked = c.in_ok-take_group-in-Group.ensures.group (ap Ok c.if-branch.true);
+  unchecked = unchecked-now c.args.sound.now c.search_on.new.self (c.in_ok-take_group-in-Group.ensures.unwanted (c.wants.ensures ∙ c.search_on.ensures.wish ∙ w) (ap Ok c.if-branch.true));
+})
+
+pub returns-else-branch-clause-wanted : goal.returns-else-branch-clause-wanted
+returns-else-branch-clause-wanted g c = λ e w. inr (record {
+  from = c.search_on.new.self;
+  moved = c.search_on.ensures.moved;
+  frames = c.in_ok-take_group-in-Group.ensures.frames (ap Ok c.if-branch.false) ∙ c.search_on.ensures.frames;
+  gone_on = c.in_ok-take_group-in-Group.ensures.wanted (c.wants.ensures ∙ c.search_on.ensures.wish ∙ w) (ap Ok c.if-branch.false);
+})
+
+pub returns-else-branch-clause-frames : goal.returns-else-branch-clause-frames
+returns-else-branch-clause-frames g c = λ e. frames-same c.args.self.now c.take_group.new.self (c.in_ok-take_group-in-Group.ensures.frames (ap Ok c.if-branch.false) ∙ c.search_on.ensures.frames)

@@ -9,7 +9,7 @@ use Rattle.ap_section.proofs.Levels.{stack_now, view_of-roll, view_of-out}
 use Rattle.ap_section.proofs.Parts.{shut-out, shut-roll}
 use Rattle.ap_section.proofs.Shut.{seen_now, moved-same, turned-now, turned-shut}
 use Rattle.ap_section.proofs.Ended.{search-ends, both-ok, ended-same}
-use Rattle.ap_section.proofs.Counted.{count-searching}
+use Rattle.ap_section.proofs.Counted.{frames-searching}
 use Rattle.ap_section.proofs.section.Section.search_on.Goals as goal
 
 pub returns-clause-moved : goal.returns-clause-moved
@@ -38,4 +38,4 @@ returns-clause-end g c =
     c.advance.ensures.end c.advance.ensures.states
 
 pub returns-clause-frames : goal.returns-clause-frames
-returns-clause-frames g c = count-searching c.args.self.now c.advance.new.self
+returns-clause-frames g c = frames-searching c.args.self.now c.advance.new.self

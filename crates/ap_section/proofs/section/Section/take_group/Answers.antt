@@ -3,7 +3,7 @@ use Rattle.std.specs.Prelude.{IfSome}
 use Rattle.ap_machine.specs.Forking.{HasPlainWay}
 use Rattle.ap_section.specs.declared.section.Section.{out-Section}
 use Rattle.ap_section.proofs.Forked.{plain-came}
-use Rattle.ap_section.proofs.Counted.{count-searching}
+use Rattle.ap_section.proofs.Counted.{frames-searching}
 use Rattle.ap_section.proofs.section.Section.take_group.Goals as goal
 
 pub returns-in-Some-clause-moved : goal.returns-in-Some-clause-moved
@@ -28,4 +28,4 @@ returns-in-Some-clause-ready c =
     (plain-came c.reaching_law.ensures code c.args.self.now c.go_plain.new.self to c.requires.shut c.requires.here way c.go_plain.ensures.goes (c.go_plain.ensures.is_for code way)).ready
 
 pub returns-in-Some-clause-frames : goal.returns-in-Some-clause-frames
-returns-in-Some-clause-frames c = λ e. count-searching c.args.self.now c.go_plain.new.self
+returns-in-Some-clause-frames c = λ e. frames-searching c.args.self.now c.go_plain.new.self
