@@ -2,7 +2,7 @@
 // where the search comes back. The code is that of
 //     p(1). p(2). p(3).
 //     q(X) :- p(X), X > 1.
-ghost use Rattle.std.specs.Prelude.{◌≡◌, IfOk};
+ghost use Rattle.std.specs.Prelude.{◌≡◌, true, IfOk};
 ghost use Rattle.ap_machine.specs.View.{IsFor};
 
 use ap_cells::{Cell, Cells, Top};
