@@ -1,11 +1,12 @@
 //! The goals of code by their places.
 
-ghost use Rattle.std.specs.Prelude.{◌≡◌, ℕ, ◌<◌, length, replicate, None, true, IfOk, IfSome, OnOk};
+ghost use Rattle.std.specs.Prelude.{◌≡◌, ℕ, ◌<◌, ◌≤◌, ◌++◌, length, take, replicate, None, true, IfOk, IfSome, OnOk};
+ghost use Rattle.std.specs.List.{list_all};
 ghost use Rattle.ap_direct.specs.Goals.{AsksFirst};
 ghost use Rattle.ap_direct.specs.Puts.{IsUnseen};
 ghost use Rattle.ap_instr.specs.Code.{Compiled};
 ghost use Rattle.ap_instr.specs.Steps.{steps_from};
-ghost use Rattle.ap_direct.specs.Table.{AreAsked, AreGoalsOf};
+ghost use Rattle.ap_direct.specs.Table.{AreAsked, AreGoalsOf, AreSameBefore, ends_within, stay_within};
 
 use crate::finding::{Placed, goal_on_registers, put_at};
 use crate::goal::{Direct, Goal, Operand, Part};
@@ -109,6 +110,7 @@ fn take(code: &Code, goals: &mut Vec<Option<Direct>>, at: usize) -> Option<Direc
     requires asked { AreAsked code.now goals.old.items }
     ensures asked { AreAsked code.now goals.new.items }
     ensures same { length goals.new.items ≡ length goals.old.items }
+    ensures before { AreSameBefore at goals.old.items goals.new.items }
     ensures found { IfSome result (λ d. AsksFirst code.now at d) }
 {
     mem::replace(&mut goals[at], None)
@@ -121,18 +123,20 @@ fn write(code: &Code, goals: &mut Vec<Option<Direct>>, at: usize, found: Option<
     requires found { IfSome found (λ d. AsksFirst code.now at d) }
     ensures asked { AreAsked code.now goals.new.items }
     ensures same { length goals.new.items ≡ length goals.old.items }
+    ensures before { AreSameBefore at goals.old.items goals.new.items }
 {
     let _before = mem::replace(&mut goals[at], found);
 }
 
-/// Takes out the goal behind what is put, if that can be taken into it.
-fn taken(code: &Code, goals: &mut Vec<Option<Direct>>, placed: Placed) -> Option<Direct>
+/// Takes out the goal behind what is put at a place, if that can be taken into it.
+fn taken(code: &Code, at: usize, goals: &mut Vec<Option<Direct>>, placed: Placed) -> Option<Direct>
     requires { AreAsked code.now goals.old.items }
     ensures asked { AreAsked code.now goals.new.items }
     ensures same { length goals.new.items ≡ length goals.old.items }
+    ensures before { AreSameBefore at goals.old.items goals.new.items }
     ensures found { IfSome result (λ d. AsksFirst code.now placed.to d × IsUnseen placed.register placed.put (steps_from code.now d.to)) }
 {
-    if placed.to >= goals.len() {
+    if placed.to <= at || placed.to >= goals.len() {
         return None;
     }
     let direct = take(code, goals, placed.to)?;
@@ -154,42 +158,47 @@ fn goal_at(
     requires { AreAsked code.now goals.old.items }
     ensures asked { OnOk result (AreAsked code.now goals.new.items) }
     ensures same { length goals.new.items ≡ length goals.old.items }
+    ensures before { AreSameBefore at goals.old.items goals.new.items }
     ensures found { IfOk result (λ o. IfSome o (λ d. AsksFirst code.now at d)) }
 {
     let Some(placed) = put_at(code, at) else {
         return Ok(goal_on_registers(code, at));
     };
-    let Some(direct) = taken(code, goals, placed) else {
+    let Some(direct) = taken(code, at, goals, placed) else {
         return Ok(None);
     };
     preceded(alloc, code, at, placed, direct)
 }
 
-/// No goals, at so many places.
-fn no_goals(alloc: Global, places: usize) -> Result<Vec<Option<Direct>>, NoMemory>
-    ensures { IfOk result (λ gs. gs.items ≡ replicate places None) }
+/// No goals at so many further places.
+fn add_none(goals: &mut Vec<Option<Direct>>, places: usize) -> Result<(), NoMemory>
+    ensures { OnOk result (goals.new.items ≡ goals.old.items ++ replicate places None) }
 {
-    let mut goals = Vec::new(alloc);
     let mut made = 0;
     'places: while made < places {
         goals.push(None)?;
         made += 1;
     }
-    Ok(goals)
+    Ok(())
 }
 
-/// The goals of code by their places.
-fn goals_of(alloc: Global, code: &Code) -> Result<Vec<Option<Direct>>, NoMemory>
-    ensures { IfOk result (λ gs. (length gs.items ≡ length code.now.instructions) × AreAsked code.now gs.items) }
+/// Finds the goals of code at its places behind those that are gone through.
+fn find_goals(alloc: Global, code: &Code, goals: &mut Vec<Option<Direct>>) -> Result<(), NoMemory>
+    requires fits { length goals.old.items ≤ length code.now.instructions }
+    requires asked { AreAsked code.now goals.old.items }
+    ensures asked { OnOk result (AreAsked code.now goals.new.items) }
+    ensures len { OnOk result (length goals.new.items ≡ length code.now.instructions) }
+    ensures before { OnOk result (AreSameBefore (length goals.old.items) goals.old.items goals.new.items) }
 {
+    let from = goals.len();
     let mut place = code.instructions().len();
-    let mut goals = no_goals(alloc, place)?;
-    'places: while place > 0 {
+    add_none(goals, place - from)?;
+    'places: while place > from {
         place -= 1;
-        let found = goal_at(alloc, code, place, &mut goals)?;
-        write(code, &mut goals, place, found);
+        let found = goal_at(alloc, code, place, goals)?;
+        write(code, goals, place, found);
     }
-    Ok(goals)
+    Ok(())
 }
 
 /// The goal at a place, unless an operand of it is a structure that was put just before.
@@ -200,28 +209,86 @@ fn stands_at(code: &Code, goals: &[Option<Direct>], at: usize) -> bool {
     }
 }
 
+/// Notes for places behind so many the first place behind each at which a goal begins, and lets go goals on structures.
+fn note_stops(code: &Code, from: usize, goals: &mut Vec<Option<Direct>>, stops: &mut [usize])
+    requires fits { length goals.old.items ≡ length stops.old }
+    requires asked { AreAsked code.now goals.old.items }
+    ensures asked { AreAsked code.now goals.new.items }
+    ensures same { length goals.new.items ≡ length goals.old.items }
+    ensures before { AreSameBefore from goals.old.items goals.new.items }
+{
+    let mut place = goals.len();
+    let mut stop = usize::MAX;
+    'places: while place > from {
+        place -= 1;
+        if is_transfer(code, place) {
+            stop = usize::MAX;
+        }
+        stops[place] = stop;
+        if stands_at(code, goals.as_slice(), place) {
+            stop = place;
+        } else {
+            let _lost = take(code, goals, place);
+        }
+    }
+}
+
+/// Whether the code behind a goal begins before a place.
+fn ends_within(goal: &Option<Direct>, places: usize) -> bool
+    ensures { result ≡ ends_within places goal.now }
+{
+    match goal {
+        Some(direct) => direct.to < places,
+        None => true,
+    }
+}
+
+fn end_within(goals: &[Option<Direct>], places: usize) -> bool
+    ensures { result ≡ list_all (ends_within places) goals.now }
+{
+    goals.iter().all(|goal| ends_within(goal, places))
+}
+
 impl Directs {
     /// The goals of code.
     pub fn of(alloc: Global, code: &Code) -> Result<Directs, NoMemory>
         ensures { IfOk result (λ d. AreGoalsOf code.now d) }
     {
-        let mut goals = goals_of(alloc, code)?;
-        let mut stops = vec![in alloc; usize::MAX; goals.len()]?;
-        let mut place = goals.len();
-        let mut stop = usize::MAX;
-        'places: while place > 0 {
-            place -= 1;
-            if is_transfer(code, place) {
-                stop = usize::MAX;
-            }
-            stops[place] = stop;
-            if stands_at(code, goals.as_slice(), place) {
-                stop = place;
-            } else {
-                let _lost = take(code, &mut goals, place);
-            }
-        }
-        Ok(Directs { goals, stops })
+        let mut directs = Directs {
+            goals: Vec::new(alloc),
+            stops: Vec::new(alloc),
+        };
+        directs.grow(alloc, code)?;
+        Ok(directs)
+    }
+
+    /// Puts in the goals of code at its places behind those that are gone through.
+    pub fn grow(&mut self, alloc: Global, code: &Code) -> Result<(), NoMemory>
+        requires fits { length self.old.goals.items ≤ length code.now.instructions }
+        requires asked { AreGoalsOf code.now self.old }
+        ensures asked { OnOk result (AreGoalsOf code.now self.new) }
+        ensures same { OnOk result (take (length self.old.goals.items) self.new.goals.items ≡ self.old.goals.items) }
+    {
+        let from = self.goals.len();
+        find_goals(alloc, code, &mut self.goals)?;
+        self.stops.resize(self.goals.len(), usize::MAX)?;
+        note_stops(code, from, &mut self.goals, self.stops.as_mut_slice());
+        Ok(())
+    }
+
+    /// Lets go what was put in for places behind so many.
+    pub fn cut_to(&mut self, places: usize)
+        ensures { self.new.goals.items ≡ take places self.old.goals.items }
+    {
+        self.goals.truncate(places);
+        self.stops.truncate(places);
+    }
+
+    /// Whether the goals begin and end before a place.
+    pub fn stay_within(&self, places: usize) -> bool
+        ensures { result ≡ stay_within places self.now }
+    {
+        self.goals.len() <= places && end_within(self.goals.as_slice(), places)
     }
 
     /// The goal that begins at a place.

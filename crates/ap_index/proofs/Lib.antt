@@ -1,4 +1,5 @@
 pub mod Asking
+pub mod Behind
 pub mod Building
 pub mod Keyed
 pub mod Left

@@ -3,3 +3,4 @@ pub mod Keys
 pub mod Hashing
 pub mod Index
 pub mod Opening
+pub mod Within

@@ -3,7 +3,8 @@
 //! that none is left.
 //!
 //! Stands on `ap_instr` and `ap_needs`. The contracts used above: `row` and `choice`, by which all clauses that are left out ask for
-//! another first argument, and what a head asks is needed, and, where the head is whole, enough.
+//! another first argument, and what a head asks is needed, and, where the head is whole, enough. An index grows with code that goes on behind its
+//! own (`grow`), where it leads to places of that alone (`is_within`).
 #![tactic(auto)]
 
 mod choice;
@@ -14,6 +15,7 @@ mod key;
 mod opening;
 mod row;
 mod rows;
+mod within;
 
 pub use choice::{Choice, Named, Next};
 pub use hashing::Hashed;

@@ -7,10 +7,12 @@ ghost use Rattle.ap_index.specs.declared.key.Key.{Key};
 ghost use Rattle.ap_index.specs.declared.rows.Entry.TheVariants.{Nothing};
 ghost use Rattle.ap_index.specs.Hashing.{slot_of};
 ghost use Rattle.ap_index.specs.Index.{LeavesOthers, tried_from, first_for, in_slot, named_from, IsFilled, IsRowOf, IsRestOf, IsLinkOf, IsEntryOf, AreRowsOf};
+ghost use Rattle.ap_index.specs.Within.{are_rows_within};
 
 use crate::hashing::Hashed;
 use crate::key::{Key, instruction_at, retry_key, trust_key, try_key};
 use crate::row::{Link, NONE, Row};
+use crate::within::{are_links_within, are_rows_within};
 use ap_instr::{Code, Instr};
 use ap_term::NoMemory;
 use std::alloc::Global;
@@ -238,6 +240,15 @@ impl Rows {
             return self.put_rest(start, row);
         }
         Ok(())
+    }
+
+    /// Whether all lead to places before one alone.
+    pub fn are_within(&self, places: usize) -> bool
+        ensures { result ≡ are_rows_within places self.now }
+    {
+        self.entries.len() <= places
+            && are_rows_within(self.rows.as_slice(), places)
+            && are_links_within(self.links.as_slice(), places)
     }
 
     /// The row of choices that begins at a place.

@@ -1,2 +1,4 @@
+pub mod Asking
+pub mod Behind
 pub mod Places
 pub mod Targets

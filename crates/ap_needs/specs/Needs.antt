@@ -1,5 +1,5 @@
 -- What runs of code need: from any place on to the next transfer of control.
-use Rattle.std.specs.Prelude.{◌≡◌, ℕ, ◌+◌, ◌<◌, ◌≤◌, Bool, true, false, ◌||◌, if◌then◌else◌, List, [], ◌∷◌, take, drop, slice_get, slice_index_or, Some}
+use Rattle.std.specs.Prelude.{◌≡◌, ℕ, ◌+◌, ◌<◌, ◌≤◌, Bool, true, false, ◌||◌, if◌then◌else◌, List, [], ◌∷◌, length, take, drop, slice_get, slice_index_or, Some}
 use Rattle.std.specs.List.{list_any}
 use Rattle.ap_instr.specs.declared.compiled.Predicate.{Predicate}
 use Rattle.ap_instr.specs.declared.instruction.Slot.{Slot}
@@ -73,6 +73,7 @@ wants (i ∷ is) = if is_transfer i then false else wants_memory i is || wants i
 -- what runs of the code need: at most so many cells, and memory just where the table says so
 pub record IsRoomOf (code : Compiled) (r : Room) : Type 0 where
   pub cells : (at : ℕ) → room (drop at code.instructions) ≤ r.cells
+  pub places : length r.wanting.items ≡ length code.instructions
   pub wanting : (at : ℕ) → slice_index_or r.wanting.items at false ≡ wants (drop at code.instructions)
 
 -- a register among so many X and Y registers

@@ -34,23 +34,23 @@ fn room_from(instr: &Instr, behind: usize) -> Result<usize, NoMemory>
     }
 }
 
-fn larger(a: usize, b: usize) -> usize
+pub(crate) fn larger(a: usize, b: usize) -> usize
     ensures left { a ≤ result }
     ensures right { b ≤ result }
 {
     if a < b { b } else { a }
 }
 
-/// The most cells that a run of the code makes, from any place on to a transfer of control. NoMemory where no store can have
-/// so many.
-pub(crate) fn most_room(code: &Code) -> Result<usize, NoMemory>
-    ensures { IfOk result (λ most. (at : ℕ) → room (drop at code.now.instructions) ≤ most) }
+/// The most cells that a run of the code makes, from one of its places behind so many on to a transfer of control. NoMemory where no store
+/// can have so many.
+pub(crate) fn most_room(code: &Code, from: usize) -> Result<usize, NoMemory>
+    ensures { IfOk result (λ most. (at : ℕ) → from ≤ at → room (drop at code.now.instructions) ≤ most) }
 {
     let instructions = code.instructions();
     let mut most = 0;
     let mut behind = 0;
     let mut place = instructions.len();
-    'places: while place > 0 {
+    'places: while place > from {
         place -= 1;
         behind = room_from(&instructions[place], behind)?;
         most = larger(most, behind);

@@ -1,11 +1,12 @@
 //! What runs of instructions need of a store.
 
-ghost use Rattle.std.specs.Prelude.{◌≡◌, drop, IfOk};
+ghost use Rattle.std.specs.Prelude.{◌≡◌, ◌≤◌, length, take, drop, IfOk, OnOk};
 ghost use Rattle.ap_instr.specs.Code.{Compiled};
+ghost use Rattle.ap_needs.specs.Behind.{Begins, StandsAlone};
 ghost use Rattle.ap_needs.specs.Needs.{wants, IsRoomOf};
 
-use crate::cells::most_room;
-use crate::wanting::wanting;
+use crate::cells::{larger, most_room};
+use crate::wanting::add_wanting;
 use ap_instr::Code;
 use ap_term::NoMemory;
 use std::alloc::Global;
@@ -24,10 +25,33 @@ impl Room {
     pub fn of(alloc: Global, code: &Code) -> Result<Room, NoMemory>
         ensures { IfOk result (λ room. IsRoomOf code.now room) }
     {
-        Ok(Room {
-            cells: most_room(code)?,
-            wanting: wanting(alloc, code)?,
-        })
+        let mut room = Room {
+            cells: 0,
+            wanting: Vec::new(alloc),
+        };
+        room.grow(code)?;
+        Ok(room)
+    }
+
+    /// Puts in what runs of longer code need, which begins with that whose runs' needs are known.
+    pub fn grow(&mut self, code: &Code) -> Result<(), NoMemory>
+        requires { length self.old.wanting.items ≤ length code.now.instructions }
+        ensures is { OnOk result ((base : Compiled) → Begins base code.now → StandsAlone base → IsRoomOf base self.old → IsRoomOf code.now self.new) }
+        ensures same { OnOk result (take (length self.old.wanting.items) self.new.wanting.items ≡ self.old.wanting.items) }
+    {
+        let behind = most_room(code, self.wanting.len())?;
+        add_wanting(code, &mut self.wanting)?;
+        self.cells = larger(self.cells, behind);
+        Ok(())
+    }
+
+    /// Lets go what was put in for places behind so many, before which a run made so many cells at most.
+    pub fn cut_to(&mut self, places: usize, cells: usize)
+        ensures cells { self.new.cells ≡ cells }
+        ensures wanting { self.new.wanting.items ≡ take places self.old.wanting.items }
+    {
+        self.cells = cells;
+        self.wanting.truncate(places);
     }
 
     /// Whether the run from a place on may want memory.

@@ -1,12 +1,11 @@
 //! Runs of instructions that may want memory.
 
-ghost use Rattle.std.specs.Prelude.{◌≡◌, ℕ, ◌||◌, length, drop, slice_index_or, false, if◌then◌else◌, IfOk};
+ghost use Rattle.std.specs.Prelude.{◌≡◌, ℕ, ◌≤◌, ◌||◌, length, take, drop, slice_index_or, false, if◌then◌else◌, OnOk};
 ghost use Rattle.ap_needs.specs.Needs.{is_transfer, is_value, has_value, wants_memory, wants};
 
 use crate::transfers::is_transfer;
 use ap_instr::{Code, Instr};
 use ap_term::NoMemory;
-use std::alloc::Global;
 
 /// Whether an instruction is that of an argument which a register holds.
 fn is_value(instr: &Instr) -> bool
@@ -46,19 +45,22 @@ fn wants_from(instr: &Instr, behind: &[Instr], they_want: bool) -> bool
     wants_memory(instr, behind) || they_want
 }
 
-/// By the places of code, whether a run from there on to a transfer of control may want memory.
-pub(crate) fn wanting(alloc: Global, code: &Code) -> Result<Vec<bool>, NoMemory>
-    ensures len { IfOk result (λ table. length table.items ≡ length code.now.instructions) }
-    ensures each { IfOk result (λ table. (at : ℕ) → slice_index_or table.items at false ≡ wants (drop at code.now.instructions)) }
+/// Puts behind what is known of the first places of code whether a run from a further place on to a transfer of control may want memory.
+pub(crate) fn add_wanting(code: &Code, table: &mut Vec<bool>) -> Result<(), NoMemory>
+    requires { length table.old.items ≤ length code.now.instructions }
+    ensures len { OnOk result (length table.new.items ≡ length code.now.instructions) }
+    ensures same { OnOk result (take (length table.old.items) table.new.items ≡ table.old.items) }
+    ensures each { OnOk result ((at : ℕ) → length table.old.items ≤ at → slice_index_or table.new.items at false ≡ wants (drop at code.now.instructions)) }
 {
     let instructions = code.instructions();
-    let mut table = vec![in alloc; false; instructions.len()]?;
+    let from = table.len();
+    table.resize(instructions.len(), false)?;
     let mut wants = false;
     let mut place = table.len();
-    'places: while place > 0 {
+    'places: while place > from {
         place -= 1;
         wants = wants_from(&instructions[place], &instructions[place + 1..], wants);
         table[place] = wants;
     }
-    Ok(table)
+    Ok(())
 }

@@ -2,6 +2,8 @@
 
 ghost use Rattle.std.specs.Prelude.{◌≡◌, ℕ, ◌<◌, ◌≤◌, length, drop, slice_get, Some};
 ghost use Rattle.ap_instr.specs.declared.compiled.Predicate.{Predicate};
+ghost use Rattle.ap_instr.specs.Code.{Compiled};
+ghost use Rattle.ap_needs.specs.Behind.{Begins, StandsAlone};
 ghost use Rattle.ap_needs.specs.Needs.{HasRegister, HasTargets, AllHaveTargets, AreWidthsOf};
 
 use ap_instr::{Code, Instr, Slot};
@@ -65,34 +67,46 @@ fn of_instr(instr: &Instr) -> Widths
     }
 }
 
-fn of_instructions(code: &Code) -> Widths
-    ensures targets { (at : ℕ) → (xs ys : ℕ) → result.x ≤ xs → result.y ≤ ys → AllHaveTargets (drop at code.now.instructions) xs ys }
+/// The registers that code's instructions behind so many write.
+fn of_instructions(code: &Code, from: usize) -> Widths
+    ensures { (at : ℕ) (xs ys : ℕ) → from ≤ at → result.x ≤ xs → result.y ≤ ys → AllHaveTargets (drop at code.now.instructions) xs ys }
 {
+    let instructions = code.instructions();
     let mut most = Widths { x: 1, y: 1 };
-    for instr in code.instructions() {
-        most = wider(most, of_instr(instr));
+    for place in from..instructions.len() {
+        most = wider(most, of_instr(&instructions[place]));
     }
     most
 }
 
-fn of_arguments(code: &Code) -> usize
-    ensures { (n : ℕ) (q : Predicate) → slice_get code.now.predicates n ≡ Some q → q.arity < result }
+/// The registers of arguments of predicates behind so many.
+fn of_arguments(code: &Code, from: usize) -> usize
+    ensures { (n : ℕ) (q : Predicate) → from ≤ n → slice_get code.now.predicates n ≡ Some q → q.arity < result }
 {
+    let predicates = code.predicates();
     let mut most = 1;
-    for predicate in code.predicates() {
-        most = most.max(predicate.arity as usize + 1);
+    for number in from..predicates.len() {
+        most = most.max(predicates[number].arity as usize + 1);
     }
     most
+}
+
+/// The registers that code writes, and those of arguments, where those of the code that it begins with are known.
+pub fn widths_behind(code: &Code, before: Widths, places: usize, predicates: usize) -> Widths
+    ensures { (base : Compiled) → Begins base code.now → StandsAlone base → AreWidthsOf base before → places ≡ length base.instructions → predicates ≡ length base.predicates → AreWidthsOf code.now result }
+{
+    let own = of_instructions(code, places);
+    let arguments = of_arguments(code, predicates);
+    let written = wider(before, own);
+    Widths {
+        x: written.x.max(arguments),
+        y: written.y,
+    }
 }
 
 /// The registers that code writes, and those of arguments.
 pub fn widths_of(code: &Code) -> Widths
     ensures { AreWidthsOf code.now result }
 {
-    let written = of_instructions(code);
-    let arguments = of_arguments(code);
-    Widths {
-        x: written.x.max(arguments),
-        y: written.y,
-    }
+    widths_behind(code, Widths { x: 1, y: 1 }, 0, 0)
 }

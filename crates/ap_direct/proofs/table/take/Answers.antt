@@ -1,7 +1,7 @@
-use Rattle.std.proofs.Common.{sym, subst}
+use Rattle.std.proofs.Common.{sym, subst, arith}
 use Rattle.std.specs.Prelude.{IfSome}
 use Rattle.ap_direct.specs.Goals.{AsksFirst}
-use Rattle.ap_direct.proofs.Asked.{set_asked, asked_at}
+use Rattle.ap_direct.proofs.Asked.{set_asked, set_before, asked_at}
 use Rattle.ap_direct.proofs.table.take.Goals as goal
 
 pub returns-clause-asked : goal.returns-clause-asked
@@ -12,3 +12,6 @@ returns-clause-asked c =
 pub returns-clause-found : goal.returns-clause-found
 returns-clause-found c =
     asked_at c.args.code.now c.args.goals.now.items c.args.at c.replace.result c.index_mut.result.now c.requires.within c.requires.asked c.index_mut.ensures.value c.replace.ensures.value
+
+pub returns-clause-before : goal.returns-clause-before
+returns-clause-before c = set_before c.args.goals.now.items c.args.at c.args.at c.replace.new.dest (omega arith)
