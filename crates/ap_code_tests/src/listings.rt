@@ -94,7 +94,7 @@ fn instructions(alloc: Global, names: &Names) -> Result<Vec<Instr>, Fail> {
         Instr::Builtin(Builtin::Relation(Relation::Compare(Op::Le))),
         Instr::CheckGround(Slot::Y(1), 3),
         Instr::CheckIndep(Slot::X(3), Slot::Y(2), 5),
-        Instr::AllocParcall(2),
+        Instr::AllocParcall(2, 12),
         Instr::PushGoal(1, 0),
         Instr::PushGoal(2, 1),
         Instr::WaitAll,

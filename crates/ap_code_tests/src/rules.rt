@@ -213,7 +213,7 @@ fn group_of_two() -> [Instr; 20] {
         Instr::PutVariable(Y2, 3),
         Instr::CheckGround(Y1, 12),
         Instr::CheckIndep(Y1, Y2, 12),
-        Instr::AllocParcall(2),
+        Instr::AllocParcall(2, 12),
         Instr::PutValue(Y1, 1),
         Instr::PutStructure(Atom::at(fixed::TRUE), 1, 2),
         Instr::UnifyValue(Y2),
@@ -238,7 +238,7 @@ fn takes_groups(rt: HostRuntime) -> Result<(), Fail> {
     let alone = [
         Instr::Allocate(1),
         Instr::GetVariable(Y1, 1),
-        Instr::AllocParcall(1),
+        Instr::AllocParcall(1, 12),
         Instr::PushGoal(1, 0),
         Instr::WaitAll,
         Instr::Jump(6),
@@ -266,9 +266,9 @@ fn refuses_groups_that_are_not_whole(rt: HostRuntime) -> Result<(), Fail> {
     assert_eq!(rt; twice, Some((10, Rule::Group)));
     let second_first = judged_with(alloc, 9, Instr::PushGoal(2, 0))?;
     assert_eq!(rt; second_first, Some((9, Rule::Group)));
-    let few = judged_with(alloc, 5, Instr::AllocParcall(3))?;
+    let few = judged_with(alloc, 5, Instr::AllocParcall(3, 12))?;
     assert_eq!(rt; few, Some((11, Rule::Group)));
-    let many = judged_with(alloc, 5, Instr::AllocParcall(1))?;
+    let many = judged_with(alloc, 5, Instr::AllocParcall(1, 12))?;
     assert_eq!(rt; many, Some((10, Rule::Group)));
     let called = judged_with(alloc, 6, Instr::Call(0))?;
     assert_eq!(rt; called, Some((6, Rule::Group)));
@@ -278,7 +278,7 @@ fn refuses_groups_that_are_not_whole(rt: HostRuntime) -> Result<(), Fail> {
     assert_eq!(rt; got, Some((6, Rule::Group)));
     let checked = judged_with(alloc, 6, Instr::CheckGround(Y1, 12))?;
     assert_eq!(rt; checked, Some((6, Rule::Group)));
-    let begun = judged_with(alloc, 6, Instr::AllocParcall(2))?;
+    let begun = judged_with(alloc, 6, Instr::AllocParcall(2, 12))?;
     assert_eq!(rt; begun, Some((6, Rule::Group)));
     let stray = [Instr::PushGoal(1, 0), Instr::Proceed];
     assert_eq!(rt; judged(alloc, &stray)?, Some((0, Rule::Group)));
@@ -291,7 +291,7 @@ fn refuses_groups_that_are_not_whole(rt: HostRuntime) -> Result<(), Fail> {
 fn refuses_groups_that_break_other_rules(rt: HostRuntime) -> Result<(), Fail> {
     let alloc = rt.alloc();
     let c = Atom::at(fixed::TRUE);
-    let none = judged_with(alloc, 5, Instr::AllocParcall(0))?;
+    let none = judged_with(alloc, 5, Instr::AllocParcall(0, 12))?;
     assert_eq!(rt; none, Some((5, Rule::Operand)));
     let register = judged_with(alloc, 3, Instr::CheckGround(Slot::Y(0), 12))?;
     assert_eq!(rt; register, Some((3, Rule::Operand)));
@@ -308,7 +308,7 @@ fn refuses_groups_that_break_other_rules(rt: HostRuntime) -> Result<(), Fail> {
     let kept = judged_with(alloc, 13, Instr::PutVariable(X4, 4))?;
     assert_eq!(rt; kept, Some((14, Rule::Unset)));
     let bare = [
-        Instr::AllocParcall(1),
+        Instr::AllocParcall(1, 12),
         Instr::PushGoal(1, 0),
         Instr::WaitAll,
     ];

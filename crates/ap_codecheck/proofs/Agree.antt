@@ -220,9 +220,9 @@ ignores code (CheckIndep r u q) at js s p k none x y v w bs n l h =
     let asked = h.1 in
     (h.0, cc, k (inl refl) none x y v w h.0 n l h.2)
 ignores code (CheckIndep r u q) at js s p k (more t ts) x y v w bs n l h = h
-ignores code (AllocParcall m) at js s p k none x y v w bs n l h =
+ignores code (AllocParcall m d) at js s p k none x y v w bs n l h =
     (h.0, h.1, k refl none x y v w h.0 n (record { registers = l.registers; variables = l.variables; target = l.target }) h.2)
-ignores code (AllocParcall m) at js s p k (more t ts) x y v w bs n l h = h
+ignores code (AllocParcall m d) at js s p k (more t ts) x y v w bs n l h = h
 ignores code (PushGoal i q) at js s p k ts x y v w bs n l h = pushes (slice_get code.predicates q) i js s p (k refl) ts x y v w bs n l h
 ignores code WaitAll at js s p k none x y v w bs n l h =
     k refl none lost y lost w bs n (record { registers = λ a e. refl; variables = l.variables; target = λ a e. refl }) h

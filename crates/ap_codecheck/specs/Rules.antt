@@ -34,7 +34,7 @@ InRange code (UnifyValue v) = IsNumbered v
 InRange code (UnifyInteger i) = i < length code.integers
 InRange code (CheckGround v l) = IsNumbered v
 InRange code (CheckIndep v w l) = IsNumbered v × IsNumbered w
-InRange code (AllocParcall n) = 0 < n
+InRange code (AllocParcall n l) = 0 < n
 InRange code (PushGoal i q) = 0 < i
 InRange code _ = Unit {0}
 

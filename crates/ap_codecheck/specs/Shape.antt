@@ -93,6 +93,6 @@ after (Retry l) s = s
 after (Trust l) s = s
 after (CheckGround v l) s = s
 after (CheckIndep v w l) s = s
-after (AllocParcall n) s = with_group (Some (n, 0)) s
+after (AllocParcall n l) s = with_group (Some (n, 0)) s
 after (PushGoal i q) s = with_group (pushed i s.group) s
 after WaitAll s = record { x = unset; y = s.y; room = s.room; pending = s.pending; target = s.target; group = None }

@@ -39,7 +39,7 @@ fn in_range(code: &Code, instr: &Instr) -> bool
         Instr::UnifyInteger(i) => (i as usize) < count,
         Instr::CheckGround(v, _) => is_numbered(v),
         Instr::CheckIndep(v, w, _) => is_numbered(v) && is_numbered(w),
-        Instr::AllocParcall(n) => n > 0,
+        Instr::AllocParcall(n, _) => n > 0,
         Instr::PushGoal(i, _) => i > 0,
         _ => true,
     }

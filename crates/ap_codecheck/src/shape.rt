@@ -204,7 +204,7 @@ impl Shape {
             Instr::Allocate(n) => self.set_room(Some(n)),
             Instr::Deallocate => self.set_room(None),
             Instr::Call(_) => self.lose_registers(),
-            Instr::AllocParcall(n) => self.begin_group(n),
+            Instr::AllocParcall(n, _) => self.begin_group(n),
             Instr::PushGoal(i, _) => self.push_goal(i),
             Instr::WaitAll => self.end_group(),
             _ => {}

@@ -9,12 +9,12 @@ use Rattle.ap_term.specs.Tree.{Tree, Trees, var, none, more, count_trees}
 use Rattle.ap_term.specs.Vars.{has, add_vars, add_all_vars}
 use Rattle.ap_term.specs.Goals.{Part, call as goal, group as parallel, Clause}
 use Rattle.ap_instr.specs.declared.instruction.Slot.TheVariants.{Y}
-use Rattle.ap_instr.specs.Step.{Step, put_variable, call, execute, builtin, proceed, jump, push, wait}
+use Rattle.ap_instr.specs.Step.{Step, put_variable, call, execute, builtin, proceed, jump, group, push, wait}
 use Rattle.ap_instr.specs.Runs.{arguments}
 use Rattle.ap_codegen.specs.Emitted.{Lead}
 use Rattle.ap_codegen.specs.Temporary.{ends}
 use Rattle.ap_codegen.specs.Permanent.{name, is_builtin, goal_code, asking, gets}
-use Rattle.ap_codegen.specs.Grouped.{straight, IsEnded, see_check, see_checks, make, make_check, make_checks, pushes, side_by_side, in_turn, check_step, check_leads, ways, group_leads, is_last_part, body_leads, clause_leads}
+use Rattle.ap_codegen.specs.Grouped.{straight, IsEnded, see_check, see_checks, make, make_check, make_checks, pushes, in_turn, check_step, check_leads, sides, turns, side_leads, turn_leads, ways, group_leads, is_last_part, body_leads, clause_leads}
 use Rattle.ap_codegen.proofs.Open.{is_quiet, Quiet, quiet_goal, quiet_gets}
 use Rattle.ap_codegen.proofs.PartLeads.{straight_both}
 
@@ -61,8 +61,8 @@ pushes_goes : (gs : Trees) (seen : List ℕ) → GoesOn (pushes gs seen)
 pushes_goes none seen = refl
 pushes_goes (more g gs) seen = goes_both (goal_code g seen) (push (name g) (count_trees (arguments g)) ∷ pushes gs (add_vars g seen)) (goal_goes g seen) (pushes_goes gs (add_vars g seen))
 
-side_goes : (gs : Trees) (seen : List ℕ) → GoesOn (side_by_side gs seen)
-side_goes gs seen = goes_both (pushes gs seen) (wait ∷ []) (pushes_goes gs seen) refl
+sides_go : (gs : Trees) (seen : List ℕ) → GoesOn (pushes gs seen ++ wait ∷ [])
+sides_go gs seen = goes_both (pushes gs seen) (wait ∷ []) (pushes_goes gs seen) refl
 
 turn_goes : (gs : Trees) (seen : List ℕ) → GoesOn (in_turn gs seen)
 turn_goes none seen = refl
@@ -101,9 +101,9 @@ straight_ended (i ∷ is) ls g h =
     let k = straight_ended is ls b.1 h in
     ended_more (i, 0) (straight is ++ ls) (no_end i b.0) (ended_some (straight is ++ ls) k) k
 
-length_straight : (is : List Step) (ls : List Lead) → length (straight is ++ ls) ≡ length is + length ls
-length_straight [] ls = omega arith
-length_straight (i ∷ is) ls = let e = length_straight is ls in omega arith
+length_both : (ks ls : List Lead) → length (ks ++ ls) ≡ length ks + length ls
+length_both [] ls = omega arith
+length_both (k ∷ ks) ls = let e = length_both ks ls in omega arith
 
 length_checks : (cs : List Check) (n : ℕ) (ls : List Lead) → length (check_leads cs n ++ ls) ≡ length cs + length ls
 length_checks [] n ls = omega arith
@@ -120,17 +120,16 @@ checks_ended (c ∷ cs) n ls b h =
     one (Indep x y) = refl
 
 ways_ended : (cs : List Check) (gs : Trees) (seen : List ℕ) (rest : List Lead) → IsEnded rest → IsEnded (ways cs gs seen ++ rest)
-ways_ended [] gs seen rest h = straight_ended (side_by_side gs seen) rest (side_goes gs seen) h
-ways_ended (c ∷ cs) gs seen rest h =
-    let side : List Step = side_by_side gs seen in
-    let turn : List Step = in_turn gs seen in
-    let past : List Lead = (jump, length turn) ∷ straight turn in
+ways_ended cs gs seen rest h =
+    let side : List Lead = side_leads gs seen in
+    let turn : List Lead = turn_leads gs seen in
     let some = ended_some rest h in
-    let turned = length_straight turn rest in
-    let sided = length_straight side (past ++ rest) in
-    subst IsEnded (sym (append_assoc (check_leads (c ∷ cs) (length side)) (straight side ++ past) rest ∙ ap (λ ls. check_leads (c ∷ cs) (length side) ++ ls) (append_assoc (straight side) past rest)))
-    (checks_ended (c ∷ cs) (length side) (straight side ++ (past ++ rest)) (omega arith)
-    (straight_ended side (past ++ rest) (side_goes gs seen) (ended_more (jump, length turn) (straight turn ++ rest) refl (omega arith) (straight_ended turn rest (turn_goes gs seen) h))))
+    let turned = length_both (turns gs seen) rest in
+    let sided = length_both (sides gs seen) (turn ++ rest) in
+    let behind : IsEnded (turn ++ rest) = ended_more (jump, length (turns gs seen)) (turns gs seen ++ rest) refl (omega arith) (straight_ended (in_turn gs seen) rest (turn_goes gs seen) h) in
+    subst IsEnded (sym (append_assoc (check_leads cs (length side)) (side ++ turn) rest ∙ ap (λ ls. check_leads cs (length side) ++ ls) (append_assoc side turn rest)))
+    (checks_ended cs (length side) (side ++ (turn ++ rest)) (omega arith)
+    (ended_more (group (count_trees gs), length (sides gs seen) + 1) (sides gs seen ++ (turn ++ rest)) refl (omega arith) (straight_ended (pushes gs seen ++ wait ∷ []) (turn ++ rest) (sides_go gs seen) behind)))
 
 group_ended : (cs : List Check) (gs : Trees) (seen : List ℕ) (rest : List Lead) → IsEnded rest → IsEnded (group_leads cs gs seen ++ rest)
 group_ended cs gs seen rest h =

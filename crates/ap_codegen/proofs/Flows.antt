@@ -6,19 +6,19 @@ use Rattle.std.proofs.lemmas.List.{drop-drop}
 use Rattle.ap_term.specs.Tree.{Tree, int}
 use Rattle.ap_term.specs.Goals.{Clause}
 use Rattle.ap_instr.specs.declared.instruction.Instr.{Instr}
-use Rattle.ap_instr.specs.declared.instruction.Instr.TheVariants.{GetInteger, PutInteger, UnifyInteger, Call, Execute, Jump, CheckGround, CheckIndep, PushGoal}
+use Rattle.ap_instr.specs.declared.instruction.Instr.TheVariants.{GetInteger, PutInteger, UnifyInteger, Call, Execute, Jump, CheckGround, CheckIndep, AllocParcall, PushGoal}
 use Rattle.ap_instr.specs.declared.compiled.Predicate.{Predicate}
 use Rattle.ap_instr.specs.Code.{Compiled}
 use Rattle.ap_instr.specs.Step.{Step, get_constant, put_constant, unify_constant, call, execute, push, with_integer, with_predicate, step_of as said_by}
 use Rattle.ap_instr.specs.Steps.{skipped, steps_behind, steps_from}
 use Rattle.ap_instr.specs.Runs.{Reads, AsksOpenly}
-use Rattle.ap_instr.specs.Groups.{otherwise, AsksUnmarked}
+use Rattle.ap_instr.specs.Groups.{otherwise, rest_of, AsksUnmarked}
 use Rattle.ap_instr.specs.StandsFor.{ReadsAt}
 use Rattle.ap_instr.proofs.Steps.{behind-passed}
 use Rattle.ap_codegen.specs.declared.steps.Step.{Step as Emitted}
-use Rattle.ap_codegen.specs.declared.steps.Step.TheVariants.{Jump as JumpStep, CheckGround as GroundStep, CheckIndep as IndepStep}
+use Rattle.ap_codegen.specs.declared.steps.Step.TheVariants.{Jump as JumpStep, CheckGround as GroundStep, CheckIndep as IndepStep, AllocParcall as GroupStep}
 use Rattle.ap_codegen.specs.Emitted.{step_of, label_of, Lead, lead_of, leads_of}
-use Rattle.ap_codegen.specs.Grouped.{passed_over, flow, Unmarks, is_check, AreTurns, IsGroupedCode}
+use Rattle.ap_codegen.specs.Grouped.{passed_over, flow, Unmarks, has_turns, rest_from, AreTurns, IsGroupedCode}
 use Rattle.ap_codegen.specs.CodeOf.{calls_apart}
 use Rattle.ap_codegen.specs.Assembled.{AreCallsApart, AreSequences}
 use Rattle.ap_codegen.specs.Said.{special_of, special_in, AreSaidAt}
@@ -30,6 +30,7 @@ abbrev label_at : ℕ → Option Instr → ℕ
 label_at at (Some (Jump l)) = l - (at + 1)
 label_at at (Some (CheckGround v l)) = l - (at + 1)
 label_at at (Some (CheckIndep v w l)) = l - (at + 1)
+label_at at (Some (AllocParcall n l)) = l - (at + 1)
 label_at at _ = 0
 
 -- instructions that stand from a place on
@@ -72,6 +73,7 @@ label_said : (at : ℕ) (e : Emitted) → label_at at (special_in at e) ≡ labe
 label_said at (JumpStep n) = omega arith
 label_said at (GroundStep v n) = omega arith
 label_said at (IndepStep v w n) = omega arith
+label_said at (GroupStep n l) = omega arith
 label_said at _ = refl
 
 said_leads : (code : Compiled) (at : ℕ) (es : List Emitted) (is later : List Instr) → AreSaidAt code at es is
@@ -107,7 +109,7 @@ said_reads code at c es is later g h d =
     let e : flow 0 (leads_of es ++ rest) ≡ steps_from code at = sym (from_said code at es is later h d) in
     record { reads = subst (λ ts. Reads ts c) e (g.reads rest); openly = subst AsksOpenly e (g.openly rest) }
 
--- where a check among steps leads to
+-- where a check, or a group, among steps leads to
 abbrev otherwise_in : Option Instr → Option ℕ
 otherwise_in None = None
 otherwise_in (Some i) = otherwise i
@@ -115,12 +117,30 @@ otherwise_in (Some i) = otherwise i
 otherwise_special : (i : Instr) → otherwise i ≡ otherwise_in (special_of i)
 otherwise_special (CheckGround v l) = refl
 otherwise_special (CheckIndep v w l) = refl
+otherwise_special (AllocParcall n l) = refl
 otherwise_special _ = refl
 
-check_leads_on : (at l : ℕ) (e : Emitted) → otherwise_in (special_in at e) ≡ Some l → (is_check (step_of e) ≡ true) × (at + 1 + label_of e ≡ l)
+check_leads_on : (at l : ℕ) (e : Emitted) → otherwise_in (special_in at e) ≡ Some l → (has_turns (step_of e) ≡ true) × (at + 1 + label_of e ≡ l)
 check_leads_on at l (GroundStep v n) e = (refl, cc)
 check_leads_on at l (IndepStep v w n) e = (refl, cc)
+check_leads_on at l (GroupStep n m) e = (refl, cc)
 check_leads_on at l _ e = absurd (cc)
+
+-- the place from which on the rest of a group stands
+abbrev rest_in : Option Instr → ℕ → ℕ
+rest_in None at = at + 1
+rest_in (Some i) at = rest_of i at
+
+rest_special : (at : ℕ) (i : Instr) → rest_in (special_of i) at ≡ rest_of i at
+rest_special at (AllocParcall n l) = refl
+rest_special at _ = refl
+
+rest_said : (code : Compiled) (at : ℕ) (e : Emitted) (es : List Emitted) (i : Instr) (is later : List Instr) → AreSaidAt code at (e ∷ es) (i ∷ is) → drop at code.instructions ≡ i ∷ (is ++ later)
+    → rest_from (step_of e) (flow 0 (leads_of es ++ leads_at code (at + suc (length is)) later)) ≡ steps_from code (rest_in (special_in at e) at)
+rest_said code at (GroupStep n m) es i is later h d = sym (from_said code at (GroupStep n m ∷ es) (i ∷ is) later h d)
+rest_said code at _ es i is later h d =
+    let n : at + suc (length is) ≡ at + 1 + length is = omega arith in
+    ap (λ n. flow 0 (leads_of es ++ leads_at code n later)) n ∙ sym (from_said code (at + 1) es is later h.1 (sym (drop-drop 1 at code.instructions) ∙ ap (drop 1) d))
 
 unmarks_at : (code : Compiled) (from to : ℕ) (is js : List Step) → is ≡ steps_from code from → js ≡ steps_from code to → Unmarks is js → AsksUnmarked code from to
 unmarks_at code from to is js e f u =
@@ -138,10 +158,10 @@ turns_at code at (e ∷ es) (i ∷ is) later h d t =
     let behind : drop (at + 1) code.instructions ≡ is ++ later = sym (drop-drop 1 at code.instructions) ∙ ap (drop 1) d in (
       λ l o.
           let c = check_leads_on at l e (ap otherwise_in (sym h.0.special) ∙ sym (otherwise_special i) ∙ o) in
-          unmarks_at code (at + 1) l (flow 0 (leads_of es ++ rest)) (flow (label_of e) (leads_of es ++ rest))
-          (ap (λ r. flow 0 (leads_of es ++ r)) (sym same) ∙ sym (from_said code (at + 1) es is later h.1 behind))
+          subst (λ n. AsksUnmarked code n l) (ap (λ s. rest_in s at) (sym h.0.special) ∙ rest_special at i)
+          (unmarks_at code (rest_in (special_in at e) at) l (rest_from (step_of e) (flow 0 (leads_of es ++ rest))) (flow (label_of e) (leads_of es ++ rest)) (rest_said code at e es i is later h d)
           (ap (λ r. flow (label_of e) (leads_of es ++ r)) (sym same) ∙ sym (said_flow code (at + 1) (label_of e) es is later h.1 behind) ∙ ap (steps_from code) c.1)
-          (t.0 c.0),
+          (t.0 c.0)),
       turns_at code (at + 1) es is later h.1 behind (subst (AreTurns (leads_of es)) (sym same) t.1),
     )
 

@@ -5,7 +5,7 @@ use Rattle.std.specs.List.{list_all}
 use Rattle.std.proofs.lemmas.Bool.{false≢true, and_parts}
 use Rattle.ap_term.specs.Tree.{none, more}
 use Rattle.ap_term.specs.Goals.{Clause}
-use Rattle.ap_instr.specs.Step.{Step, execute, proceed, frame, jump}
+use Rattle.ap_instr.specs.Step.{Step, execute, proceed, frame, jump, group}
 use Rattle.ap_instr.specs.Runs.{AsksOpenly}
 use Rattle.ap_codegen.specs.declared.steps.Step.{Step as Emitted}
 use Rattle.ap_codegen.specs.declared.steps.Step.TheVariants.{Allocate, Deallocate}
@@ -13,7 +13,7 @@ use Rattle.ap_codegen.specs.Emitted.{step_of, Lead, lead_of, leads_of}
 use Rattle.ap_codegen.specs.Temporary.{ends}
 use Rattle.ap_codegen.specs.CodeOf.{calls_apart}
 use Rattle.ap_codegen.specs.Framed.{leaving, left_leads}
-use Rattle.ap_codegen.specs.Grouped.{passed_over, flow, Unmarks, is_check, AreTurns, IsGroupedCode, IsEnded}
+use Rattle.ap_codegen.specs.Grouped.{passed_over, flow, Unmarks, has_turns, rest_from, AreTurns, IsGroupedCode, IsEnded}
 use Rattle.ap_codegen.proofs.Framing.{Through, through_step, ends_outside, openly_step}
 use Rattle.ap_codegen.proofs.EndedLeads.{ended_some}
 
@@ -23,6 +23,10 @@ AreAlike is js = Through is js × Through js is
 
 alike_step : (i : Step) (is js : List Step) → AreAlike is js → AreAlike (i ∷ is) (i ∷ js)
 alike_step i is js a = (through_step i is js a.0, through_step i js is a.1)
+
+alike_rest : (i : Step) (is js : List Step) → AreAlike is js → AreAlike (rest_from i is) (rest_from i js)
+alike_rest (group n) is js a = alike_step (group n) is js a
+alike_rest i is js a = a
 
 alike_last : (i : Step) (is : List Step) → ends i ≡ true → AreAlike (frame ∷ i ∷ is) (i ∷ is)
 alike_last i is e = (only, each)
@@ -46,10 +50,10 @@ passed_below : (l : Lead) → passed_over l ≤ l.1
 passed_below (jump, n) = omega arith
 passed_below (_, n) = omega arith
 
-checks_nothing : (i : Step) → ends i ≡ true → is_check i ≡ true → ⊥
-checks_nothing (execute p n) e f = false≢true f
-checks_nothing proceed e f = false≢true f
-checks_nothing _ e f = false≢true e
+never_turns : (i : Step) → ends i ≡ true → has_turns i ≡ true → ⊥
+never_turns (execute p n) e f = false≢true f
+never_turns proceed e f = false≢true f
+never_turns _ e f = false≢true e
 
 -- ---- the environment given back
 
@@ -105,13 +109,13 @@ module _ (rest : List Lead) where
 
   left_turns : (ls : List Lead) → IsEnded ls → AreTurns ls rest → AreTurns (left_leads ls) rest
   left_turns [] h t = absurd h
-  left_turns (l ∷ []) h t = subst (λ ks. AreTurns ks rest) (sym (left_last l h.0)) (λ e. absurd (false≢true e), (λ e. absurd (checks_nothing l.0 h.0 e), tt))
+  left_turns (l ∷ []) h t = subst (λ ks. AreTurns ks rest) (sym (left_last l h.0)) (λ e. absurd (false≢true e), (λ e. absurd (never_turns l.0 h.0 e), tt))
   left_turns (l ∷ m ∷ ls) h t =
       let q = h.1 in
       let c : l.1 < length (m ∷ ls) = omega arith in
       subst (λ ks. AreTurns ks rest) (sym (left_on l (m ∷ ls) h.0)) (
-        λ e. unmarks_alike (flow 0 ((m ∷ ls) ++ rest)) (flow l.1 ((m ∷ ls) ++ rest)) (flow 0 (left_leads (m ∷ ls) ++ rest)) (flow l.1 (left_leads (m ∷ ls) ++ rest)) (left_alike (m ∷ ls) 0 h.2 (omega arith))
-            (left_alike (m ∷ ls) l.1 h.2 c) (left_openly (m ∷ ls) l.1 h.2 c) (t.0 e),
+        λ e. unmarks_alike (rest_from l.0 (flow 0 ((m ∷ ls) ++ rest))) (flow l.1 ((m ∷ ls) ++ rest)) (rest_from l.0 (flow 0 (left_leads (m ∷ ls) ++ rest))) (flow l.1 (left_leads (m ∷ ls) ++ rest))
+            (alike_rest l.0 (flow 0 (left_leads (m ∷ ls) ++ rest)) (flow 0 ((m ∷ ls) ++ rest)) (left_alike (m ∷ ls) 0 h.2 (omega arith))) (left_alike (m ∷ ls) l.1 h.2 c) (left_openly (m ∷ ls) l.1 h.2 c) (t.0 e),
         left_turns (m ∷ ls) h.2 t.1,
       )
 

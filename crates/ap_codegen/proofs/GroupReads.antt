@@ -14,7 +14,7 @@ use Rattle.ap_instr.specs.declared.instruction.Slot.TheVariants.{Y}
 use Rattle.ap_instr.specs.Step.{Step, put_variable, execute, proceed, jump, group, push, wait}
 use Rattle.ap_instr.specs.Runs.{Runs, IsOpen, AsksOpenly, applied, spread, set, lost, arguments}
 use Rattle.ap_codegen.specs.Permanent.{name, is_builtin, goal_code, asking}
-use Rattle.ap_codegen.specs.Grouped.{see_check, see_checks, make, make_check, make_checks, pushes, side_by_side, in_turn, check_step}
+use Rattle.ap_codegen.specs.Grouped.{see_check, see_checks, make, make_check, make_checks, pushes, in_turn, check_step}
 use Rattle.ap_codegen.proofs.Registers.{has_more}
 use Rattle.ap_codegen.proofs.PermanentReads.{AgreeOn, set_agrees, push_agrees, seen_same, goal-only, goal-each, asks-only, asks-each}
 use Rattle.ap_codegen.proofs.Open.{quiet_openly, quiet_goal, behind}
@@ -200,6 +200,10 @@ makes_first is goals [] seen a = a
 makes_first is goals (c ∷ cs) seen a =
     let next : List Step = make_checks cs (see_check c seen) in
     subst (λ is. AsksFor seen is goals) (sym (append_assoc (make_check c seen) next is)) (make_check_first (next ++ is) goals c seen (makes_first is goals cs (see_check c seen) a))
+
+-- the steps of goals side by side
+abbrev pub side_by_side : Trees → List ℕ → List Step
+side_by_side gs seen = group (count_trees gs) ∷ (pushes gs seen ++ wait ∷ [])
 
 pub side_by_side_first : (is : List Step) (goals : (ℕ → Tree) → Trees) (gs : Trees) (seen : List ℕ) → all_callable gs ≡ true → AsksFor (add_all_vars gs seen) is goals
     → AsksFor seen (side_by_side gs seen ++ is) (λ h. more (group_mark (count_trees gs)) (append_trees (instance_all h gs) (goals h)))

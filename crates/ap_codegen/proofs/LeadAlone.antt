@@ -65,7 +65,7 @@ straight_alone code low end (Trust l) e r = absurd r
 straight_alone code low end (Jump l) e r = let f : ⊥ = cc in absurd f
 straight_alone code low end (CheckGround v l) e r = let f : ⊥ = cc in absurd f
 straight_alone code low end (CheckIndep v w l) e r = let f : ⊥ = cc in absurd f
-straight_alone code low end (AllocParcall n) e r = let f : ⊥ = cc in absurd f
+straight_alone code low end (AllocParcall n l) e r = let f : ⊥ = cc in absurd f
 straight_alone code low end (PushGoal k q) e r = let f : ⊥ = cc in absurd f
 straight_alone code low end WaitAll e r = let f : ⊥ = cc in absurd f
 straight_alone code low end _ e r = (r, tt, λ p f. tt)
@@ -82,7 +82,7 @@ step_alone : (code : Compiled) (at low end k : ℕ) (e : Emitted) (es : List Emi
 step_alone code at low end k (JumpStep d) es i l m r num h = subst (IsAloneIn code low end) (sym (special_same i (Jump (at + 1 + d)) h.special refl)) (tt, tt, λ p f. f (at + 1 + d) l m)
 step_alone code at low end k (GroundStep v d) es i l m r num h = subst (IsAloneIn code low end) (sym (special_same i (CheckGround v (at + 1 + d)) h.special refl)) (r, tt, λ p f. f (at + 1 + d) l m)
 step_alone code at low end k (IndepStep v w d) es i l m r num h = subst (IsAloneIn code low end) (sym (special_same i (CheckIndep v w (at + 1 + d)) h.special refl)) (r, tt, λ p f. f (at + 1 + d) l m)
-step_alone code at low end k (GroupStep n) es i l m r num h = subst (IsAloneIn code low end) (sym (special_same i (AllocParcall n) h.special refl)) (r, tt, λ p f. tt)
+step_alone code at low end k (GroupStep n d) es i l m r num h = subst (IsAloneIn code low end) (sym (special_same i (AllocParcall n (at + 1 + d)) h.special refl)) (r, tt, λ p f. tt)
 step_alone code at low end k (PushStep j name size) es i l m r num h =
     let f = special_push i j h.special in
     let w : said_by code (PushGoal j f.0) ≡ push name size = ap (said_by code) (sym f.1) ∙ h.says in

@@ -1,4 +1,4 @@
--- The code of a clause with groups keeps the rules of code on both ways of each check.
+-- The code of a clause with groups keeps the rules of code on both ways of each check and group.
 use Rattle.std.proofs.Common.{◌≡◌, ℕ, suc, ◌+◌, ◌<◌, ◌≤◌, nat_le, Bool, true, false, ◌&&◌, ◌==◌, if◌then◌else◌, is_some, List, [], ◌∷◌, ◌++◌, length, Option, Some, None, refl, ap, sym, ◌∙◌, subst, arith, append_assoc, append-nil}
 use Rattle.std.specs.List.{list_all}
 use Rattle.std.proofs.lemmas.Bool.{false≢true, and_parts}
@@ -19,7 +19,7 @@ use Rattle.ap_codecheck.specs.Shape.{Shape, write, behind_argument, with_group, 
 use Rattle.ap_codecheck.specs.Rules.{ArgumentsSet}
 use Rattle.ap_codegen.specs.Emitted.{Lead}
 use Rattle.ap_codegen.specs.Permanent.{name, is_builtin, place, inner, see, fill, fills, see_built, see_nested, build, nested, puts as put_all, goal_code, asking, gets}
-use Rattle.ap_codegen.specs.Grouped.{straight, see_check, see_checks, make, make_check, make_checks, pushes, side_by_side, in_turn, check_step, check_leads, ways, group_leads, is_last_part, body_leads, clause_leads}
+use Rattle.ap_codegen.specs.Grouped.{straight, see_check, see_checks, make, make_check, make_checks, pushes, in_turn, check_step, check_leads, sides, turns, side_leads, turn_leads, ways, group_leads, is_last_part, body_leads, clause_leads}
 use Rattle.ap_codegen.specs.Paces.{PacesTo, inside, StandsIn, IsOpen, IsFull, one_pushed, PacesOn, PacesLeads}
 use Rattle.ap_codegen.proofs.Walking.{passed_group}
 use Rattle.ap_codegen.proofs.Pacing.{Fine, Sees, slot_of, sees_more, numbered_arguments, goal_paces, gets_paces, entered}
@@ -70,9 +70,9 @@ straight_append is js ls =
 
 -- ---- steps that are passed over
 
-over_straight : (is : List Step) (k : ℕ) (ls : List Lead) (s : Shape) → PacesLeads k ls s → PacesLeads (length is + k) (straight is ++ ls) s
-over_straight [] k ls s p = subst (λ m. PacesLeads m ls s) (let e : k ≡ 0 + k = omega arith in e) p
-over_straight (i ∷ is) k ls s p = subst (λ m. PacesLeads m (straight (i ∷ is) ++ ls) s) (let e : suc (length is + k) ≡ length (i ∷ is) + k = omega arith in e) (over_straight is k ls s p)
+over_leads : (js : List Lead) (k : ℕ) (ls : List Lead) (s : Shape) → PacesLeads k ls s → PacesLeads (length js + k) (js ++ ls) s
+over_leads [] k ls s p = subst (λ m. PacesLeads m ls s) (let e : k ≡ 0 + k = omega arith in e) p
+over_leads (j ∷ js) k ls s p = subst (λ m. PacesLeads m (j ∷ (js ++ ls)) s) (let e : suc (length js + k) ≡ length (j ∷ js) + k = omega arith in e) (over_leads js k ls s p)
 
 over_checks : (cs : List Check) (m k : ℕ) (ls : List Lead) (s : Shape) → PacesLeads k ls s → PacesLeads (length cs + k) (check_leads cs m ++ ls) s
 over_checks [] m k ls s p = subst (λ m. PacesLeads m ls s) (let e : k ≡ 0 + k = omega arith in e) p
@@ -170,8 +170,8 @@ module _ (n : ℕ) where
       )))
 
   side_led : (gs : Trees) (seen : List ℕ) (ls : List Lead) (s : Shape) → s.group ≡ None → 0 < count_trees gs → numbered_all n gs ≡ true → all_callable gs ≡ true → Fine n s → Sees seen s.y
-      → ((z : Shape) → z.group ≡ None → Fine n z → Sees (add_all_vars gs seen) z.y → PacesLeads 0 ls z) → PacesLeads 0 (straight (side_by_side gs seen) ++ ls) s
-  side_led gs seen ls s e l i k f o c = (
+      → ((z : Shape) → z.group ≡ None → Fine n z → Sees (add_all_vars gs seen) z.y → PacesLeads 0 ls z) → PacesLeads (length (sides gs seen) + 1) (sides gs seen ++ ls) s → PacesLeads 0 (side_leads gs seen ++ ls) s
+  side_led gs seen ls s e l i k f o c p = (
     e,
     f.settled,
     l,
@@ -182,6 +182,7 @@ module _ (n : ℕ) where
           ap is_some fz.room,
           c (after WaitAll z) refl (record { settled = fz.settled; room = fz.room }) oz,
         ))),
+    p,
   )
 
   -- the variables that checks name are set
@@ -211,20 +212,18 @@ module _ (n : ℕ) where
 
   ways_led : (cs : List Check) (gs : Trees) (seen : List ℕ) (ls : List Lead) (s : Shape) → s.group ≡ None → list_all (numbered_check n) cs ≡ true → ChecksSeen cs seen → 0 < count_trees gs
       → numbered_all n gs ≡ true → all_callable gs ≡ true → Fine n s → Sees seen s.y → ((z : Shape) → z.group ≡ None → Fine n z → Sees (add_all_vars gs seen) z.y → PacesLeads 0 ls z) → PacesLeads 0 (ways cs gs seen ++ ls) s
-  ways_led [] gs seen ls s e i h l j k f o c = side_led gs seen ls s e l j k f o c
-  ways_led (d ∷ ds) gs seen ls s e i h l j k f o c =
-      let side : List Step = side_by_side gs seen in
-      let turn : List Step = in_turn gs seen in
-      let behind : List Lead = (jump, length turn) ∷ (straight turn ++ ls) in
-      subst (λ q. PacesLeads 0 q s) (sym (append_assoc (check_leads (d ∷ ds) (length side)) (straight side ++ ((jump, length turn) ∷ straight turn)) ls
-      ∙ ap (λ q. check_leads (d ∷ ds) (length side) ++ q) (append_assoc (straight side) ((jump, length turn) ∷ straight turn) ls)))
-      (checks_led (d ∷ ds) (length side) seen (straight side ++ behind) s e i h f o
-      (side_led gs seen behind s e l j k f o (λ z ez fz oz. (
+  ways_led cs gs seen ls s e i h l j k f o c =
+      let side : List Lead = side_leads gs seen in
+      let turn : List Lead = turn_leads gs seen in
+      let called : PacesLeads 0 (turns gs seen ++ ls) s = turn_led gs seen ls s e j k f o c in
+      subst (λ q. PacesLeads 0 q s) (sym (append_assoc (check_leads cs (length side)) (side ++ turn) ls ∙ ap (λ q. check_leads cs (length side) ++ q) (append_assoc side turn ls)))
+      (checks_led cs (length side) seen (side ++ (turn ++ ls)) s e i h f o
+      (side_led gs seen (turn ++ ls) s e l j k f o (λ z ez fz oz. (
         ez,
         fz.settled,
-        subst (λ m. PacesLeads m (straight turn ++ ls) z) (let a : length turn + 0 ≡ length turn = omega arith in a) (over_straight turn 0 ls z (c z ez fz oz)),
-      )))
-      (over_straight side 1 behind s (turn_led gs seen ls s e j k f o c)))
+        subst (λ m. PacesLeads m (turns gs seen ++ ls) z) (let a : length (turns gs seen) + 0 ≡ length (turns gs seen) = omega arith in a) (over_leads (turns gs seen) 0 ls z (c z ez fz oz)),
+      )) (over_leads (sides gs seen) 1 (turn ++ ls) s called))
+      (over_leads side 1 (turn ++ ls) s called))
 
   -- ---- variables that a check names
 

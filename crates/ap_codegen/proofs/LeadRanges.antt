@@ -18,7 +18,7 @@ use Rattle.ap_codecheck.specs.Shape.{Shape, unset, write, behind_argument, after
 use Rattle.ap_codegen.specs.Emitted.{Lead}
 use Rattle.ap_codegen.specs.Temporary.{ends}
 use Rattle.ap_codegen.specs.Permanent.{name, is_builtin, goal_code, asking, gets}
-use Rattle.ap_codegen.specs.Grouped.{straight, see_check, see_checks, make, make_check, make_checks, pushes, side_by_side, in_turn, check_leads, ways, is_last_part, body_leads, clause_leads}
+use Rattle.ap_codegen.specs.Grouped.{straight, see_check, see_checks, make, make_check, make_checks, pushes, in_turn, check_leads, side_leads, ways, is_last_part, body_leads, clause_leads}
 use Rattle.ap_codegen.specs.Paces.{PacesTo, inside, IsInRange, AreInRange}
 use Rattle.ap_codegen.proofs.Pacing.{slot_of, numbered_arguments, goal_paces, gets_paces, entered}
 use Rattle.ap_codegen.proofs.Walking.{from_one}
@@ -92,7 +92,7 @@ module _ (n : ℕ) where
       let d = and_parts (callable g) (all_callable gs) k in
       joined (goal_code g seen) _ (goal_range g seen b.0 d.0) (tt, pushes_range gs (add_vars g seen) b.1 d.1)
 
-  side_range : (gs : Trees) (seen : List ℕ) → 0 < count_trees gs → numbered_all n gs ≡ true → all_callable gs ≡ true → AreInRange (straight (side_by_side gs seen))
+  side_range : (gs : Trees) (seen : List ℕ) → 0 < count_trees gs → numbered_all n gs ≡ true → all_callable gs ≡ true → AreInRange (side_leads gs seen)
   side_range gs seen l i k = (l, joined (pushes gs seen) _ (pushes_range gs seen i k) (tt, tt))
 
   one : (x : ℕ) → in_range n x ≡ true → 0 < x
@@ -126,10 +126,9 @@ module _ (n : ℕ) where
           joined (make x seen) (make y (add_vars (var x) seen)) (make_range x seen d.0) (make_range y (add_vars (var x) seen) d.1)
 
   ways_range : (cs : List Check) (gs : Trees) (seen : List ℕ) → list_all (numbered_check n) cs ≡ true → 0 < count_trees gs → numbered_all n gs ≡ true → all_callable gs ≡ true → AreInRange (ways cs gs seen)
-  ways_range [] gs seen i l j k = side_range gs seen l j k
-  ways_range (c ∷ cs) gs seen i l j k =
-      range_append (check_leads (c ∷ cs) (length (side_by_side gs seen))) _ (checks_range (c ∷ cs) (length (side_by_side gs seen)) i)
-      (range_append (straight (side_by_side gs seen)) _ (side_range gs seen l j k) (tt, turn_range gs seen j k))
+  ways_range cs gs seen i l j k =
+      range_append (check_leads cs (length (side_leads gs seen))) _ (checks_range cs (length (side_leads gs seen)) i)
+      (range_append (side_leads gs seen) _ (side_range gs seen l j k) (tt, turn_range gs seen j k))
 
   body_range : (ps : List Part) (seen : List ℕ) → list_all (well_formed_part n) ps ≡ true → AreInRange (body_leads ps seen)
   body_range [] seen i = (tt, tt)

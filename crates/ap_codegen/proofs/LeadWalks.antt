@@ -33,7 +33,7 @@ special_same Deallocate j e n = cc
 special_same (Jump l) j e n = cc
 special_same (CheckGround v l) j e n = cc
 special_same (CheckIndep v w l) j e n = cc
-special_same (AllocParcall m) j e n = cc
+special_same (AllocParcall m l) j e n = cc
 special_same WaitAll j e n = cc
 special_same _ j e n = cc
 
@@ -44,7 +44,7 @@ special_push _ k e = let d : ⊥ = cc in absurd d
 -- ---- the steps behind one
 
 pub numbered_tail : (k : ℕ) (e : Emitted) (es : List Emitted) → AreNumbered k (e ∷ es) → (j : ℕ) × AreNumbered j es
-numbered_tail k (GroupStep n) es h = (0, h)
+numbered_tail k (GroupStep n l) es h = (0, h)
 numbered_tail k (PushStep i p n) es h = (i, h.1)
 numbered_tail k _ es h = (k, h)
 
@@ -185,9 +185,9 @@ module _ (code : Compiled) (n : ℕ) (later : List Instr) where
         (λ q. b 0 k is s p.6 hs num (inl refl) c r),
         (λ l e. subst (λ m. Walks code (at + 1) m (is ++ later) s) (landing at d l e) (b d k is s p.7 hs num (inr p.0) c r)),
       )
-  step_walk (GroupStep m) es at k i is s t p h hs num c r b =
-      subst (λ i. Walks code at 0 (i ∷ (is ++ later)) s) (sym (special_same i (AllocParcall m) h.special refl)) (
-        record { reads = tt; environment = tt; turn = turn_none s p.1; group = subst (FitsGroup (AllocParcall m)) (sym p.0) tt; on = tt },
+  step_walk (GroupStep m d) es at k i is s t p h hs num c r b =
+      subst (λ i. Walks code at 0 (i ∷ (is ++ later)) s) (sym (special_same i (AllocParcall m (at + 1 + d)) h.special refl)) (
+        record { reads = tt; environment = tt; turn = turn_none s p.1; group = subst (FitsGroup (AllocParcall m (at + 1 + d))) (sym p.0) tt; on = tt },
         (λ q. b 0 0 is (with_group (Some (m, 0)) s) p.3 hs num (inl refl) refl r),
         (λ l e. let f : ⊥ = cc in absurd f),
       )

@@ -14,7 +14,7 @@ use Rattle.ap_instr.specs.Step.{call, execute, with_predicate, step_of as said_b
 use Rattle.ap_codegen.specs.CodeOf.{calls_apart}
 use Rattle.ap_instr.specs.Code.{Compiled}
 use Rattle.ap_instr.specs.StandsFor.{IsOfClauses, IsOfBuiltin, called_by}
-use Rattle.ap_instr.specs.Groups.{AsksUnmarked}
+use Rattle.ap_instr.specs.Groups.{rest_of, AsksUnmarked}
 use Rattle.ap_instr.specs.Table.{Key, is_key, key_of, predicates_of, AreTiled}
 use Rattle.ap_tracked.specs.Tracked.{IsOneOf}
 use Rattle.ap_codegen.specs.Assembled.{Numbered, Grows, Holds, Keeps, AreCallsApart, AreSequences, AreInstructionsOf, AreCoded, chosen, choices, together, heads, clauses_for, IsStanding, IsBlock, IsMade, StandsBeside}
@@ -119,8 +119,8 @@ made_all t is qs p code m k made ended at ei ez eq em own first e1 kept has once
     predicates = λ n r e. (standing n r e).0;
     calls = λ i n j r e f d. of_clauses code p r (standing n r d).0 (called_apart code j n r (apart_at code is i j (made.apart code holds) (ap (λ is. slice_get is i) (sym ei) ∙ e)) f d);
     sequences = λ i l j e o.
-        let n : 0 + i + 1 ≡ i + 1 = omega arith in
-        subst (λ n. AsksUnmarked code n l) n (sequence_at code 0 is i l j (made.sequences code [] holds whole) (ap (λ is. slice_get is i) (sym ei) ∙ e) o);
+        let n : 0 + i ≡ i = omega arith in
+        subst (λ n. AsksUnmarked code (rest_of j n) l) n (sequence_at code 0 is i l j (made.sequences code [] holds whole) (ap (λ is. slice_get is i) (sym ei) ∙ e) o);
   };
   whole = record {
     has = λ j h. subst (IsOneOf j) (sym keys) (has j h);

@@ -1,9 +1,8 @@
 -- What code that is written piece by piece leads to, and that the goals of its groups are numbered.
-use Rattle.std.proofs.Common.{◌≡◌, ℕ, suc, ◌+◌, ◌==◌, Bool, true, false, ◌&&◌, if◌then◌else◌, List, [], ◌∷◌, ◌++◌, length, refl, ap, sym, ◌∙◌, subst, arith, append_assoc}
+use Rattle.std.proofs.Common.{◌≡◌, ℕ, suc, ◌+◌, Bool, true, false, ◌&&◌, if◌then◌else◌, List, [], ◌∷◌, ◌++◌, length, refl, ap, sym, ◌∙◌, subst, arith, append_assoc}
 use Rattle.std.proofs.lemmas.List.{append-nil}
 use Rattle.std.specs.List.{list_all}
 use Rattle.std.proofs.lemmas.Bool.{false≢true}
-use Rattle.std.proofs.lemmas.Bool.Decides.{Decides-eqb}
 use Rattle.std.proofs.lemmas.List.Folds.{list_all-append}
 use Rattle.ap_term.specs.declared.clauses.Check.{Check}
 use Rattle.ap_term.specs.declared.clauses.Check.TheVariants.{Ground, Indep}
@@ -17,7 +16,7 @@ use Rattle.ap_codegen.specs.declared.steps.Step.TheVariants.{Jump, CheckGround, 
 use Rattle.ap_codegen.specs.Emitted.{Lead, step_of, steps_of, lead_of, leads_of}
 use Rattle.ap_codegen.specs.Said.{AreNumbered}
 use Rattle.ap_codegen.specs.Permanent.{name, is_builtin, goal_code, asking}
-use Rattle.ap_codegen.specs.Grouped.{straight, make, make_check, make_checks, see_check, see_checks, side_by_side, in_turn, check_leads, ways, group_leads, Numbers, IsWritten}
+use Rattle.ap_codegen.specs.Grouped.{straight, make, make_check, make_checks, see_check, see_checks, in_turn, sides, turns, check_leads, side_leads, turn_leads, ways, group_leads, Numbers, IsWritten}
 use Rattle.ap_codegen.proofs.Open.{Quiet, quiet_goal}
 
 -- whether a step leads to the next one alone and is none of a group's goals
@@ -88,18 +87,18 @@ pub straight_both : (is js : List Step) → straight (is ++ js) ≡ straight is 
 straight_both [] js = refl
 straight_both (i ∷ is) js = ap (λ ls. (i, 0) ∷ ls) (straight_both is js)
 
-pub leads_count : (es : List Emitted) (is : List Step) → leads_of es ≡ straight is → length es ≡ length is
+pub leads_count : (es : List Emitted) (ls : List Lead) → leads_of es ≡ ls → length es ≡ length ls
 leads_count [] [] e = refl
-leads_count [] (i ∷ is) e = cc
+leads_count [] (l ∷ ls) e = cc
 leads_count (e ∷ es) [] d = cc
-leads_count (e ∷ es) (i ∷ is) d = ap suc (leads_count es is (cc))
+leads_count (e ∷ es) (l ∷ ls) d = ap suc (leads_count es ls (cc))
 
 simple_leads : (es : List Emitted) → Simple (steps_of es) → leads_of es ≡ straight (steps_of es)
 simple_leads [] s = refl
 simple_leads (Jump n ∷ es) s = absurd (false≢true s)
 simple_leads (CheckGround v n ∷ es) s = absurd (false≢true s)
 simple_leads (CheckIndep v w n ∷ es) s = absurd (false≢true s)
-simple_leads (AllocParcall n ∷ es) s = absurd (false≢true s)
+simple_leads (AllocParcall n l ∷ es) s = absurd (false≢true s)
 simple_leads (PushGoal i p n ∷ es) s = absurd (false≢true s)
 simple_leads (e ∷ es) s = ap (λ ls. (step_of e, 0) ∷ ls) (simple_leads es s)
 
@@ -110,13 +109,13 @@ simple_numbers [] k s rest r = r
 simple_numbers (Jump n ∷ es) k s rest r = absurd (false≢true s)
 simple_numbers (CheckGround v n ∷ es) k s rest r = absurd (false≢true s)
 simple_numbers (CheckIndep v w n ∷ es) k s rest r = absurd (false≢true s)
-simple_numbers (AllocParcall n ∷ es) k s rest r = absurd (false≢true s)
+simple_numbers (AllocParcall n l ∷ es) k s rest r = absurd (false≢true s)
 simple_numbers (PushGoal i p n ∷ es) k s rest r = absurd (false≢true s)
 simple_numbers (e ∷ es) k s rest r = simple_numbers es k s rest r
 
 numbers_both : (k : ℕ) (es fs : List Emitted) → AreNumbered k es → ((j : ℕ) → AreNumbered j fs) → AreNumbered k (es ++ fs)
 numbers_both k [] fs h n = n k
-numbers_both k (AllocParcall m ∷ es) fs h n = numbers_both 0 es fs h n
+numbers_both k (AllocParcall m l ∷ es) fs h n = numbers_both 0 es fs h n
 numbers_both k (PushGoal i p m ∷ es) fs h n = (h.0, numbers_both i es fs h.1 n)
 numbers_both k (e ∷ es) fs h n = numbers_both k es fs h n
 
@@ -136,7 +135,7 @@ is_unnumbered _ = true
 
 unnumbered : (es : List Emitted) (k : ℕ) → list_all (λ (l : Lead). is_unnumbered l.0) (leads_of es) ≡ true → AreNumbered k es
 unnumbered [] k h = tt
-unnumbered (AllocParcall n ∷ es) k h = absurd (false≢true h)
+unnumbered (AllocParcall n l ∷ es) k h = absurd (false≢true h)
 unnumbered (PushGoal i p n ∷ es) k h = absurd (false≢true h)
 unnumbered (e ∷ es) k h = unnumbered es k h
 
@@ -161,24 +160,25 @@ pushed_numbers part new is k i p n e s d q rest r =
 
 -- ---- a group
 
-pub no_checks : (cs : List Check) (gs : Trees) (seen : List ℕ) → (length cs == 0) ≡ true → straight (side_by_side gs seen) ≡ ways cs gs seen
-no_checks [] gs seen e = refl
-no_checks (c ∷ cs) gs seen e = absurd (let k : length (c ∷ cs) ≡ 0 = (Decides-eqb (length (c ∷ cs)) 0).0 e in omega arith)
+pub begun_written : (code goals new : List Emitted) (gs : Trees) (seen : List ℕ) (n l : ℕ) → code ≡ [] → leads_of goals ≡ sides gs seen → AreNumbered 0 goals → n ≡ count_trees gs → l ≡ 1 + length goals
+    → new ≡ (code ++ AllocParcall n l ∷ []) ++ goals → IsWritten new (side_leads gs seen)
+begun_written code goals new gs seen n l z e h p q d =
+    let over : l ≡ length (sides gs seen) + 1 = omega (arith, q, leads_count goals (sides gs seen) e) in
+    subst (λ es. IsWritten es (side_leads gs seen)) (sym (d ∙ ap (λ es. (es ++ AllocParcall n l ∷ []) ++ goals) z))
+    (ap (λ ls. (group n, l) ∷ ls) e ∙ ap (λ n. (group n, l) ∷ sides gs seen) p ∙ ap (λ l. (group (count_trees gs), l) ∷ sides gs seen) over, λ k. h)
 
-pub ways_written : (cs : List Check) (gs : Trees) (seen : List ℕ) (tests sides turns new : List Emitted) (n m : ℕ) → (length cs == 0) ≡ false → IsWritten sides (straight (side_by_side gs seen)) → steps_of turns ≡ in_turn gs seen
-    → n ≡ length sides → m ≡ length turns → leads_of tests ≡ check_leads cs n → new ≡ ((tests ++ sides) ++ Jump m ∷ []) ++ turns → IsWritten new (ways cs gs seen)
-ways_written [] gs seen tests sides turns new n m f w e p q l d = absurd (false≢true (sym f))
-ways_written (c ∷ cs) gs seen tests sides turns new n m f w e p q l d =
-    let side : List Step = side_by_side gs seen in
-    let turn : List Step = in_turn gs seen in
-    let count : n ≡ length side = p ∙ leads_count sides side w.0 in
-    let t : IsWritten turns (straight turn) = simple_written turns turn e (turns_simple gs seen) in
-    let over : m ≡ length turn = q ∙ leads_count turns turn t.0 in
-    let k : IsWritten tests (check_leads (c ∷ cs) (length side)) = subst (λ n. IsWritten tests (check_leads (c ∷ cs) n)) count (checks_written tests (c ∷ cs) n l) in
-    let j : IsWritten (Jump m ∷ turns) ((jump, length turn) ∷ straight turn) = (ap (λ ls. (jump, m) ∷ ls) t.0 ∙ ap (λ m. (jump, m) ∷ straight turn) over, λ k. t.1 k) in
-    subst (λ es. IsWritten es (ways (c ∷ cs) gs seen)) (sym (d ∙ append_assoc (tests ++ sides) (Jump m ∷ []) turns ∙ append_assoc tests sides (Jump m ∷ turns)))
-    (both_written tests (sides ++ (Jump m ∷ turns)) (check_leads (c ∷ cs) (length side)) (straight side ++ ((jump, length turn) ∷ straight turn)) k
-    (both_written sides (Jump m ∷ turns) (straight side) ((jump, length turn) ∷ straight turn) w j))
+pub ways_written : (cs : List Check) (gs : Trees) (seen : List ℕ) (tests beside behind new : List Emitted) (n m : ℕ) → IsWritten beside (side_leads gs seen) → steps_of behind ≡ in_turn gs seen
+    → n ≡ length beside → m ≡ length behind → leads_of tests ≡ check_leads cs n → new ≡ ((tests ++ beside) ++ Jump m ∷ []) ++ behind → IsWritten new (ways cs gs seen)
+ways_written cs gs seen tests beside behind new n m w e p q l d =
+    let side : List Lead = side_leads gs seen in
+    let turn : List Lead = turns gs seen in
+    let count : n ≡ length side = p ∙ leads_count beside side w.0 in
+    let t : IsWritten behind turn = simple_written behind (in_turn gs seen) e (turns_simple gs seen) in
+    let over : m ≡ length turn = q ∙ leads_count behind turn t.0 in
+    let k : IsWritten tests (check_leads cs (length side)) = subst (λ n. IsWritten tests (check_leads cs n)) count (checks_written tests cs n l) in
+    let j : IsWritten (Jump m ∷ behind) (turn_leads gs seen) = (ap (λ ls. (jump, m) ∷ ls) t.0 ∙ ap (λ m. (jump, m) ∷ turn) over, λ k. t.1 k) in
+    subst (λ es. IsWritten es (ways cs gs seen)) (sym (d ∙ append_assoc (tests ++ beside) (Jump m ∷ []) behind ∙ append_assoc tests beside (Jump m ∷ behind)))
+    (both_written tests (beside ++ (Jump m ∷ behind)) (check_leads cs (length side)) (side ++ turn_leads gs seen) k (both_written beside (Jump m ∷ behind) side (turn_leads gs seen) w j))
 
 pub group_written : (cs : List Check) (gs : Trees) (seen s1 : List ℕ) (made goals new : List Emitted) → steps_of made ≡ make_checks cs seen → s1 ≡ see_checks cs seen → IsWritten goals (ways cs gs s1) → new ≡ made ++ goals
     → IsWritten new (group_leads cs gs seen)

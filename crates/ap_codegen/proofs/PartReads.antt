@@ -13,12 +13,12 @@ use Rattle.ap_term.proofs.TreeLists.{same_integer}
 use Rattle.ap_tracked.specs.Tracked.{placed}
 use Rattle.ap_tracked.specs.Marks.{marked, check_marks, group_mark, Unmarked, past_ground, past_apart, past_group}
 use Rattle.ap_tracked.proofs.Marks.{past-checks}
-use Rattle.ap_instr.specs.Step.{Step, execute, jump}
+use Rattle.ap_instr.specs.Step.{Step, execute, jump, group, wait}
 use Rattle.ap_instr.specs.Runs.{Runs, arguments}
 use Rattle.ap_codegen.specs.Emitted.{Lead}
 use Rattle.ap_codegen.specs.Permanent.{name, goal_code, asking}
-use Rattle.ap_codegen.specs.Grouped.{passed_over, flow, straight, Unmarks, AreTurns, see_checks, make_checks, side_by_side, in_turn, check_step, check_leads, ways, group_leads, is_last_part, body_leads}
-use Rattle.ap_codegen.proofs.GroupReads.{AsksFor, SeesAll, checks_seen, nothing, last_goal, goal_first, jump_first, goals_first, makes_first, checks_first, side_by_side_first}
+use Rattle.ap_codegen.specs.Grouped.{passed_over, flow, straight, Unmarks, has_turns, rest_from, AreTurns, see_checks, make_checks, pushes, in_turn, check_step, check_leads, sides, turns, side_leads, turn_leads, ways, group_leads, is_last_part, body_leads}
+use Rattle.ap_codegen.proofs.GroupReads.{AsksFor, SeesAll, checks_seen, nothing, last_goal, goal_first, jump_first, goals_first, makes_first, checks_first, side_by_side, side_by_side_first}
 
 -- ---- which steps run
 
@@ -30,41 +30,43 @@ pub flow_straight : (is : List Step) (ls : List Lead) → flow 0 (straight is ++
 flow_straight [] ls = refl
 flow_straight (i ∷ is) ls = ap (λ n. i ∷ flow n (straight is ++ ls)) (none_passed i) ∙ ap (λ js. i ∷ js) (flow_straight is ls)
 
-pub flow_past : (is : List Step) (ls : List Lead) → flow (length is) (straight is ++ ls) ≡ flow 0 ls
-flow_past [] ls = refl
-flow_past (i ∷ is) ls = flow_past is ls
+-- leads that are passed over, and the next one
+flow_over : (ks : List Lead) (l : Lead) (ls : List Lead) → flow (length ks + 1) (ks ++ (l ∷ ls)) ≡ flow 0 ls
+flow_over [] l ls = refl
+flow_over (k ∷ ks) l ls = let e : length (k ∷ ks) + 1 ≡ suc (length ks + 1) = omega arith in ap (λ n. flow n (k ∷ (ks ++ (l ∷ ls)))) e ∙ flow_over ks l ls
 
-pub flow_checks : (cs : List Check) (n : ℕ) (ls : List Lead) → flow 0 (check_leads cs n ++ ls) ≡ map check_step cs ++ flow 0 ls
+flow_past : (ks ls : List Lead) → flow (length ks) (ks ++ ls) ≡ flow 0 ls
+flow_past [] ls = refl
+flow_past (k ∷ ks) ls = flow_past ks ls
+
+flow_checks : (cs : List Check) (n : ℕ) (ls : List Lead) → flow 0 (check_leads cs n ++ ls) ≡ map check_step cs ++ flow 0 ls
 flow_checks [] n ls = refl
 flow_checks (Ground v ∷ cs) n ls = ap (λ js. check_step (Ground v) ∷ js) (flow_checks cs n ls)
 flow_checks (Indep v w ∷ cs) n ls = ap (λ js. check_step (Indep v w) ∷ js) (flow_checks cs n ls)
 
 -- a check that doesn't hold passes over the checks behind it, the goals side by side and the jump
-flow_turns : (cs : List Check) (n : ℕ) (is : List Step) (l : Lead) (ls : List Lead) → flow (length cs + length is + 1) (check_leads cs n ++ (straight is ++ (l ∷ ls))) ≡ flow 0 ls
-flow_turns [] n is l ls = let e : 0 + length is + 1 ≡ length is + 1 = omega arith in ap (λ k. flow k (straight is ++ (l ∷ ls))) e ∙ go is
-  where
-    go : (is : List Step) → flow (length is + 1) (straight is ++ (l ∷ ls)) ≡ flow 0 ls
-    go [] = refl
-    go (i ∷ is) = let e : length (i ∷ is) + 1 ≡ suc (length is + 1) = omega arith in ap (λ k. flow k (straight (i ∷ is) ++ (l ∷ ls))) e ∙ go is
-flow_turns (c ∷ cs) n is l ls =
-    let e : length (c ∷ cs) + length is + 1 ≡ suc (length cs + length is + 1) = omega arith in
-    ap (λ k. flow k (check_leads (c ∷ cs) n ++ (straight is ++ (l ∷ ls)))) e ∙ flow_turns cs n is l ls
+flow_turns : (cs : List Check) (n : ℕ) (ks : List Lead) (l : Lead) (ls : List Lead) → flow (length cs + length ks + 1) (check_leads cs n ++ (ks ++ (l ∷ ls))) ≡ flow 0 ls
+flow_turns [] n ks l ls = let e : 0 + length ks + 1 ≡ length ks + 1 = omega arith in ap (λ k. flow k (ks ++ (l ∷ ls))) e ∙ flow_over ks l ls
+flow_turns (c ∷ cs) n ks l ls =
+    let e : length (c ∷ cs) + length ks + 1 ≡ suc (length cs + length ks + 1) = omega arith in
+    ap (λ k. flow k (check_leads (c ∷ cs) n ++ (ks ++ (l ∷ ls)))) e ∙ flow_turns cs n ks l ls
 
--- the steps behind a group's checks, which call its goals side by side
+-- a group's checks, its goals side by side and in turn, and what is behind them
 abbrev beside : List Check → Trees → List ℕ → List Lead → List Lead
-beside cs gs seen ls = check_leads cs (length (side_by_side gs seen)) ++ (straight (side_by_side gs seen) ++ ((jump, length (in_turn gs seen)) ∷ (straight (in_turn gs seen) ++ ls)))
+beside cs gs seen ls = check_leads cs (length (side_leads gs seen)) ++ (side_leads gs seen ++ (turn_leads gs seen ++ ls))
 
 flow_beside : (cs : List Check) (gs : Trees) (seen : List ℕ) (ls : List Lead) → flow 0 (beside cs gs seen ls) ≡ map check_step cs ++ (side_by_side gs seen ++ (jump ∷ flow 0 ls))
 flow_beside cs gs seen ls =
-    let next : List Lead = (jump, length (in_turn gs seen)) ∷ (straight (in_turn gs seen) ++ ls) in
-    flow_checks cs (length (side_by_side gs seen)) (straight (side_by_side gs seen) ++ next)
-    ∙ ap (λ js. map check_step cs ++ js) (flow_straight (side_by_side gs seen) next ∙ ap (λ js. side_by_side gs seen ++ (jump ∷ js)) (flow_past (in_turn gs seen) ls))
+    let next : List Lead = turn_leads gs seen ++ ls in
+    flow_checks cs (length (side_leads gs seen)) (side_leads gs seen ++ next)
+    ∙ ap (λ js. map check_step cs ++ (group (count_trees gs) ∷ js)) (flow_straight (pushes gs seen ++ wait ∷ []) next)
+    ∙ ap (λ js. map check_step cs ++ (side_by_side gs seen ++ (jump ∷ js))) (flow_past (turns gs seen) ls)
 
-ways_before : (c : Check) (cs : List Check) (gs : Trees) (seen : List ℕ) (ls : List Lead) → ways (c ∷ cs) gs seen ++ ls ≡ beside (c ∷ cs) gs seen ls
-ways_before c cs gs seen ls =
-    let one : List Lead = check_leads (c ∷ cs) (length (side_by_side gs seen)) in
-    let two : List Lead = straight (side_by_side gs seen) in
-    let three : List Lead = (jump, length (in_turn gs seen)) ∷ straight (in_turn gs seen) in
+ways_before : (cs : List Check) (gs : Trees) (seen : List ℕ) (ls : List Lead) → ways cs gs seen ++ ls ≡ beside cs gs seen ls
+ways_before cs gs seen ls =
+    let one : List Lead = check_leads cs (length (side_leads gs seen)) in
+    let two : List Lead = side_leads gs seen in
+    let three : List Lead = turn_leads gs seen in
     append_assoc one (two ++ three) ls ∙ ap (λ is. one ++ is) (append_assoc two three ls)
 
 -- ---- a group's marks
@@ -90,7 +92,7 @@ module _ (gs : Trees) (seen : List ℕ) (ls : List Lead) (goals : (ℕ → Tree)
   abbrev with_marks : List Check → (ℕ → Tree) → Trees
   with_marks cs h = check_marks h cs (more (group_mark (count_trees gs)) (after h))
 
-  pub turns_ask : AsksFor seen (flow 0 (straight (in_turn gs seen) ++ ls)) after
+  pub turns_ask : AsksFor seen (flow 0 (turns gs seen ++ ls)) after
   turns_ask = subst (λ is. AsksFor seen is after) (sym (flow_straight (in_turn gs seen) ls)) (goals_first (flow 0 ls) goals gs seen c a)
 
   beside_ask : (cs : List Check) → SeesAll seen cs → AsksFor seen (flow 0 (beside cs gs seen ls)) (with_marks cs)
@@ -100,7 +102,7 @@ module _ (gs : Trees) (seen : List ℕ) (ls : List Lead) (goals : (ℕ → Tree)
       (checks_first is (with_marks []) cs seen s (side_by_side_first (jump ∷ flow 0 ls) goals gs seen c (jump_first (flow 0 ls) goals (add_all_vars gs seen) a)))
 
   -- a group's goals in turn are the group without its marks
-  unmarks : (cs : List Check) → SeesAll seen cs → Unmarks (flow 0 (beside cs gs seen ls)) (flow 0 (straight (in_turn gs seen) ++ ls))
+  unmarks : (cs : List Check) → SeesAll seen cs → Unmarks (flow 0 (beside cs gs seen ls)) (flow 0 (turns gs seen ++ ls))
   unmarks cs s =
       let from = beside_ask cs s in
       record {
@@ -109,21 +111,31 @@ module _ (gs : Trees) (seen : List ℕ) (ls : List Lead) (goals : (ℕ → Tree)
             (with_marks cs d.0, subst (Unmarked (with_marks cs d.0)) (sym d.2) (past-checks d.0 cs (count_trees gs) (after d.0)), from.each d.0 x y d.1);
         each = λ x y ms bs u r.
             let d = from.only x y ms r in
-            subst (Runs (flow 0 (straight (in_turn gs seen) ++ ls)) none x y) (sym (only_unmarked d.0 cs (count_trees gs) (after d.0) ms bs u d.2)) (turns_ask.each d.0 x y d.1);
+            subst (Runs (flow 0 (turns gs seen ++ ls)) none x y) (sym (only_unmarked d.0 cs (count_trees gs) (after d.0) ms bs u d.2)) (turns_ask.each d.0 x y d.1);
         openly = turns_ask.openly;
       }
 
-  pub checks_turn : (cs : List Check) → SeesAll seen cs → AreTurns (check_leads cs (length (side_by_side gs seen))) (straight (side_by_side gs seen) ++ ((jump, length (in_turn gs seen)) ∷ (straight (in_turn gs seen) ++ ls)))
+  -- where a check leads that stands before others
+  turn_from : (cs : List Check) → SeesAll seen cs → Unmarks (flow 0 (beside cs gs seen ls)) (flow (length cs + length (side_leads gs seen) + 1) (beside cs gs seen ls))
+  turn_from cs s =
+      subst (Unmarks (flow 0 (beside cs gs seen ls))) (sym (flow_turns cs (length (side_leads gs seen)) (side_leads gs seen) (jump, length (turns gs seen)) (turns gs seen ++ ls))) (unmarks cs s)
+
+  pub checks_turn : (cs : List Check) → SeesAll seen cs → AreTurns (check_leads cs (length (side_leads gs seen))) (side_leads gs seen ++ (turn_leads gs seen ++ ls))
   checks_turn [] s = tt
-  checks_turn (k ∷ cs) s = (
-    λ _. subst (Unmarks (flow 0 (beside cs gs seen ls))) (sym (flow_turns cs (length (side_by_side gs seen)) (side_by_side gs seen) (jump, length (in_turn gs seen)) (straight (in_turn gs seen) ++ ls))) (unmarks cs s.1),
-    checks_turn cs s.1,
-  )
+  checks_turn (k ∷ cs) s = (λ _. turn_checked k cs s.1, checks_turn cs s.1)
+    where
+      turn_checked : (k : Check) (cs : List Check) → SeesAll seen cs
+          → Unmarks (rest_from (check_step k) (flow 0 (beside cs gs seen ls))) (flow (length cs + length (side_leads gs seen) + 1) (beside cs gs seen ls))
+      turn_checked (Ground v) cs s = turn_from cs s
+      turn_checked (Indep v w) cs s = turn_from cs s
+
+  pub side_turns : has_turns (group (count_trees gs)) ≡ true → Unmarks (group (count_trees gs) ∷ flow 0 (sides gs seen ++ (turn_leads gs seen ++ ls))) (flow (length (sides gs seen) + 1) (sides gs seen ++ (turn_leads gs seen ++ ls)))
+  side_turns e =
+      let next : List Lead = turns gs seen ++ ls in
+      subst (Unmarks (flow 0 (beside [] gs seen ls))) (sym (flow_over (sides gs seen) (jump, length (turns gs seen)) next)) (unmarks [] tt)
 
   pub ways_ask : (cs : List Check) → SeesAll seen cs → AsksFor seen (flow 0 (ways cs gs seen ++ ls)) (with_marks cs)
-  ways_ask [] s =
-      subst (λ is. AsksFor seen is (with_marks [])) (sym (flow_straight (side_by_side gs seen) ls)) (side_by_side_first (flow 0 ls) goals gs seen c a)
-  ways_ask (k ∷ cs) s = subst (λ is. AsksFor seen (flow 0 is) (with_marks (k ∷ cs))) (sym (ways_before k cs gs seen ls)) (beside_ask (k ∷ cs) s)
+  ways_ask cs s = subst (λ is. AsksFor seen (flow 0 is) (with_marks cs)) (sym (ways_before cs gs seen ls)) (beside_ask cs s)
 
 -- ---- bodies
 

@@ -1,4 +1,4 @@
--- Each check of a clause leads to its group's goals in turn, and the clause calls no predicate of built-in goals.
+-- Each check and each group of a clause leads to the group's goals in turn, and the clause calls no predicate of built-in goals.
 use Rattle.std.proofs.Common.{◌≡◌, ℕ, ◌+◌, ◌≤◌, Bool, true, false, ◌&&◌, not, if◌then◌else◌, List, [], ◌∷◌, ◌++◌, map, length, refl, ap, sym, ◌∙◌, subst, arith, append_assoc}
 use Rattle.std.specs.List.{list_all}
 use Rattle.std.proofs.lemmas.Bool.{false≢true, and_parts}
@@ -17,15 +17,15 @@ use Rattle.ap_instr.specs.Runs.{Runs, Reads, AsksOpenly, arguments}
 use Rattle.ap_codegen.specs.CodeOf.{calls_apart}
 use Rattle.ap_codegen.specs.Emitted.{Lead}
 use Rattle.ap_codegen.specs.Permanent.{name, is_builtin, goal_code, asking, gets}
-use Rattle.ap_codegen.specs.Grouped.{flow, straight, Unmarks, is_check, AreTurns, IsGroupedCode, see_check, see_checks, make, make_check, make_checks, pushes, side_by_side, in_turn, check_leads, ways, group_leads, is_last_part, body_leads, clause_leads}
+use Rattle.ap_codegen.specs.Grouped.{flow, straight, Unmarks, has_turns, rest_from, AreTurns, IsGroupedCode, see_check, see_checks, make, make_check, make_checks, pushes, in_turn, check_leads, side_leads, turn_leads, ways, group_leads, is_last_part, body_leads, clause_leads}
 use Rattle.ap_codegen.proofs.PermanentReads.{seen_same_all, gets-only, gets-each}
 use Rattle.ap_codegen.proofs.Open.{Quiet, quiet_openly, quiet_goal, quiet_gets, key_apart, asking_apart}
 use Rattle.ap_codegen.proofs.GroupReads.{AsksFor, SeesAll, checks_seen}
-use Rattle.ap_codegen.proofs.PartReads.{flow_straight, checks_turn, parts_ask, group_callable}
+use Rattle.ap_codegen.proofs.PartReads.{flow_straight, checks_turn, side_turns, parts_ask, group_callable}
 
--- whether a step is no check and calls no predicate of built-in goals
+-- whether a step leads to no goals in turn and calls no predicate of built-in goals
 abbrev is_plain : Step → Bool
-is_plain i = calls_apart i && not (is_check i)
+is_plain i = calls_apart i && not (has_turns i)
 
 abbrev Plain : List Step → Type 0
 Plain is = list_all is_plain is ≡ true
@@ -76,8 +76,8 @@ pushes_plain : (gs : Trees) (seen : List ℕ) → Plain (pushes gs seen)
 pushes_plain none seen = refl
 pushes_plain (more g gs) seen = plain_goal g seen (push (name g) (count_trees (arguments g)) ∷ pushes gs (add_vars g seen)) (pushes_plain gs (add_vars g seen))
 
-side_by_side_plain : (gs : Trees) (seen : List ℕ) → Plain (side_by_side gs seen)
-side_by_side_plain gs seen = plain_both (pushes gs seen) (wait ∷ []) (pushes_plain gs seen) refl
+sides_plain : (gs : Trees) (seen : List ℕ) → Plain (pushes gs seen ++ wait ∷ [])
+sides_plain gs seen = plain_both (pushes gs seen) (wait ∷ []) (pushes_plain gs seen) refl
 
 make_plain : (v : ℕ) (seen : List ℕ) → Plain (make v seen)
 make_plain v seen = go (has seen v)
@@ -96,7 +96,7 @@ makes_plain (c ∷ cs) seen = plain_both (make_check c seen) (make_checks cs (se
 
 -- ---- leads
 
--- the checks lead to their groups' goals in turn, and no predicate of built-in goals is called
+-- the checks and groups lead to goals in turn, and no predicate of built-in goals is called
 abbrev Turning : List Lead → List Lead → Type 0
 Turning ls rest = AreTurns ls rest × (list_all (λ l. calls_apart l.0) ls ≡ true)
 
@@ -105,13 +105,13 @@ both_turn first second rest t u = (go first t.0, list_all-append (λ l. calls_ap
   where
     go : (first : List Lead) → AreTurns first (second ++ rest) → AreTurns (first ++ second) rest
     go [] t = u.0
-    go (l ∷ first) t = (λ e. subst (λ q. Unmarks (flow 0 q) (flow l.1 q)) (sym (append_assoc first second rest)) (t.0 e), go first t.1)
+    go (l ∷ first) t = (λ e. subst (λ q. Unmarks (rest_from l.0 (flow 0 q)) (flow l.1 q)) (sym (append_assoc first second rest)) (t.0 e), go first t.1)
 
 plain_turns : (is : List Step) (rest : List Lead) → Plain is → Turning (straight is) rest
 plain_turns [] rest p = (tt, refl)
 plain_turns (i ∷ is) rest p =
     let b = and_parts (is_plain i) (list_all is_plain is) p in
-    let d = and_parts (calls_apart i) (not (is_check i)) b.0 in
+    let d = and_parts (calls_apart i) (not (has_turns i)) b.0 in
     let k = plain_turns is rest b.1 in
     ((λ e. absurd (false≢true (ap not (sym e) ∙ d.1)), k.0), ap (λ a. a && list_all (λ (l : Lead). calls_apart l.0) (straight is)) d.0 ∙ k.1)
 
@@ -121,15 +121,14 @@ checks_apart (Ground v ∷ cs) n = checks_apart cs n
 checks_apart (Indep v w ∷ cs) n = checks_apart cs n
 
 ways_turn : (gs : Trees) (seen : List ℕ) (ls : List Lead) (goals : (ℕ → Tree) → Trees) → all_callable gs ≡ true → AsksFor (add_all_vars gs seen) (flow 0 ls) goals → (cs : List Check) → SeesAll seen cs → Turning (ways cs gs seen) ls
-ways_turn gs seen ls goals c a [] s = plain_turns (side_by_side gs seen) ls (side_by_side_plain gs seen)
-ways_turn gs seen ls goals c a (k ∷ cs) s =
-    let sides : List Step = side_by_side gs seen in
-    let turns : List Step = in_turn gs seen in
-    let over : Lead = (jump, length turns) in
-    let t = plain_turns turns ls (turns_plain gs seen c) in
-    both_turn (check_leads (k ∷ cs) (length sides)) (straight sides ++ (over ∷ straight turns)) ls
-    (subst (AreTurns (check_leads (k ∷ cs) (length sides))) (sym (append_assoc (straight sides) (over ∷ straight turns) ls)) (checks_turn gs seen ls goals c a (k ∷ cs) s), checks_apart (k ∷ cs) (length sides))
-    (both_turn (straight sides) (over ∷ straight turns) ls (plain_turns sides (over ∷ straight turns ++ ls) (side_by_side_plain gs seen)) ((λ e. absurd (false≢true e), t.0), t.1))
+ways_turn gs seen ls goals c a cs s =
+    let side : List Lead = side_leads gs seen in
+    let turn : List Lead = turn_leads gs seen in
+    let t = plain_turns (in_turn gs seen) ls (turns_plain gs seen c) in
+    let k = plain_turns (pushes gs seen ++ wait ∷ []) (turn ++ ls) (sides_plain gs seen) in
+    both_turn (check_leads cs (length side)) (side ++ turn) ls
+    (subst (AreTurns (check_leads cs (length side))) (sym (append_assoc side turn ls)) (checks_turn gs seen ls goals c a cs s), checks_apart cs (length side))
+    (both_turn side turn ls ((side_turns gs seen ls goals c a, k.0), k.1) ((λ e. absurd (false≢true e), t.0), t.1))
 
 -- whatever stands behind a body
 pub body_turns : (n : ℕ) (ps : List Part) (seen : List ℕ) (rest : List Lead) → list_all (well_formed_part n) ps ≡ true → Turning (body_leads ps seen) rest

@@ -16,14 +16,14 @@ use Rattle.ap_codegen.specs.CodeOf.{calls_apart}
 use Rattle.ap_codegen.specs.Emitted.{step_of, steps_of, label_of, Lead, lead_of, leads_of}
 use Rattle.ap_codegen.specs.Temporary.{ends}
 use Rattle.ap_codegen.specs.Said.{AreNumbered}
-use Rattle.ap_codegen.specs.Grouped.{passed_over, flow, Unmarks, is_check, AreTurns, IsGroupedCode, IsEnded}
+use Rattle.ap_codegen.specs.Grouped.{passed_over, flow, Unmarks, has_turns, rest_from, AreTurns, IsGroupedCode, IsEnded}
 use Rattle.ap_codegen.specs.Framed.{leaving}
 use Rattle.ap_codegen.specs.Paces.{Paces, one_pushed, PacesOn, PacesLeads, IsInRange, AreInRange, ArePacedLeads, inside}
 use Rattle.ap_codegen.specs.declared.steps.Step.{Step as Emitted}
 use Rattle.ap_codegen.specs.declared.steps.Step.TheVariants.{GetVariable, PutValue, Jump, CheckGround, CheckIndep, AllocParcall, PushGoal, WaitAll, Allocate, Deallocate}
 use Rattle.ap_codegen.specs.declared.relocating.Change.{Change as Chosen}
 use Rattle.ap_codegen.specs.declared.relocating.Change.TheVariants.{Kept, Dropped}
-use Rattle.ap_codegen.specs.Relocated.{Change, kept, dropped, olds, news, staying, relocated, register, placed, written, Known, former, latter, has_room, set_former, set_both, behind, may_drop, fits, change_fits, IsSingle, Onward, NoChecks, AreKept, asks, all_open, IsBegun, within, changes_of, step_in, AreTested}
+use Rattle.ap_codegen.specs.Relocated.{Change, kept, dropped, olds, news, staying, relocated, register, placed, written, Known, former, latter, has_room, set_former, set_both, behind, may_drop, fits, change_fits, IsSingle, Onward, NoTurns, AreKept, asks, all_open, IsBegun, within, changes_of, step_in, AreTested}
 use Rattle.ap_codegen.proofs.EndedLeads.{ended_more}
 use Rattle.ap_codegen.proofs.FramedLeads.{framed_grouped}
 use Rattle.ap_codegen.proofs.RelocatedReads.{above_zero, Below, below_former, below_latter, below_both, below_call, below_forgets, Held, Same, Alike, passed_same, onward, alike}
@@ -67,6 +67,7 @@ placed_lead : (e : Emitted) (u o : Slot) (cs : List Change) → lead_of (placed 
 placed_lead (Jump n) u o cs = refl
 placed_lead (CheckGround v n) u o cs = refl
 placed_lead (CheckIndep v w n) u o cs = refl
+placed_lead (AllocParcall m n) u o cs = refl
 placed_lead _ u o cs = refl
 
 pub news_written : (cs : List Chosen) → leads_of (written cs) ≡ news (changes_of cs)
@@ -210,7 +211,7 @@ module _ (room : Option ℕ) where
 
   pub still_numbered : (k : ℕ) (cs : List Chosen) → AllFit (changes_of cs) → AreNumbered k (map step_in cs) → AreNumbered k (written cs)
   still_numbered k [] w n = tt
-  still_numbered k (Kept (AllocParcall m) u o ∷ cs) w n = still_numbered 0 cs (fit_behind (AllocParcall m) u o cs w) n
+  still_numbered k (Kept (AllocParcall m l) u o ∷ cs) w n = still_numbered 0 cs (fit_behind (AllocParcall m l) u o cs w) n
   still_numbered k (Kept (PushGoal i p m) u o ∷ cs) w n = (n.0, still_numbered i cs (fit_behind (PushGoal i p m) u o cs w) n.1)
   still_numbered k (Kept e u o ∷ cs) w n = still_numbered k cs (fit_behind e u o cs w) n
   still_numbered k (Dropped (GetVariable v a) ∷ cs) w n = still_numbered k cs w n
@@ -225,7 +226,7 @@ plain_placed Deallocate u o n f = absurd (false≢true f)
 plain_placed (Jump m) u o n f = absurd (false≢true f)
 plain_placed (CheckGround v m) u o n f = absurd (false≢true f)
 plain_placed (CheckIndep v w m) u o n f = absurd (false≢true f)
-plain_placed (AllocParcall m) u o n f = absurd (false≢true f)
+plain_placed (AllocParcall m l) u o n f = absurd (false≢true f)
 plain_placed (PushGoal i p m) u o n f = absurd (false≢true f)
 plain_placed WaitAll u o n f = absurd (false≢true f)
 plain_placed _ u o n f = refl
@@ -237,7 +238,7 @@ plain_written (Kept e u o ∷ cs) w =
     let b = and_parts (fits None (step_of e) u o) (list_all (change_fits None) (changes_of cs)) w in
     ap (λ c. c && list_all is_plain (steps_of (written cs))) (plain_placed e u o (staying (label_of e) (changes_of cs)) b.0) ∙ plain_written cs b.1
 
--- ---- each check leads to its group's goals in turn
+-- ---- each check and group leads to the group's goals in turn
 
 -- places of the code as it was, that hold what the code as it becomes holds
 single_held : (k : Known) (x' y' : ℕ → Tree) (s : IsSingle k) → Held Tree Same k (λ n. read (s.0 (k.former_x n)) x' y') (λ n. read (s.0 (k.former_y n)) x' y') x' y'
@@ -287,24 +288,30 @@ onward_clear : (i : Step) (m : ℕ) (K : ℕ → Known → Type 0) (N : ℕ → 
 onward_clear jump m K N k n w = w.0
 onward_clear _ m K N k n w = n
 
-check_same : (i : Step) (u o : Slot) → is_check (relocated i u o) ≡ is_check i
-check_same (check_ground v) u o = refl
-check_same (check_indep v w) u o = refl
-check_same _ u o = refl
+turns_same : (i : Step) (u o : Slot) → has_turns (relocated i u o) ≡ has_turns i
+turns_same (check_ground v) u o = refl
+turns_same (check_indep v w) u o = refl
+turns_same _ u o = refl
 
-no_check : (i : Step) (u o : Slot) → not (is_check i) ≡ true → is_check (relocated i u o) ≡ true → ⊥
-no_check i u o n e = go (is_check i) n (sym (check_same i u o) ∙ e)
+rest_alike : (i : Step) (is js : List Step) (x y x' y' : ℕ → Tree) → ((bs : Trees) → Alike is js none x y x' y' bs) → (bs : Trees) → Alike (rest_from i is) (rest_from i js) none x y x' y' bs
+rest_alike (group n) is js x y x' y' a bs = (λ r. (r.0, r.1, (a r.0).0 r.2), λ r. (r.0, r.1, (a r.0).1 r.2))
+rest_alike i is js x y x' y' a bs = a bs
+
+no_turns : (i : Step) (u o : Slot) → not (has_turns i) ≡ true → has_turns (relocated i u o) ≡ true → ⊥
+no_turns i u o n e = go (has_turns i) n (sym (turns_same i u o) ∙ e)
   where
     go : (b : Bool) → not b ≡ true → b ≡ true → ⊥
     go true n e = false≢true n
     go false n e = false≢true e
 
 module _ (room : Option ℕ) (rest : List Lead) where
-  unmarks_kept : (m : ℕ) (cs : List Change) (k : Known) (s z : Shape) (asked : Bool) → AllFit room cs → IsSingle k → AreKept 0 k cs → AreKept m k cs → s.pending ≡ 0 → PacesLeads 0 (olds cs) s → PacesLeads m (olds cs) s
-      → PacesLeads (staying m cs) (news cs) z → open_leads asked (news cs) ≡ true → Below k → Unmarks (flow 0 (olds cs ++ rest)) (flow m (olds cs ++ rest)) → Unmarks (flow 0 (news cs ++ rest)) (flow (staying m cs) (news cs ++ rest))
-  unmarks_kept m cs k s z asked w one a c e p q r f b t = record {
-    only = λ x y bs run. let v = t.only (xs x y) (ys x y) bs ((over x y bs).0 run) in (v.0, v.1, (on x y v.0).1 v.2);
-    each = λ x y ms bs u run. (over x y bs).1 (t.each (xs x y) (ys x y) ms bs u ((on x y ms).0 run));
+  -- the shapes at the next step and where the other way leads
+  unmarks_kept : (i : Step) (m : ℕ) (cs : List Change) (k : Known) (s d z : Shape) (asked : Bool) → AllFit room cs → IsSingle k → AreKept 0 k cs → AreKept m k cs → s.pending ≡ 0 → d.pending ≡ 0
+      → PacesLeads 0 (olds cs) s → PacesLeads m (olds cs) d → PacesLeads (staying m cs) (news cs) z → open_leads asked (news cs) ≡ true → Below k → Unmarks (rest_from i (flow 0 (olds cs ++ rest))) (flow m (olds cs ++ rest))
+      → Unmarks (rest_from i (flow 0 (news cs ++ rest))) (flow (staying m cs) (news cs ++ rest))
+  unmarks_kept i m cs k s d z asked w one a c e g p q r f b t = record {
+    only = λ x y bs run. let v = t.only (xs x y) (ys x y) bs ((over x y bs).0 run) in (v.0, v.1, (begun x y v.0).1 v.2);
+    each = λ x y ms bs u run. (over x y bs).1 (t.each (xs x y) (ys x y) ms bs u ((begun x y ms).0 run));
     openly = asks_openly rest asked (staying m cs) (news cs) z f r;
   }
     where
@@ -317,22 +324,25 @@ module _ (room : Option ℕ) (rest : List Lead) where
       on : (x y : ℕ → Tree) (bs : Trees) → Alike (flow 0 (olds cs ++ rest)) (flow 0 (news cs ++ rest)) none (xs x y) (ys x y) x y bs
       on x y bs = alike room rest 0 cs none k s (xs x y) (ys x y) x y bs w a p e b (single_held k x y one)
 
-      over : (x y : ℕ → Tree) (bs : Trees) → Alike (flow m (olds cs ++ rest)) (flow (staying m cs) (news cs ++ rest)) none (xs x y) (ys x y) x y bs
-      over x y bs = alike room rest m cs none k s (xs x y) (ys x y) x y bs w c q e b (single_held k x y one)
+      begun : (x y : ℕ → Tree) (bs : Trees) → Alike (rest_from i (flow 0 (olds cs ++ rest))) (rest_from i (flow 0 (news cs ++ rest))) none (xs x y) (ys x y) x y bs
+      begun x y bs = rest_alike i (flow 0 (olds cs ++ rest)) (flow 0 (news cs ++ rest)) (xs x y) (ys x y) x y (on x y) bs
 
-  pub turns_kept : (n : ℕ) (cs : List Change) (k : Known) (s z : Shape) (asked : Bool) → AllFit room cs → AreKept n k cs → NoChecks n cs → IsEnded (olds cs) → PacesLeads n (olds cs) s → PacesLeads (staying n cs) (news cs) z
+      over : (x y : ℕ → Tree) (bs : Trees) → Alike (flow m (olds cs ++ rest)) (flow (staying m cs) (news cs ++ rest)) none (xs x y) (ys x y) x y bs
+      over x y bs = alike room rest m cs none k d (xs x y) (ys x y) x y bs w c q g b (single_held k x y one)
+
+  pub turns_kept : (n : ℕ) (cs : List Change) (k : Known) (s z : Shape) (asked : Bool) → AllFit room cs → AreKept n k cs → NoTurns n cs → IsEnded (olds cs) → PacesLeads n (olds cs) s → PacesLeads (staying n cs) (news cs) z
       → open_leads asked (news cs) ≡ true → Below k → AreTurns (olds cs) rest → AreTurns (news cs) rest
   turns_kept zero [] k s z asked w a c h p q f b t = tt
   turns_kept (suc n) [] k s z asked w a c h p q f b t = tt
   turns_kept (suc n) (dropped l ∷ cs) k s z asked w a c h p q f b t =
       let v = and_parts (may_drop l.0) (list_all (change_fits room) cs) w in
       turns_kept n cs k s z asked v.1 a c.1 (ended_tail l (olds cs) (dropped_on l.0 v.0) h) p q f b t.1
-  turns_kept (suc n) (kept l u o ∷ cs) k s z asked w a c h p q f b t = (λ e. absurd (no_check l.0 u o c.0 e), go (ends l.0) refl (λ d v c h f t. turns_kept n cs k s z d v a c h p q f b t))
+  turns_kept (suc n) (kept l u o ∷ cs) k s z asked w a c h p q f b t = (λ e. absurd (no_turns l.0 u o c.0 e), go (ends l.0) refl (λ d v c h f t. turns_kept n cs k s z d v a c h p q f b t))
     where
       v : (fits room l.0 u o ≡ true) × AllFit room cs
       v = and_parts (fits room l.0 u o) (list_all (change_fits room) cs) w
 
-      go : (d : Bool) → ends l.0 ≡ d → ((asked : Bool) → AllFit room cs → NoChecks n cs → IsEnded (olds cs) → open_leads asked (news cs) ≡ true → AreTurns (olds cs) rest → AreTurns (news cs) rest) → AreTurns (news cs) rest
+      go : (d : Bool) → ends l.0 ≡ d → ((asked : Bool) → AllFit room cs → NoTurns n cs → IsEnded (olds cs) → open_leads asked (news cs) ≡ true → AreTurns (olds cs) rest → AreTurns (news cs) rest) → AreTurns (news cs) rest
       go true e next = subst (λ ls. AreTurns ls rest) (sym (no_news cs (ended_last l (olds cs) e h))) tt
       go false e next = next (asked || asks (relocated l.0 u o)) v.1 c.1 (ended_tail l (olds cs) e h) (open_behind asked (relocated l.0 u o, staying l.1 cs) (news cs) f) t.1
   turns_kept zero (dropped (get_variable d r, m) ∷ cs) k s z asked w (j, g, a) c h p q f b t =
@@ -353,23 +363,24 @@ module _ (room : Option ℕ) (rest : List Lead) where
       o1 : open_leads (asked || asks (relocated i u o)) (news cs) ≡ true
       o1 = open_behind asked (relocated i u o, staying m cs) (news cs) f
 
-      first : (i1 : Step) → Onward (i1, m) (λ n j. AreKept n j cs) (λ n. NoChecks n cs) (behind j i1 u o) → PacesOn i1 m (λ n z. PacesLeads n (olds cs) z) s
-          → PacesOn (relocated i1 u o) (staying m cs) (λ n z. PacesLeads n (news cs) z) z → (is_check i1 ≡ true → Unmarks (flow 0 (olds cs ++ rest)) (flow m (olds cs ++ rest)))
-          → is_check (relocated i1 u o) ≡ true → Unmarks (flow 0 (news cs ++ rest)) (flow (staying m cs) (news cs ++ rest))
-      first (check_ground x) a p q t e = unmarks_kept m cs j s z (asked || asks (relocated i u o)) v.1 a.0 a.1 a.2 p.1 p.4 p.5 q.5 o1 b1 (t refl)
-      first (check_indep x y) a p q t e = unmarks_kept m cs j s z (asked || asks (relocated i u o)) v.1 a.0 a.1 a.2 p.1 p.6 p.7 q.7 o1 b1 (t refl)
-      first i1 a p q t e = absurd (false≢true (sym (check_same i1 u o) ∙ e))
+      first : (i1 : Step) → Onward (i1, m) (λ n j. AreKept n j cs) (λ n. NoTurns n cs) (behind j i1 u o) → PacesOn i1 m (λ n z. PacesLeads n (olds cs) z) s
+          → PacesOn (relocated i1 u o) (staying m cs) (λ n z. PacesLeads n (news cs) z) z → (has_turns i1 ≡ true → Unmarks (rest_from i1 (flow 0 (olds cs ++ rest))) (flow m (olds cs ++ rest)))
+          → has_turns (relocated i1 u o) ≡ true → Unmarks (rest_from (relocated i1 u o) (flow 0 (news cs ++ rest))) (flow (staying m cs) (news cs ++ rest))
+      first (check_ground x) a p q t e = unmarks_kept (check_ground x) m cs j s s z (asked || asks (relocated i u o)) v.1 a.0 a.1 a.2 p.1 p.1 p.4 p.5 q.5 o1 b1 (t refl)
+      first (check_indep x y) a p q t e = unmarks_kept (check_indep x y) m cs j s s z (asked || asks (relocated i u o)) v.1 a.0 a.1 a.2 p.1 p.1 p.6 p.7 q.7 o1 b1 (t refl)
+      first (group n) a p q t e = unmarks_kept (group n) m cs j (with_group (Some (n, 0)) s) s z (asked || asks (relocated i u o)) v.1 a.0 a.1 a.2 p.1 p.1 p.3 p.4 q.4 o1 b1 (t refl)
+      first i1 a p q t e = absurd (false≢true (sym (turns_same i1 u o) ∙ e))
 
       go : (d : Bool) → ends i ≡ d
-          → ((n : ℕ) (k : Known) (s z : Shape) (asked : Bool) → AllFit room cs → AreKept n k cs → NoChecks n cs → IsEnded (olds cs) → PacesLeads n (olds cs) s → PacesLeads (staying n cs) (news cs) z
+          → ((n : ℕ) (k : Known) (s z : Shape) (asked : Bool) → AllFit room cs → AreKept n k cs → NoTurns n cs → IsEnded (olds cs) → PacesLeads n (olds cs) s → PacesLeads (staying n cs) (news cs) z
           → open_leads asked (news cs) ≡ true → Below k → AreTurns (olds cs) rest → AreTurns (news cs) rest)
           → AreTurns (news cs) rest
       go true e next = subst (λ ls. AreTurns ls rest) (sym (no_news cs (ended_last (i, m) (olds cs) e h))) tt
       go false e next =
           let s1 = paced_on i m (λ n z. PacesLeads n (olds cs) z) s e p in
           let z1 = paced_on (relocated i u o) (staying m cs) (λ n z. PacesLeads n (news cs) z) z (ends_same i u o ∙ e) q in
-          next (passed_over (i, m)) (behind j i u o) s1.0 z1.0 (asked || asks (relocated i u o)) v.1 (onward i m (λ n j. AreKept n j cs) (λ n. NoChecks n cs) (behind j i u o) e a.1)
-          (onward_clear i m (λ n j. AreKept n j cs) (λ n. NoChecks n cs) (behind j i u o) tt a.1) (ended_tail (i, m) (olds cs) e h) s1.1
+          next (passed_over (i, m)) (behind j i u o) s1.0 z1.0 (asked || asks (relocated i u o)) v.1 (onward i m (λ n j. AreKept n j cs) (λ n. NoTurns n cs) (behind j i u o) e a.1)
+          (onward_clear i m (λ n j. AreKept n j cs) (λ n. NoTurns n cs) (behind j i u o) tt a.1) (ended_tail (i, m) (olds cs) e h) s1.1
           (subst (λ n. PacesLeads n (news cs) z1.0) (passed_same i m u o cs) z1.1) o1 (below_behind j i u o b1) t.1
 
 -- ---- steps that were tested

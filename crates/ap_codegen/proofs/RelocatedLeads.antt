@@ -38,6 +38,7 @@ plain_straight (i ∷ is) h =
     one jump e = absurd (false≢true e)
     one (check_ground v) e = absurd (false≢true e)
     one (check_indep v w) e = absurd (false≢true e)
+    one (group n) e = absurd (false≢true e)
     one _ e = refl
 
 -- ---- the rules of code

@@ -11,7 +11,7 @@ use Rattle.ap_instr.specs.Runs.{read, set_x, set_y, set}
 use Rattle.ap_codecheck.specs.Shape.{Shape, unset, is_set, write, with_target, passed, behind_argument, with_group, after}
 use Rattle.ap_codecheck.specs.Rules.{ArgumentsSet, IsRoomFor}
 use Rattle.ap_codegen.specs.Paces.{IsSlot, puts, StandsIn, IsOpen, IsFull, one_pushed, PacesOn, PacesLeads}
-use Rattle.ap_codegen.specs.Relocated.{Change, kept, dropped, olds, news, staying, relocated, register, Known, former, latter, is_same, all_same, is_within, has_room, set_former, set_latter, set_both, behind_call, behind, may_drop, fits, change_fits, is_kept, Forgets, Onward, NoChecks, AreKept}
+use Rattle.ap_codegen.specs.Relocated.{Change, kept, dropped, olds, news, staying, relocated, register, Known, former, latter, is_same, all_same, is_within, has_room, set_former, set_latter, set_both, behind_call, behind, may_drop, fits, change_fits, is_kept, Forgets, Onward, NoTurns, AreKept}
 use Rattle.ap_codegen.proofs.Registers.{read_here, read_other, same_slot}
 use Rattle.ap_codegen.proofs.RelocatedReads.{above_zero, Below, below_former, below_latter, below_both, below_call, below_forgets, Held, held_former, held_latter, held_both, held_call, held_forgets, same_held, one_same}
 
@@ -211,6 +211,7 @@ abbrev pub has_other : Step → Bool
 has_other jump = true
 has_other (check_ground v) = true
 has_other (check_indep v w) = true
+has_other (group n) = true
 has_other _ = false
 
 -- where a step leads to, the code as it becomes keeps the rules where the code as it was does
@@ -367,7 +368,13 @@ step_paces room (check_indep v v2) m n u o K L k s z w f b h p next over =
       next refl s z p.6 b h,
       over refl s z p.7 b h,
     )
-step_paces room (group l) m n u o K L k s z w f b h p next over = (h.group ∙ p.0, h.pending ∙ p.1, p.2, next refl (with_group (Some (l, 0)) s) (with_group (Some (l, 0)) z) p.3 b (in_group room k (Some (l, 0)) (Some (l, 0)) s z refl h))
+step_paces room (group l) m n u o K L k s z w f b h p next over = (
+  h.group ∙ p.0,
+  h.pending ∙ p.1,
+  p.2,
+  next refl (with_group (Some (l, 0)) s) (with_group (Some (l, 0)) z) p.3 b (in_group room k (Some (l, 0)) (Some (l, 0)) s z refl h),
+  over refl s z p.4 b h,
+)
 step_paces room (push d l) m n u o K L k s z w f b h p next over = (
   subst IsOpen (sym h.group) p.0,
   h.pending ∙ p.1,
@@ -388,6 +395,7 @@ step_paces room i m n u o K L k s z w f b h p next over = absurd (false≢true w
 onward_next : (i : Step) (m : ℕ) (K : ℕ → Known → Type 0) (N : ℕ → Type 0) (k : Known) → has_next i ≡ true → Onward (i, m) K N k → K 0 k
 onward_next (check_ground v) m K N k e w = w.1
 onward_next (check_indep v u) m K N k e w = w.1
+onward_next (group n) m K N k e w = w.1
 onward_next jump m K N k e w = absurd (false≢true e)
 onward_next (execute p n) m K N k e w = absurd (false≢true e)
 onward_next proceed m K N k e w = absurd (false≢true e)
@@ -396,6 +404,7 @@ onward_next _ m K N k e w = w
 pub onward_other : (i : Step) (m : ℕ) (K : ℕ → Known → Type 0) (N : ℕ → Type 0) (k : Known) → has_other i ≡ true → Onward (i, m) K N k → K m k
 onward_other (check_ground v) m K N k e w = w.2
 onward_other (check_indep v u) m K N k e w = w.2
+onward_other (group n) m K N k e w = w.2
 onward_other jump m K N k e w = w.1
 onward_other _ m K N k e w = absurd (false≢true e)
 
@@ -421,5 +430,5 @@ module _ (room : Option ℕ) where
   relocated_paces zero (kept (i, m) u o ∷ cs) k s z w (j, f, a) p b h =
       let c = and_parts (fits room i u o) (list_all (change_fits room) cs) w in
       step_paces room i m (staying m cs) u o (λ n z. PacesLeads n (olds cs) z) (λ n z. PacesLeads n (news cs) z) j s z c.0 a.0 (below_forgets k j f b) (shifted_forgets room k j s z f h) p
-      (λ e s1 z1 q b1 h1. relocated_paces zero cs (behind j i u o) s1 z1 c.1 (onward_next i m (λ n j. AreKept n j cs) (λ n. NoChecks n cs) (behind j i u o) e a.1) q b1 h1)
-      (λ e s1 z1 q b1 h1. relocated_paces m cs (behind j i u o) s1 z1 c.1 (onward_other i m (λ n j. AreKept n j cs) (λ n. NoChecks n cs) (behind j i u o) e a.1) q b1 h1)
+      (λ e s1 z1 q b1 h1. relocated_paces zero cs (behind j i u o) s1 z1 c.1 (onward_next i m (λ n j. AreKept n j cs) (λ n. NoTurns n cs) (behind j i u o) e a.1) q b1 h1)
+      (λ e s1 z1 q b1 h1. relocated_paces m cs (behind j i u o) s1 z1 c.1 (onward_other i m (λ n j. AreKept n j cs) (λ n. NoTurns n cs) (behind j i u o) e a.1) q b1 h1)

@@ -15,7 +15,7 @@ use Rattle.ap_codegen.specs.Emitted.{Lead}
 use Rattle.ap_codegen.specs.Temporary.{ends}
 use Rattle.ap_codegen.specs.Grouped.{passed_over, flow}
 use Rattle.ap_codegen.specs.Paces.{one_pushed, PacesOn, PacesLeads}
-use Rattle.ap_codegen.specs.Relocated.{Change, kept, dropped, olds, news, staying, relocated, register, by, Known, former, latter, is_same, all_same, set_former, set_latter, set_both, behind_call, behind, may_drop, fits, change_fits, is_kept, Forgets, Onward, NoChecks, AreKept}
+use Rattle.ap_codegen.specs.Relocated.{Change, kept, dropped, olds, news, staying, relocated, register, by, Known, former, latter, is_same, all_same, set_former, set_latter, set_both, behind_call, behind, may_drop, fits, change_fits, is_kept, Forgets, Onward, NoTurns, AreKept}
 use Rattle.ap_codegen.proofs.Registers.{read_here, read_other, same_slot}
 
 pub above_zero : (n : ℕ) → nat_le 1 n ≡ true → 0 < n
@@ -310,6 +310,7 @@ pub onward : (i : Step) (m : ℕ) (K : ℕ → Known → Type 0) (N : ℕ → Ty
 onward jump m K N k e w = w.1
 onward (check_ground v) m K N k e w = w.1
 onward (check_indep v u) m K N k e w = w.1
+onward (group n) m K N k e w = w.1
 onward (execute p n) m K N k e w = absurd (false≢true (sym e))
 onward proceed m K N k e w = absurd (false≢true (sym e))
 onward _ m K N k e w = w
@@ -341,4 +342,4 @@ module _ (room : Option ℕ) (rest : List Lead) where
       (step_alike i m u o (λ n z. PacesLeads n (olds cs) z) (flow (passed_over (i, m)) (olds cs ++ rest)) (flow (staying (passed_over (i, m)) cs) (news cs ++ rest)) ts j s x y x' y' bs a.0 p c
       (below_forgets k j f b) (held_forgets Tree Same k j x y x' y' f h) (λ e s1 ts1 x1 y1 x2 y2 bs1 q d b1 h1.
       alike (passed_over (i, m)) cs ts1 (behind j i u o) s1 x1 y1 x2 y2 bs1 (and_parts (fits room i u o) (list_all (change_fits room) cs) w).1
-      (onward i m (λ n j. AreKept n j cs) (λ n. NoChecks n cs) (behind j i u o) e a.1) q d b1 h1))
+      (onward i m (λ n j. AreKept n j cs) (λ n. NoTurns n cs) (behind j i u o) e a.1) q d b1 h1))

@@ -3,7 +3,7 @@ use Rattle.std.proofs.Common.{◌≡◌, true, List, [], ◌∷◌, refl, ap, �
 use Rattle.std.specs.List.{list_all}
 use Rattle.std.proofs.lemmas.Bool.{false≢true, and_parts}
 use Rattle.ap_codegen.specs.declared.steps.Step.{Step as Emitted}
-use Rattle.ap_codegen.specs.declared.steps.Step.TheVariants.{Jump, CheckGround, CheckIndep}
+use Rattle.ap_codegen.specs.declared.steps.Step.TheVariants.{Jump, CheckGround, CheckIndep, AllocParcall}
 use Rattle.ap_codegen.specs.Emitted.{step_of, steps_of, lead_of, leads_of}
 use Rattle.ap_codegen.specs.Grouped.{straight}
 use Rattle.ap_codegen.proofs.Straight.{is_straight, Straight}
@@ -18,4 +18,5 @@ straight_leads (e ∷ es) s =
     one (Jump n) k = absurd (false≢true k)
     one (CheckGround v n) k = absurd (false≢true k)
     one (CheckIndep v w n) k = absurd (false≢true k)
+    one (AllocParcall m n) k = absurd (false≢true k)
     one _ k = refl

@@ -4,13 +4,13 @@ use Rattle.std.proofs.lemmas.Bool.{false≢true}
 use Rattle.std.proofs.lemmas.Bool.Decides.{Decides-eqb}
 use Rattle.ap_instr.specs.declared.instruction.Slot.{Slot}
 use Rattle.ap_instr.specs.declared.instruction.Slot.TheVariants.{X, Y}
-use Rattle.ap_instr.specs.Step.{Step, execute, proceed, jump, check_ground, check_indep}
+use Rattle.ap_instr.specs.Step.{Step, execute, proceed, jump, check_ground, check_indep, group}
 use Rattle.ap_codegen.specs.declared.relocating.Numbers.{Numbers}
 use Rattle.ap_codegen.specs.declared.relocating.Way.{Way}
 use Rattle.ap_codegen.specs.declared.relocating.Way.TheVariants.{Sides, Turns}
-use Rattle.ap_codegen.specs.Grouped.{is_check}
+use Rattle.ap_codegen.specs.Grouped.{has_turns}
 use Rattle.ap_codegen.specs.Temporary.{ends}
-use Rattle.ap_codegen.specs.Relocated.{Change, kept, dropped, Known, latter, behind, is_kept, does_same, passed, known_by, is_jump, is_test, is_leap, over, WayKept, is_end, is_next, leads_next, checks_nothing, Forgets, IsSingle, Onward, NoChecks, AreKept}
+use Rattle.ap_codegen.specs.Relocated.{Change, kept, dropped, Known, latter, behind, is_kept, does_same, passed, known_by, is_jump, may_turn, is_leap, over, WayKept, is_end, is_next, leads_next, never_turns, Forgets, IsSingle, Onward, NoTurns, AreKept}
 use Rattle.ap_codegen.proofs.RelocatedReads.{forgets_itself, forgets_more}
 
 -- where less is known
@@ -25,7 +25,7 @@ pub kept_end : (c : Change) (cs : List Change) (k : Known) → is_end c ≡ true
 kept_end (dropped l) cs k e f = absurd (false≢true e)
 kept_end (kept (i, m) u o) cs k e f = (k, forgets_itself k, (f, one i e))
   where
-    one : (i : Step) → ends i ≡ true → Onward (i, m) (λ n j. AreKept n j cs) (λ n. NoChecks n cs) (behind k i u o)
+    one : (i : Step) → ends i ≡ true → Onward (i, m) (λ n j. AreKept n j cs) (λ n. NoTurns n cs) (behind k i u o)
     one (execute p n) e = tt
     one proceed e = tt
     one _ e = absurd (false≢true e)
@@ -35,35 +35,38 @@ pub kept_next : (c : Change) (cs : List Change) (k : Known) → is_next c ≡ tr
 kept_next (dropped l) cs k e f a = (k, forgets_itself k, a)
 kept_next (kept (i, m) u o) cs k e f a = (k, forgets_itself k, (f, one i e (behind k i u o) a))
   where
-    one : (i : Step) → leads_next i ≡ true → (j : Known) → AreKept 0 j cs → Onward (i, m) (λ n j. AreKept n j cs) (λ n. NoChecks n cs) j
+    one : (i : Step) → leads_next i ≡ true → (j : Known) → AreKept 0 j cs → Onward (i, m) (λ n j. AreKept n j cs) (λ n. NoTurns n cs) j
     one jump e j a = absurd (false≢true e)
     one (check_ground v) e j a = absurd (false≢true e)
     one (check_indep v w) e j a = absurd (false≢true e)
+    one (group n) e j a = absurd (false≢true e)
     one (execute p n) e j a = absurd (false≢true e)
     one proceed e j a = absurd (false≢true e)
     one _ e j a = a
 
-pub next_checks_nothing : (c : Change) → is_next c ≡ true → checks_nothing c ≡ true
-next_checks_nothing (dropped l) e = refl
-next_checks_nothing (kept (i, m) u o) e = one i e
+pub next_never_turns : (c : Change) → is_next c ≡ true → never_turns c ≡ true
+next_never_turns (dropped l) e = refl
+next_never_turns (kept (i, m) u o) e = one i e
   where
-    one : (i : Step) → leads_next i ≡ true → not (is_check i) ≡ true
+    one : (i : Step) → leads_next i ≡ true → not (has_turns i) ≡ true
     one (check_ground v) e = absurd (false≢true e)
     one (check_indep v w) e = absurd (false≢true e)
+    one (group n) e = absurd (false≢true e)
     one _ e = refl
 
--- a check, at which each value stands at one place
-pub kept_check : (c : Change) (cs : List Change) (k j : Known) → is_test c ≡ true → Forgets k j → IsSingle j → does_same j c ≡ true → AreKept 0 j cs → AreKept (over c) j cs → AreKept 0 k (c ∷ cs)
-kept_check (dropped l) cs k j e f s h a b = absurd (false≢true e)
-kept_check (kept (i, m) u o) cs k j e f s h a b = one i e h
+-- a check or the beginning of a group's goals, at which each value stands at one place
+pub kept_turn : (c : Change) (cs : List Change) (k j : Known) → may_turn c ≡ true → Forgets k j → IsSingle j → does_same j c ≡ true → AreKept 0 j cs → AreKept (over c) j cs → AreKept 0 k (c ∷ cs)
+kept_turn (dropped l) cs k j e f s h a b = absurd (false≢true e)
+kept_turn (kept (i, m) u o) cs k j e f s h a b = one i e h
   where
-    one : (i : Step) → is_check i ≡ true → is_kept j i u o ≡ true → AreKept 0 k (kept (i, m) u o ∷ cs)
+    one : (i : Step) → has_turns i ≡ true → is_kept j i u o ≡ true → AreKept 0 k (kept (i, m) u o ∷ cs)
     one (check_ground v) e h = (j, f, (h, (s, a, b)))
     one (check_indep v w) e h = (j, f, (h, (s, a, b)))
+    one (group n) e h = (j, f, (h, (s, a, b)))
     one _ e h = absurd (false≢true e)
 
 -- a jump
-pub kept_leap : (c : Change) (cs : List Change) (k : Known) → is_leap c ≡ true → NoChecks (over c) cs → AreKept (over c) k cs → AreKept 0 k (c ∷ cs)
+pub kept_leap : (c : Change) (cs : List Change) (k : Known) → is_leap c ≡ true → NoTurns (over c) cs → AreKept (over c) k cs → AreKept 0 k (c ∷ cs)
 kept_leap (dropped l) cs k e n a = absurd (false≢true e)
 kept_leap (kept (i, m) u o) cs k e n a = one i e
   where
@@ -72,10 +75,10 @@ kept_leap (kept (i, m) u o) cs k e n a = one i e
     one _ e = absurd (false≢true e)
 
 -- both ways of a group join
-pub way_joined : (w : Way) (n : ℕ) (there : Numbers) (c : Change) (cs : List Change) (j : Known) → Turns n there ≡ w → n ≡ 1 → checks_nothing c ≡ true → Forgets (known_by there) j → AreKept 0 j cs → WayKept w (c ∷ cs)
+pub way_joined : (w : Way) (n : ℕ) (there : Numbers) (c : Change) (cs : List Change) (j : Known) → Turns n there ≡ w → n ≡ 1 → never_turns c ≡ true → Forgets (known_by there) j → AreKept 0 j cs → WayKept w (c ∷ cs)
 way_joined w n there c cs j e d t f a = subst (λ w. WayKept w (c ∷ cs)) (ap (λ n. Turns n there) (sym d) ∙ e) ((t, tt), kept_forgets 0 cs (known_by there) j f a)
 
--- where checks lead
+-- where the ways of a group lead apart
 pub way_met : (w : Way) (m n : ℕ) (there : Numbers) (c : Change) (cs : List Change) (j : Known) → Sides m there ≡ w → m ≡ n + 1 → Forgets (known_by there) j → AreKept n j cs → WayKept w (c ∷ cs)
 way_met w m n there c cs j e d f a = subst (λ w. WayKept w (c ∷ cs)) (ap (λ m. Sides m there) (let s : suc n ≡ m = omega (arith, d) in s) ∙ e) (kept_forgets n cs (known_by there) j f a)
 

@@ -95,7 +95,7 @@ inner_walk K code (Retry l) is s e p = absurd p
 inner_walk K code (Trust l) is s e p = absurd p
 inner_walk K code (CheckGround v l) is s e p = absurd p
 inner_walk K code (CheckIndep v w l) is s e p = absurd p
-inner_walk K code (AllocParcall n) is s e p = absurd p
+inner_walk K code (AllocParcall n l) is s e p = absurd p
 inner_walk K code (PushGoal n q) is s e p = absurd (push_paces K (slice_get code.predicates q) is s p)
 inner_walk K code WaitAll is s e p = absurd p
 
@@ -153,7 +153,7 @@ outside_walk K code (Retry l) at is s z g p = absurd p
 outside_walk K code (Trust l) at is s z g p = absurd p
 outside_walk K code (CheckGround v l) at is s z g p = absurd p
 outside_walk K code (CheckIndep v w l) at is s z g p = absurd p
-outside_walk K code (AllocParcall n) at is s z g p = absurd p
+outside_walk K code (AllocParcall n l) at is s z g p = absurd p
 outside_walk K code (PushGoal n q) at is s z g p = absurd (push_paces K (slice_get code.predicates q) is s p)
 outside_walk K code WaitAll at is s z g p = absurd p
 outside_walk K code i at is s z g p = record { group = subst (FitsGroup i) (sym g) tt; on = tt; alone = refl }
@@ -183,7 +183,7 @@ same_group K code (UnifyVariable v) is s p = passed_group (s.pending == 1) _
 same_group K code (UnifyValue v) is s p = passed_group (s.pending == 1) s
 same_group K code (UnifyConstant c) is s p = passed_group (s.pending == 1) s
 same_group K code (UnifyInteger c) is s p = passed_group (s.pending == 1) s
-same_group K code (AllocParcall n) is s p = absurd p
+same_group K code (AllocParcall n l) is s p = absurd p
 same_group K code (PushGoal n q) is s p = absurd (push_paces K (slice_get code.predicates q) is s p)
 same_group K code WaitAll is s p = absurd p
 same_group K code _ is s p = refl
@@ -238,7 +238,7 @@ alone_walk K code (Retry l) is s p = absurd p
 alone_walk K code (Trust l) is s p = absurd p
 alone_walk K code (CheckGround v l) is s p = absurd p
 alone_walk K code (CheckIndep v w l) is s p = absurd p
-alone_walk K code (AllocParcall n) is s p = absurd p
+alone_walk K code (AllocParcall n l) is s p = absurd p
 alone_walk K code (PushGoal n q) is s p = absurd (push_paces K (slice_get code.predicates q) is s p)
 alone_walk K code WaitAll is s p = absurd p
 

@@ -8,7 +8,7 @@ use Rattle.ap_instr.specs.declared.instruction.Instr.TheVariants.{Fail, Try, Ret
 use Rattle.ap_instr.specs.declared.compiled.Predicate.{Predicate}
 use Rattle.ap_instr.specs.Code.{Compiled}
 use Rattle.ap_instr.specs.Step.{step_of as said_by}
-use Rattle.ap_instr.specs.Groups.{otherwise, AsksUnmarked}
+use Rattle.ap_instr.specs.Groups.{otherwise, rest_of, AsksUnmarked}
 use Rattle.ap_instr.specs.Table.{is_key, AreTiled, IsWhole}
 use Rattle.ap_instr.specs.Runs.{arguments}
 use Rattle.ap_codecheck.specs.Shape.{entry}
@@ -57,10 +57,10 @@ abbrev pub AreCallsApart : Compiled → List Instr → Type 0
 AreCallsApart code [] = Unit {0}
 AreCallsApart code (i ∷ is) = (calls_apart (said_by code i) ≡ true) × AreCallsApart code is
 
--- each check among instructions that stand from a place on leads to its group as a sequence
+-- each check, and each group, among instructions that stand from a place on leads to the group as a sequence
 abbrev pub AreSequences : Compiled → ℕ → List Instr → Type 0
 AreSequences code at [] = Unit {0}
-AreSequences code at (i ∷ is) = ((l : ℕ) → otherwise i ≡ Some l → AsksUnmarked code (at + 1) l) × AreSequences code (at + 1) is
+AreSequences code at (i ∷ is) = ((l : ℕ) → otherwise i ≡ Some l → AsksUnmarked code (rest_of i at) l) × AreSequences code (at + 1) is
 
 -- Where the instructions stand at the place they read as the clause, and each check leads to its group as a sequence; they call
 -- no built-in goals; and they keep the rules of code from the clause's first one on.

@@ -30,21 +30,23 @@ step_of Deallocate = frame
 step_of (Jump n) = jump
 step_of (CheckGround v n) = check_ground v
 step_of (CheckIndep v w n) = check_indep v w
-step_of (AllocParcall n) = group n
+step_of (AllocParcall n l) = group n
 step_of (PushGoal i p n) = push p n
 step_of WaitAll = wait
 
 abbrev pub steps_of : List Emitted → List Step
 steps_of es = map step_of es
 
--- how many instructions behind the next one a jump or check passes over
+-- how many instructions behind the next one a jump, a check or a group's first step passes over
 abbrev pub label_of : Emitted → ℕ
 label_of (Jump n) = n
 label_of (CheckGround v n) = n
 label_of (CheckIndep v w n) = n
+label_of (AllocParcall n l) = l
 label_of _ = 0
 
--- a step with how many steps behind the next one it passes over, where it is a jump, or a check that doesn't hold
+-- a step with how many steps behind the next one it passes over, where it is a jump, a check that doesn't hold, or the first one of
+-- a group whose goals are called one after another
 abbrev pub Lead : Type 0
 Lead = Step × ℕ
 

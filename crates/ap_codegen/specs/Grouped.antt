@@ -1,5 +1,5 @@
--- The code of clauses with groups, whose steps pass over others: a group's checks, then its goals side by side, and then,
--- where it has checks, the goals one after another for when one doesn't hold.
+-- The code of clauses with groups, whose steps pass over others: a group's checks, then its goals side by side, and then the
+-- goals one after another, for where a check doesn't hold or no goals are wanted.
 use Rattle.std.specs.Prelude.{◌≡◌, ℕ, zero, suc, ◌+◌, ◌≤◌, Bool, true, false, not, ◌&&◌, ◌==◌, if◌then◌else◌, List, [], ◌∷◌, ◌++◌, map, length}
 use Rattle.std.specs.List.{list_all}
 use Rattle.ap_term.specs.declared.clauses.Check.{Check}
@@ -40,15 +40,22 @@ pub record Unmarks (from to : List Step) : Type 0 where
   pub each : (x y : ℕ → Tree) (ms bs : Trees) → Unmarked ms bs → Runs from none x y ms → Runs to none x y bs
   pub openly : AsksOpenly to
 
-abbrev pub is_check : Step → Bool
-is_check (check_ground v) = true
-is_check (check_indep v w) = true
-is_check _ = false
+-- whether a step may lead to its group's goals in turn: a check that doesn't hold, and the one that begins the goals side by side
+abbrev pub has_turns : Step → Bool
+has_turns (check_ground v) = true
+has_turns (check_indep v w) = true
+has_turns (group n) = true
+has_turns _ = false
 
--- each check leads, where it doesn't hold, to its group's goals in turn, with those steps behind
+-- the rest of a group from such a step on, before others, without a check's own mark
+abbrev pub rest_from : Step → List Step → List Step
+rest_from (group n) is = group n ∷ is
+rest_from i is = is
+
+-- each check, and each group, leads beside to the group's goals in turn, with those steps behind
 abbrev pub AreTurns : List Lead → List Lead → Type 0
 AreTurns [] rest = Unit {0}
-AreTurns (l ∷ ls) rest = (is_check l.0 ≡ true → Unmarks (flow 0 (ls ++ rest)) (flow l.1 (ls ++ rest))) × AreTurns ls rest
+AreTurns (l ∷ ls) rest = (has_turns l.0 ≡ true → Unmarks (rest_from l.0 (flow 0 (ls ++ rest))) (flow l.1 (ls ++ rest))) × AreTurns ls rest
 
 -- whatever stands behind the steps, they read as the clause with its groups, and test nothing behind a goal
 pub record IsGroupedCode (c : Clause) (ls : List Lead) : Type 0 where
@@ -86,13 +93,10 @@ abbrev pub make_checks : List Check → List ℕ → List Step
 make_checks [] seen = []
 make_checks (c ∷ cs) seen = make_check c seen ++ make_checks cs (see_check c seen)
 
--- the goals side by side
+-- each goal is pushed
 abbrev pub pushes : Trees → List ℕ → List Step
 pushes none seen = []
 pushes (more g gs) seen = goal_code g seen ++ (push (name g) (count_trees (arguments g)) ∷ pushes gs (add_vars g seen))
-
-abbrev pub side_by_side : Trees → List ℕ → List Step
-side_by_side gs seen = group (count_trees gs) ∷ (pushes gs seen ++ wait ∷ [])
 
 -- the goals one after another
 abbrev pub in_turn : Trees → List ℕ → List Step
@@ -108,11 +112,24 @@ abbrev pub check_leads : List Check → ℕ → List Lead
 check_leads [] n = []
 check_leads (c ∷ cs) n = (check_step c, length cs + n + 1) ∷ check_leads cs n
 
--- a group's goals, and behind them, where there are checks, the same goals one after another
+-- the goals side by side, behind the step that begins them
+abbrev pub sides : Trees → List ℕ → List Lead
+sides gs seen = straight (pushes gs seen ++ wait ∷ [])
+
+abbrev pub turns : Trees → List ℕ → List Lead
+turns gs seen = straight (in_turn gs seen)
+
+-- The goals side by side: their first step leads past them and the jump.
+abbrev pub side_leads : Trees → List ℕ → List Lead
+side_leads gs seen = (group (count_trees gs), length (sides gs seen) + 1) ∷ sides gs seen
+
+-- a jump over the goals one after another, and these
+abbrev pub turn_leads : Trees → List ℕ → List Lead
+turn_leads gs seen = (jump, length (turns gs seen)) ∷ turns gs seen
+
+-- a group's checks and goals, and behind them the same goals one after another
 abbrev pub ways : List Check → Trees → List ℕ → List Lead
-ways [] gs seen = straight (side_by_side gs seen)
-ways (c ∷ cs) gs seen =
-    check_leads (c ∷ cs) (length (side_by_side gs seen)) ++ (straight (side_by_side gs seen) ++ ((jump, length (in_turn gs seen)) ∷ straight (in_turn gs seen)))
+ways cs gs seen = check_leads cs (length (side_leads gs seen)) ++ (side_leads gs seen ++ turn_leads gs seen)
 
 abbrev pub group_leads : List Check → Trees → List ℕ → List Lead
 group_leads cs gs seen = straight (make_checks cs seen) ++ ways cs gs (see_checks cs seen)

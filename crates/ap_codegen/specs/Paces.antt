@@ -82,12 +82,12 @@ abbrev pub PacesOn : Step → ℕ → (ℕ → Shape → Type 0) → Shape → T
 PacesOn jump n K s = (s.group ≡ None) × (s.pending ≡ 0) × K n s
 PacesOn (check_ground v) n K s = (s.group ≡ None) × (s.pending ≡ 0) × IsSlot v s × IsSet s v × K 0 s × K n s
 PacesOn (check_indep v w) n K s = (s.group ≡ None) × (s.pending ≡ 0) × IsSlot v s × IsSlot w s × IsSet s v × IsSet s w × K 0 s × K n s
-PacesOn (group m) n K s = (s.group ≡ None) × (s.pending ≡ 0) × (0 < m) × K 0 (with_group (Some (m, 0)) s)
+PacesOn (group m) n K s = (s.group ≡ None) × (s.pending ≡ 0) × (0 < m) × K 0 (with_group (Some (m, 0)) s) × K n s
 PacesOn (push p m) n K s = IsOpen s.group × (s.pending ≡ 0) × ArgumentsSet m s × K 0 (with_group (one_pushed s.group) s)
 PacesOn wait n K s = IsFull s.group × (s.pending ≡ 0) × (is_some s.room ≡ true) × K 0 (after WaitAll s)
 PacesOn i n K s = StandsIn i s.group × PacesTo (K 0) (i ∷ []) s
 
--- Steps, the first of which are passed over, keep the rules on both ways of each check, from a shape to the end.
+-- Steps, the first of which are passed over, keep the rules on both ways of each check and of each group, from a shape to the end.
 abbrev pub PacesLeads : ℕ → List Lead → Shape → Type 0
 PacesLeads n [] s = ⊥
 PacesLeads (suc n) (l ∷ ls) s = PacesLeads n ls s

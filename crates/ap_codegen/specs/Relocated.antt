@@ -9,7 +9,7 @@ use Rattle.ap_instr.specs.Step.{Step, get_variable, get_value, get_constant, get
 use Rattle.ap_instr.specs.Runs.{read, set_x, set_y}
 use Rattle.ap_codecheck.specs.Shape.{Shape, entry, unset}
 use Rattle.ap_codegen.specs.declared.steps.Step.{Step as Emitted}
-use Rattle.ap_codegen.specs.declared.steps.Step.TheVariants.{GetVariable, GetValue, GetConstant, GetInteger, GetStructure, PutVariable, PutValue, PutConstant, PutInteger, PutStructure, UnifyVariable, UnifyValue, Jump, CheckGround, CheckIndep}
+use Rattle.ap_codegen.specs.declared.steps.Step.TheVariants.{GetVariable, GetValue, GetConstant, GetInteger, GetStructure, PutVariable, PutValue, PutConstant, PutInteger, PutStructure, UnifyVariable, UnifyValue, Jump, CheckGround, CheckIndep, AllocParcall}
 use Rattle.ap_codegen.specs.declared.relocating.Change.{Change as Chosen}
 use Rattle.ap_codegen.specs.declared.relocating.Change.TheVariants.{Kept, Dropped}
 use Rattle.ap_codegen.specs.declared.relocating.Numbers.{Numbers}
@@ -19,7 +19,7 @@ use Rattle.ap_codegen.specs.declared.relocating.Walk.{Walk}
 use Rattle.ap_codegen.specs.Emitted.{steps_of, label_of, Lead, lead_of, leads_of}
 use Rattle.ap_codegen.specs.Temporary.{ends}
 use Rattle.ap_codegen.specs.Said.{AreNumbered}
-use Rattle.ap_codegen.specs.Grouped.{is_check, IsEnded, IsGroupedCode}
+use Rattle.ap_codegen.specs.Grouped.{has_turns, IsEnded, IsGroupedCode}
 use Rattle.ap_codegen.specs.Paces.{Paces, PacesLeads, AreInRange, inside}
 
 -- What becomes of a step: it stays with another place and another argument register, a check of two with two other places,
@@ -211,11 +211,12 @@ abbrev pub IsSingle : Known → Type 0
 IsSingle k = (home : ℕ → Slot) × ((u : Slot) → 0 < latter k u → u ≡ home (latter k u))
 
 -- Behind a step that stays others do, wherever control goes on: `K` of how many of them are passed over. A jump passes over no
--- checks.
+-- checks and no groups.
 abbrev pub Onward : Lead → (ℕ → Known → Type 0) → (ℕ → Type 0) → Known → Type 0
 Onward (jump, n) K N k = N n × K n k
 Onward (check_ground v, n) K N k = IsSingle k × K 0 k × K n k
 Onward (check_indep v w, n) K N k = IsSingle k × K 0 k × K n k
+Onward (group m, n) K N k = IsSingle k × K 0 k × K n k
 Onward (execute p m, n) K N k = Unit {0}
 Onward (proceed, n) K N k = Unit {0}
 Onward (s, n) K N k = K 0 k
@@ -224,22 +225,22 @@ abbrev pub StaysOn : Change → (ℕ → Known → Type 0) → (ℕ → Type 0) 
 StaysOn (kept l u o) K N k = (is_kept k l.0 u o ≡ true) × Onward l K N (behind k l.0 u o)
 StaysOn (dropped l) K N k = K 0 (behind_none k l.0)
 
-abbrev pub checks_nothing : Change → Bool
-checks_nothing (kept l u o) = not (is_check l.0)
-checks_nothing (dropped l) = true
+abbrev pub never_turns : Change → Bool
+never_turns (kept l u o) = not (has_turns l.0)
+never_turns (dropped l) = true
 
--- none of the first n steps is a check
-abbrev pub NoChecks : ℕ → List Change → Type 0
-NoChecks zero cs = Unit {0}
-NoChecks (suc n) [] = Unit {0}
-NoChecks (suc n) (c ∷ cs) = (checks_nothing c ≡ true) × NoChecks n cs
+-- none of the first n steps is a check or begins a group
+abbrev pub NoTurns : ℕ → List Change → Type 0
+NoTurns zero cs = Unit {0}
+NoTurns (suc n) [] = Unit {0}
+NoTurns (suc n) (c ∷ cs) = (never_turns c ≡ true) × NoTurns n cs
 
--- All steps behind the first n, which are passed over, do the same on both ways of each check, up to an end that there is.
+-- All steps behind the first n, which are passed over, do the same on both ways of each check and group, up to an end that there is.
 -- What is known may be forgotten.
 abbrev pub AreKept : ℕ → Known → List Change → Type 0
 AreKept n k [] = ⊥
 AreKept (suc n) k (c ∷ cs) = AreKept n k cs
-AreKept zero k (c ∷ cs) = (m : Known) × Forgets k m × StaysOn c (λ n j. AreKept n j cs) (λ n. NoChecks n cs) m
+AreKept zero k (c ∷ cs) = (m : Known) × Forgets k m × StaysOn c (λ n j. AreKept n j cs) (λ n. NoTurns n cs) m
 
 -- whether a change does the same; and what is known behind it
 abbrev pub does_same : Known → Change → Bool
@@ -258,9 +259,9 @@ abbrev pub is_jump : Step → Bool
 is_jump jump = true
 is_jump _ = false
 
-abbrev pub is_test : Change → Bool
-is_test (kept l u o) = is_check l.0
-is_test (dropped l) = false
+abbrev pub may_turn : Change → Bool
+may_turn (kept l u o) = has_turns l.0
+may_turn (dropped l) = false
 
 abbrev pub is_leap : Change → Bool
 is_leap (kept l u o) = is_jump l.0
@@ -276,6 +277,7 @@ abbrev pub leads_next : Step → Bool
 leads_next jump = false
 leads_next (check_ground v) = false
 leads_next (check_indep v w) = false
+leads_next (group n) = false
 leads_next (execute p n) = false
 leads_next proceed = false
 leads_next _ = true
@@ -293,7 +295,7 @@ Left old new P = (p : ℕ) → 0 < new p → (old p ≡ new p) × P p (new p)
 abbrev pub WayKept : Way → List Change → Type 0
 WayKept Outside cs = Unit {0}
 WayKept (Sides n there) cs = AreKept n (known_by there) cs
-WayKept (Turns n there) cs = NoChecks n cs × AreKept n (known_by there) cs
+WayKept (Turns n there) cs = NoTurns n cs × AreKept n (known_by there) cs
 
 -- what the walk is at the beginning of is kept on the ways that it knows of
 abbrev pub IsAhead : Walk → List Change → Type 0
@@ -326,6 +328,7 @@ placed (UnifyValue v) u o n = UnifyValue u
 placed (Jump m) u o n = Jump n
 placed (CheckGround v m) u o n = CheckGround u n
 placed (CheckIndep v w m) u o n = CheckIndep u o n
+placed (AllocParcall k m) u o n = AllocParcall k n
 placed e u o n = e
 
 abbrev pub written : List Chosen → List Emitted

@@ -1,4 +1,4 @@
--- Instructions at a place say the steps of a clause. A jump or check leads to a place, where its step passes over others.
+-- Instructions at a place say the steps of a clause. A jump, check or group leads to a place, where its step passes over others.
 use Rattle.std.specs.Prelude.{◌≡◌, ℕ, ◌+◌, List, [], ◌∷◌, Option, Some, None}
 use Rattle.ap_instr.specs.declared.instruction.Instr.{Instr}
 use Rattle.ap_instr.specs.declared.instruction.Instr.TheVariants.{Allocate, Deallocate, Jump, CheckGround, CheckIndep, AllocParcall, PushGoal, WaitAll}
@@ -15,7 +15,7 @@ special_of Deallocate = Some Deallocate
 special_of (Jump l) = Some (Jump l)
 special_of (CheckGround v l) = Some (CheckGround v l)
 special_of (CheckIndep v w l) = Some (CheckIndep v w l)
-special_of (AllocParcall n) = Some (AllocParcall n)
+special_of (AllocParcall n l) = Some (AllocParcall n l)
 special_of (PushGoal i q) = Some (PushGoal i 0)
 special_of WaitAll = Some WaitAll
 special_of _ = None
@@ -27,7 +27,7 @@ special_in at LeaveStep = Some Deallocate
 special_in at (JumpStep n) = Some (Jump (at + 1 + n))
 special_in at (GroundStep v n) = Some (CheckGround v (at + 1 + n))
 special_in at (IndepStep v w n) = Some (CheckIndep v w (at + 1 + n))
-special_in at (GroupStep n) = Some (AllocParcall n)
+special_in at (GroupStep n l) = Some (AllocParcall n (at + 1 + l))
 special_in at (PushStep i p n) = Some (PushGoal i 0)
 special_in at WaitStep = Some WaitAll
 special_in at _ = None
@@ -45,6 +45,6 @@ AreSaidAt code at _ _ = ⊥
 -- the goals of each group are numbered from 1 on; so many of the group that steps begin in were pushed
 abbrev pub AreNumbered : ℕ → List Emitted → Type 0
 AreNumbered k [] = Unit {0}
-AreNumbered k (GroupStep n ∷ es) = AreNumbered 0 es
+AreNumbered k (GroupStep n l ∷ es) = AreNumbered 0 es
 AreNumbered k (PushStep i p n ∷ es) = (i ≡ k + 1) × AreNumbered i es
 AreNumbered k (e ∷ es) = AreNumbered k es

@@ -52,7 +52,7 @@ fn numbered(tables: &mut Tables, at: u32, step: Step) -> Result<Instr, NoMemory>
         Step::Jump(n) => Ok(Instr::Jump(past(at, n)?)),
         Step::CheckGround(v, n) => Ok(Instr::CheckGround(v, past(at, n)?)),
         Step::CheckIndep(v, w, n) => Ok(Instr::CheckIndep(v, w, past(at, n)?)),
-        Step::AllocParcall(n) => Ok(Instr::AllocParcall(n)),
+        Step::AllocParcall(n, l) => Ok(Instr::AllocParcall(n, past(at, l)?)),
         Step::PushGoal(i, p, n) => Ok(Instr::PushGoal(i, tables.predicate(p, n)?)),
         Step::WaitAll => Ok(Instr::WaitAll),
     }

@@ -2,7 +2,7 @@
 //!
 //! A variable that outlives a call or a group stands in the environment; any other one in a register: the one that it comes
 //! from, if nothing else is written there as long as it is read, or the one that it goes to, if nothing else needs that
-//! meanwhile. Of a group with checks the goals side by side are looked at: the same goals one after another are the same steps,
+//! meanwhile. Of a group the goals side by side are looked at: the same goals one after another are the same steps,
 //! but for a call in place of each push, so that they count as the steps that they repeat.
 
 ghost use Rattle.std.specs.Prelude.{◌≡◌, map, IfOk};
@@ -91,17 +91,18 @@ fn is_call(step: Step) -> bool {
     }
 }
 
-/// How many steps a step passes over on the way on which checks hold, or on the other one.
+/// How many steps a step passes over on the way of goals side by side, or on the other one.
 fn passes_over(step: Step, hold: bool) -> u32 {
     match step {
         Step::Jump(n) => n,
         Step::CheckGround(_, n) => if hold { 0 } else { n },
         Step::CheckIndep(_, _, n) => if hold { 0 } else { n },
+        Step::AllocParcall(_, n) => if hold { 0 } else { n },
         _ => 0,
     }
 }
 
-/// The steps of one way: where all checks hold, or where none does.
+/// The steps of one way: where all groups' goals go side by side, or all one after another.
 fn way(alloc: Global, steps: &[Step], hold: bool) -> Result<Vec<Step>, NoMemory> {
     let mut way = Vec::new(alloc);
     let mut over = 0u32;
@@ -226,7 +227,7 @@ fn go_forth(alloc: Global, uses: &mut Uses, steps: &[Step]) -> Result<(), NoMemo
     Ok(())
 }
 
-/// Which variables outlive a call where no check holds.
+/// Which variables outlive a call where goals go one after another.
 fn outlive(alloc: Global, steps: &[Step]) -> Result<Vec<u32>, NoMemory> {
     let turns = way(alloc, steps, false)?;
     let mut uses = Uses::new(alloc);
@@ -305,10 +306,10 @@ struct Choice {
     uses: Uses,
     /// no step names a greater register
     greatest: u32,
-    /// the number of the step, on the way on which checks hold
+    /// the number of the step, on the way of goals side by side
     step: u32,
     places: Places,
-    /// at a group's checks
+    /// where the ways of a group part
     before: Option<Places>,
     /// the number of the step that begins a group; how many steps of its goals one after another are left, and the number of
     /// the step before them
@@ -459,8 +460,8 @@ impl Choice {
         Ok(Change::Kept(*step, place, Slot::X(a)))
     }
 
-    /// A check, before which each variable is left in one place.
-    fn check(&mut self, step: &Step) -> Result<Change, NoMemory>
+    /// A check, or the first step of a group's goals: where both ways of the group part each variable is left in one place.
+    fn part(&mut self, step: &Step) -> Result<Change, NoMemory>
         ensures { IfOk result (λ c. step_in c ≡ step.now) }
     {
         if self.before.is_none() {
@@ -506,7 +507,8 @@ impl Choice {
             Step::PutVariable(v, a, _) => self.put_new(*step, v, a, i),
             Step::PutValue(v, a) => self.put(*step, v, a),
             Step::UnifyVariable(v) => self.unify_new(*step, v, i),
-            Step::CheckGround(_, _) | Step::CheckIndep(_, _, _) => self.check(step),
+            Step::CheckGround(_, _) | Step::CheckIndep(_, _, _) => self.part(step),
+            Step::AllocParcall(_, _) => self.part(step),
             _ => self.other(step),
         }
     }
@@ -514,13 +516,13 @@ impl Choice {
     /// Goes on behind a step.
     fn go_on(&mut self, step: &Step) {
         match *step {
-            Step::AllocParcall(_) => self.group = self.step,
+            Step::AllocParcall(_, _) => self.group = self.step,
             Step::Jump(n) => self.turn(n),
             _ => self.count_down(),
         }
     }
 
-    /// A group's goals come one after another, from where its checks stand.
+    /// A group's goals come one after another, from where its ways part.
     fn turn(&mut self, n: u32) {
         if let Some(before) = replace(&mut self.before, None) {
             self.places = before;

@@ -1,4 +1,4 @@
-//! The code of a group: its checks, its goals side by side, and, where it has checks, its goals one after another.
+//! The code of a group: its checks, its goals side by side, and its goals one after another.
 #![tactic(auto, using(ap_term::proofs::TermLists::arguments, ap_term::proofs::TermLists::item_less_deep))]
 
 ghost use Rattle.std.specs.Prelude.{◌≡◌, ℕ, ◌+◌, [], ◌∷◌, ◌++◌, IfOk, OnOk};
@@ -9,7 +9,8 @@ ghost use Rattle.ap_instr.specs.Step.{push};
 ghost use Rattle.ap_instr.specs.Runs.{arguments};
 ghost use Rattle.ap_codegen.specs.Emitted.{lead_of, leads_of, steps_of};
 ghost use Rattle.ap_codegen.specs.Permanent.{name, goal_code, asking};
-ghost use Rattle.ap_codegen.specs.Grouped.{straight, see_check, see_checks, make, make_check, make_checks, check_step, check_leads, in_turn, side_by_side, ways, group_leads, Numbers, IsWritten};
+ghost use Rattle.ap_codegen.specs.Grouped.{straight, see_check, see_checks, make, make_check, make_checks, check_step, check_leads, in_turn, sides, side_leads, ways, group_leads, Numbers, IsWritten};
+ghost use Rattle.ap_codegen.specs.Said.{AreNumbered};
 
 use crate::builtin_goals::builtin_of;
 use crate::permanent::{above, count, goal, home};
@@ -136,13 +137,13 @@ fn next(i: u8) -> Result<u8, NoMemory>
     }
 }
 
-/// The goals side by side.
-fn side_by_side(alloc: Global, calls: &Args, seen: &mut Vec<u64>) -> Result<Vec<Step>, NoMemory>
-    ensures written { IfOk result (λ code. IsWritten code.items (straight (side_by_side calls.now seen.old.items))) }
+/// The goals side by side, behind the step that begins them.
+fn sides(alloc: Global, calls: &Args, seen: &mut Vec<u64>) -> Result<Vec<Step>, NoMemory>
+    ensures leads { IfOk result (λ code. leads_of code.items ≡ sides calls.now seen.old.items) }
+    ensures numbered { IfOk result (λ code. AreNumbered 0 code.items) }
     ensures seen { IfOk result (λ _. seen.new.items ≡ add_all_vars calls.now seen.old.items) }
 {
     let mut code = Vec::new(alloc);
-    code.push(Step::AllocParcall(count(calls)?))?;
     let mut i = 0u8;
     for t in calls.as_slice() {
         i = next(i)?;
@@ -153,7 +154,19 @@ fn side_by_side(alloc: Global, calls: &Args, seen: &mut Vec<u64>) -> Result<Vec<
     Ok(code)
 }
 
-/// The goals side by side, and, where there are checks, one after another for when one doesn't hold.
+/// The goals side by side, which the first step leads past, and past a jump.
+fn side_by_side(alloc: Global, calls: &Args, seen: &mut Vec<u64>) -> Result<Vec<Step>, NoMemory>
+    ensures written { IfOk result (λ code. IsWritten code.items (side_leads calls.now seen.old.items)) }
+    ensures seen { IfOk result (λ _. seen.new.items ≡ add_all_vars calls.now seen.old.items) }
+{
+    let mut goals = sides(alloc, calls, seen)?;
+    let mut code = Vec::new(alloc);
+    code.push(Step::AllocParcall(count(calls)?, above(1, goals.len())?))?;
+    code.append(&mut goals)?;
+    Ok(code)
+}
+
+/// The goals side by side, and one after another for where a check doesn't hold or no goals are wanted.
 fn ways(
     alloc: Global,
     tests: &[Check],
@@ -163,9 +176,6 @@ fn ways(
     ensures written { IfOk result (λ code. IsWritten code.items (ways tests.now calls.now seen.old.items)) }
     ensures seen { IfOk result (λ _. seen.new.items ≡ add_all_vars calls.now seen.old.items) }
 {
-    if tests.is_empty() {
-        return side_by_side(alloc, calls, seen);
-    }
     let mut turns = turns(alloc, calls, seen)?;
     let mut sides = side_by_side(alloc, calls, seen)?;
     let mut code = checks(alloc, tests, above(0, sides.len())?)?;

@@ -6,9 +6,9 @@ ghost use Rattle.ap_instr.specs.declared.instruction.Slot.{Slot};
 ghost use Rattle.ap_instr.specs.declared.instruction.Slot.TheVariants.{X};
 ghost use Rattle.ap_instr.specs.Runs.{set};
 ghost use Rattle.ap_codegen.specs.Emitted.{step_of, steps_of, label_of};
-ghost use Rattle.ap_codegen.specs.Grouped.{is_check};
+ghost use Rattle.ap_codegen.specs.Grouped.{has_turns};
 ghost use Rattle.ap_codegen.specs.declared.relocating.Way.TheVariants.{Outside};
-ghost use Rattle.ap_codegen.specs.Relocated.{Change as Changed, change_of, changes_of, step_in, by, known_by, former, latter, is_same, all_same, is_within, has_room, set_former, set_latter, set_both, behind_call, behind, behind_none, may_drop, fits, change_fits, is_kept, is_jump, is_test, is_leap, over, does_same, passed, is_end, is_next, checks_nothing, Forgets, IsSingle, Left, IsAhead, LeadsOn, PassesOver, AreKept, WayKept, asks, tests_nothing, all_open, staying, placed, written, IsStart, IsBegun, AreTested};
+ghost use Rattle.ap_codegen.specs.Relocated.{Change as Changed, change_of, changes_of, step_in, by, known_by, former, latter, is_same, all_same, is_within, has_room, set_former, set_latter, set_both, behind_call, behind, behind_none, may_drop, fits, change_fits, is_kept, is_jump, may_turn, is_leap, over, does_same, passed, is_end, is_next, never_turns, Forgets, IsSingle, Left, IsAhead, LeadsOn, PassesOver, AreKept, WayKept, asks, tests_nothing, all_open, staying, placed, written, IsStart, IsBegun, AreTested};
 
 use crate::steps::Step;
 use crate::temporary::{arity, ends, number};
@@ -366,8 +366,8 @@ fn leave_y(numbers: &mut Vec<u32>, y: &[u32])
     }
 }
 
-/// Where a walk over both codes stands in a group with checks: nowhere; so many steps before its goals one after another, or
-/// before their end, with what is known there.
+/// Where a walk over both codes stands in a group: nowhere; so many steps before its goals one after another, or before their
+/// end, with what is known there.
 #[derive(Drop)]
 enum Way {
     Outside,
@@ -375,7 +375,7 @@ enum Way {
     Turns(u32, Numbers),
 }
 
-/// A walk over both codes: what is known here, and on the other way of a check.
+/// A walk over both codes: what is known here, and on the other way of a group.
 #[derive(Drop)]
 pub struct Walk {
     numbers: Numbers,
@@ -389,16 +389,18 @@ fn label(step: Step) -> u32
         Step::Jump(n) => n,
         Step::CheckGround(_, n) => n,
         Step::CheckIndep(_, _, n) => n,
+        Step::AllocParcall(_, n) => n,
         _ => 0,
     }
 }
 
-pub fn is_check(step: Step) -> bool
-    ensures { result ≡ is_check (step_of step) }
+fn has_turns(step: Step) -> bool
+    ensures { result ≡ has_turns (step_of step) }
 {
     match step {
         Step::CheckGround(_, _) => true,
         Step::CheckIndep(_, _, _) => true,
+        Step::AllocParcall(_, _) => true,
         _ => false,
     }
 }
@@ -412,11 +414,11 @@ fn is_jump(step: Step) -> bool
     }
 }
 
-fn is_test(change: Change) -> bool
-    ensures { result ≡ is_test (change_of change) }
+fn may_turn(change: Change) -> bool
+    ensures { result ≡ may_turn (change_of change) }
 {
     match change {
-        Change::Kept(step, _, _) => is_check(step),
+        Change::Kept(step, _, _) => has_turns(step),
         Change::Dropped(_) => false,
     }
 }
@@ -430,7 +432,7 @@ fn is_leap(change: Change) -> bool
     }
 }
 
-/// How many steps behind the next one a step passes over, where it is a jump or a check that doesn't hold.
+/// How many steps behind the next one a step passes over, where it leads elsewhere.
 fn over(change: Change) -> u32
     ensures { result ≡ over (change_of change) }
 {
@@ -447,7 +449,7 @@ fn is_next_to(m: u32, n: u32) -> bool
 }
 
 impl Walk {
-    /// Leaves of what is known here what is known where checks lead, so many steps behind the next one, and goes nowhere yet.
+    /// Leaves of what is known here what is known where the ways of a group lead apart, so many steps behind the next one.
     fn meet(&mut self, n: u32) -> bool
         ensures known { result ≡ true → Forgets (known_by self.old.numbers) (known_by self.new.numbers) }
         ensures way { result ≡ true → (c : Changed) (cs : List Changed) → AreKept n (known_by self.new.numbers) cs → WayKept self.old.way (c ∷ cs) }
@@ -462,9 +464,9 @@ impl Walk {
         }
     }
 
-    /// Behind a check.
-    fn check(&mut self, alloc: Global, change: &Change) -> Result<bool, NoMemory>
-        requires { is_test (change_of change.now) ≡ true }
+    /// Behind a check, or the first step of a group's goals.
+    fn part(&mut self, alloc: Global, change: &Change) -> Result<bool, NoMemory>
+        requires { may_turn (change_of change.now) ≡ true }
         ensures { IfOk result (λ r. r ≡ true → LeadsOn self.old self.new (change_of change.now)) }
     {
         let n = over(*change);
@@ -492,9 +494,9 @@ impl Walk {
         }
     }
 
-    /// One step on, which is no check.
+    /// One step on, at which no ways part.
     fn go_on(&mut self) -> bool
-        ensures { result ≡ true → (c : Changed) → checks_nothing c ≡ true → PassesOver self.old self.new c }
+        ensures { result ≡ true → (c : Changed) → never_turns c ≡ true → PassesOver self.old self.new c }
     {
         match replace(&mut self.way, Way::Outside) {
             Way::Outside => true,
@@ -535,8 +537,8 @@ impl Walk {
         requires { is_end (change_of change.now) ≡ false }
         ensures { IfOk result (λ r. r ≡ true → LeadsOn self.old self.new (change_of change.now)) }
     {
-        if is_test(*change) {
-            return self.check(alloc, change);
+        if may_turn(*change) {
+            return self.part(alloc, change);
         }
         if is_leap(*change) {
             return Ok(self.jump(change));
@@ -592,7 +594,7 @@ fn fits(room: Option<u8>, step: Step, u: Slot, o: Slot) -> bool
         Step::Allocate(_) | Step::Deallocate => false,
         Step::CheckGround(_, _) => room.is_some() && has_room(room, u),
         Step::CheckIndep(_, _, _) => room.is_some() && (has_room(room, u) && has_room(room, o)),
-        Step::AllocParcall(n) => room.is_some() && 1 <= n,
+        Step::AllocParcall(n, _) => room.is_some() && 1 <= n,
         Step::Call(_, _) | Step::Jump(_) | Step::PushGoal(_, _, _) | Step::WaitAll => {
             room.is_some()
         }
@@ -629,7 +631,7 @@ fn asks(step: Step) -> bool
         Step::Jump(_) => true,
         Step::CheckGround(_, _) => true,
         Step::CheckIndep(_, _, _) => true,
-        Step::AllocParcall(_) => true,
+        Step::AllocParcall(_, _) => true,
         Step::PushGoal(_, _, _) => true,
         Step::WaitAll => true,
         _ => false,
@@ -685,6 +687,7 @@ fn placed(step: Step, u: Slot, o: Slot, n: u32) -> Step
         Step::Jump(_) => Step::Jump(n),
         Step::CheckGround(_, _) => Step::CheckGround(u, n),
         Step::CheckIndep(_, _, _) => Step::CheckIndep(u, o, n),
+        Step::AllocParcall(m, _) => Step::AllocParcall(m, n),
         other => other,
     }
 }

@@ -7,7 +7,8 @@ use ap_instr::{Builtin, Slot};
 use ap_term::{Atom, NoMemory};
 
 /// An instruction of a clause. `PutVariable` has the clause's variable that it makes, too; a call, and a group's goal behind its
-/// number, its predicate's name and arity; a jump or check how many instructions behind the next one it passes over.
+/// number, its predicate's name and arity; a jump, a check, and the first step of a group's goals behind their number, how many
+/// instructions behind the next one it passes over.
 #[derive(Clone, Copy)]
 pub enum Step {
     GetVariable(Slot, u32),
@@ -33,7 +34,7 @@ pub enum Step {
     Jump(u32),
     CheckGround(Slot, u32),
     CheckIndep(Slot, Slot, u32),
-    AllocParcall(u8),
+    AllocParcall(u8, u32),
     PushGoal(u8, Atom, u8),
     WaitAll,
 }

@@ -41,7 +41,7 @@ fn is_transfer(code: &Code, at: usize) -> bool {
         Instr::Trust(_) => true,
         Instr::CheckGround(_, _) => true,
         Instr::CheckIndep(_, _, _) => true,
-        Instr::AllocParcall(_) => true,
+        Instr::AllocParcall(_, _) => true,
         Instr::PushGoal(_, _) => true,
         Instr::WaitAll => true,
         _ => false,

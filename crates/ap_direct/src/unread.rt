@@ -104,7 +104,7 @@ fn use_of(code: &Code, instr: Instr, r: u32) -> Use
         Instr::Builtin(builtin) => read_then(is_argument(r, arity(builtin)), false),
         Instr::CheckGround(v, _) => read_then(is_x(v, r), false),
         Instr::CheckIndep(v, w, _) => read_then(is_x(v, r) || is_x(w, r), false),
-        Instr::AllocParcall(_) => Use::Passes,
+        Instr::AllocParcall(_, _) => Use::Passes,
         Instr::PushGoal(_, number) => called(code, number, r, false),
         Instr::WaitAll => Use::Ends,
         _ => Use::Reads,

@@ -35,7 +35,7 @@ fn instructions(alloc: Global) -> Result<Vec<Instr>, NoMemory> {
     ]?;
     let group = [
         Instr::Jump(10),
-        Instr::AllocParcall(2),
+        Instr::AllocParcall(2, 20),
         Instr::PutValue(Slot::Y(1), 1),
         Instr::PushGoal(1, P),
         Instr::PutValue(Slot::Y(2), 1),
@@ -44,6 +44,12 @@ fn instructions(alloc: Global) -> Result<Vec<Instr>, NoMemory> {
         Instr::Deallocate,
         Instr::Proceed,
         Instr::Builtin(Builtin::Relation(Relation::Compare(Op::Gt))),
+        Instr::Proceed,
+        Instr::PutValue(Slot::Y(1), 1),
+        Instr::Call(P),
+        Instr::PutValue(Slot::Y(2), 1),
+        Instr::Call(P),
+        Instr::Deallocate,
         Instr::Proceed,
     ];
     code.extend_from_slice(&group)?;

@@ -1,5 +1,5 @@
 -- Checks of a group, one by one.
-use Rattle.std.proofs.Common.{◌≡◌, ◌↔◌, ℕ, ◌+◌, ◌<◌, Bool, true, false, List, ◌∷◌, length, slice_get, Some, is_some, refl, ap, sym, ◌∙◌, subst}
+use Rattle.std.proofs.Common.{◌≡◌, ◌↔◌, ℕ, ◌+◌, ◌<◌, Bool, true, false, List, ◌∷◌, length, slice_get, Some, refl, ap, sym, ◌∙◌, subst}
 use Rattle.ap_term.specs.Independence.{IsGround, SharesNoVariable}
 use Rattle.ap_cells.specs.declared.cells.Raw.{Raw}
 use Rattle.ap_cells.specs.Trees.{tree_at, trees}
@@ -15,7 +15,7 @@ use Rattle.ap_instr.specs.Runs.{read}
 use Rattle.ap_steps.specs.Moves.{held, HoldPlaces}
 use Rattle.ap_group.specs.declared.checking.Check.{Check}
 use Rattle.ap_group.specs.declared.checking.Check.TheVariants.{Holds, Fails}
-use Rattle.ap_group.specs.Gathers.{Passes, begins, is_ground, are_apart, ComesToGroup, IsPlainWay}
+use Rattle.ap_group.specs.Gathers.{Passes, begins, is_ground, are_apart, is_check, ComesToGroup, IsPlainWay}
 use Rattle.ap_group.specs.Turns.{IsPast, ChecksTo}
 use Rattle.ap_group.proofs.Ways.{steps-on}
 
@@ -40,20 +40,20 @@ module _ (cs : List Raw) (x y : List ℕ) (hx : HoldPlaces (length cs) x) (hy : 
     pub past : IsPast i cs x y → Passes cs (held x) (held y) (steps_from code at) (steps_from code (place + 1))
     past c = c.passes code (steps_from code at) (steps_from code (place + 1)) (subst (Passes cs (held x) (held y) (steps_from code at)) (steps-on code place i e (c.goes_on place)) p)
 
-    pub to-goals : (n : ℕ) → i ≡ AllocParcall n → Passes cs (held x) (held y) (steps_from code at) (group n ∷ steps_from code (place + 1))
-    to-goals n is =
-        let f : slice_get code.instructions place ≡ Some (AllocParcall n) = e ∙ ap Some is in
-        subst (Passes cs (held x) (held y) (steps_from code at)) (steps-on code place (AllocParcall n) f refl) p
+    pub to-goals : (n l : ℕ) → i ≡ AllocParcall n l → Passes cs (held x) (held y) (steps_from code at) (group n ∷ steps_from code (place + 1))
+    to-goals n l is =
+        let f : slice_get code.instructions place ≡ Some (AllocParcall n l) = e ∙ ap Some is in
+        subst (Passes cs (held x) (held y) (steps_from code at)) (steps-on code place (AllocParcall n l) f refl) p
 
 module _ (code : Compiled) (place : ℕ) where
-  pub comes-past : (i : Instr) → is_some (otherwise i) ≡ true → slice_get code.instructions place ≡ Some i → ComesToGroup (steps_from code (place + 1)) → ComesToGroup (steps_from code place)
+  pub comes-past : (i : Instr) → is_check i ≡ true → slice_get code.instructions place ≡ Some i → ComesToGroup (steps_from code (place + 1)) → ComesToGroup (steps_from code place)
   comes-past (CheckGround v l) b e h = subst ComesToGroup (sym (steps-on code place (CheckGround v l) e refl)) h
   comes-past (CheckIndep v w l) b e h = subst ComesToGroup (sym (steps-on code place (CheckIndep v w l) e refl)) h
   comes-past i b e h = cc
 
-  pub comes-here : (n : ℕ) → slice_get code.instructions place ≡ Some (AllocParcall n) → ComesToGroup (steps_from code place)
-  comes-here n e = subst ComesToGroup (sym (steps-on code place (AllocParcall n) e refl)) tt
+  pub comes-here : (n l : ℕ) → slice_get code.instructions place ≡ Some (AllocParcall n l) → ComesToGroup (steps_from code place)
+  comes-here n l e = subst ComesToGroup (sym (steps-on code place (AllocParcall n l) e refl)) tt
 
-  -- a check with a group behind it leads to that group's goals, one after another
-  pub way-here : (i : Instr) (to : ℕ) → slice_get code.instructions place ≡ Some i → otherwise i ≡ Some to → ComesToGroup (steps_from code (place + 1)) → (cs : List Raw) (x y : List ℕ) → IsPlainWay code place cs x y to
+  -- a check from which a group is come to leads to that group's goals, one after another, and so does its beginning
+  pub way-here : (i : Instr) (to : ℕ) → slice_get code.instructions place ≡ Some i → otherwise i ≡ Some to → ComesToGroup (steps_from code place) → (cs : List Raw) (x y : List ℕ) → IsPlainWay code place cs x y to
   way-here i to e l c cs x y = record { from = place; check = i; stands = e; leads = l; passes = begins; comes = c }

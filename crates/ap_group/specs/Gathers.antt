@@ -1,5 +1,5 @@
 -- How a group's code is run: its checks are asked one after another, and its goals are pushed.
-use Rattle.std.specs.Prelude.{◌≡◌, ℕ, zero, suc, ◌+◌, ◌<◌, List, [], ◌∷◌, ◌++◌, length, slice_get, Some, None}
+use Rattle.std.specs.Prelude.{◌≡◌, ℕ, zero, suc, ◌+◌, ◌<◌, Bool, true, false, List, [], ◌∷◌, ◌++◌, length, slice_get, Some, None}
 use Rattle.ap_term.specs.Independence.{IsGround, SharesNoVariable}
 use Rattle.ap_cells.specs.declared.cells.Raw.{Raw}
 use Rattle.ap_cells.specs.Trees.{tree_at, trees}
@@ -19,7 +19,7 @@ use Rattle.ap_group.specs.Groups.{Pushed}
 abbrev pub BeginsGroup : Instr → Type 0
 BeginsGroup (CheckGround v l) = Unit {0}
 BeginsGroup (CheckIndep v w l) = Unit {0}
-BeginsGroup (AllocParcall n) = Unit {0}
+BeginsGroup (AllocParcall n l) = Unit {0}
 BeginsGroup _ = ⊥
 
 abbrev pub IsGroupAt : Compiled → ℕ → Type 0
@@ -65,20 +65,26 @@ ComesToGroup (check_indep v w ∷ is) = ComesToGroup is
 ComesToGroup (group n ∷ is) = Unit {0}
 ComesToGroup _ = ⊥
 
--- Checks of the group at a place hold up to one that leads to the place `to`.
+-- an instruction that is a check
+abbrev pub is_check : Instr → Bool
+is_check (CheckGround v l) = true
+is_check (CheckIndep v w l) = true
+is_check _ = false
+
+-- Checks of the group at a place hold up to one that leads to the place `to`, or up to its goals, which lead there, too.
 pub record IsPlainWay (code : Compiled) (at : ℕ) (cs : List Raw) (x y : List ℕ) (to : ℕ) : Type 0 where
   pub from : ℕ
   pub check : Instr
   pub stands : slice_get code.instructions from ≡ Some check
   pub leads : otherwise check ≡ Some to
   pub passes : Passes cs (held x) (held y) (steps_from code at) (steps_from code from)
-  pub comes : ComesToGroup (steps_from code (from + 1))
+  pub comes : ComesToGroup (steps_from code from)
 
 -- the same, and that one doesn't hold
 abbrev pub IsForcedWay : Compiled → ℕ → List Raw → List ℕ → List ℕ → ℕ → Type 0
 IsForcedWay code at cs x y to = (way : IsPlainWay code at cs x y to) × FailsCheck cs (held x) (held y) way.check
 
--- no check stands at the place
+-- neither a check nor the beginning of a group's goals stands at the place
 abbrev pub IsUnchecked : Compiled → ℕ → Type 0
 IsUnchecked code at = (i : Instr) → slice_get code.instructions at ≡ Some i → otherwise i ≡ None
 

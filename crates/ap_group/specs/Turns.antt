@@ -33,7 +33,7 @@ pub record IsPast (i : Instr) (cs : List Raw) (x y : List ℕ) : Type 0 where
 abbrev pub ChecksTo : Instr → List Raw → List ℕ → List ℕ → Check → Type 0
 ChecksTo i cs x y Holds = IsPast i cs x y
 ChecksTo i cs x y (Fails l) = (otherwise i ≡ Some l) × FailsCheck cs (held x) (held y) i
-ChecksTo i cs x y (Begins n) = i ≡ AllocParcall n
+ChecksTo i cs x y (Begins n) = (l : ℕ) × (i ≡ AllocParcall n l)
 
 -- all checks of the group at a place hold, and behind them so many goals are to be pushed; or one doesn't hold
 abbrev pub AreChecked : Compiled → ℕ → List Raw → List ℕ → List ℕ → Checked → Type 0

@@ -1,12 +1,12 @@
 //! The checks of a group, one after another.
 
-ghost use Rattle.std.specs.Prelude.{◌≡◌, ℕ, ◌≤◌, List, length, is_some, None, Ok, true, false, IfOk, IfSome};
+ghost use Rattle.std.specs.Prelude.{◌≡◌, ℕ, ◌≤◌, List, length, None, Ok, true, false, IfOk, IfSome};
 ghost use Rattle.ap_cells.specs.declared.cells.Raw.{Raw};
 ghost use Rattle.ap_instr.specs.declared.instruction.Instr.TheVariants.{AllocParcall};
 ghost use Rattle.ap_instr.specs.Groups.{otherwise};
 ghost use Rattle.ap_instr.specs.Steps.{steps_from};
 ghost use Rattle.ap_steps.specs.Moves.{HoldPlaces};
-ghost use Rattle.ap_group.specs.Gathers.{IsGroupAt, ComesToGroup, IsPlainWay, IsUnchecked};
+ghost use Rattle.ap_group.specs.Gathers.{IsGroupAt, is_check, ComesToGroup, IsPlainWay, IsUnchecked};
 ghost use Rattle.ap_group.specs.Turns.{ChecksTo, AreChecked};
 
 use ap_cells::{Cells, Walk};
@@ -69,26 +69,28 @@ fn ask(
             let holds = are_apart(cells, x, y, v, w, walk, marks)?;
             Ok(outcome(holds, otherwise))
         }
-        Instr::AllocParcall(count) => Ok(Check::Begins(count)),
+        Instr::AllocParcall(count, _) => Ok(Check::Begins(count)),
         // A group's checks stand one behind the other, and its goals behind them.
         _ => Err(NoMemory),
     }
 }
 
-/// Where a check leads to that doesn't hold. None for another instruction.
+/// Where a check leads to that doesn't hold, and where the goals of a group that begin stand one after another. None for another
+/// instruction.
 fn leads_to(instr: &Instr) -> Option<usize>
     ensures { result ≡ otherwise instr.now }
 {
     match *instr {
         Instr::CheckGround(_, to) => Some(to as usize),
         Instr::CheckIndep(_, _, to) => Some(to as usize),
+        Instr::AllocParcall(_, to) => Some(to as usize),
         _ => None,
     }
 }
 
 /// Whether an instruction is a check.
 fn is_check(instr: &Instr) -> bool
-    ensures { result ≡ is_some (otherwise instr.now) }
+    ensures { result ≡ is_check instr.now }
 {
     match *instr {
         Instr::CheckGround(_, _) => true,
@@ -99,10 +101,10 @@ fn is_check(instr: &Instr) -> bool
 
 /// Whether a group's goals begin with an instruction.
 fn begins_goals(instr: &Instr) -> bool
-    ensures { result ≡ true → (n : ℕ) × (instr.now ≡ AllocParcall n) }
+    ensures { result ≡ true → (n l : ℕ) × (instr.now ≡ AllocParcall n l) }
 {
     match *instr {
-        Instr::AllocParcall(_) => true,
+        Instr::AllocParcall(_, _) => true,
         _ => false,
     }
 }
@@ -125,7 +127,7 @@ fn comes_to_group(code: &Code, from: usize) -> bool
     false
 }
 
-/// Finds the place where the goals of the group at a place stand one after another. None where the group has no check.
+/// Finds the place where the goals of the group at a place stand one after another. None where none begins.
 pub fn plain_way(code: &Code, at: usize) -> Result<Option<usize>, NoMemory>
     ensures way { IfOk result (λ found. IfSome found (λ to. (cs : List Raw) (x y : List ℕ) → IsPlainWay code.now at cs x y to)) }
     ensures none { result ≡ Ok None → IsUnchecked code.now at }
@@ -136,7 +138,7 @@ pub fn plain_way(code: &Code, at: usize) -> Result<Option<usize>, NoMemory>
     };
     prove!(at < places);
     match leads_to(&instr) {
-        Some(to) if comes_to_group(code, at + 1) => Ok(Some(to)),
+        Some(to) if comes_to_group(code, at) => Ok(Some(to)),
         // Behind a group's checks its goals begin.
         Some(_) => Err(NoMemory),
         None => Ok(None),
@@ -167,7 +169,7 @@ pub(crate) fn check_all(
         match ask(cells, x, y, instr, walk, marks)? {
             Check::Holds => {}
             Check::Begins(count) => return Ok(Checked::Group(count, place + 1)),
-            Check::Fails(to) if comes_to_group(code, place + 1) => return Ok(Checked::Plain(to)),
+            Check::Fails(to) if comes_to_group(code, place) => return Ok(Checked::Plain(to)),
             Check::Fails(_) => return Err(NoMemory),
         }
     }

@@ -110,7 +110,7 @@ passed code (Retry l) is e o = absurd (false≢true (sym e))
 passed code (Trust l) is e o = absurd (false≢true (sym e))
 passed code (CheckGround v l) is e o = absurd (false≢true (sym e))
 passed code (CheckIndep v w l) is e o = absurd (false≢true (sym e))
-passed code (AllocParcall n) is e o = absurd (false≢true (sym e))
+passed code (AllocParcall n l) is e o = absurd (false≢true (sym e))
 passed code (PushGoal n q) is e o = absurd (false≢true (sym e))
 passed code WaitAll is e o = absurd (false≢true (sym e))
 

@@ -57,7 +57,7 @@ pub fn way_of(code: &Code, instr: Instr) -> Way
         Instr::Builtin(_) => Way::Goal,
         Instr::CheckGround(_, _) => Way::Goal,
         Instr::CheckIndep(_, _, _) => Way::Goal,
-        Instr::AllocParcall(_) => Way::Goal,
+        Instr::AllocParcall(_, _) => Way::Goal,
         Instr::PushGoal(_, number) => way_by_call(code, number),
         Instr::WaitAll => Way::Goal,
         Instr::Jump(_) => Way::Goal,

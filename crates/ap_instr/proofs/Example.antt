@@ -1,5 +1,5 @@
--- How groups read: code of `g(X, Y) :- indep(X, Y) => a(X) & b(Y).` reads as its clause, and the place that its check leads to asks for
--- the same without the group's marks.
+-- How groups read: code of `g(X, Y) :- indep(X, Y) => a(X) & b(Y).` reads as its clause, and the place that its check and its goals lead to
+-- asks for the same without the group's marks.
 use Rattle.std.proofs.Common.{◌≡◌, ℕ, true, List, [], ◌∷◌, None, refl, ap, ap₂, ◌∙◌}
 use Rattle.ap_term.specs.declared.clauses.Check.TheVariants.{Indep}
 use Rattle.ap_term.specs.Tree.{Tree, Trees, var, node, none, more}
@@ -17,7 +17,7 @@ use Rattle.ap_instr.specs.StandsFor.{ReadsAt}
 
 abbrev instructions : List Instr
 instructions =
-    Allocate 2 ∷ GetVariable (Y 1) 1 ∷ GetVariable (Y 2) 2 ∷ CheckIndep (Y 1) (Y 2) 11 ∷ AllocParcall 2 ∷ PutValue (Y 1) 1 ∷ PushGoal 1 0 ∷ PutValue (Y 2) 1 ∷ PushGoal 2 1 ∷ WaitAll
+    Allocate 2 ∷ GetVariable (Y 1) 1 ∷ GetVariable (Y 2) 2 ∷ CheckIndep (Y 1) (Y 2) 11 ∷ AllocParcall 2 11 ∷ PutValue (Y 1) 1 ∷ PushGoal 1 0 ∷ PutValue (Y 2) 1 ∷ PushGoal 2 1 ∷ WaitAll
     ∷ Jump 15 ∷ PutValue (Y 1) 1 ∷ Call 0 ∷ PutValue (Y 2) 1 ∷ Call 1 ∷ Deallocate ∷ Proceed ∷ []
 
 abbrev called : ℕ → Predicate

@@ -90,7 +90,7 @@ shown_instruction names (Retry l) = shown (codes "retry") (place l ∷ [])
 shown_instruction names (Trust l) = shown (codes "trust") (place l ∷ [])
 shown_instruction names (CheckGround v l) = shown (codes "check_ground") (register v ∷ place l ∷ [])
 shown_instruction names (CheckIndep v w l) = shown (codes "check_indep") (register v ∷ register w ∷ place l ∷ [])
-shown_instruction names (AllocParcall n) = shown (codes "alloc_parcall") (number n ∷ [])
+shown_instruction names (AllocParcall n l) = shown (codes "alloc_parcall") (number n ∷ [])
 shown_instruction names (PushGoal i p) = shown (codes "push_goal") (number i ∷ predicate p ∷ [])
 shown_instruction names WaitAll = shown (codes "wait_all") []
 

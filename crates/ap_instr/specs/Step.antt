@@ -75,7 +75,7 @@ step_of code (Retry l) = other
 step_of code (Trust l) = other
 step_of code (CheckGround v l) = check_ground v
 step_of code (CheckIndep v w l) = check_indep v w
-step_of code (AllocParcall n) = group n
+step_of code (AllocParcall n l) = group n
 step_of code (PushGoal i p) = with_predicate (slice_get code.predicates p) push
 step_of code WaitAll = wait
 

@@ -47,8 +47,8 @@ pub enum Instr {
     CheckGround(Slot, u32),
     /// Goes to the place where the registers' terms share a variable.
     CheckIndep(Slot, Slot, u32),
-    /// Begins a group of so many goals.
-    AllocParcall(u8),
+    /// Begins a group of so many goals, which are called one after another from the place on.
+    AllocParcall(u8, u32),
     /// Adds the goal of this number, from 1.
     PushGoal(u8, u32),
     /// Runs the group's goals, side by side.

@@ -143,7 +143,7 @@ fn line_of(atoms: &Atoms, instr: Instr) -> Line
         Instr::CheckIndep(v, w, l) => {
             with_three("check_indep", Register(v), Register(w), Place(l))
         }
-        Instr::AllocParcall(n) => with_one("alloc_parcall", Number(n)),
+        Instr::AllocParcall(n, _) => with_one("alloc_parcall", Number(n)),
         Instr::PushGoal(i, p) => with_two("push_goal", Number(i), Predicate(p)),
         Instr::WaitAll => alone("wait_all"),
     }

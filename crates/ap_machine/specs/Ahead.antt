@@ -15,5 +15,5 @@ goals_ahead _ = 0
 abbrev pub goals_said : Instr → Option ℕ
 goals_said (CheckGround v l) = None
 goals_said (CheckIndep v w l) = None
-goals_said (AllocParcall n) = Some n
+goals_said (AllocParcall n l) = Some n
 goals_said _ = Some 0

@@ -265,7 +265,7 @@ impl Search {
                 Instr::Trust(_) => self.next = Now::Failed,
                 Instr::CheckGround(_, _) => return Ok(Some(Due::Group(at))),
                 Instr::CheckIndep(_, _, _) => return Ok(Some(Due::Group(at))),
-                Instr::AllocParcall(_) => return Ok(Some(Due::Group(at))),
+                Instr::AllocParcall(_, _) => return Ok(Some(Due::Group(at))),
                 // Behind a check or the beginning of a group alone, where `fork` comes past them.
                 Instr::PushGoal(_, _) => return Err(NoMemory),
                 Instr::WaitAll => return Err(NoMemory),

@@ -163,7 +163,7 @@ fn goals_said_by(instr: &Instr) -> Option<usize>
     match *instr {
         Instr::CheckGround(_, _) => None,
         Instr::CheckIndep(_, _, _) => None,
-        Instr::AllocParcall(count) => Some(count as usize),
+        Instr::AllocParcall(count, _) => Some(count as usize),
         _ => Some(0),
     }
 }

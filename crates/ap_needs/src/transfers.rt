@@ -21,7 +21,7 @@ pub(crate) fn is_transfer(instr: &Instr) -> bool
         Instr::Trust(_) => true,
         Instr::CheckGround(_, _) => true,
         Instr::CheckIndep(_, _, _) => true,
-        Instr::AllocParcall(_) => true,
+        Instr::AllocParcall(_, _) => true,
         Instr::PushGoal(_, _) => true,
         Instr::WaitAll => true,
         _ => false,

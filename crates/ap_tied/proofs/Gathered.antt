@@ -84,8 +84,8 @@ begun code m at (i, e, g) openly opens = by i e g
           tuple = q.1;
           stood = subst (λ is. InCode code (standing m) (held m.x) (held m.y) is (more apart_mark (append_trees us q.0)) q.1) (sym same) (k, more apart_mark us, q.0, fits-own m.cells, (a.0, refl, a.1), refl, q.2);
         }
-    by (AllocParcall n) e g =
-        let same : steps_from code at ≡ group n ∷ steps_from code (at + 1) = steps-at code at (AllocParcall n) e (λ d. cc) in
+    by (AllocParcall n l) e g =
+        let same : steps_from code at ≡ group n ∷ steps_from code (at + 1) = steps-at code at (AllocParcall n l) e (λ d. cc) in
         let o : AsksOpenly (group n ∷ steps_from code (at + 1)) = subst AsksOpenly same openly in
         let a = o.0 (λ w. k (held m.x w)) (λ w. k (held m.y w)) in
         let q = some-waits code k m.returns m.roots opens in

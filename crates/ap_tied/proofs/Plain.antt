@@ -16,9 +16,9 @@ use Rattle.ap_tracked.specs.Instances.{Inst}
 use Rattle.ap_graft.specs.Variables.{LocalGoal, Below, NoneBehind}
 use Rattle.ap_graft.proofs.Variables.{over-opened}
 use Rattle.ap_instr.specs.declared.instruction.Instr.{Instr}
-use Rattle.ap_instr.specs.declared.instruction.Instr.TheVariants.{CheckGround, CheckIndep}
+use Rattle.ap_instr.specs.declared.instruction.Instr.TheVariants.{CheckGround, CheckIndep, AllocParcall}
 use Rattle.ap_instr.specs.Code.{Compiled}
-use Rattle.ap_instr.specs.Groups.{otherwise, AsksUnmarked}
+use Rattle.ap_instr.specs.Groups.{otherwise, rest_of, AsksUnmarked}
 use Rattle.ap_instr.specs.Step.{Step, check_ground, check_indep, group, push}
 use Rattle.ap_instr.specs.Steps.{steps_from}
 use Rattle.ap_instr.specs.Runs.{Runs, read}
@@ -123,13 +123,41 @@ module _ (code : Compiled) (m : Machine) (u : Tracked) (ts : Trees) (own : ℕ �
           let s : append_trees v.0 qs ≡ instance_all f Goals = only-unmarked f own cs (count_trees ts) Goals (append_trees bs qs) (append_trees v.0 qs) (unmarked-append bs v.0 qs n) (sym eq) in
           (k, v.0, qs, fits, leads.each x y d.0 v.0 v.1 d.2, e1 ∙ sym s, w)
 
-  led-by : (i : Instr) (cs : List Check) → slice_get code.instructions from ≡ Some i → otherwise i ≡ Some to → AsksUnmarked code (from + 1) to → ComesToGroup (steps_from code (from + 1))
+  -- where the beginning of a group's goals leads to
+  led-goals : (cs : List Check) → AsksUnmarked code from to → ComesToGroup (steps_from code from)
+      → SameSet (InCode code (standing m) (held m.x) (held m.y) (steps_from code from)) (MarksLeft u cs ts own gs)
+      → SameSet (InCode code (standing m) (held m.x) (held m.y) (steps_from code to)) (NoMarkLeft u ts own gs)
+  led-goals cs leads comes same hs t = (
+    λ (k, bs, qs, fits, r, eq, w).
+        let x : ℕ → Tree = λ j. k (held m.x j) in
+        let y : ℕ → Tree = λ j. k (held m.y j) in
+        let d = leads.only x y bs r in
+        let z = (same (append_trees d.0 qs) t).0 (k, d.0, qs, fits, d.2, refl, w) in
+        let n : Unmarked (append_trees d.0 qs) (append_trees bs qs) = unmarked-append d.0 bs qs d.1 in
+        (z.0, eq ∙ only-unmarked z.0 own cs (count_trees ts) Goals (append_trees d.0 qs) (append_trees bs qs) n z.1, z.2),
+    λ (f, e1, e2). back f e1 e2 ((same (instance_all f (check_marks own cs (more (group_mark (count_trees ts)) Goals))) t).1 (f, refl, e2)),
+  )
+    where
+      back : (f : ℕ → Tree) → hs ≡ instance_all f Goals → t ≡ instance_all f u.tuple
+          → InCode code (standing m) (held m.x) (held m.y) (steps_from code from) (instance_all f (check_marks own cs (more (group_mark (count_trees ts)) Goals))) t
+          → InCode code (standing m) (held m.x) (held m.y) (steps_from code to) hs t
+      back f e1 e2 (k, bs, qs, fits, r, eq, w) =
+          let x : ℕ → Tree = λ j. k (held m.x j) in
+          let y : ℕ → Tree = λ j. k (held m.y j) in
+          let v = comes-unmarked (steps_from code from) x y bs comes r in
+          let s : append_trees v.0 qs ≡ instance_all f Goals = only-unmarked f own cs (count_trees ts) Goals (append_trees bs qs) (append_trees v.0 qs) (unmarked-append bs v.0 qs v.1) (sym eq) in
+          (k, v.0, qs, fits, leads.each x y bs v.0 v.1 r, e1 ∙ sym s, w)
+
+  led-by : (i : Instr) (cs : List Check) → slice_get code.instructions from ≡ Some i → otherwise i ≡ Some to → AsksUnmarked code (rest_of i from) to → ComesToGroup (steps_from code from)
       → SameSet (InCode code (standing m) (held m.x) (held m.y) (steps_from code from)) (MarksLeft u cs ts own gs)
       → SameSet (InCode code (standing m) (held m.x) (held m.y) (steps_from code to)) (NoMarkLeft u ts own gs)
   led-by (CheckGround v l) cs e is leads comes same =
-      led (check_ground v) (ground-marks v) cs leads comes (subst (λ is. SameSet (InCode code (standing m) (held m.x) (held m.y) is) (MarksLeft u cs ts own gs)) (steps-at code from (CheckGround v l) e (λ d. cc)) same)
+      let stands : steps_from code from ≡ check_ground v ∷ steps_from code (from + 1) = steps-at code from (CheckGround v l) e (λ d. cc) in
+      led (check_ground v) (ground-marks v) cs leads (subst ComesToGroup stands comes) (subst (λ is. SameSet (InCode code (standing m) (held m.x) (held m.y) is) (MarksLeft u cs ts own gs)) stands same)
   led-by (CheckIndep v w l) cs e is leads comes same =
-      led (check_indep v w) (apart-marks v w) cs leads comes (subst (λ is. SameSet (InCode code (standing m) (held m.x) (held m.y) is) (MarksLeft u cs ts own gs)) (steps-at code from (CheckIndep v w l) e (λ d. cc)) same)
+      let stands : steps_from code from ≡ check_indep v w ∷ steps_from code (from + 1) = steps-at code from (CheckIndep v w l) e (λ d. cc) in
+      led (check_indep v w) (apart-marks v w) cs leads (subst ComesToGroup stands comes) (subst (λ is. SameSet (InCode code (standing m) (held m.x) (held m.y) is) (MarksLeft u cs ts own gs)) stands same)
+  led-by (AllocParcall n l) cs e is leads comes same = led-goals cs leads comes same
   led-by i cs e is leads comes same = cc
 
 plain-opening : (s : Tracked) → IsPlain s → IsPlain (opening s)
@@ -142,7 +170,7 @@ goes-plain code m c b st at to closed now is_group way p o t searched tied =
     let u : Tracked = g.first in
     let e = g.group in
     let n : Machine = record m { now = inside to } in
-    let leads : AsksUnmarked code (way.from + 1) to = searched.code_stands.sequences way.from to way.check way.stands way.leads in
+    let leads : AsksUnmarked code (rest_of way.check way.from) to = searched.code_stands.sequences way.from to way.check way.stands way.leads in
     let passed = pass code m u e.goals e.own e.behind (steps_from code at) e.checks (steps_from code way.from) g.opens g.same g.openly way.passes in
     let local : LocalGoal (Below u.next) (fork e.checks e.goals e.own e.now) = (subst (AllByRecursion (LocalGoal (Below u.next))) g.begins_with g.plain.0.0).0 in
     let same : SameSet (InCode code (standing m) (held m.x) (held m.y) (steps_from code to)) (Inst (opening u)) =

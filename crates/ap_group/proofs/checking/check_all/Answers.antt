@@ -10,8 +10,8 @@ loop-place-init c = record { passes = begins }
 pub returns-in-Begins : goal.returns-in-Begins
 returns-in-Begins c =
     let a = c.args in
-    to-goals a.cells.now.cells a.x.now a.y.now c.requires.holds_x c.requires.holds_y a.code.now a.at c.loop-place.place c.in-Some.instr (sym c.in-Some.ensures) c.loop-place.invariant.passes c.in-Begins.count
-    (subst (ChecksTo c.in-Some.instr a.cells.now.cells a.x.now a.y.now) c.in-Begins.is c.in_ok-ask.ensures)
+    let begins = subst (ChecksTo c.in-Some.instr a.cells.now.cells a.x.now a.y.now) c.in-Begins.is c.in_ok-ask.ensures in
+    to-goals a.cells.now.cells a.x.now a.y.now c.requires.holds_x c.requires.holds_y a.code.now a.at c.loop-place.place c.in-Some.instr (sym c.in-Some.ensures) c.loop-place.invariant.passes c.in-Begins.count begins.0 begins.1
 
 pub loop-place-preserved : goal.loop-place-preserved
 loop-place-preserved c =
