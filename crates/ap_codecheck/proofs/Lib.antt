@@ -1,5 +1,6 @@
 pub mod Agree
 pub mod Following
+pub mod Keeping
 pub mod Marks
 pub mod Stands
 pub mod Tried

@@ -7,3 +7,4 @@ pub mod Judged
 pub mod Walk
 pub mod Known
 pub mod Laws
+pub mod Tables

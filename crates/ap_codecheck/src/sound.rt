@@ -4,43 +4,44 @@ ghost use Rattle.std.specs.Prelude.{◌≡◌, ℕ, ◌<◌, Some, IsSome, IfOk,
 ghost use Rattle.ap_index.specs.Index.{IsRowOf, IsRestOf, IsChoiceAt};
 ghost use Rattle.ap_needs.specs.Needs.{IsRoomOf, AreWidthsOf};
 ghost use Rattle.ap_direct.specs.Goals.{AsksFirst};
+ghost use Rattle.ap_instr.specs.Code.{Compiled};
 ghost use Rattle.ap_codecheck.specs.Rules.{IsSound};
+ghost use Rattle.ap_codecheck.specs.Tables.{GoesOnBehind, IsExtentOf, IsKeptOf};
 ghost use Rattle.ap_codecheck.specs.Judged.{KeepsAll, KeepsAllAt, BreaksIn, Breaks};
 
 use crate::operands::check_operands;
 use crate::paths::check_paths;
 use crate::rule::{CodeErr, Rule};
+use crate::tables::{Extent, KeptTables, Mark, Tables};
 use crate::walk::Walk;
-use ap_direct::{Direct, Directs};
-use ap_index::{Choice, Index, Row, index_of};
+use ap_direct::Direct;
+use ap_index::{Choice, Row};
 use ap_instr::{Code, Predicate};
-use ap_needs::{Room, Widths, widths_of};
+use ap_needs::{Room, Widths};
 use ap_term::NoMemory;
 use std::alloc::Global;
 use std::marker::Model;
 
-/// Code that keeps every rule at every place, with an index of it and what its runs need.
+/// Code that keeps every rule at every place, with what is known of its places. Where it goes on behind code that is kept, it has the mark
+/// to which the tables are cut back.
 #[derive(Drop)]
 pub struct Sound {
     code: Code,
-    index: Index,
-    room: Room,
-    widths: Widths,
-    directs: Directs,
+    tables: Tables,
+    kept: Option<Mark>,
 }
 
 impl Model for Sound {
     ghost use Rattle.ap_instr.specs.Code.{Compiled};
+    ghost use Rattle.std.specs.Prelude.{IfSome};
     ghost use Rattle.ap_codecheck.specs.Rules.{IsSound};
-    ghost use Rattle.ap_index.specs.Index.{IsIndexOf};
-    ghost use Rattle.ap_needs.specs.Needs.{IsRoomOf, AreWidthsOf};
-    ghost use Rattle.ap_direct.specs.Table.{AreGoalsOf};
+    ghost use Rattle.ap_codecheck.specs.Tables.{AreTablesOf, WasKept};
 
     ghost Value = { Compiled };
 
     ghost view = { λ a. a.code };
 
-    ghost invariant = { λ a. IsSound a.code × IsIndexOf a.code a.index × IsRoomOf a.code a.room × AreWidthsOf a.code a.widths × AreGoalsOf a.code a.directs };
+    ghost invariant = { λ a. IsSound a.code × AreTablesOf a.code a.tables × IfSome a.kept (WasKept a.code a.tables) };
 }
 
 fn check_query(code: &Code) -> Result<(), CodeErr>
@@ -103,17 +104,47 @@ impl Sound {
         requires { IsSound code }
         ensures { IfOk result (λ sound. sound ≡ code) }
     {
-        let index = index_of(alloc, &code)?;
-        let room = Room::of(alloc, &code)?;
-        let widths = widths_of(&code);
-        let directs = Directs::of(alloc, &code)?;
+        let tables = Tables::of(alloc, &code)?;
         Ok(Sound {
             code,
-            index,
-            room,
-            widths,
-            directs,
+            tables,
+            kept: None,
         })
+    }
+
+    /// Makes the tables of sound code that goes on behind code whose tables are kept, from the end of that on.
+    pub fn beside(alloc: Global, code: Code, kept: KeptTables) -> Result<Sound, NoMemory>
+        requires sound { IsSound code }
+        requires kept { (base : Compiled) × GoesOnBehind code base × IsKeptOf base kept }
+        ensures { IfOk result (λ sound. sound ≡ code) }
+    {
+        let KeptTables { mut tables, extent } = kept;
+        let mark = tables.mark(extent);
+        tables.grow(alloc, &code, extent)?;
+        Ok(Sound {
+            code,
+            tables,
+            kept: Some(mark),
+        })
+    }
+
+    /// The tables of the code that it goes on behind, which is so long. None where it was made without them.
+    pub fn into_kept(self, extent: Extent) -> Option<KeptTables>
+        ensures { IfSome result (λ kept. (base : Compiled) → GoesOnBehind self base → IsExtentOf base extent → IsKeptOf base kept) }
+    {
+        let Sound {
+            code: _code,
+            mut tables,
+            kept,
+        } = self;
+        let Some(mark) = kept else {
+            return None;
+        };
+        if !mark.is_of(extent) {
+            return None;
+        }
+        tables.cut_to(mark);
+        Some(KeptTables { tables, extent })
     }
 
     /// The code that it is.
@@ -129,7 +160,7 @@ impl Sound {
     pub fn row(&self, start: usize) -> Option<&Row>
         ensures { IfSome result (λ row. IsRowOf self.now start row.now) }
     {
-        self.index.row(start)
+        self.tables.index.row(start)
     }
 
     /// The row of choices that goes on at a place, behind a clause that has no key, if the index has one there.
@@ -137,7 +168,7 @@ impl Sound {
     pub fn rest(&self, from: usize) -> Option<&Row>
         ensures { IfSome result (λ row. IsRestOf self.now from row.now) }
     {
-        self.index.rest(from)
+        self.tables.index.rest(from)
     }
 
     /// What is known of the choice at a place, if the index has one there.
@@ -145,7 +176,7 @@ impl Sound {
     pub fn choice(&self, at: usize) -> Option<&Choice>
         ensures { IfSome result (λ choice. IsChoiceAt self.now at choice.now) }
     {
-        self.index.choice(at)
+        self.tables.index.choice(at)
     }
 
     /// What runs of the code need of a store.
@@ -153,7 +184,7 @@ impl Sound {
     pub fn room(&self) -> &Room
         ensures { IsRoomOf self.now result.now }
     {
-        &self.room
+        &self.tables.room
     }
 
     /// How many registers the code writes, with those of arguments.
@@ -161,7 +192,7 @@ impl Sound {
     pub fn widths(&self) -> Widths
         ensures { AreWidthsOf self.now result }
     {
-        self.widths
+        self.tables.widths
     }
 
     /// The goal of arithmetic that begins at a place, where one does that can be solved straight from registers.
@@ -169,13 +200,13 @@ impl Sound {
     pub fn direct(&self, at: usize) -> Option<&Direct>
         ensures { IfSome result (λ d. AsksFirst self.now at d.now) }
     {
-        self.directs.goal(at)
+        self.tables.directs.goal(at)
     }
 
     /// The first place behind this one, before the next transfer of control, at which such a goal begins.
     #[inline(always)]
     pub fn stop(&self, at: usize) -> usize {
-        self.directs.stop(at)
+        self.tables.directs.stop(at)
     }
 
     /// The number of the query's predicate.

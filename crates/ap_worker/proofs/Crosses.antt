@@ -13,6 +13,7 @@ use Rattle.std.specs.contracts.impls.GlobalAllocator.TheImpl.{ghosts as heap_gho
 use Rattle.std.specs.contracts.vec.Vec as Vec
 use Rattle.ap_board.proofs.board.Board.TheSendSync as board
 use Rattle.ap_codecheck.specs.contracts.sound.Sound as Sound
+use Rattle.ap_codecheck.specs.contracts.tables.Tables as Tables
 use Rattle.ap_copy.proofs.parcels.Parcelled.TheSendSync as parcel
 use Rattle.ap_desk.proofs.desk.Desk.TheSendSync as desk
 use Rattle.ap_direct.proofs.goal.Part.TheLaws.TheKnot as part_knot
@@ -54,8 +55,11 @@ direct-sync = search (sendable, crosses, goal-sync) depth 20
 directs-sync : IsSync (Directs.the_field).row
 directs-sync = search (sendable, crosses, direct-sync) depth 20 fits 5000
 
+tables-sync : IsSync (Tables.the_field).row
+tables-sync = search (sendable, crosses, directs-sync) depth 40 fits 20000
+
 sound-sync : IsSync (Sound.the_field).row
-sound-sync = search (sendable, crosses, directs-sync, code.the_sync) depth 40 fits 20000
+sound-sync = search (sendable, crosses, tables-sync, code.the_sync) depth 40 fits 20000
 
 pub section-send : IsSend (Section.the_field).row
 section-send = search (sendable, crosses, heap.the_field_send, knot.send-Section, frame.the_send, parcel.the_send, machine.the_send) depth 20
