@@ -1,20 +1,23 @@
 //! Code of a program that is kept, and code of a query's clauses behind it.
 
-ghost use Rattle.std.specs.Prelude.{◌≡◌, true, take, ◌++◌, IfOk, IfSome, OnOk};
+ghost use Rattle.std.specs.Prelude.{◌≡◌, true, None, take, ◌++◌, IfOk, IfSome, OnOk};
 ghost use Rattle.std.specs.List.{filter};
 ghost use Rattle.ap_term.specs.declared.fixed.TheConstants.{QUERY};
 ghost use Rattle.ap_term.specs.Goals.{Program as Clauses};
 ghost use Rattle.ap_instr.specs.StandsFor.{StandsForQuery};
 ghost use Rattle.ap_instr.specs.Table.{goal_key};
+ghost use Rattle.ap_needs.specs.Behind.{Begins};
 ghost use Rattle.ap_codecheck.specs.Rules.{IsSound};
+ghost use Rattle.ap_codecheck.specs.Tables.{GoesOnBehind, IsExtentOf};
 ghost use Rattle.ap_codegen.specs.Assembled.{Grows, StandsBeside};
 ghost use Rattle.ap_codegen.specs.Kept.{AreMade, is_new, are_new};
-ghost use Rattle.ap_codegen.specs.KeptCode.{IsKept};
+ghost use Rattle.ap_codegen.specs.KeptCode.{IsKept, code_of};
 
 use crate::asking::asked_clauses;
 use crate::index::index_of;
 use crate::programs::{Made, add_heads, add_predicates, none_made};
 use crate::tables::Tables;
+use ap_codecheck::Extent;
 use ap_instr::Code;
 use ap_term::{Atom, Clause, NoMemory, Program, Query, Term, fixed};
 use std::alloc::Global;
@@ -80,6 +83,7 @@ fn code_behind(
     arity: u8,
 ) -> Result<Code, NoMemory>
     ensures grows { OnOk result (Grows tables.old tables.new) }
+    ensures begins { IfOk result (λ code. Begins (record { instructions = made.instructions.items; integers = tables.old.integers; predicates = made.predicates.items; query = None }) code) }
     ensures stands { IfOk result (λ code. (p : Clauses) → AreMade tables.old made listed p → are_new tables.old.predicates own.now ≡ true → StandsBeside code (QUERY, arity) p (p ++ own.now)) }
 {
     add_heads(tables, own)?;
@@ -113,12 +117,38 @@ impl Kept {
         })
     }
 
+    /// The code, which is no query's.
+    pub fn code(&self, alloc: Global) -> Result<Code, NoMemory>
+        ensures { IfOk result (λ code. code ≡ code_of self.now) }
+    {
+        let made = copy_made(alloc, &self.made)?;
+        let integers = Vec::from_slice(alloc, self.tables.integers())?;
+        let Made {
+            instructions,
+            predicates,
+        } = made;
+        Ok(Code::new(instructions, integers, predicates, None))
+    }
+
+    /// How long the code is.
+    pub fn extent(&self) -> Extent
+        ensures { IsExtentOf (code_of self.now) result }
+    {
+        Extent {
+            instructions: self.made.instructions.len(),
+            integers: self.tables.integer_count(),
+            predicates: self.made.predicates.len(),
+        }
+    }
+
     /// Code of the program beside a query. What is made for the query isn't kept. None where the program has or calls a predicate of the
     /// query's clauses.
     pub fn beside(&mut self, alloc: Global, query: &Query) -> Result<Option<Code>, NoMemory>
         ensures stands { IfOk result (λ o. IfSome o (λ code. (p : Clauses) → IsKept self.old p → StandsForQuery code p query.now)) }
         ensures sound { IfOk result (λ o. IfSome o (λ code. (p : Clauses) → IsKept self.old p → IsSound code)) }
         ensures kept { OnOk result ((p : Clauses) → IsKept self.old p → IsKept self.new p) }
+        ensures behind { IfOk result (λ o. IfSome o (λ code. GoesOnBehind code (code_of self.old))) }
+        ensures same { OnOk result (code_of self.new ≡ code_of self.old) }
     {
         let own = asked_clauses(alloc, query)?;
         let clauses = own.as_slice();

@@ -94,6 +94,7 @@ fn lay_predicate(
     out: &mut Vec<Instr>,
 ) -> Result<(), NoMemory>
     ensures grows { OnOk result (Grows tables.old tables.new) }
+    ensures begins { OnOk result (take (length out.old.items) out.new.items ≡ out.old.items) }
     ensures block { OnOk result ((p : Clauses) → HasClauses index.now (name, arity) p → (own : List Instr) × (out.new.items ≡ out.old.items ++ own) × IsBlock tables.new out.old.items own (name, arity) p) }
 {
     if let Some(builtin) = builtin_named(Atom::at(name), arity) {
@@ -126,6 +127,8 @@ fn add_predicate(
     ensures grows { OnOk result (Grows tables.old tables.new) }
     ensures count { OnOk result (length made.new.predicates.items ≡ length made.old.predicates.items + 1) }
     ensures listed { OnOk result ((m : ℕ) → is_listed ≡ nat_lt (length made.old.predicates.items) m → filter (λ q. q.is_listed) made.old.predicates.items ≡ take m made.old.predicates.items → filter (λ q. q.is_listed) made.new.predicates.items ≡ take m made.new.predicates.items) }
+    ensures instructions { OnOk result (take (length made.old.instructions.items) made.new.instructions.items ≡ made.old.instructions.items) }
+    ensures predicates { OnOk result (take (length made.old.predicates.items) made.new.predicates.items ≡ made.old.predicates.items) }
     ensures made { OnOk result ((p : Clauses) → HasClauses index.now (name, arity) p → slice_get tables.old.predicates (length made.old.predicates.items) ≡ Some (name, arity) → IsMade tables.old made.old.instructions.items made.old.predicates.items p → IsMade tables.new made.new.instructions.items made.new.predicates.items p) }
 {
     let start = above(0, made.instructions.len())?;
@@ -190,6 +193,8 @@ pub fn add_predicates(
     ensures all { OnOk result (slice_get tables.new.predicates (length made.new.predicates.items) ≡ None) }
     ensures once { OnOk result (IsDistinct is_key tables.new.predicates) }
     ensures listed { OnOk result (filter (λ q. q.is_listed) made.old.predicates.items ≡ take listed made.old.predicates.items → filter (λ q. q.is_listed) made.new.predicates.items ≡ take listed made.new.predicates.items) }
+    ensures instructions { OnOk result (take (length made.old.instructions.items) made.new.instructions.items ≡ made.old.instructions.items) }
+    ensures predicates { OnOk result (take (length made.old.predicates.items) made.new.predicates.items ≡ made.old.predicates.items) }
     ensures made { OnOk result ((p : Clauses) → IndexesBeside (map key_of made.old.predicates.items) index.now p → IsMade tables.old made.old.instructions.items made.old.predicates.items p → IsMade tables.new made.new.instructions.items made.new.predicates.items p) }
 {
     for number in made.predicates.len()..4294967295usize {

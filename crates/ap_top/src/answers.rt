@@ -13,7 +13,7 @@ ghost use Rattle.ap_top.specs.Output.{line_of, fault_line, end_line, is_spent, A
 ghost use Rattle.ap_top.specs.Last.{IsLast};
 ghost use Rattle.ap_top.specs.Lines.{line_same};
 
-use crate::last::{Last, prepare};
+use crate::last::{Last, prepare, take_back};
 use ap_lines::answer_line;
 use ap_machine::Tuple;
 use ap_mel::Kind;
@@ -135,7 +135,7 @@ pub fn put_answers<R: Threads + Wait + Sync, G: Gate, K: Sink>(
         answers,
         kind,
     } = bounds;
-    let Ok((last, sound)) = prepare(alloc, program, query, kind, kept.take()) else {
+    let Ok((mut last, beside)) = prepare(alloc, program, query, kind, kept.take()) else {
         return Err(Halt::NoMemory);
     };
     let _whole = program.program().as_slice();
@@ -144,7 +144,7 @@ pub fn put_answers<R: Threads + Wait + Sync, G: Gate, K: Sink>(
     let ended = solve_with_pads(
         alloc,
         crew,
-        &sound,
+        &beside.sound,
         &last.grouped.program,
         &last.grouped.query,
         budget,
@@ -153,6 +153,7 @@ pub fn put_answers<R: Threads + Wait + Sync, G: Gate, K: Sink>(
         out,
         pads,
     );
+    take_back(&mut last, beside);
     *kept = Some(last);
     ended
 }

@@ -1,20 +1,21 @@
 //! The part of a program that the last query could call, with its groups and its code, for the next query that can call the same and is alike.
 
-ghost use Rattle.std.specs.Prelude.{IfOk, IfSome, OnOk};
+ghost use Rattle.std.specs.Prelude.{◌≡◌, true, IfOk, IfSome, OnOk};
 ghost use Rattle.ap_term.specs.Goals.{Program as Clauses, Query as Asked};
 ghost use Rattle.ap_instr.specs.StandsFor.{StandsForQuery};
-ghost use Rattle.ap_codegen.specs.KeptCode.{IsKept};
+ghost use Rattle.ap_codecheck.specs.Tables.{GoesOnBehind, IsKeptOf};
+ghost use Rattle.ap_codegen.specs.KeptCode.{IsKept, code_of};
 ghost use Rattle.ap_reach.specs.Reached.{Reaches};
 ghost use Rattle.ap_mel.specs.declared.annotations.Kind.{Kind as KindOf};
 ghost use Rattle.ap_top.specs.Last.{IsLast, IsLastOf};
 
-use ap_codecheck::Sound;
+use ap_codecheck::KeptTables;
 use ap_codegen::Kept;
 use ap_grouping::{Grouped, group_query, has_no_groups, regroup_query};
 use ap_mel::Kind;
 use ap_reach::{Calls, Predicates, calls_of, part_of};
 use ap_term::{NoMemory, Program, Query};
-use ap_worker::sound_beside;
+use ap_worker::{Beside, sound_beside, tables_back, tables_of};
 use std::alloc::Global;
 
 /// What a query can call, and the part of a program that this is.
@@ -26,6 +27,8 @@ pub struct Last {
     pub grouped: Grouped,
     /// The code of the part with its groups.
     pub code: Kept,
+    /// The code's tables, while no query's code goes on behind it.
+    pub tables: Option<KeptTables>,
     /// Whether the query was written without groups, and nothing was lifted from it.
     pub is_plain: bool,
 }
@@ -44,12 +47,14 @@ fn group_part(
     let part = part_of(alloc, program, &calls)?;
     let grouped = group_query(alloc, &part, query, kind)?;
     let code = Kept::of(alloc, &grouped.program)?;
+    let tables = tables_of(alloc, &code)?;
     let is_plain = has_no_groups(query);
     Ok(Last {
         calls,
         part,
         grouped,
         code,
+        tables,
         is_plain,
     })
 }
@@ -75,6 +80,7 @@ fn take_again(
         part,
         grouped,
         code,
+        tables,
         ..
     } = last;
     let Grouped { program, .. } = grouped;
@@ -88,6 +94,7 @@ fn take_again(
         part,
         grouped,
         code,
+        tables,
         is_plain,
     }))
 }
@@ -114,14 +121,17 @@ fn reach(
 }
 
 /// Sound code for the part and the query that it was reached for. The part's stays kept.
-fn sound_of(alloc: Global, last: &mut Last) -> Result<Sound, NoMemory>
-    requires { IsKept last.old.code last.old.grouped.program }
-    ensures stands { IfOk result (λ sound. StandsForQuery sound last.new.grouped.program last.new.grouped.query) }
+fn sound_of(alloc: Global, last: &mut Last) -> Result<Beside, NoMemory>
+    requires code { IsKept last.old.code last.old.grouped.program }
+    requires tables { IfSome last.old.tables (IsKeptOf (code_of last.old.code)) }
+    ensures stands { IfOk result (λ found. StandsForQuery found.sound last.new.grouped.program last.new.grouped.query) }
+    ensures behind { IfOk result (λ found. found.is_behind ≡ true → GoesOnBehind found.sound (code_of last.new.code)) }
     ensures kept { OnOk result ((p : Clauses) (kind : KindOf) (q : Asked) → IsLastOf p kind q last.old → IsLastOf p kind q last.new) }
 {
     sound_beside(
         alloc,
         &mut last.code,
+        &mut last.tables,
         &last.grouped.program,
         &last.grouped.query,
     )
@@ -134,12 +144,24 @@ pub fn prepare(
     query: &Query,
     kind: Kind,
     kept: Option<Last>,
-) -> Result<(Last, Sound), NoMemory>
+) -> Result<(Last, Beside), NoMemory>
     requires { IfSome kept (IsLast program.now kind) }
     ensures last { IfOk result (λ found. IsLastOf program.now kind query.now found.0) }
-    ensures stands { IfOk result (λ found. StandsForQuery found.1 found.0.grouped.program found.0.grouped.query) }
+    ensures stands { IfOk result (λ found. StandsForQuery found.1.sound found.0.grouped.program found.0.grouped.query) }
+    ensures behind { IfOk result (λ found. found.1.is_behind ≡ true → GoesOnBehind found.1.sound (code_of found.0.code)) }
 {
     let mut last = reach(alloc, program, query, kind, kept)?;
-    let sound = sound_of(alloc, &mut last)?;
-    Ok((last, sound))
+    let beside = sound_of(alloc, &mut last)?;
+    Ok((last, beside))
+}
+
+/// Takes the tables of the part's code back, where a query's code went on behind it.
+pub fn take_back(last: &mut Last, beside: Beside)
+    requires { beside.is_behind ≡ true → GoesOnBehind beside.sound (code_of last.old.code) }
+    ensures { (p : Clauses) (kind : KindOf) (q : Asked) → IsLastOf p kind q last.old → IsLastOf p kind q last.new }
+{
+    let Beside { sound, is_behind } = beside;
+    if is_behind {
+        last.tables = tables_back(&last.code, sound);
+    }
 }

@@ -1,11 +1,13 @@
 //! Sound code for a query. It was compiled, so it isn't checked.
 
-ghost use Rattle.std.specs.Prelude.{IfOk, OnOk};
+ghost use Rattle.std.specs.Prelude.{◌≡◌, true, None, IfOk, IfSome, OnOk};
 ghost use Rattle.ap_codecheck.specs.Rules.{IsSound};
-ghost use Rattle.ap_codegen.specs.KeptCode.{IsKept};
+ghost use Rattle.ap_codecheck.specs.Tables.{GoesOnBehind, IsKeptOf};
+ghost use Rattle.ap_codegen.specs.KeptCode.{IsKept, code_of};
+ghost use Rattle.ap_instr.specs.Code.{Compiled};
 ghost use Rattle.ap_instr.specs.StandsFor.{StandsForQuery};
 
-use ap_codecheck::Sound;
+use ap_codecheck::{KeptTables, Sound};
 use ap_codegen::{Kept, compile};
 use ap_instr::Code;
 use ap_term::{NoMemory, Program, Query};
@@ -19,35 +21,72 @@ pub fn sound_code(alloc: Global, program: &Program, query: &Query) -> Result<Sou
     Sound::of_sound(alloc, code)
 }
 
-/// Code for a program whose code is kept beside a query.
-fn code_beside(
-    alloc: Global,
-    kept: &mut Kept,
-    program: &Program,
-    query: &Query,
-) -> Result<Code, NoMemory>
-    requires { IsKept kept.old program.now }
-    ensures stands { IfOk result (λ code. StandsForQuery code program.now query.now) }
-    ensures sound { IfOk result (λ code. IsSound code) }
-    ensures kept { OnOk result (IsKept kept.new program.now) }
+/// Sound code for a query, and whether it goes on behind the code that is kept of the program.
+#[derive(Drop)]
+pub struct Beside {
+    pub sound: Sound,
+    pub is_behind: bool,
+}
+
+/// Tables of a program's code that is kept. None where they depend on what stands behind it.
+pub fn tables_of(alloc: Global, kept: &Kept) -> Result<Option<KeptTables>, NoMemory>
+    ensures { IfOk result (λ o. IfSome o (IsKeptOf (code_of kept.now))) }
 {
-    match kept.beside(alloc, query)? {
-        Some(code) => Ok(code),
-        None => compile(alloc, program, query),
+    let code = kept.code(alloc)?;
+    KeptTables::of(alloc, &code)
+}
+
+/// Sound code that goes on behind code that is kept, by the tables of that, where there are any. They are taken out.
+fn sound_behind(
+    alloc: Global,
+    code: Code,
+    tables: &mut Option<KeptTables>,
+) -> Result<Sound, NoMemory>
+    requires sound { IsSound code }
+    requires tables { (base : Compiled) × GoesOnBehind code base × IfSome tables.old (IsKeptOf base) }
+    ensures same { IfOk result (λ sound. sound ≡ code) }
+    ensures none { tables.new ≡ None }
+{
+    match tables.take() {
+        Some(kept) => Sound::beside(alloc, code, kept),
+        None => Sound::of_sound(alloc, code),
     }
 }
 
-/// Sound code for a program whose code is kept beside a query, with their groups. The program's stays kept.
+/// Sound code for a program whose code is kept beside a query, with their groups. The program's stays kept, and its tables, where the
+/// query's code doesn't go on behind it.
 pub fn sound_beside(
     alloc: Global,
     kept: &mut Kept,
+    tables: &mut Option<KeptTables>,
     program: &Program,
     query: &Query,
-) -> Result<Sound, NoMemory>
-    requires { IsKept kept.old program.now }
-    ensures stands { IfOk result (λ sound. StandsForQuery sound program.now query.now) }
+) -> Result<Beside, NoMemory>
+    requires kept { IsKept kept.old program.now }
+    requires tables { IfSome tables.old (IsKeptOf (code_of kept.old)) }
+    ensures stands { IfOk result (λ found. StandsForQuery found.sound program.now query.now) }
+    ensures behind { IfOk result (λ found. found.is_behind ≡ true → GoesOnBehind found.sound (code_of kept.new)) }
     ensures kept { OnOk result (IsKept kept.new program.now) }
+    ensures tables { OnOk result (IfSome tables.new (IsKeptOf (code_of kept.new))) }
 {
-    let code = code_beside(alloc, kept, program, query)?;
-    Sound::of_sound(alloc, code)
+    let Some(code) = kept.beside(alloc, query)? else {
+        let sound = sound_code(alloc, program, query)?;
+        return Ok(Beside {
+            sound,
+            is_behind: false,
+        });
+    };
+    let sound = sound_behind(alloc, code, tables)?;
+    Ok(Beside {
+        sound,
+        is_behind: true,
+    })
+}
+
+/// The tables of the code that is kept, behind which sound code went on.
+pub fn tables_back(kept: &Kept, sound: Sound) -> Option<KeptTables>
+    requires { GoesOnBehind sound (code_of kept.now) }
+    ensures { IfSome result (IsKeptOf (code_of kept.now)) }
+{
+    sound.into_kept(kept.extent())
 }

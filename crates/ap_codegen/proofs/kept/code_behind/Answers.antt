@@ -1,11 +1,11 @@
-use Rattle.std.proofs.Common.{◌≡◌, [], ◌++◌, false, Some, map, take, slice_get, refl, ap, sym, ◌∙◌, subst}
+use Rattle.std.proofs.Common.{◌≡◌, [], ◌++◌, false, Some, length, map, take, slice_get, refl, ap, sym, ◌∙◌, subst}
 use Rattle.std.specs.List.{list_any}
 use Rattle.ap_term.specs.declared.fixed.TheConstants.{QUERY}
 use Rattle.ap_instr.specs.Table.{is_key, key_of}
 use Rattle.ap_codegen.specs.Assembled.{Grows, Keeps, IsMade}
 use Rattle.ap_codegen.specs.Heads.{with_heads}
 use Rattle.ap_codegen.proofs.Growing.{grows_on}
-use Rattle.ap_codegen.proofs.Heads.{keys_same}
+use Rattle.ap_codegen.proofs.Heads.{keys_same, kept_first}
 use Rattle.ap_codegen.proofs.Keeping.{made_grown, made_behind, found_behind, has_both}
 use Rattle.ap_codegen.proofs.Making.{made_all}
 use Rattle.ap_codegen.proofs.kept.code_behind.Goals as goal
@@ -39,3 +39,19 @@ returns-clause-stands c p are new =
     (λ j h. has_both j s.predicates t.predicates p l are.heads all.predicates own h)
     c.in_ok-add_predicates.ensures.once
     (c.in_ok-add_predicates.ensures.listed are.flags ∙ ap (λ n. take n m.predicates.items) are.count)
+
+pub returns-clause-begins : goal.returns-clause-begins
+returns-clause-begins c =
+    let s = c.args.tables.now in
+    let v = c.predicate.new.self in
+    let first : Grows s v = grows_on s c.add_heads.new.tables v c.in_ok-add_heads.ensures.grows c.in_ok-query.ensures.grows in
+    let all : Grows s c.add_predicates.new.tables = grows_on s v c.add_predicates.new.tables first c.in_ok-add_predicates.ensures.grows in
+    let code = c.new.ensures in
+    record {
+      instructions = ap (λ r. take (length c.args.made.instructions.items) r.instructions) code ∙ c.in_ok-add_predicates.ensures.instructions;
+      integers =
+          ap (λ r. take (length s.integers) r.integers) code
+          ∙ ap (take (length s.integers)) (c.in_ok-integers.ensures.items ∙ c.integers.ensures)
+          ∙ kept_first s.integers c.add_predicates.new.tables.integers all.integers;
+      predicates = ap (λ r. take (length c.args.made.predicates.items) r.predicates) code ∙ c.in_ok-add_predicates.ensures.predicates;
+    }

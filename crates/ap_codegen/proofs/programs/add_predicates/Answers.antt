@@ -1,4 +1,5 @@
 use Rattle.std.proofs.Common.{ap, sym, ◌∙◌, slice_get, nat_lt, arith}
+use Rattle.ap_needs.proofs.Behind.{begun-trans}
 use Rattle.ap_codegen.proofs.Growing.{grows_on}
 use Rattle.ap_codegen.proofs.Keeping.{apart_made}
 use Rattle.ap_codegen.proofs.programs.add_predicates.Goals as goal
@@ -18,4 +19,6 @@ loop-number-preserved c =
       λ p indexed made.
           c.in_ok-add_predicate.ensures.made p (indexed _ (apart_made s t first c.loop-number.number _ made.named c.loop-number.invariant.0 c.predicate_at.ensures.once behind here))
           (ap (slice_get t.predicates) place ∙ here) (c.loop-number.invariant.4 p indexed made),
+      begun-trans c.args.made.now.instructions.items c.loop-number.made.instructions.items _ c.loop-number.invariant.5 c.in_ok-add_predicate.ensures.instructions,
+      begun-trans first c.loop-number.made.predicates.items _ c.loop-number.invariant.6 c.in_ok-add_predicate.ensures.predicates,
     )

@@ -13,3 +13,5 @@ invariant-loop-number l =
     × (length l.fn.made.predicates.items ≤ l.number)
     × (filter (λ q. q.is_listed) l.fn.made.predicates.items ≡ take l.listed l.fn.made.predicates.items → filter (λ q. q.is_listed) l.made.predicates.items ≡ take l.listed l.made.predicates.items)
     × ((p : Program) → IndexesBeside (map key_of l.fn.made.predicates.items) l.index p → IsMade l.fn.tables l.fn.made.instructions.items l.fn.made.predicates.items p → IsMade l.tables l.made.instructions.items l.made.predicates.items p)
+    × (take (length l.fn.made.instructions.items) l.made.instructions.items ≡ l.fn.made.instructions.items)
+    × (take (length l.fn.made.predicates.items) l.made.predicates.items ≡ l.fn.made.predicates.items)

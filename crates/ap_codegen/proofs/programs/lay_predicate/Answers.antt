@@ -1,4 +1,5 @@
-use Rattle.std.proofs.Common.{[], ◌≡◌, ◌+◌, false, List, ◌∷◌, Vec, Global, map, length, ap, sym, ◌∙◌, subst, rules}
+use Rattle.std.proofs.Common.{[], ◌≡◌, ◌+◌, false, List, ◌∷◌, Vec, Global, map, length, take, ap, sym, ◌∙◌, subst, rules}
+use Rattle.std.proofs.Math.Seq.{take-append_seam}
 use Rattle.ap_instr.specs.declared.instruction.Instr.{Instr}
 use Rattle.ap_instr.specs.declared.instruction.Instr.TheVariants.{Proceed, Builtin}
 use Rattle.ap_codegen.specs.Permanent.{is_builtin_key}
@@ -29,3 +30,9 @@ returns-clause-block c p indexed =
       clauses_block c.predicate_codes.new.tables c.args.out.now.items codes (c.args.name, c.args.arity) p
           (λ code h. subst (AreCoded code (length c.args.out.now.items + chosen (length codes)) codes) same (subst (λ n. AreCoded code n codes (clauses_at c.args.index.now (c.args.name, c.args.arity))) first (c.in_ok-codes.ensures.codes code h))) away,
     )
+
+pub returns-in-Some-clause-begins : goal.returns-in-Some-clause-begins
+returns-in-Some-clause-begins c = ap (take (length c.args.out.now.items)) c.in_ok-lay_builtin.ensures ∙ take-append_seam c.args.out.now.items (Builtin c.in-Some.builtin ∷ Proceed ∷ [])
+
+pub returns-clause-begins : goal.returns-clause-begins
+returns-clause-begins c = ap (take (length c.args.out.now.items)) c.in_ok-lay.ensures ∙ take-append_seam c.args.out.now.items _

@@ -34,3 +34,6 @@ returns-clause-counted g c =
     let good : IsProgram p = subst IsProgram c.program.ensures c.as_slice-whole.ensures.kept in
     part-counted c.args.bounds.budget c.args.bounds.answers p c.args.atoms.now q r good c.in-Ok.ensures.last.here c.args.bounds.kind a b groups _ _ c.solve_with_pads-ended.result
     (c.solve_with_pads-ended.ensures.charged r q c.as_slice-good.ensures.kept c.question-asked.ensures.kept (grouped-read _ r q a b groups)) c.solve_with_pads-ended.ensures.exact c.solve_with_pads-ended.ensures.plain
+
+pub returns-clause-kept : goal.returns-clause-kept
+returns-clause-kept g c = (c.args.query.now, c.take_back.ensures c.args.program.now c.args.bounds.kind c.args.query.now c.in-Ok.ensures.last)

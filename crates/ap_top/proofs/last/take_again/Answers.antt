@@ -16,5 +16,6 @@ returns c = λ p kind last reaches.
       here = before.reached asked own;
       groups = gets kind c.args.last.part c.args.last.grouped.program last.0 (before.plain c.if-not-last.false) c.as_slice-good.ensures.kept before.groups;
       code = before.code;
+      tables = before.tables;
       plain = λ e. c.has_no_groups-is_plain.ensures e;
     }
