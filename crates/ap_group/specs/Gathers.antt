@@ -1,5 +1,5 @@
 -- How a group's code is run: its checks are asked one after another, and its goals are pushed.
-use Rattle.std.specs.Prelude.{◌≡◌, ℕ, zero, suc, ◌+◌, ◌<◌, Bool, true, false, List, [], ◌∷◌, ◌++◌, length, slice_get, Some, None}
+use Rattle.std.specs.Prelude.{◌≡◌, ℕ, zero, suc, ◌+◌, ◌<◌, Bool, true, false, List, [], ◌∷◌, ◌++◌, length, slice_get, Some}
 use Rattle.ap_term.specs.Independence.{IsGround, SharesNoVariable}
 use Rattle.ap_cells.specs.declared.cells.Raw.{Raw}
 use Rattle.ap_cells.specs.Trees.{tree_at, trees}
@@ -83,10 +83,6 @@ pub record IsPlainWay (code : Compiled) (at : ℕ) (cs : List Raw) (x y : List �
 -- the same, and that one doesn't hold
 abbrev pub IsForcedWay : Compiled → ℕ → List Raw → List ℕ → List ℕ → ℕ → Type 0
 IsForcedWay code at cs x y to = (way : IsPlainWay code at cs x y to) × FailsCheck cs (held x) (held y) way.check
-
--- neither a check nor the beginning of a group's goals stands at the place
-abbrev pub IsUnchecked : Compiled → ℕ → Type 0
-IsUnchecked code at = (i : Instr) → slice_get code.instructions at ≡ Some i → otherwise i ≡ None
 
 -- the checks of the group at a place hold, and behind them an instruction can't be taken
 pub record IsCutOff (code : Compiled) (at : ℕ) (cs : List Raw) (x y : List ℕ) : Type 0 where

@@ -1,12 +1,12 @@
 //! The checks of a group, one after another.
 
-ghost use Rattle.std.specs.Prelude.{◌≡◌, ℕ, ◌≤◌, List, length, None, Ok, true, false, IfOk, IfSome};
+ghost use Rattle.std.specs.Prelude.{◌≡◌, ℕ, ◌≤◌, List, length, true, false, IfOk};
 ghost use Rattle.ap_cells.specs.declared.cells.Raw.{Raw};
 ghost use Rattle.ap_instr.specs.declared.instruction.Instr.TheVariants.{AllocParcall};
 ghost use Rattle.ap_instr.specs.Groups.{otherwise};
 ghost use Rattle.ap_instr.specs.Steps.{steps_from};
 ghost use Rattle.ap_steps.specs.Moves.{HoldPlaces};
-ghost use Rattle.ap_group.specs.Gathers.{IsGroupAt, is_check, ComesToGroup, IsPlainWay, IsUnchecked};
+ghost use Rattle.ap_group.specs.Gathers.{IsGroupAt, is_check, ComesToGroup, IsPlainWay};
 ghost use Rattle.ap_group.specs.Turns.{ChecksTo, AreChecked};
 
 use ap_cells::{Cells, Walk};
@@ -127,21 +127,19 @@ fn comes_to_group(code: &Code, from: usize) -> bool
     false
 }
 
-/// Finds the place where the goals of the group at a place stand one after another. None where none begins.
-pub fn plain_way(code: &Code, at: usize) -> Result<Option<usize>, NoMemory>
-    ensures way { IfOk result (λ found. IfSome found (λ to. (cs : List Raw) (x y : List ℕ) → IsPlainWay code.now at cs x y to)) }
-    ensures none { result ≡ Ok None → IsUnchecked code.now at }
+/// Finds the place where the goals of the group at a place stand one after another.
+pub fn plain_way(code: &Code, at: usize) -> Result<usize, NoMemory>
+    ensures { IfOk result (λ to. (cs : List Raw) (x y : List ℕ) → IsPlainWay code.now at cs x y to) }
 {
     let places = code.instructions().len();
     let Some(instr) = instruction_at(code, at) else {
-        return Ok(None);
+        return Err(NoMemory);
     };
     prove!(at < places);
     match leads_to(&instr) {
-        Some(to) if comes_to_group(code, at) => Ok(Some(to)),
-        // Behind a group's checks its goals begin.
-        Some(_) => Err(NoMemory),
-        None => Ok(None),
+        Some(to) if comes_to_group(code, at) => Ok(to),
+        // A group's goals begin behind its checks.
+        _ => Err(NoMemory),
     }
 }
 

@@ -1,6 +1,6 @@
 -- A search at a new fork.
-use Rattle.std.proofs.Common.{◌≡◌, ℕ, zero, suc, ◌+◌, ◌-◌, ◌<◌, ◌≤◌, List, [], ◌∷◌, ◌++◌, length, take, drop, map, replicate, slice_get, Option, None, Some, inl, inr, Result, Ok, Err, refl, ap, ap₂, sym, ◌∙◌, subst, arith}
-use Rattle.std.specs.Prelude.{IfOk, IfSome, OnOk}
+use Rattle.std.proofs.Common.{◌≡◌, ℕ, zero, suc, ◌+◌, ◌-◌, ◌<◌, ◌≤◌, List, [], ◌∷◌, ◌++◌, length, take, drop, map, replicate, slice_get, Option, Some, inl, inr, Result, Ok, Err, refl, ap, ap₂, sym, ◌∙◌, subst, arith}
+use Rattle.std.specs.Prelude.{IfOk, OnOk}
 use Rattle.std.specs.List.{AllByRecursion}
 use Rattle.std.proofs.lemmas.List.{length-map, length-replicate, drop_at}
 use Rattle.std.proofs.Math.Seq.{take-append_seam}
@@ -13,7 +13,7 @@ use Rattle.ap_needs.specs.Needs.{AllHaveTargets}
 use Rattle.ap_environments.specs.Kept.{Forked as ForkKept, Kept}
 use Rattle.ap_group.specs.declared.gathering.Gathered.{Gathered}
 use Rattle.ap_group.specs.Groups.{Pushed}
-use Rattle.ap_group.specs.Gathers.{IsGathered, IsPlainWay, IsForcedWay, IsUnchecked, IsCutOff}
+use Rattle.ap_group.specs.Gathers.{IsGathered, IsPlainWay, IsForcedWay, IsCutOff}
 use Rattle.ap_group.specs.Turns.{IsKnown, IsInside, HasPushed}
 use Rattle.ap_steps.specs.Moves.{held, HoldPlaces}
 use Rattle.ap_steps.specs.Standing.{Return}
@@ -24,7 +24,7 @@ use Rattle.ap_machine.specs.View.{Segment, Paused, now_of, point_of, pushed_of, 
 use Rattle.ap_machine.specs.Sane.{AreShort, IsMoment, AreMoments, moment_at, all_moments, Sane}
 use Rattle.ap_machine.specs.Choices.{Stays}
 use Rattle.ap_machine.specs.Lasting.{SameRest}
-use Rattle.ap_machine.specs.Forking.{frame_of, frames_on, HasKept, ForksTo, HasForked, HasPlainWay, IsAtUnchecked, HasGoneOn}
+use Rattle.ap_machine.specs.Forking.{frame_of, frames_on, HasKept, ForksTo, HasForked, HasPlainWay, HasGoneOn}
 use Rattle.ap_machine.proofs.Kept.{AreWithin-more, inside-more, AreMoments-now, HasBottom-keeps}
 use Rattle.ap_machine.proofs.Living.{all-live, live-none, live-on, live-failed}
 use Rattle.ap_machine.proofs.Progress.{still-for}
@@ -217,13 +217,9 @@ plain-for code s t at to here e h =
     (still-for code s u h (record { x = refl; y = refl; roots = refl; spent = refl; budget = refl; older = refl }) (live-on code s.machine u.machine (inside at) here (λ qs. refl) refl))
 
 module _ (kode code : Compiled) (same : kode ≡ code) (m : Machine) (at : ℕ) (here : m.now ≡ inside at) where
-  pub plain-found : {E : Type 0} (found : Result (Option ℕ) E) → IfOk found (λ o. IfSome o (λ to. (cs : List Raw) (x y : List ℕ) → IsPlainWay kode at cs x y to)) → IfOk found (λ o. IfSome o (λ to. HasPlainWay code m to))
-  plain-found (Ok (Some to)) h = record { at = at; here = here; way = subst (λ k. IsPlainWay k at m.cells m.x m.y to) same (h m.cells m.x m.y) }
-  plain-found (Ok None) h = tt
+  pub plain-found : {E : Type 0} (found : Result ℕ E) → IfOk found (λ to. (cs : List Raw) (x y : List ℕ) → IsPlainWay kode at cs x y to) → IfOk found (HasPlainWay code m)
+  plain-found (Ok to) h = record { at = at; here = here; way = subst (λ k. IsPlainWay k at m.cells m.x m.y to) same (h m.cells m.x m.y) }
   plain-found (Err error) h = tt
-
-  pub unchecked-there : IsUnchecked kode at → IsAtUnchecked code m
-  unchecked-there h = λ to there. subst (IsUnchecked code) (let e : inside at ≡ inside to = sym here ∙ there in cc) (subst (λ k. IsUnchecked k at) same h)
 
 -- control goes on elsewhere, with all else as it was
 module _ (code : Compiled) (v w : Store) (k l : Kept) (x y x' y' roots : List ℕ) (next : Kind) (spent budget at : ℕ) (s : Paused)

@@ -9,7 +9,7 @@ use Rattle.ap_environments.specs.declared.environments.Fork.{Fork}
 use Rattle.ap_group.specs.declared.gathering.Gathered.{Gathered}
 use Rattle.ap_group.specs.declared.gathering.Gathered.TheVariants.{Pushed as Forks, Plain}
 use Rattle.ap_group.specs.Groups.{Pushed, Forked}
-use Rattle.ap_group.specs.Gathers.{IsGathered, FailsCheck, IsPlainWay, IsUnchecked, IsCutOff}
+use Rattle.ap_group.specs.Gathers.{IsGathered, FailsCheck, IsPlainWay, IsCutOff}
 use Rattle.ap_group.specs.Turns.{IsKnown, HasPushed, LeadsPlain}
 use Rattle.ap_steps.specs.Moves.{held}
 use Rattle.ap_steps.specs.Standing.{Return}
@@ -76,15 +76,11 @@ pub record HasForked (code : Compiled) (s t : Paused) : Type 0 where
   pub returns_before : AreWithin (length s.machine.cells) s.machine.returns
   pub roots_before : AllByRecursion (λ r. r < length s.machine.cells) s.machine.roots
 
--- a check of the group leads to a place, where its goals stand one after another
+-- the group leads to a place, where its goals stand one after another
 pub record HasPlainWay (code : Compiled) (m : Machine) (to : ℕ) : Type 0 where
   pub at : ℕ
   pub here : m.now ≡ inside at
   pub way : IsPlainWay code at m.cells m.x m.y to
-
--- the group has no check
-abbrev pub IsAtUnchecked : Compiled → Machine → Type 0
-IsAtUnchecked code m = (at : ℕ) → m.now ≡ inside at → IsUnchecked code at
 
 -- control is where the group's goals stand one after another
 pub record HasGonePlain (code : Compiled) (s t : Paused) : Type 0 where

@@ -1,6 +1,6 @@
 //! A group at which the search stands.
 
-ghost use Rattle.std.specs.Prelude.{◌≡◌, ℕ, ◌<◌, ◌≤◌, ◌++◌, length, drop, map, slice_get, None, Some, true, false, Ok, IfOk, IfSome, OnOk, OnErr};
+ghost use Rattle.std.specs.Prelude.{◌≡◌, ℕ, ◌<◌, ◌≤◌, ◌++◌, length, drop, map, slice_get, None, Some, true, false, Ok, IfOk, OnOk, OnErr};
 ghost use Rattle.ap_cells.specs.Store.{Keeps};
 ghost use Rattle.ap_environments.specs.declared.environments.Fork.{Fork as ForkOf};
 ghost use Rattle.ap_instr.specs.declared.compiled.Predicate.{Predicate};
@@ -13,7 +13,7 @@ ghost use Rattle.ap_standing.specs.Machine.{inside};
 ghost use Rattle.ap_machine.specs.View.{IsFor, Paused};
 ghost use Rattle.ap_machine.specs.Stands.{IsAtGroup};
 ghost use Rattle.ap_machine.specs.Ahead.{goals_ahead, goals_said};
-ghost use Rattle.ap_machine.specs.Forking.{frame_of, frames_on, with_fork, HasKept, ForksTo, HasForked, HasPlainWay, IsAtUnchecked, HasGoneOn};
+ghost use Rattle.ap_machine.specs.Forking.{frame_of, frames_on, with_fork, HasKept, ForksTo, HasForked, HasPlainWay, HasGoneOn};
 
 use crate::control::{behind, save};
 use crate::state::{Now, Search};
@@ -198,12 +198,10 @@ impl Search {
         goals_from(sound.code(), at)
     }
 
-    /// Finds the place where the goals of the group at which the search stands are called one after another. None where the
-    /// group has no check.
-    pub fn plain_way(&self, sound: &Sound) -> Result<Option<usize>, NoMemory>
+    /// Finds the place where the goals of the group at which the search stands are called one after another.
+    pub fn plain_way(&self, sound: &Sound) -> Result<usize, NoMemory>
         requires here { IsAtGroup sound.now self.now.machine }
-        ensures way { IfOk result (λ found. IfSome found (λ to. HasPlainWay sound.now self.now.machine to)) }
-        ensures none { result ≡ Ok None → IsAtUnchecked sound.now self.now.machine }
+        ensures { IfOk result (HasPlainWay sound.now self.now.machine) }
     {
         let Now::Inside(at) = self.now() else {
             unreachable!();

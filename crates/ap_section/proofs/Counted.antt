@@ -1,23 +1,17 @@
 -- Which frames a section has behind a change.
-use Rattle.std.proofs.Common.{◌≡◌, ◌∙◌, ◌+◌, ◌-◌, ◌<◌, inl, inr, [], ◌∷◌, ◌++◌, length, take, ap, sym, subst, Option, Some, None, MatchOption, Vec, Global, vec_len, arith}
+use Rattle.std.proofs.Common.{◌≡◌, ◌∙◌, ◌+◌, ◌-◌, ◌<◌, [], ◌∷◌, ◌++◌, length, take, ap, sym, subst, Option, Some, None, MatchOption, Vec, Global, vec_len, arith}
 use Rattle.std.proofs.lemmas.List.{length_push}
 use Rattle.ap_term.specs.Tree.{Trees}
 use Rattle.ap_term.specs.Blocks.{IsPrefix}
-use Rattle.ap_term.proofs.Lists.{prefix-refl, prefix-trans}
+use Rattle.ap_term.proofs.Lists.{prefix-refl}
 use Rattle.ap_frames.specs.declared.frame.Frame.{Frame}
 use Rattle.ap_instr.specs.Code.{Compiled}
 use Rattle.ap_machine.specs.View.{Paused}
-use Rattle.ap_machine.specs.Forking.{HasGoneOn, IsAtUnchecked}
-use Rattle.ap_tie.specs.Sections.{machine_in}
-use Rattle.ap_tied.specs.Reaching.{ReachingLaw}
+use Rattle.ap_machine.specs.Forking.{HasGoneOn}
 use Rattle.ap_section.specs.declared.section.Section.{Section, out-Section}
 use Rattle.ap_section.specs.declared.section.Section.TheViews.{out-roll-Section}
-use Rattle.ap_section.specs.Views.{view_of}
 use Rattle.ap_section.specs.Lending.{frames_in, count_in}
-use Rattle.ap_section.specs.Moving.{HasMoved, ForksUnasked}
-use Rattle.ap_section.proofs.Levels.{view_of-out}
 use Rattle.ap_section.proofs.Newest.{Top, searching}
-use Rattle.ap_section.proofs.Shut.{moved-on}
 use Rattle.ap_section.proofs.Forked.{with_room, with_search}
 use Rattle.ap_section.proofs.Back.{with_fewer, left-before}
 
@@ -55,17 +49,3 @@ count-fewer s p v f (Some x) t h =
 pub past-group : (code : Compiled) (s : Section) (r : Vec (Frame Section Trees) Global) (p : Paused) → HasGoneOn code (out-Section (with_room s r)).search p → HasGoneOn code (out-Section s).search (out-Section (with_search s r p)).search
 past-group code s r p h = subst (λ z. HasGoneOn code (out-Section s).search z.search) (sym (out-roll-Section (record (out-Section (with_room s r)) { search = p })))
     (subst (λ z. HasGoneOn code z.search p) (out-roll-Section (record (out-Section s) { frames = r })) h)
-
-pub unchecked-now : (code : Compiled) (s : Section) → IsAtUnchecked code (machine_in (view_of s)) → IsAtUnchecked code (out-Section s).search.machine
-unchecked-now code s h = subst (λ v. IsAtUnchecked code (machine_in v)) (view_of-out s) h
-
--- begun where it came from
-pub unasked-on : ReachingLaw → (code : Compiled) (r s t : Section) → HasMoved code (view_of r) (view_of s) → IsPrefix (frames_in s) (frames_in r) → ForksUnasked code s t → ForksUnasked code r t
-unasked-on law code r s t moved fewer (inl k) = inl (prefix-trans (frames_in t) (frames_in s) (frames_in r) k fewer)
-unasked-on law code r s t moved fewer (inr h) = inr (record {
-  from = h.from;
-  moved = moved-on law code (view_of r) (view_of s) (view_of h.from) moved h.moved;
-  frames = prefix-trans (frames_in h.from) (frames_in s) (frames_in r) h.frames fewer;
-  forked = h.forked;
-  unchecked = h.unchecked;
-})

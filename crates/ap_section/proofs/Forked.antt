@@ -295,9 +295,6 @@ module _ (law : ReachingLaw) (code : Compiled) (s : Section) (r : Vec (Frame Sec
         forked : HasForked code (out-Section s).search p
         forked = subst (λ z. HasForked code z.search p) is-roomy h
 
-        pub last-forked : HasForked code (out-Section s).search (out-Section (with_last s r p v)).search
-        last-forked = subst (λ z. HasForked code (out-Section s).search (out-Section z).search) (sym is-last) (subst (λ z. HasForked code (out-Section s).search z.search) (sym (out-roll-Section last)) forked)
-
         pub last-came : Came code s (with_last s r p v)
         last-came = subst (Came code s) (sym is-last)
             (came code s last (forked-leads (out-Section s) p v f with-it code forked (opened_for p forked) law (shut-out code s shut) at-group is_for))

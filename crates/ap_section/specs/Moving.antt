@@ -1,14 +1,13 @@
 -- What a section is after some moves.
 use Rattle.std.specs.Prelude.{◌≡◌, ℕ, ◌+◌, ◌-◌, ◌<◌, ◌≤◌, ◌⊎◌, replicate, false}
 use Rattle.ap_term.specs.Tree.{Trees}
-use Rattle.ap_term.specs.Blocks.{IsPrefix}
 use Rattle.ap_frames.specs.declared.frame.Frame.{Frame}
 use Rattle.ap_frames.specs.Rows.{row, opened}
 use Rattle.ap_instr.specs.Code.{Compiled}
 use Rattle.ap_machine.specs.declared.advance.Turn.{Turn as SearchTurn}
 use Rattle.ap_machine.specs.declared.advance.Turn.TheVariants.{Answer, Failed, Spent, More, Stopped, Group}
 use Rattle.ap_machine.specs.Stands.{IsAtEnd, IsAtGroup}
-use Rattle.ap_machine.specs.Forking.{HasForked, HasGoneOn, IsAtUnchecked}
+use Rattle.ap_machine.specs.Forking.{HasGoneOn}
 use Rattle.ap_tie.specs.Sections as seen
 use Rattle.ap_tie.specs.Sections.{section}
 use Rattle.ap_tie.specs.Tied.{IsAtAnswer}
@@ -46,18 +45,6 @@ abbrev pub IsRested : Compiled → seen.Section → Turn → Type 0
 IsRested code t turn = (n : ℕ) (s : seen.Section) → Ends code n s t turn
 
 -- ---- what is wanted
-
--- the group that was forked last has no check
-pub record ForksUnchecked (code : Compiled) (s t : Section) : Type 0 where
-  pub from : Section
-  pub moved : HasMoved code (view_of s) (view_of from)
-  pub frames : IsPrefix (frames_in from) (frames_in s)
-  pub forked : HasForked code (out-Section from).search (out-Section t).search
-  pub unchecked : IsAtUnchecked code (out-Section from).search.machine
-
--- no frame is new, or the newest one is of a group without a check
-abbrev pub ForksUnasked : Compiled → Section → Section → Type 0
-ForksUnasked code s t = IsPrefix (frames_in t) (frames_in s) ⊎ ForksUnchecked code s t
 
 -- a group was left, a check of which doesn't hold, or an instruction of which can't be taken
 pub record LeavesGroup (code : Compiled) (s t : Section) : Type 0 where

@@ -5,7 +5,7 @@ ghost use Rattle.ap_term.specs.Blocks.{IsPrefix};
 ghost use Rattle.ap_instr.specs.Code.{Compiled};
 ghost use Rattle.ap_machine.specs.View.{Paused};
 ghost use Rattle.ap_machine.specs.Stands.{IsAtEnd, IsAtGroup};
-ghost use Rattle.ap_machine.specs.Forking.{HasForked, HasGoneOn, IsAtUnchecked};
+ghost use Rattle.ap_machine.specs.Forking.{HasForked, HasGoneOn};
 ghost use Rattle.ap_tie.specs.Sections.{machine_in};
 ghost use Rattle.ap_ledger.specs.Counts.{capped};
 ghost use Rattle.ap_tied.specs.Ties.{Goes};
@@ -14,7 +14,7 @@ ghost use Rattle.ap_section.specs.declared.section.Section.{out-Section};
 ghost use Rattle.ap_section.specs.Ready.{IsReady, IsShut};
 ghost use Rattle.ap_section.specs.Slots.{IsAtDueFrame};
 ghost use Rattle.ap_section.specs.Lending.{frames_in, count_in};
-ghost use Rattle.ap_section.specs.Moving.{HasMoved, IsOpened, IsEndedBy, IsRested, ForksUnasked, GoesPast};
+ghost use Rattle.ap_section.specs.Moving.{HasMoved, IsOpened, IsEndedBy, IsRested, GoesPast};
 ghost use Rattle.ap_section.specs.Ends.{Ends};
 ghost use Rattle.ap_section.specs.Owed.{owed};
 
@@ -94,7 +94,6 @@ impl Section {
         ensures spent { spent_in (view_of self.new) ≡ spent_in (view_of self.old) }
         ensures ready { IsReady sound.now self.new }
         ensures forked { result ≡ Ok true → IsAtDueFrame (view_of self.new) }
-        ensures group { result ≡ Ok true → HasForked sound.now (out-Section self.old).search (out-Section self.new).search }
         ensures gone_on { result ≡ Ok false → HasGoneOn sound.now (out-Section self.old).search (out-Section self.new).search }
         ensures frames { result ≡ Ok false → frames_in self.new ≡ frames_in self.old }
     {
@@ -108,8 +107,8 @@ impl Section {
         Ok(forked)
     }
 
-    /// Takes the group at which the search stands. One whose goals are wanted is forked, as its checks say, and so is one without
-    /// a check; else its goals are called one after another.
+    /// Takes the group at which the search stands: forks it, as its checks say, where its goals are wanted, and else calls them one
+    /// after another.
     fn take_group(&mut self, sound: &Sound, wanted: bool) -> Result<bool, NoMemory>
         requires shut { IsShut sound.now self.old }
         requires here { IsAtGroup sound.now (machine_in (view_of self.old)) }
@@ -117,22 +116,17 @@ impl Section {
         ensures spent { spent_in (view_of self.new) ≡ spent_in (view_of self.old) }
         ensures ready { IsReady sound.now self.new }
         ensures forked { result ≡ Ok true → IsAtDueFrame (view_of self.new) }
-        ensures unwanted { wanted ≡ false → result ≡ Ok true → IsAtUnchecked sound.now (machine_in (view_of self.old)) }
+        ensures unwanted { wanted ≡ false → result ≡ Ok true → ⊥ }
         ensures wanted { wanted ≡ true → result ≡ Ok false → HasGoneOn sound.now (out-Section self.old).search (out-Section self.new).search }
-        ensures group { result ≡ Ok true → HasForked sound.now (out-Section self.old).search (out-Section self.new).search }
         ensures frames { result ≡ Ok false → frames_in self.new ≡ frames_in self.old }
     {
         if wanted {
             return self.fork(sound);
         }
         reaching_law();
-        match self.search.plain_way(sound)? {
-            Some(to) => {
-                self.search.go_plain(to);
-                Ok(false)
-            }
-            None => self.fork(sound),
-        }
+        let to = self.search.plain_way(sound)?;
+        self.search.go_plain(to);
+        Ok(false)
     }
 
     /// Comes back to the newest frame, where nothing newer is left to do. One that has no slot to redo is dropped.
@@ -199,7 +193,7 @@ impl Section {
         ensures asked { H.asked hook.old → H.asked hook.new }
         ensures wish { H.is_wanted hook.new ≡ H.is_wanted hook.old }
         ensures wanted { result ≡ Ok None → H.is_wanted hook.old ≡ true → GoesPast sound.now self.old self.new }
-        ensures unwanted { result ≡ Ok (Some Turn.Fork) → H.is_wanted hook.old ≡ false → ForksUnasked sound.now self.old self.new }
+        ensures unwanted { H.is_wanted hook.old ≡ false → IfOk result (λ _. IsPrefix (frames_in self.new) (frames_in self.old)) }
         ensures frames { result ≡ Ok None → IsPrefix (frames_in self.new) (frames_in self.old) }
     {
         reaching_law();
@@ -237,7 +231,7 @@ impl Section {
         ensures stopped { result ≡ Ok Turn.Stopped → H.asked hook.new }
         ensures asked { H.asked hook.old → H.asked hook.new }
         ensures wish { H.is_wanted hook.new ≡ H.is_wanted hook.old }
-        ensures unwanted { result ≡ Ok Turn.Fork → H.is_wanted hook.old ≡ false → ForksUnasked sound.now self.old self.new }
+        ensures unwanted { H.is_wanted hook.old ≡ false → IfOk result (λ _. IsPrefix (frames_in self.new) (frames_in self.old)) }
     {
         reaching_law();
         let before = self.spent();
@@ -274,7 +268,7 @@ impl Section {
         ensures stopped { result ≡ Ok Turn.Stopped → H.asked hook.new }
         ensures asked { H.asked hook.old → H.asked hook.new }
         ensures wish { H.is_wanted hook.new ≡ H.is_wanted hook.old }
-        ensures unwanted { result ≡ Ok Turn.Fork → H.is_wanted hook.old ≡ false → ForksUnasked sound.now self.old self.new }
+        ensures unwanted { H.is_wanted hook.old ≡ false → IfOk result (λ _. IsPrefix (frames_in self.new) (frames_in self.old)) }
     {
         let before = self.spent();
         let turn = self.advance_by(sound, inferences, hook);

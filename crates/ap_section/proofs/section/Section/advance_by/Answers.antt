@@ -2,7 +2,6 @@ use Rattle.std.proofs.Common.{◌∙◌, ap, Ok}
 use Rattle.ap_term.proofs.Lists.{prefix-trans}
 use Rattle.ap_section.specs.Views.{view_of, spent_in, budget_in}
 use Rattle.ap_section.specs.Lending.{frames_in}
-use Rattle.ap_section.proofs.Counted.{unasked-on}
 use Rattle.ap_section.proofs.Shut.{moved-on, within-on, few-on}
 use Rattle.ap_section.proofs.section.Section.advance_by.Goals as goal
 
@@ -27,5 +26,5 @@ moves-preserved g c = record {
 }
 
 pub returns-in-Some-clause-unwanted : goal.returns-in-Some-clause-unwanted
-returns-in-Some-clause-unwanted g c = λ e w.
-    unasked-on c.reaching_law.ensures c.args.sound.now c.args.self.now c.moves.self c.move_on.new.self c.moves.invariant.moved c.moves.invariant.frames (c.in_ok-turn.ensures.unwanted (let is = c.in-Some.is in cc) (c.moves.invariant.wish ∙ w))
+returns-in-Some-clause-unwanted g c = λ w.
+    prefix-trans (frames_in c.move_on.new.self) (frames_in c.moves.self) (frames_in c.args.self.now) (c.in_ok-turn.ensures.unwanted (c.moves.invariant.wish ∙ w)) c.moves.invariant.frames

@@ -1,5 +1,5 @@
 use Rattle.std.proofs.Common.{ap, Ok}
-use Rattle.ap_section.proofs.Forked.{room-came, same-came, past-came, last-came, last-due, last-forked}
+use Rattle.ap_section.proofs.Forked.{room-came, same-came, past-came, last-came, last-due}
 use Rattle.ap_section.proofs.Counted.{frames-room, past-group}
 use Rattle.ap_section.proofs.section.Section.fork.Goals as goal
 
@@ -45,10 +45,6 @@ returns-else-forked-clause-spent c = (past-came c.reaching_law.ensures c.args.so
 
 pub returns-else-forked-clause-ready : goal.returns-else-forked-clause-ready
 returns-else-forked-clause-ready c = (past-came c.reaching_law.ensures c.args.sound.now c.args.self.now c.reserve.new.self c.reserve.ensures.items c.requires.shut c.fork.new.self c.requires.here c.in_ok-forked.ensures.is_for (c.in_ok-forked.ensures.gone_on (ap Ok c.if-forked.false))).ready
-
-pub returns-then-forked-clause-group : goal.returns-then-forked-clause-group
-returns-then-forked-clause-group c = λ e. (last-forked c.reaching_law.ensures c.args.sound.now c.args.self.now c.reserve.new.self c.reserve.ensures.items c.requires.shut c.fork.new.self c.requires.here c.in_ok-forked.ensures.is_for
-    c.push_reserved.new.self c.in_ok-frame.frame c.push_reserved.ensures.items c.in_ok-frame.ensures (c.in_ok-forked.ensures.forked (ap Ok c.if-forked.true)))
 
 pub returns-else-forked-clause-gone_on : goal.returns-else-forked-clause-gone_on
 returns-else-forked-clause-gone_on c = λ e. past-group c.args.sound.now c.args.self.now c.reserve.new.self c.fork.new.self (c.in_ok-forked.ensures.gone_on (ap Ok c.if-forked.false))

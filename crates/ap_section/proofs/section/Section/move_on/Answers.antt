@@ -4,7 +4,7 @@ use Rattle.ap_term.proofs.Lists.{prefix-refl}
 use Rattle.ap_section.specs.Views.{view_of, spent_in, budget_in}
 use Rattle.ap_section.specs.Moving.{IsEndedBy}
 use Rattle.ap_section.specs.Lending.{frames_in}
-use Rattle.ap_section.proofs.Counted.{frames-same, count-same, unchecked-now}
+use Rattle.ap_section.proofs.Counted.{frames-same, count-same}
 use Rattle.ap_section.proofs.Shut.{moved-on, shut-view}
 use Rattle.ap_section.proofs.Ended.{answer-ends}
 use Rattle.ap_section.proofs.section.Section.move_on.Goals as goal
@@ -52,22 +52,31 @@ returns-in-Failed-clause-wanted g c = λ e w.
     inl (omega arith)
 
 pub returns-in-Failed-clause-unwanted : goal.returns-in-Failed-clause-unwanted
-returns-in-Failed-clause-unwanted g c = λ e w. inl (subst (IsPrefix (frames_in c.come_back.new.self)) c.search_on.ensures.frames c.come_back.ensures.frames)
+returns-in-Failed-clause-unwanted g c = λ w. subst (IsPrefix (frames_in c.come_back.new.self)) c.search_on.ensures.frames c.come_back.ensures.frames
 
 pub returns-in-Failed-clause-frames : goal.returns-in-Failed-clause-frames
 returns-in-Failed-clause-frames g c = λ e. subst (IsPrefix (frames_in c.come_back.new.self)) c.search_on.ensures.frames c.come_back.ensures.frames
 
 pub returns-then-is_open-clause-unwanted : goal.returns-then-is_open-clause-unwanted
-returns-then-is_open-clause-unwanted g c = λ e w. inl (prefix-refl (frames_in c.args.self.now))
+returns-then-is_open-clause-unwanted g c = λ w. prefix-refl (frames_in c.args.self.now)
+
+pub returns-in-Answer-clause-unwanted : goal.returns-in-Answer-clause-unwanted
+returns-in-Answer-clause-unwanted g c = λ w. frames-same c.args.self.now c.search_on.new.self c.search_on.ensures.frames
+
+pub returns-in-Spent-clause-unwanted : goal.returns-in-Spent-clause-unwanted
+returns-in-Spent-clause-unwanted g c = λ w. frames-same c.args.self.now c.search_on.new.self c.search_on.ensures.frames
+
+pub returns-in-More-clause-unwanted : goal.returns-in-More-clause-unwanted
+returns-in-More-clause-unwanted g c = λ w. frames-same c.args.self.now c.search_on.new.self c.search_on.ensures.frames
+
+pub returns-in-Stopped-clause-unwanted : goal.returns-in-Stopped-clause-unwanted
+returns-in-Stopped-clause-unwanted g c = λ w. frames-same c.args.self.now c.search_on.new.self c.search_on.ensures.frames
 
 pub returns-then-branch-clause-unwanted : goal.returns-then-branch-clause-unwanted
-returns-then-branch-clause-unwanted g c = λ e w. inr (record {
-  from = c.search_on.new.self;
-  moved = c.search_on.ensures.moved;
-  frames = frames-same c.args.self.now c.search_on.new.self c.search_on.ensures.frames;
-  forked = c.in_ok-take_group-in-Group.ensures.group (ap Ok c.if-branch.true);
-  unchecked = unchecked-now c.args.sound.now c.search_on.new.self (c.in_ok-take_group-in-Group.ensures.unwanted (c.wants.ensures ∙ c.search_on.ensures.wish ∙ w) (ap Ok c.if-branch.true));
-})
+returns-then-branch-clause-unwanted g c = λ w. absurd (c.in_ok-take_group-in-Group.ensures.unwanted (c.wants.ensures ∙ c.search_on.ensures.wish ∙ w) (ap Ok c.if-branch.true))
+
+pub returns-else-branch-clause-unwanted : goal.returns-else-branch-clause-unwanted
+returns-else-branch-clause-unwanted g c = λ w. frames-same c.args.self.now c.take_group.new.self (c.in_ok-take_group-in-Group.ensures.frames (ap Ok c.if-branch.false) ∙ c.search_on.ensures.frames)
 
 pub returns-else-branch-clause-wanted : goal.returns-else-branch-clause-wanted
 returns-else-branch-clause-wanted g c = λ e w. inr (record {
