@@ -119,8 +119,8 @@ def replaced(root, name, old, new):
 
 
 def built(made, by, main, edits=(), more=(), is_planted=False):
-    """Builds a program whose `main` is that text, which says `ready` where it has no words, unless it is there and newer than all
-    sources and the files that make it. `edits` are files of the copy with what stands there once and what comes in its place, `more`
+    """Builds a program whose `main` is that text, which says `ready` where it has no words, or the program's own where it is None, unless it is
+    there and newer than all sources and the files that make it. `edits` are files of the copy with what stands there once and what comes in its place, `more`
     files with what stands behind their end."""
     sources = [pathlib.Path(__file__).resolve(), *by, *here.glob("crates/*/src/**/*.rt"), *here.glob("crates/*/specs/**/*.antt")]
     if not is_planted and made.exists() and made.stat().st_mtime > max(it.stat().st_mtime for it in sources):
@@ -136,9 +136,10 @@ def built(made, by, main, edits=(), more=(), is_planted=False):
         for name, text in more:
             (root / name).write_text((root / name).read_text() + text)
         program = root / "crates/andprolog"
-        (program / "src/main.rt").write_text(main)
-        (program / "args").write_text("")
-        (program / "stdout").write_text("ready\n")
+        if main is not None:
+            (program / "src/main.rt").write_text(main)
+            (program / "args").write_text("")
+            (program / "stdout").write_text("ready\n")
         subprocess.run(["bash", root / "scripts/build-unproved", made], check=True)
     return made
 

@@ -1,4 +1,4 @@
--- A body with groups asks for its goals and marks, and each check of it leads to its group's goals one after another.
+-- A body with groups asks for its goals and marks, and each check and each group of it leads to the group's goals one after another.
 use Rattle.std.proofs.Common.{◌≡◌, ℕ, suc, ◌+◌, Bool, true, false, ◌&&◌, if◌then◌else◌, List, [], ◌∷◌, ◌++◌, map, length, refl, ap, sym, ◌∙◌, subst, arith, append_assoc}
 use Rattle.std.specs.List.{list_all}
 use Rattle.std.proofs.lemmas.Bool.{false≢true, and_parts}

@@ -146,7 +146,7 @@ length_choices base [] = inr refl
 length_choices base (b ∷ []) = inl refl
 length_choices base (b ∷ d ∷ bs) = inl (ap suc (length_retries (base + length b) (d ∷ bs)) ∙ sym (chosen_many (length bs)))
 
--- each check of a predicate's instructions leads to its group as a sequence
+-- each check and each group of a predicate's instructions leads to the group as a sequence
 pub block_sequences : (code : Compiled) (start base : ℕ) (bs : List (List Instr)) (later : List Instr) (cs : List Clause) → AreCoded code base bs cs
     → base ≡ start + chosen (length bs) → drop start code.instructions ≡ choices base bs ++ (together bs ++ later) → AreSequences code start (choices base bs ++ together bs)
 block_sequences code start base bs later cs h b e = both_sequences code start (choices base bs) (together bs) (choices_sequences code start base bs) (go (length_choices base bs))

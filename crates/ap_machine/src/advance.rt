@@ -53,7 +53,7 @@ pub trait Hook {
         ensures stays { asked self.old → asked self.new }
         ensures wish { is_wanted self.new ≡ is_wanted self.old };
 
-    /// Whether goals of groups are wanted by others. Where they aren't, a group that has a check runs its goals in turn.
+    /// Whether goals of groups are wanted by others. Where they aren't, a group runs its goals in turn.
     fn wants(&self) -> bool
         ensures { result ≡ is_wanted self.now };
 }
