@@ -234,13 +234,11 @@ copied_made t m n k p ei eq a = record {
 }
 
 -- tables that grew are what they were where they are cut
-cut_back : (s t u : Numbered) → Grows s t → u ≡ record { integers = take (length s.integers) t.integers; predicates = take (length s.predicates) t.predicates } → u ≡ s
-cut_back s t u g e = e ∙ ap₂ (λ a b. record { integers = a; predicates = b }) (kept_first s.integers t.integers g.integers) (kept_first s.predicates t.predicates g.predicates)
-
-pub made_back : (s t u : Numbered) (m : Made) (k a b : ℕ) (p : Program) → Grows s t → a ≡ length s.integers → b ≡ length s.predicates
-    → u ≡ record { integers = take a t.integers; predicates = take b t.predicates } → AreMade s m k p → AreMade u m k p
-made_back s t u m k a b p g ea eb e are =
-    subst (λ v. AreMade v m k p) (sym (cut_back s t u g (e ∙ ap₂ (λ i j. record { integers = take i t.integers; predicates = take j t.predicates }) ea eb))) are
+pub cut_back : (s t u : Numbered) (a b : ℕ) → Grows s t → a ≡ length s.integers → b ≡ length s.predicates → u ≡ record { integers = take a t.integers; predicates = take b t.predicates } → u ≡ s
+cut_back s t u a b g ea eb e =
+    e
+    ∙ ap₂ (λ i j. record { integers = take i t.integers; predicates = take j t.predicates }) ea eb
+    ∙ ap₂ (λ zs ks. record { integers = zs; predicates = ks }) (kept_first s.integers t.integers g.integers) (kept_first s.predicates t.predicates g.predicates)
 
 -- code that stands beside the clauses of a query stands for the query
 pub stands_asked : (code : Compiled) (p : Program) (q : Query) (n : ℕ) (own : Program) → n ≡ q.question.vars → own ≡ asked q ∷ q.lifted → StandsBeside code (QUERY, n) p (p ++ own) → StandsForQuery code p q

@@ -2,6 +2,7 @@
 use Rattle.std.specs.Prelude.{◌≡◌, ℕ, Bool, true, false, not, List, [], length, take, slice_get, Option, Some, None}
 use Rattle.std.specs.List.{filter, list_all, list_any}
 use Rattle.ap_term.specs.Goals.{Program}
+use Rattle.ap_instr.specs.Code.{Compiled}
 use Rattle.ap_instr.specs.Table.{Key, is_key, goal_key}
 use Rattle.ap_codegen.specs.declared.programs.Made.{Made}
 use Rattle.ap_codegen.specs.Assembled.{Numbered, Keeps, IsMade, clauses_for}
@@ -16,6 +17,10 @@ pub record AreMade (t : Numbered) (m : Made) (listed : ℕ) (p : Program) : Type
   pub others : (k : Key) → list_any (is_key k) t.predicates ≡ false → is_builtin_key k ≡ false → clauses_for k p ≡ []
   pub count : listed ≡ length (with_heads [] p)
   pub flags : filter (λ q. q.is_listed) m.predicates.items ≡ take listed m.predicates.items
+
+-- the code of what is made, which is no query's
+abbrev pub made_code : Numbered → Made → Compiled
+made_code t m = record { instructions = m.instructions.items; integers = t.integers; predicates = m.predicates.items; query = None }
 
 -- whether a table lacks the predicate of a head
 abbrev pub is_new : List Key → Option Key → Bool

@@ -1,6 +1,6 @@
 //! Code of a program that is kept, and code of a query's clauses behind it.
 
-ghost use Rattle.std.specs.Prelude.{◌≡◌, true, None, take, ◌++◌, IfOk, IfSome, OnOk};
+ghost use Rattle.std.specs.Prelude.{◌≡◌, true, take, ◌++◌, IfOk, IfSome, OnOk};
 ghost use Rattle.std.specs.List.{filter};
 ghost use Rattle.ap_term.specs.declared.fixed.TheConstants.{QUERY};
 ghost use Rattle.ap_term.specs.Goals.{Program as Clauses};
@@ -10,7 +10,7 @@ ghost use Rattle.ap_needs.specs.Behind.{Begins};
 ghost use Rattle.ap_codecheck.specs.Rules.{IsSound};
 ghost use Rattle.ap_codecheck.specs.Tables.{GoesOnBehind, IsExtentOf};
 ghost use Rattle.ap_codegen.specs.Assembled.{Grows, StandsBeside};
-ghost use Rattle.ap_codegen.specs.Kept.{AreMade, is_new, are_new};
+ghost use Rattle.ap_codegen.specs.Kept.{AreMade, made_code, is_new, are_new};
 ghost use Rattle.ap_codegen.specs.KeptCode.{IsKept, code_of};
 
 use crate::asking::asked_clauses;
@@ -83,7 +83,7 @@ fn code_behind(
     arity: u8,
 ) -> Result<Code, NoMemory>
     ensures grows { OnOk result (Grows tables.old tables.new) }
-    ensures begins { IfOk result (λ code. Begins (record { instructions = made.instructions.items; integers = tables.old.integers; predicates = made.predicates.items; query = None }) code) }
+    ensures begins { IfOk result (λ code. Begins (made_code tables.old made) code) }
     ensures stands { IfOk result (λ code. (p : Clauses) → AreMade tables.old made listed p → are_new tables.old.predicates own.now ≡ true → StandsBeside code (QUERY, arity) p (p ++ own.now)) }
 {
     add_heads(tables, own)?;
@@ -146,9 +146,8 @@ impl Kept {
     pub fn beside(&mut self, alloc: Global, query: &Query) -> Result<Option<Code>, NoMemory>
         ensures stands { IfOk result (λ o. IfSome o (λ code. (p : Clauses) → IsKept self.old p → StandsForQuery code p query.now)) }
         ensures sound { IfOk result (λ o. IfSome o (λ code. (p : Clauses) → IsKept self.old p → IsSound code)) }
-        ensures kept { OnOk result ((p : Clauses) → IsKept self.old p → IsKept self.new p) }
         ensures behind { IfOk result (λ o. IfSome o (λ code. GoesOnBehind code (code_of self.old))) }
-        ensures same { OnOk result (code_of self.new ≡ code_of self.old) }
+        ensures same { OnOk result (self.new ≡ self.old) }
     {
         let own = asked_clauses(alloc, query)?;
         let clauses = own.as_slice();
