@@ -150,7 +150,7 @@ const COPIES_LISTED: &str = "cp/2:
   proceed
 ";
 
-/// Without checks there is no other way; a built-in goal is pushed by its name, and its predicate isn't listed.
+/// A built-in goal is pushed by its name, and its predicate isn't listed; in turn it is the instruction.
 const APART: &str = "s :- a(1) & X = f(X0) & b, c(X, X0).";
 
 const APART_LISTED: &str = "s/0:
@@ -164,6 +164,14 @@ const APART_LISTED: &str = "s/0:
   push_goal 2 =/2
   push_goal 3 b/0
   wait_all
+  jump @18
+  put_integer 1 A1
+  call a/1
+  put_variable Y1 A1
+  put_structure f/1 A2
+  unify_variable Y2
+  builtin =
+  call b/0
   put_value Y1 A1
   put_value Y2 A2
   deallocate
@@ -180,11 +188,18 @@ const GROUPS_LISTED: &str = "t/2:
   push_goal 1 a/1
   push_goal 2 b/0
   wait_all
+  jump @9
+  call a/1
+  call b/0
   alloc_parcall 2
   push_goal 1 c/0
   put_value Y1 A1
   push_goal 2 d/1
   wait_all
+  jump @18
+  call c/0
+  put_value Y1 A1
+  call d/1
   deallocate
   proceed
 a/1:
@@ -301,6 +316,39 @@ const MANY_LISTED: &str = "p/0:
   push_goal 31 a/0
   push_goal 32 a/0
   wait_all
+  jump @68
+  call a/0
+  call a/0
+  call a/0
+  call a/0
+  call a/0
+  call a/0
+  call a/0
+  call a/0
+  call a/0
+  call a/0
+  call a/0
+  call a/0
+  call a/0
+  call a/0
+  call a/0
+  call a/0
+  call a/0
+  call a/0
+  call a/0
+  call a/0
+  call a/0
+  call a/0
+  call a/0
+  call a/0
+  call a/0
+  call a/0
+  call a/0
+  call a/0
+  call a/0
+  call a/0
+  call a/0
+  call a/0
   deallocate
   proceed
 a/0:
