@@ -45,7 +45,7 @@ fn doublings(count: usize) -> usize {
 /// well, so that all that is done for forks stays a small part of what is done anyway.
 #[derive(Drop)]
 pub struct Bar {
-    /// Groups within so many open frames aren't forked.
+    /// Groups within so many open frames aren't forked unless another worker looks for a goal.
     deepest: usize,
     saved: Cell<i64>,
     price: Cell<i64>,
@@ -79,9 +79,10 @@ impl Bar {
         self.saved.set(self.saved.get().saturating_sub(calls));
     }
 
-    /// Tells whether the next group, within so many open frames, is worth a fork.
-    pub(crate) fn allows(&self, depth: usize) -> bool {
-        depth < self.deepest && self.saved.get() >= self.cost()
+    /// Tells whether the next group, within so many open frames, is worth a fork. Within many it is where another worker looks for
+    /// a goal.
+    pub(crate) fn allows(&self, depth: usize, looks: bool) -> bool {
+        (depth < self.deepest || looks) && self.saved.get() >= self.cost()
     }
 
     /// Notes that so many calls were made, and whether a group was passed that wasn't forked.

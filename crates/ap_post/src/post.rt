@@ -86,7 +86,7 @@ impl<'a, 'b> Post<'a, 'b> {
 
     /// Tells whether a group within so many open frames may be forked: there are other workers, and it is worth it.
     pub fn may_fork(&self, depth: usize) -> bool {
-        !self.thieves.is_empty() && self.bar.allows(depth)
+        !self.thieves.is_empty() && self.bar.allows(depth, self.wants())
     }
 
     /// Gives what tells which groups are worth a fork.
