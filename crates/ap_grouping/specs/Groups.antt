@@ -10,12 +10,11 @@ use Rattle.ap_cge.specs.Stripped.{stripped_clause, stripped}
 use Rattle.ap_patterns.specs.declared.entries.Entries.TheVariants.{Query}
 use Rattle.ap_mel.specs.declared.annotations.Kind.{Kind}
 use Rattle.ap_mel.specs.Made.{IsMade}
-use Rattle.ap_grouping.specs.Guards.{IsGuarded}
 
--- Without groups the program a and the query b are p and q; the groups are those at which the annotator's passes end, where each one
--- without checks has got some; and at each group that the search of the query comes to the written checks are enough.
+-- Without groups the program a and the query b are p and q; the groups are those at which the annotator's passes end, and at each one that
+-- the search of the query comes to the written checks are enough.
 pub record AreGroups (kind : Kind) (p : Program) (q : goals.Query) (a : Program) (b : goals.Query) : Type 0 where
-  pub made : (m : Program) × IsMade kind Query (joined p q) m × IsGuarded m (joined a b)
+  pub made : IsMade kind Query (joined p q) (joined a b)
   pub program : stripped a ≡ stripped p
   pub question : stripped_clause b.question ≡ stripped_clause q.question
   pub lifted : stripped b.lifted ≡ stripped q.lifted

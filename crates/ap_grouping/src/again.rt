@@ -4,7 +4,6 @@ ghost use Rattle.std.specs.Prelude.{◌≡◌, true, IfOk, IfSome};
 ghost use Rattle.ap_grouping.specs.Again.{HasNoGroups, GetsGroups};
 
 use crate::grouping::copy_names;
-use crate::guards::guard_law;
 use ap_alike::fit_clause;
 use ap_alike::laws::alike_law;
 use ap_term::{NoMemory, Program, Query};
@@ -27,7 +26,6 @@ pub fn regroup_query(
 ) -> Result<Option<Query>, NoMemory>
     ensures { IfOk result (λ found. IfSome found (λ again. GetsGroups grouped.now query.now again)) }
 {
-    guard_law();
     alike_law();
     if !grouped.lifted().is_empty() || !query.lifted().is_empty() {
         return Ok(None);

@@ -3,10 +3,9 @@
 ghost use Rattle.std.specs.Prelude.{◌≡◌, IfOk};
 ghost use Rattle.ap_grouping.specs.Groups.{AreGroups};
 
-use crate::guards::{guard_clause, guard_clauses, guard_law};
 use ap_mel::{Kind, annotate_sound};
 use ap_patterns::Entries;
-use ap_term::{Name, NoMemory, Program, Query, join};
+use ap_term::{Clause, Name, NoMemory, Program, Query, copy_clause, join};
 use std::alloc::Global;
 
 /// A program and a query with groups.
@@ -14,6 +13,16 @@ use std::alloc::Global;
 pub struct Grouped {
     pub program: Program,
     pub query: Query,
+}
+
+fn copy_clauses(alloc: Global, clauses: &[Clause]) -> Result<Program, NoMemory>
+    ensures { IfOk result (λ copy. copy ≡ clauses.now) }
+{
+    let mut copy = Program::new(alloc);
+    for clause in clauses {
+        copy.push(copy_clause(alloc, clause)?)?;
+    }
+    Ok(copy)
 }
 
 pub(crate) fn copy_names(alloc: Global, names: &[Name]) -> Result<Vec<Name>, NoMemory>
@@ -26,8 +35,7 @@ pub(crate) fn copy_names(alloc: Global, names: &[Name]) -> Result<Vec<Name>, NoM
     Ok(copy)
 }
 
-/// Annotates a program beside a query, for that query alone, and gives each group without checks one that its goals meet. Fails only for
-/// want of memory.
+/// Annotates a program beside a query, for that query alone. Fails only for want of memory.
 pub fn group_query(
     alloc: Global,
     program: &Program,
@@ -36,15 +44,14 @@ pub fn group_query(
 ) -> Result<Grouped, NoMemory>
     ensures { IfOk result (λ g. AreGroups kind program.now query.now g.program g.query) }
 {
-    guard_law();
     let _kept = query.question();
     let asked = join(alloc, program, query)?;
     let certified = annotate_sound(alloc, &asked, &Entries::Query, kind)?;
     let clauses = certified.clauses();
     let count = program.as_slice().len();
-    let front = guard_clauses(alloc, &clauses[..count])?;
-    let question = guard_clause(alloc, &clauses[count])?;
-    let lifted = guard_clauses(alloc, &clauses[count + 1..])?;
+    let front = copy_clauses(alloc, &clauses[..count])?;
+    let question = copy_clause(alloc, &clauses[count])?;
+    let lifted = copy_clauses(alloc, &clauses[count + 1..])?;
     let names = copy_names(alloc, query.names())?;
     Ok(Grouped {
         program: front,

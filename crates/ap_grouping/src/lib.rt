@@ -6,8 +6,6 @@
 
 mod again;
 mod grouping;
-mod guards;
 
 pub use again::{has_no_groups, regroup_query};
 pub use grouping::{Grouped, group_query};
-pub use guards::guard_law;

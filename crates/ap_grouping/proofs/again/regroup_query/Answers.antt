@@ -18,7 +18,7 @@ returns c = λ kind p a q bare good groups.
     let fit : IsFittedClause c.question.result.now c.question-2.result.now c.in-Some.question =
     subst (λ o. IfSome o (λ x. IsFittedClause c.question.result.now c.question-2.result.now x)) c.in-Some.is c.in_ok-question.ensures in
     let same : c.in-Some.question ≡ again.question = sym (ap (λ x. x.question) c.new-again.ensures) in
-    regrouped c.alike_law.ensures c.guard_law.ensures kind p a q grouped asked again bare l0 l1 (ap (λ x. x.lifted) c.new-again.ensures ∙ c.new.ensures)
+    regrouped c.alike_law.ensures kind p a q grouped asked again bare l0 l1 (ap (λ x. x.lifted) c.new-again.ensures ∙ c.new.ensures)
     (ap (λ x. x.names) c.new-again.ensures ∙ c.in_ok-names.ensures ∙ c.names.ensures.names) good c.question-formed.ensures.kept
     (subst (λ x. IsFittedClause grouped.question asked.question x) same
     (subst (λ x. IsFittedClause x asked.question c.in-Some.question) c.question.ensures.question
