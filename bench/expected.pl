@@ -4,9 +4,7 @@
 %
 % (`bench/expected` does it for every example). It takes SWI-Prolog's reader, its unification with the occurs check and
 % its own search, counts the calls, and prints answers as docs/LANGUAGE.md says. It judges no refusal: what it is given
-% must be accepted. Options: --budget N and --answers N; --calls on writes before each line how many calls were made until then;
-% --forks on runs the groups without checks whose variables stand in one goal alone as the core does: where a goal fails before all
-% have answered, the group fails. On one worker these groups are forked and no others, as all others have a check or get one.
+% must be accepted. Options: --budget N and --answers N; --calls on writes before each line how many calls were made until then.
 
 :- set_prolog_flag(occurs_check, true).
 :- dynamic rule/2.
@@ -33,9 +31,6 @@ main(Words) :-
     number_option('--answers', Options, 1000000, Limit),
     ( append(_, ['--calls', on|_], Options) -> Tells = true ; Tells = false ),
     nb_setval(tells, Tells),
-    ( append(_, ['--forks', on|_], Options) -> Forks = true ; Forks = false ),
-    nb_setval(forks, Forks),
-    nb_setval(group, 0),
     open(File, read, Stream),
     load(Stream),
     close(Stream),
@@ -64,22 +59,12 @@ queries(Budget, Limit) :-
         queries(Budget, Limit)
     ).
 
-% A body as a list of goals. Groups are conjunctions, unless they are forked; checks are left out.
+% A body as a list of goals. Groups are conjunctions; checks are left out.
 goals(true_body, []) :- !.
 goals((A, B), Goals) :- !, goals(A, First), goals(B, Second), append(First, Second, Goals).
-goals(&(A, B), Parts) :- !,
-    group_goals(&(A, B), Goals),
-    ( nb_getval(forks, true), stand_alone(Goals) -> Parts = [fork(Goals)] ; in_turn(Goals, Parts) ).
-goals(=>(_, B), Goals) :- !, group_goals(B, Group), in_turn(Group, Goals).
+goals(&(A, B), Goals) :- !, goals(A, First), goals(B, Second), append(First, Second, Goals).
+goals(=>(_, B), Goals) :- !, goals(B, Goals).
 goals(Goal, [Goal]).
-
-group_goals(&(A, B), [A|Goals]) :- !, group_goals(B, Goals).
-group_goals(Goal, [Goal]).
-
-in_turn([], []).
-in_turn([Goal|Goals], Parts) :- goals(Goal, First), in_turn(Goals, Rest), append(First, Rest, Parts).
-
-stand_alone(Goals) :- findall(Goal, ( member(Goal, Goals), \+ ground(Goal) ), Open), length(Open, Count), Count =< 1.
 
 block(Goals, Names, Budget, Limit) :-
     nb_setval(calls, 0),
@@ -100,9 +85,6 @@ answer(Names, Limit) :-
 
 % Sequential search: the leftmost goal first, clauses in textual order, each call counted.
 run([], _).
-run([fork(Group)|Goals], Budget) :- !,
-    forked(Group, Budget),
-    run(Goals, Budget).
 run([Goal|Goals], Budget) :-
     nb_getval(calls, Before),
     ( Before >= Budget -> throw(end('budget spent.')) ; true ),
@@ -110,20 +92,6 @@ run([Goal|Goals], Budget) :-
     nb_setval(calls, Now),
     children(Goal, Goals, Next),
     run(Next, Budget).
-
-% A group that is forked: before all of its goals have answered, one that fails breaks it.
-forked(Group, Budget) :-
-    nb_getval(group, Before),
-    Number is Before + 1,
-    nb_setval(group, Number),
-    Joined = joined(false),
-    catch(slots(Group, Number, Joined, Budget), break(Number), fail),
-    nb_setarg(1, Joined, true).
-
-slots([], _, _, _).
-slots([Goal|Goals], Number, Joined, Budget) :-
-    ( run([Goal], Budget) *-> true ; Joined = joined(false), throw(break(Number)) ),
-    slots(Goals, Number, Joined, Budget).
 
 % A disjunction is a goal of its own: one call of a predicate with two clauses.
 children((A ; B), Goals, Next) :- !,
