@@ -18,3 +18,4 @@ pub mod Weaker
 pub mod Parts
 pub mod FirstQuery
 pub mod Counting
+pub mod SameCode

@@ -1,9 +1,8 @@
 -- The part of a program that a query could call, with its groups and its code, which the next query may take.
-use Rattle.std.specs.Prelude.{◌≡◌, true, IfSome}
+use Rattle.std.specs.Prelude.{◌≡◌, true}
 use Rattle.ap_term.specs.Goals.{Program, Query}
 use Rattle.ap_reach.specs.Reached.{Reaches, IsReached}
-use Rattle.ap_codecheck.specs.Tables.{IsKeptOf}
-use Rattle.ap_codegen.specs.KeptCode.{IsKept, code_of}
+use Rattle.ap_codegen.specs.KeptCode.{IsKept}
 use Rattle.ap_mel.specs.declared.annotations.Kind.{Kind}
 use Rattle.ap_grouping.specs.Groups.{AreGroups}
 use Rattle.ap_grouping.specs.Again.{HasNoGroups}
@@ -15,7 +14,6 @@ pub record IsLastOf (p : Program) (kind : Kind) (q : Query) (last : Last) : Type
   pub here : IsReached p q last.part
   pub groups : AreGroups kind last.part q last.grouped.program last.grouped.query
   pub code : IsKept last.code last.grouped.program
-  pub tables : IfSome last.tables (IsKeptOf (code_of last.code))
   pub plain : last.is_plain ≡ true → HasNoGroups q
 
 -- of some query

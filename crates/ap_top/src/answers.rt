@@ -13,7 +13,7 @@ ghost use Rattle.ap_top.specs.Output.{line_of, fault_line, end_line, is_spent, A
 ghost use Rattle.ap_top.specs.Last.{IsLast};
 ghost use Rattle.ap_top.specs.Lines.{line_same};
 
-use crate::last::{Last, prepare, take_back};
+use crate::last::{Last, prepare};
 use ap_lines::answer_line;
 use ap_machine::Tuple;
 use ap_mel::Kind;
@@ -153,7 +153,7 @@ pub fn put_answers<R: Threads + Wait + Sync, G: Gate, K: Sink>(
         out,
         pads,
     );
-    take_back(&mut last, beside);
+    last.code.take_back(beside);
     *kept = Some(last);
     ended
 }

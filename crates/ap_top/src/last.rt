@@ -1,21 +1,19 @@
 //! The part of a program that the last query could call, with its groups and its code, for the next query that can call the same and is alike.
 
-ghost use Rattle.std.specs.Prelude.{◌≡◌, true, IfOk, IfSome, OnOk};
-ghost use Rattle.ap_term.specs.Goals.{Program as Clauses, Query as Asked};
+ghost use Rattle.std.specs.Prelude.{◌≡◌, true, IfOk, IfSome};
+ghost use Rattle.ap_term.specs.Goals.{Program as Clauses};
 ghost use Rattle.ap_instr.specs.StandsFor.{StandsForQuery};
-ghost use Rattle.ap_codecheck.specs.Tables.{GoesOnBehind, IsKeptOf};
-ghost use Rattle.ap_codegen.specs.KeptCode.{IsKept, code_of};
+ghost use Rattle.ap_codecheck.specs.Tables.{GoesOnBehind};
+ghost use Rattle.ap_codegen.specs.KeptCode.{code_of};
 ghost use Rattle.ap_reach.specs.Reached.{Reaches};
 ghost use Rattle.ap_mel.specs.declared.annotations.Kind.{Kind as KindOf};
 ghost use Rattle.ap_top.specs.Last.{IsLast, IsLastOf};
 
-use ap_codecheck::KeptTables;
-use ap_codegen::Kept;
 use ap_grouping::{Grouped, group_query, has_no_groups, regroup_query};
 use ap_mel::Kind;
 use ap_reach::{Calls, Predicates, calls_of, part_of};
 use ap_term::{NoMemory, Program, Query};
-use ap_worker::{Beside, sound_beside, tables_back, tables_of};
+use ap_worker::{Beside, KeptCode};
 use std::alloc::Global;
 
 /// What a query can call, and the part of a program that this is.
@@ -26,9 +24,7 @@ pub struct Last {
     /// The part and the query, with their groups.
     pub grouped: Grouped,
     /// The code of the part with its groups.
-    pub code: Kept,
-    /// The code's tables, while no query's code goes on behind it.
-    pub tables: Option<KeptTables>,
+    pub code: KeptCode,
     /// Whether the query was written without groups, and nothing was lifted from it.
     pub is_plain: bool,
 }
@@ -46,15 +42,13 @@ fn group_part(
 {
     let part = part_of(alloc, program, &calls)?;
     let grouped = group_query(alloc, &part, query, kind)?;
-    let code = Kept::of(alloc, &grouped.program)?;
-    let tables = tables_of(alloc, &code)?;
+    let code = KeptCode::of(alloc, &grouped.program)?;
     let is_plain = has_no_groups(query);
     Ok(Last {
         calls,
         part,
         grouped,
         code,
-        tables,
         is_plain,
     })
 }
@@ -80,7 +74,6 @@ fn take_again(
         part,
         grouped,
         code,
-        tables,
         ..
     } = last;
     let Grouped { program, .. } = grouped;
@@ -94,7 +87,6 @@ fn take_again(
         part,
         grouped,
         code,
-        tables,
         is_plain,
     }))
 }
@@ -120,23 +112,6 @@ fn reach(
     group_part(alloc, program, calls, query, kind)
 }
 
-/// Sound code for the part and the query that it was reached for. The part's stays kept.
-fn sound_of(alloc: Global, last: &mut Last) -> Result<Beside, NoMemory>
-    requires code { IsKept last.old.code last.old.grouped.program }
-    requires tables { IfSome last.old.tables (IsKeptOf (code_of last.old.code)) }
-    ensures stands { IfOk result (λ found. StandsForQuery found.sound last.new.grouped.program last.new.grouped.query) }
-    ensures behind { IfOk result (λ found. found.is_behind ≡ true → GoesOnBehind found.sound (code_of last.new.code)) }
-    ensures kept { OnOk result ((p : Clauses) (kind : KindOf) (q : Asked) → IsLastOf p kind q last.old → IsLastOf p kind q last.new) }
-{
-    sound_beside(
-        alloc,
-        &mut last.code,
-        &mut last.tables,
-        &last.grouped.program,
-        &last.grouped.query,
-    )
-}
-
 /// The part of a program that a query can call, with the groups that both get, and sound code for them.
 pub fn prepare(
     alloc: Global,
@@ -151,17 +126,8 @@ pub fn prepare(
     ensures behind { IfOk result (λ found. found.1.is_behind ≡ true → GoesOnBehind found.1.sound (code_of found.0.code)) }
 {
     let mut last = reach(alloc, program, query, kind, kept)?;
-    let beside = sound_of(alloc, &mut last)?;
+    let beside = last
+        .code
+        .beside(alloc, &last.grouped.program, &last.grouped.query)?;
     Ok((last, beside))
-}
-
-/// Takes the tables of the part's code back, where a query's code went on behind it.
-pub fn take_back(last: &mut Last, beside: Beside)
-    requires { beside.is_behind ≡ true → GoesOnBehind beside.sound (code_of last.old.code) }
-    ensures { (p : Clauses) (kind : KindOf) (q : Asked) → IsLastOf p kind q last.old → IsLastOf p kind q last.new }
-{
-    let Beside { sound, is_behind } = beside;
-    if is_behind {
-        last.tables = tables_back(&last.code, sound);
-    }
 }

@@ -1,6 +1,6 @@
 //! Sound code for a query. It was compiled, so it isn't checked.
 
-ghost use Rattle.std.specs.Prelude.{◌≡◌, true, None, IfOk, IfSome, OnOk};
+ghost use Rattle.std.specs.Prelude.{◌≡◌, true, IfOk, IfSome, OnOk};
 ghost use Rattle.ap_codecheck.specs.Rules.{IsSound};
 ghost use Rattle.ap_codecheck.specs.Tables.{GoesOnBehind, IsKeptOf};
 ghost use Rattle.ap_codegen.specs.KeptCode.{IsKept, code_of};
@@ -12,6 +12,7 @@ use ap_codegen::{Kept, compile};
 use ap_instr::Code;
 use ap_term::{NoMemory, Program, Query};
 use std::alloc::Global;
+use std::marker::Model;
 
 /// Sound code for a program beside a query, with its groups.
 pub fn sound_code(alloc: Global, program: &Program, query: &Query) -> Result<Sound, NoMemory>
@@ -21,6 +22,26 @@ pub fn sound_code(alloc: Global, program: &Program, query: &Query) -> Result<Sou
     Sound::of_sound(alloc, code)
 }
 
+/// A program's code that is kept, and its tables: none while a query's code goes on behind it, or where they depend on what stands there.
+#[derive(Drop)]
+pub struct KeptCode {
+    code: Kept,
+    tables: Option<KeptTables>,
+}
+
+impl Model for KeptCode {
+    ghost use Rattle.std.specs.Prelude.{IfSome};
+    ghost use Rattle.ap_codecheck.specs.Tables.{IsKeptOf};
+    ghost use Rattle.ap_codegen.specs.declared.kept.Kept.{Kept};
+    ghost use Rattle.ap_codegen.specs.KeptCode.{code_of};
+
+    ghost Value = { Kept };
+
+    ghost view = { λ a. a.code };
+
+    ghost invariant = { λ a. IfSome a.tables (IsKeptOf (code_of a.code)) };
+}
+
 /// Sound code for a query, and whether it goes on behind the code that is kept of the program.
 #[derive(Drop)]
 pub struct Beside {
@@ -28,65 +49,74 @@ pub struct Beside {
     pub is_behind: bool,
 }
 
-/// Tables of a program's code that is kept. None where they depend on what stands behind it.
-pub fn tables_of(alloc: Global, kept: &Kept) -> Result<Option<KeptTables>, NoMemory>
-    ensures { IfOk result (λ o. IfSome o (IsKeptOf (code_of kept.now))) }
-{
-    let code = kept.code(alloc)?;
-    KeptTables::of(alloc, &code)
-}
-
-/// Sound code that goes on behind code that is kept, by the tables of that, where there are any. They are taken out.
-fn sound_behind(
-    alloc: Global,
-    code: Code,
-    tables: &mut Option<KeptTables>,
-) -> Result<Sound, NoMemory>
+/// Sound code that goes on behind other code, by the tables of that, where there are any.
+fn sound_behind(alloc: Global, code: Code, tables: Option<KeptTables>) -> Result<Sound, NoMemory>
     requires sound { IsSound code }
-    requires tables { (base : Compiled) × GoesOnBehind code base × IfSome tables.old (IsKeptOf base) }
-    ensures same { IfOk result (λ sound. sound ≡ code) }
-    ensures none { tables.new ≡ None }
+    requires tables { (base : Compiled) × GoesOnBehind code base × IfSome tables (IsKeptOf base) }
+    ensures { IfOk result (λ sound. sound ≡ code) }
 {
-    match tables.take() {
+    match tables {
         Some(kept) => Sound::beside(alloc, code, kept),
         None => Sound::of_sound(alloc, code),
     }
 }
 
-/// Sound code for a program whose code is kept beside a query, with their groups. The program's stays kept, and its tables, where the
-/// query's code doesn't go on behind it.
-pub fn sound_beside(
-    alloc: Global,
-    kept: &mut Kept,
-    tables: &mut Option<KeptTables>,
-    program: &Program,
-    query: &Query,
-) -> Result<Beside, NoMemory>
-    requires kept { IsKept kept.old program.now }
-    requires tables { IfSome tables.old (IsKeptOf (code_of kept.old)) }
-    ensures stands { IfOk result (λ found. StandsForQuery found.sound program.now query.now) }
-    ensures behind { IfOk result (λ found. found.is_behind ≡ true → GoesOnBehind found.sound (code_of kept.new)) }
-    ensures kept { OnOk result (IsKept kept.new program.now) }
-    ensures tables { OnOk result (IfSome tables.new (IsKeptOf (code_of kept.new))) }
-{
-    let Some(code) = kept.beside(alloc, query)? else {
-        let sound = sound_code(alloc, program, query)?;
-        return Ok(Beside {
-            sound,
-            is_behind: false,
-        });
-    };
-    let sound = sound_behind(alloc, code, tables)?;
-    Ok(Beside {
-        sound,
-        is_behind: true,
-    })
-}
-
-/// The tables of the code that is kept, behind which sound code went on.
-pub fn tables_back(kept: &Kept, sound: Sound) -> Option<KeptTables>
+/// The tables of code that is kept, taken back from code that went on behind it.
+fn tables_back(kept: &Kept, sound: Sound) -> Option<KeptTables>
     requires { GoesOnBehind sound (code_of kept.now) }
     ensures { IfSome result (IsKeptOf (code_of kept.now)) }
 {
     sound.into_kept(kept.extent())
+}
+
+impl KeptCode {
+    /// Compiles a program.
+    pub fn of(alloc: Global, program: &Program) -> Result<KeptCode, NoMemory>
+        ensures { IfOk result (λ kept. IsKept kept program.now) }
+    {
+        let kept = Kept::of(alloc, program)?;
+        let code = kept.code(alloc)?;
+        let tables = KeptTables::of(alloc, &code)?;
+        Ok(KeptCode { code: kept, tables })
+    }
+
+    /// Sound code for the program beside a query, with their groups. Where it goes on behind the program's, it has that one's tables, which
+    /// `take_back` takes.
+    pub fn beside(
+        &mut self,
+        alloc: Global,
+        program: &Program,
+        query: &Query,
+    ) -> Result<Beside, NoMemory>
+        requires { IsKept self.old program.now }
+        ensures stands { IfOk result (λ found. StandsForQuery found.sound program.now query.now) }
+        ensures behind { IfOk result (λ found. found.is_behind ≡ true → GoesOnBehind found.sound (code_of self.old)) }
+        ensures same { OnOk result (self.new ≡ self.old) }
+    {
+        let tables = self.tables.take();
+        let Some(code) = self.code.beside(alloc, query)? else {
+            self.tables = tables;
+            let sound = sound_code(alloc, program, query)?;
+            return Ok(Beside {
+                sound,
+                is_behind: false,
+            });
+        };
+        let sound = sound_behind(alloc, code, tables)?;
+        Ok(Beside {
+            sound,
+            is_behind: true,
+        })
+    }
+
+    /// Takes the tables back from the code for a query.
+    pub fn take_back(&mut self, beside: Beside)
+        requires { beside.is_behind ≡ true → GoesOnBehind beside.sound (code_of self.old) }
+        ensures { self.new ≡ self.old }
+    {
+        let Beside { sound, is_behind } = beside;
+        if is_behind {
+            self.tables = tables_back(&self.code, sound);
+        }
+    }
 }

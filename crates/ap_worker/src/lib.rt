@@ -23,7 +23,7 @@ mod taken;
 mod worker;
 
 pub use answers::Answers;
-pub use coding::{Beside, sound_beside, sound_code, tables_back, tables_of};
+pub use coding::{Beside, KeptCode, sound_code};
 pub use crew::Crew;
 pub use emission::{End, Ended};
 pub use solving::{PADS, solve, solve_with_pads};

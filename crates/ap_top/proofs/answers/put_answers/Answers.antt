@@ -2,6 +2,7 @@ use Rattle.std.proofs.Common.{◌≡◌, subst}
 use Rattle.ap_term.specs.WellFormed.{IsProgram}
 use Rattle.ap_top.proofs.Grouped.{grouped-read, grouped-asked, grouped-safe}
 use Rattle.ap_top.proofs.Parts.{part-asked, part-finishes, part-counted}
+use Rattle.ap_top.proofs.SameCode.{with_code}
 use Rattle.ap_top.proofs.answers.put_answers.Goals as goal
 
 pub solve_with_pads-ended-requires-clause-asked : goal.solve_with_pads-ended-requires-clause-asked
@@ -36,4 +37,4 @@ returns-clause-counted g c =
     (c.solve_with_pads-ended.ensures.charged r q c.as_slice-good.ensures.kept c.question-asked.ensures.kept (grouped-read _ r q a b groups)) c.solve_with_pads-ended.ensures.exact c.solve_with_pads-ended.ensures.plain
 
 pub returns-clause-kept : goal.returns-clause-kept
-returns-clause-kept g c = (c.args.query.now, c.take_back.ensures c.args.program.now c.args.bounds.kind c.args.query.now c.in-Ok.ensures.last)
+returns-clause-kept g c = (c.args.query.now, with_code c.in-Ok.last c.take_back.new.self c.take_back.ensures c.args.program.now c.args.bounds.kind c.args.query.now c.in-Ok.ensures.last)

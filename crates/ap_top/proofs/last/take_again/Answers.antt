@@ -1,5 +1,4 @@
-use Rattle.std.proofs.Common.{◌≡◌, true, IfSome, sym, subst, ◌∙◌}
-use Rattle.ap_term.specs.Goals.{Query}
+use Rattle.std.proofs.Common.{◌≡◌, IfSome, sym, subst}
 use Rattle.ap_reach.specs.Reached.{Reaches}
 use Rattle.ap_grouping.specs.Again.{GetsGroups}
 use Rattle.ap_top.proofs.last.take_again.Goals as goal
@@ -16,6 +15,5 @@ returns c = λ p kind last reaches.
       here = before.reached asked own;
       groups = gets kind c.args.last.part c.args.last.grouped.program last.0 (before.plain c.if-not-last.false) c.as_slice-good.ensures.kept before.groups;
       code = before.code;
-      tables = before.tables;
       plain = λ e. c.has_no_groups-is_plain.ensures e;
     }
