@@ -21,27 +21,17 @@ type Index<'a> = IndexMap<Called, Vec<&'a Clause>>;
 /// The names and arities of predicates, each with the place of an argument that is a variable in one of its clauses.
 type Open = IndexSet<((u32, usize), usize)>;
 
-/// One more clause. Those that are there are taken out and put back.
-fn add_clause<'a>(
-    alloc: Global,
-    index: &mut Index<'a>,
-    key: Called,
-    clause: &'a Clause,
-) -> Result<(), NoMemory>
+/// One more clause at a key.
+fn add_clause<'a>(index: &mut Index<'a>, key: Called, clause: &'a Clause) -> Result<(), NoMemory>
     ensures { OnOk result ((k : Call) → clauses_at index.new k ≡ (if is_called key k then clauses_at index.old k ++ clause.now ∷ [] else clauses_at index.old k)) }
 {
-    let mut own = match index.swap_remove(&key) {
-        Some(held) => held,
-        None => Vec::new(alloc),
-    };
+    let own = index.entry(key)?.or_default();
     own.push(clause)?;
-    index.insert(key, own)?;
     Ok(())
 }
 
 /// One more clause, for its argument at a place, where that is a constant.
 fn add_by_argument<'a>(
-    alloc: Global,
     index: &mut Index<'a>,
     name: u32,
     arity: usize,
@@ -54,11 +44,11 @@ fn add_by_argument<'a>(
     match arg {
         Term::Atom(a) => {
             let key = Called::Atom(name, arity, place, a.number());
-            add_clause(alloc, index, key, clause)
+            add_clause(index, key, clause)
         }
         Term::Int(z) => {
             let key = Called::integer(name, arity, place, *z);
-            add_clause(alloc, index, key, clause)
+            add_clause(index, key, clause)
         }
         _ => Ok(()),
     }
@@ -66,7 +56,6 @@ fn add_by_argument<'a>(
 
 /// One more clause, for each of its arguments that is a constant.
 fn add_by_arguments<'a>(
-    alloc: Global,
     index: &mut Index<'a>,
     name: u32,
     args: &[Term],
@@ -76,22 +65,22 @@ fn add_by_arguments<'a>(
 {
     let arity = args.len();
     for place in 0..arity {
-        add_by_argument(alloc, index, name, arity, place, &args[place], clause)?;
+        add_by_argument(index, name, arity, place, &args[place], clause)?;
     }
     Ok(())
 }
 
 /// One more clause.
-fn add_by_head<'a>(alloc: Global, index: &mut Index<'a>, clause: &'a Clause) -> Result<(), NoMemory>
+fn add_by_head<'a>(index: &mut Index<'a>, clause: &'a Clause) -> Result<(), NoMemory>
     ensures { OnOk result ((k : Call) → clauses_at index.new k ≡ (if leads k clause.now.head then clauses_at index.old k ++ clause.now ∷ [] else clauses_at index.old k)) }
 {
     match clause.head() {
         Term::Var(_) | Term::Int(_) => Ok(()),
-        Term::Atom(a) => add_clause(alloc, index, Called::All(a.number(), 0), clause),
+        Term::Atom(a) => add_clause(index, Called::All(a.number(), 0), clause),
         Term::Node(a, args) => {
             let key = Called::All(a.number(), args.len());
-            add_clause(alloc, index, key, clause)?;
-            add_by_arguments(alloc, index, a.number(), args.as_slice(), clause)
+            add_clause(index, key, clause)?;
+            add_by_arguments(index, a.number(), args.as_slice(), clause)
         }
     }
 }
@@ -102,7 +91,7 @@ fn index_of(alloc: Global, clauses: &[Clause]) -> Result<Index<'_>, NoMemory>
 {
     let mut index = IndexMap::new(alloc);
     for clause in clauses {
-        add_by_head(alloc, &mut index, clause)?;
+        add_by_head(&mut index, clause)?;
     }
     Ok(index)
 }
