@@ -63,8 +63,8 @@ impl Common {
         self.demand.load() > 0
     }
 
-    /// Tells whether nothing was offered yet for one of the others, which is then answered for.
-    pub fn serves_fresh(&self) -> bool {
+    /// Claims one of the others for which nothing was offered yet, and tells whether there was one.
+    pub fn claim_fresh(&self) -> bool {
         self.fresh.load() > 0 && self.fresh.fetch_sub(1) > 0
     }
 

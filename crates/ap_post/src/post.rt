@@ -94,9 +94,10 @@ impl<'a, 'b> Post<'a, 'b> {
         &self.bar
     }
 
-    /// Tells whether a goal is to be offered: to a worker that had none yet, which is then answered for, or to one that looks for one.
-    pub fn serves(&self) -> bool {
-        self.common.serves_fresh() || self.common.wants()
+    /// Claims a worker that had no goal yet, or finds one that looks for one, and tells whether there was one: then a goal is to be
+    /// offered.
+    pub fn claim_taker(&self) -> bool {
+        self.common.claim_fresh() || self.common.wants()
     }
 
     /// Tells whether the query's search has ended.

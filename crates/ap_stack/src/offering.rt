@@ -104,7 +104,7 @@ impl<'a> Stack<'a> {
         let Some(last) = self.newest.last_ready() else {
             return Ok(false);
         };
-        if last == i || !post.serves() {
+        if last == i || !post.claim_taker() {
             return Ok(false);
         }
         self.offer_newest(post, last)
