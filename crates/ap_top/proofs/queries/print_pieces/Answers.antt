@@ -1,4 +1,5 @@
-use Rattle.std.proofs.Common.{◌≡◌, false, take, get_or, None, Err, sym, subst, rules, arith}
+use Rattle.std.proofs.Common.{◌≡◌, false, take, get_or, None, Err, ap, sym, ◌∙◌, subst, rules, arith}
+use Rattle.std.proofs.lemmas.Result.{err_from_is_err_and}
 use Rattle.std.proofs.lemmas.List.{take_all}
 use Rattle.ap_lexer.specs.declared.cut.Piece.{Piece}
 use Rattle.ap_outside.specs.Pieces.{Puts}
@@ -18,7 +19,8 @@ print_piece-requires-clause-query g c κs within = subst (LeavesQuery c.args.pro
 
 pub returns-in_err-here-clause-lines : goal.returns-in_err-here-clause-lines
 returns-in_err-here-clause-lines g c =
-    let same : c.from_residual.result ≡ Err c.in_err-here.field-0.0 = search rules in
+    let halt = err_from_is_err_and c.from_residual.result c.from_residual.ensures.1 in
+    let same : c.from_residual.result ≡ Err c.in_err-here.field-0.0 = halt.1 ∙ ap Err halt.2 in
     let xs = c.args.pieces.now in
     let i = c.loop-piece.piece-index in
     let b = c.args.bounds.budget in
