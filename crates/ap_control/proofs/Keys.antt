@@ -17,12 +17,15 @@ use Rattle.ap_instr.specs.Steps.{steps_behind}
 use Rattle.ap_index.specs.declared.key.Key.{Key}
 use Rattle.ap_index.specs.declared.key.Key.TheVariants.{Atom, Integer, Structure}
 use Rattle.ap_index.specs.declared.choice.Choice.{Choice}
-use Rattle.ap_index.specs.Index.{AsksOther, LeavesOthers, named, tried_from, named_from, IsChoiceAt}
+use Rattle.ap_index.specs.declared.hashing.Hashed.{Hashed}
+use Rattle.ap_index.specs.declared.row.Row.{Row}
+use Rattle.ap_index.specs.Index.{AsksOther, LeavesOthers, named, tried_from, named_from, first_for, only_for, IsRowOf, IsChoiceAt}
 use Rattle.ap_match.specs.Fits.{Fits}
 use Rattle.ap_steps.specs.Moves.{Asked}
 use Rattle.ap_standing.specs.Machine.{places_from}
 use Rattle.ap_index.specs.Keys.{same_key, integer_key, first_key, IsKeyOf}
 use Rattle.ap_control.specs.Heads.{IsShut, PassesOver}
+use Rattle.ap_control.specs.Choosing.{HasKey, IsOnly}
 
 -- a tree has one key
 pub clash : (a b : Key) (t : Tree) → same_key a b ≡ false → IsKeyOf a t → IsKeyOf b t → ⊥
@@ -103,9 +106,26 @@ module _ (code : Compiled) (at : ℕ) (c : Choice) (h : IsChoiceAt code at c) wh
       subst (λ o. places_from code o ≡ c.named.place ∷ places_from code c.named.behind) (sym e)
       (sym (subst (λ p. named_from code (Some p) ≡ tried_from code (Some p)) h.at_it (h.is.named.goes_on goes_on)) ∙ choice-places)
 
--- of the clauses of a predicate that begins with a choice those are left that are left of the choices
-pub row-passes : (code : Compiled) (cs : List Raw) (x : ℕ → ℕ) (q : Predicate) (c : Choice) (o : Option ℕ) → IsChoiceAt code q.start c → c.named.is_first ≡ true
-    → PassesOver code cs x (named_from code (Some q.start)) (named_from code o) → PassesOver code cs x (clause_places code q) (named_from code o)
-row-passes code cs x q c o h first p =
+-- of the clauses of a predicate those are left that its row leaves of its choices
+module _ (code : Compiled) (cs : List Raw) (x : ℕ → ℕ) (q : Predicate) (r : Row) (own : Hashed) (h : IsRowOf code q.start r) (key : HasKey cs x (Some own)) where
+  pub row-passes : PassesOver code cs x (clause_places code q) (named_from code (first_for r own.key))
+  row-passes =
+      subst (λ ls. PassesOver code cs x ls (named_from code (first_for r own.key))) (sym (begun-places code q h.clause h.begins))
+      (passes-others code cs x own.key key (named_from code (Some q.start)) (named_from code (first_for r own.key)) (h.leads own.key))
+
+  pub row-only : (one : ℕ) → only_for r own.key ≡ Some one → IsOnly code cs x (clause_places code q) one
+  row-only one e =
+      let it = h.alone own.key one e in
+      record {
+        behind = it.behind;
+        first =
+            subst (λ ls. PassesOver code cs x ls (one ∷ it.behind)) (sym (begun-places code q h.clause h.begins))
+            (passes-others code cs x own.key key (named_from code (Some q.start)) (one ∷ it.behind) it.leads);
+        next = passes-others code cs x own.key key it.behind [] it.others;
+      }
+
+-- the clauses of a predicate that begins with a choice are those that the choice names
+pub begin-places : (code : Compiled) (q : Predicate) (c : Choice) → IsChoiceAt code q.start c → c.named.is_first ≡ true → clause_places code q ≡ c.named.place ∷ places_from code c.named.behind
+begin-places code q c h first =
     let begins : slice_get code.instructions q.start ≡ Some (Try c.named.place) = subst (λ at. slice_get code.instructions at ≡ Some (Try c.named.place)) h.at_it (h.is.named.begins first) in
-    subst (λ ls. PassesOver code cs x ls (named_from code o)) (sym (begun-places code q c.named.place begins)) p
+    begun-places code q c.named.place begins ∙ choice-places code q.start c h

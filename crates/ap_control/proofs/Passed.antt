@@ -3,7 +3,11 @@ use Rattle.std.proofs.Common.{◌≡◌, ℕ, ◌≤◌, List, [], ◌∷◌, �
 use Rattle.std.specs.List.{AllByRecursion}
 use Rattle.ap_cells.specs.declared.cells.Raw.{Raw}
 use Rattle.ap_instr.specs.Code.{Compiled}
+use Rattle.ap_standing.specs.Machine.{places_from}
+use Rattle.ap_control.specs.declared.choosing.Chosen.{Chosen}
+use Rattle.ap_control.specs.declared.choosing.Chosen.TheVariants.{Only, First}
 use Rattle.ap_control.specs.Heads.{IsShut, PassesOver}
+use Rattle.ap_control.specs.Choosing.{IsChosen}
 
 module _ (code : Compiled) (cs : List Raw) (x : ℕ → ℕ) where
   pub passes-none : (ls rest : List ℕ) → ls ≡ rest → PassesOver code cs x ls rest
@@ -27,3 +31,8 @@ module _ (code : Compiled) (cs : List Raw) (x : ℕ → ℕ) where
 
   pub passes-shorter : (ls rest : List ℕ) → PassesOver code cs x ls rest → length rest ≤ length ls
   passes-shorter ls rest h = omega (arith, ap length h.are, length-append h.passed rest)
+
+  -- what is chosen of those that are left is chosen of all
+  pub chosen-then : (n : ℕ) (all ls : List ℕ) (c : Chosen) → PassesOver code cs x all ls → IsChosen code cs x n ls c → IsChosen code cs x n all c
+  chosen-then n all ls (Only one) h k = record { behind = k.behind; first = passes-then all ls (one ∷ k.behind) h k.first; next = k.next }
+  chosen-then n all ls (First a p) h k = record { first = passes-then all ls (a.place ∷ places_from code a.behind) h k.first; next = k.next; sure = k.sure }

@@ -15,8 +15,11 @@ use Rattle.ap_control.specs.declared.choosing.Fit.{Fit}
 use Rattle.ap_control.specs.declared.choosing.Fit.TheVariants.{Has, Takes, Lacks, Open}
 use Rattle.ap_control.specs.declared.choosing.Chance.{Chance}
 use Rattle.ap_control.specs.declared.choosing.Chance.TheVariants.{Never, Sure, Open as OpenChance}
+use Rattle.ap_control.specs.declared.alternatives.Alternative.{Alternative}
 use Rattle.ap_control.specs.declared.choosing.Possible.{Possible}
-use Rattle.ap_control.specs.Heads.{IsShut}
+use Rattle.ap_control.specs.declared.choosing.Chosen.{Chosen}
+use Rattle.ap_control.specs.declared.choosing.Chosen.TheVariants.{Only, First}
+use Rattle.ap_control.specs.Heads.{IsShut, PassesOver}
 use Rattle.ap_control.specs.Taking.{CanTake}
 
 -- of the maps that fit the cells that holds of each, of some, or of none; or it isn't told
@@ -75,3 +78,24 @@ HasKey cs x (Some own) = (k : ℕ → Tree) → Fits cs k → IsKeyOf own.key (k
 abbrev pub possible_places : Compiled → Option Possible → List ℕ
 possible_places code None = []
 possible_places code (Some p) = p.alternative.place ∷ places_from code p.alternative.behind
+
+-- a clause that is said to be sure can be entered
+abbrev pub IsSure : Compiled → List Raw → (ℕ → ℕ) → ℕ → Possible → Type 0
+IsSure code cs x n p = p.sure ≡ true → (z : ℕ → ℕ) → Alike n x z → CanTake code cs z p.alternative.place
+
+-- of some clauses' places one is left, and those behind it can't be entered
+pub record IsOnly (code : Compiled) (cs : List Raw) (x : ℕ → ℕ) (ls : List ℕ) (one : ℕ) : Type 0 where
+  pub behind : List ℕ
+  pub first : PassesOver code cs x ls (one ∷ behind)
+  pub next : PassesOver code cs x behind []
+
+-- of some clauses' places the first one that is left, and the next one behind it
+pub record AreNext (code : Compiled) (cs : List Raw) (x : ℕ → ℕ) (n : ℕ) (ls : List ℕ) (a : Alternative) (p : Possible) : Type 0 where
+  pub first : PassesOver code cs x ls (a.place ∷ places_from code a.behind)
+  pub next : PassesOver code cs x (places_from code a.behind) (p.alternative.place ∷ places_from code p.alternative.behind)
+  pub sure : IsSure code cs x n p
+
+-- the clauses that a call with so many arguments may enter
+abbrev pub IsChosen : Compiled → List Raw → (ℕ → ℕ) → ℕ → List ℕ → Chosen → Type 0
+IsChosen code cs x n ls (Only one) = IsOnly code cs x ls one
+IsChosen code cs x n ls (First a p) = AreNext code cs x n ls a p

@@ -7,18 +7,18 @@ ghost use Rattle.ap_cells.specs.declared.cells.Raw.{Raw};
 ghost use Rattle.ap_instr.specs.StandsFor.{clause_places};
 ghost use Rattle.ap_index.specs.Keys.{same_key, IsKeyOf};
 ghost use Rattle.ap_instr.specs.Code.{Compiled};
-ghost use Rattle.ap_index.specs.Index.{named_from, IsChoiceAt, IsChoiceOf};
+ghost use Rattle.ap_index.specs.Index.{IsChoiceOf, IsRowOf};
 ghost use Rattle.ap_match.specs.Fits.{Fits};
 ghost use Rattle.ap_steps.specs.Moves.{held, HoldPlaces};
 ghost use Rattle.ap_standing.specs.Machine.{places_from};
 ghost use Rattle.ap_control.specs.Heads.{PassesOver};
 ghost use Rattle.ap_control.specs.Taking.{CanTake};
-ghost use Rattle.ap_control.specs.Choosing.{both, chance_by, fit_known, IsFit, IsAskFit, AreFit, IsChance, HasKey, Alike, possible_places};
+ghost use Rattle.ap_control.specs.Choosing.{both, chance_by, fit_known, IsFit, IsAskFit, AreFit, IsChance, HasKey, Alike, IsSure, IsChosen, possible_places};
 
 use crate::alternatives::{Alternative, first, following};
 use ap_cells::{Cells, Top};
 use ap_codecheck::Sound;
-use ap_index::{Ask, Choice, Hashed, Head, Key, Next};
+use ap_index::{Ask, Choice, Hashed, Head, Key, Next, Row};
 use ap_instr::Predicate;
 use ap_steps::registers::place_in;
 
@@ -353,11 +353,26 @@ pub fn next_possible(
     possible_from(cells, x, arity, sound, key, from)
 }
 
-/// The clause that a call enters, and the next one that isn't passed over, if there is one.
+/// The clauses that a call may enter.
 #[derive(Clone, Copy)]
-pub struct Chosen {
-    pub first: Alternative,
-    pub next: Option<Possible>,
+pub enum Chosen {
+    /// The one at a place, and no other.
+    Only(u32),
+    /// The first one, and the next one that isn't passed over.
+    First(Alternative, Possible),
+}
+
+impl Chosen {
+    /// The first one, and the next one, if there is one.
+    #[inline(always)]
+    fn of(first: Alternative, next: Option<Possible>) -> Chosen
+        ensures { (code : Compiled) (cs : List Raw) (x : ℕ → ℕ) (n : ℕ) (ls : List ℕ) → PassesOver code cs x ls (first.place ∷ places_from code first.behind) → PassesOver code cs x (places_from code first.behind) (possible_places code next) → IfSome next (IsSure code cs x n) → IsChosen code cs x n ls result }
+    {
+        match next {
+            Some(second) => Chosen::First(first, second),
+            None => Chosen::Only(first.place),
+        }
+    }
 }
 
 /// The clauses that are left from a choice on, where the others are left from another choice on. None where none of them can be entered.
@@ -376,9 +391,7 @@ fn chosen_among(
     requires found { IsChoiceOf sound.now found.now }
     requires from { PassesOver sound.now cells.now.cells (held x.now) (places_from sound.now found.now.named.behind) (places_from sound.now from) }
     ensures none { result ≡ None → PassesOver sound.now cells.now.cells (held x.now) (found.now.named.place ∷ places_from sound.now found.now.named.behind) [] }
-    ensures first { IfSome result (λ c. PassesOver sound.now cells.now.cells (held x.now) (found.now.named.place ∷ places_from sound.now found.now.named.behind) (c.first.place ∷ places_from sound.now c.first.behind)) }
-    ensures next { IfSome result (λ c. PassesOver sound.now cells.now.cells (held x.now) (places_from sound.now c.first.behind) (possible_places sound.now c.next)) }
-    ensures sure { IfSome result (λ c. IfSome c.next (λ p. p.sure ≡ true → (z : ℕ → ℕ) → Alike arity (held x.now) z → CanTake sound.now cells.now.cells z p.alternative.place)) }
+    ensures some { IfSome result (IsChosen sound.now cells.now.cells (held x.now) arity (found.now.named.place ∷ places_from sound.now found.now.named.behind)) }
 {
     let own = Alternative {
         place: found.named.place,
@@ -392,12 +405,9 @@ fn chosen_among(
             };
             let rest = next_behind(sound, key, second.alternative.behind);
             let third = possible_from(cells, x, arity, sound, key, rest);
-            Some(Chosen {
-                first: second.alternative,
-                next: third,
-            })
+            Some(Chosen::of(second.alternative, third))
         }
-        _ => Some(Chosen { first: own, next }),
+        _ => Some(Chosen::of(own, next)),
     }
 }
 
@@ -415,18 +425,10 @@ fn chosen_from(
     requires key { HasKey cells.now.cells (held x.now) key }
     requires found { IsChoiceOf sound.now found.now }
     ensures none { result ≡ None → PassesOver sound.now cells.now.cells (held x.now) (found.now.named.place ∷ places_from sound.now found.now.named.behind) [] }
-    ensures first { IfSome result (λ c. PassesOver sound.now cells.now.cells (held x.now) (found.now.named.place ∷ places_from sound.now found.now.named.behind) (c.first.place ∷ places_from sound.now c.first.behind)) }
-    ensures next { IfSome result (λ c. PassesOver sound.now cells.now.cells (held x.now) (places_from sound.now c.first.behind) (possible_places sound.now c.next)) }
-    ensures sure { IfSome result (λ c. IfSome c.next (λ p. p.sure ≡ true → (z : ℕ → ℕ) → Alike arity (held x.now) z → CanTake sound.now cells.now.cells z p.alternative.place)) }
+    ensures some { IfSome result (IsChosen sound.now cells.now.cells (held x.now) arity (found.now.named.place ∷ places_from sound.now found.now.named.behind)) }
 {
     match next_choice(sound, key, found) {
-        None => Some(Chosen {
-            first: Alternative {
-                place: found.named.place,
-                behind: found.named.behind,
-            },
-            next: None,
-        }),
+        None => Some(Chosen::Only(found.named.place)),
         from => chosen_among(cells, x, arity, sound, key, found, from),
     }
 }
@@ -435,54 +437,48 @@ fn chosen_from(
 #[inline(always)]
 fn chosen_plainly(sound: &Sound, predicate: &Predicate) -> Option<Chosen>
     ensures none { result ≡ None → (cs : List Raw) (x : ℕ → ℕ) → PassesOver sound.now cs x (clause_places sound.now predicate.now) [] }
-    ensures first { IfSome result (λ c. (cs : List Raw) (x : ℕ → ℕ) → PassesOver sound.now cs x (clause_places sound.now predicate.now) (c.first.place ∷ places_from sound.now c.first.behind)) }
-    ensures next { IfSome result (λ c. (cs : List Raw) (x : ℕ → ℕ) → PassesOver sound.now cs x (places_from sound.now c.first.behind) (possible_places sound.now c.next)) }
-    ensures sure { (n : ℕ) (cs : List Raw) (x : ℕ → ℕ) → IfSome result (λ c. IfSome c.next (λ p. p.sure ≡ true → (z : ℕ → ℕ) → Alike n x z → CanTake sound.now cs z p.alternative.place)) }
+    ensures some { (n : ℕ) (cs : List Raw) (x : ℕ → ℕ) → IfSome result (IsChosen sound.now cs x n (clause_places sound.now predicate.now)) }
 {
     match first(sound.code(), predicate) {
-        Some(found) => Some(Chosen {
-            first: found,
-            next: next_unknown(sound, found.behind),
-        }),
+        Some(found) => Some(Chosen::of(found, next_unknown(sound, found.behind))),
         None => None,
     }
 }
 
-/// A predicate's first choice for the first argument, by its row, if it has one: none where no clause is left.
+/// A predicate's clauses for the first argument, by the row of its choices.
 #[inline(always)]
-fn first_of_row(sound: &Sound, start: u32, key: Option<Hashed>) -> Option<usize>
-    ensures { (cs : List Raw) (x : ℕ → ℕ) → HasKey cs x key → PassesOver sound.now cs x (named_from sound.now (Some start)) (named_from sound.now result) }
+fn chosen_by_row(
+    cells: &Cells,
+    x: &[u32],
+    sound: &Sound,
+    predicate: &Predicate,
+    row: &Row,
+    own: Hashed,
+) -> Option<Chosen>
+    requires holds { HoldPlaces (length cells.now.cells) x.now }
+    requires row { IsRowOf sound.now predicate.now.start row.now }
+    requires own { HasKey cells.now.cells (held x.now) (Some own) }
+    ensures none { result ≡ None → PassesOver sound.now cells.now.cells (held x.now) (clause_places sound.now predicate.now) [] }
+    ensures some { IfSome result (IsChosen sound.now cells.now.cells (held x.now) predicate.now.arity (clause_places sound.now predicate.now)) }
 {
-    let at = start as usize;
-    let Some(own) = key else {
-        return Some(at);
+    if let Some(place) = row.only(own) {
+        return Some(Chosen::Only(place));
+    }
+    let Some(at) = row.first(own) else {
+        return None;
     };
-    match sound.row(at) {
-        Some(row) => row.first(own),
-        None => Some(at),
+    match sound.choice(at) {
+        Some(found) => chosen_from(cells, x, predicate.arity, sound, Some(own), found),
+        None => chosen_plainly(sound, predicate),
     }
 }
 
-/// The choice at a place, where another one is known that stands at its own.
+/// A predicate's clauses where no row is asked.
 #[inline(always)]
-fn choice_or<'a>(sound: &'a Sound, begin: &'a Choice, start: u32, at: usize) -> Option<&'a Choice>
-    requires { IsChoiceAt sound.now start begin.now }
-    ensures { IfSome result (λ choice. IsChoiceAt sound.now at choice.now) }
-{
-    if at == start as usize {
-        return Some(begin);
-    }
-    sound.choice(at)
-}
-
-/// The clauses of a predicate that a call on its argument registers may enter.
-#[inline(always)]
-pub fn choose(cells: &Cells, x: &[u32], sound: &Sound, predicate: &Predicate) -> Option<Chosen>
+fn chosen_in_turn(cells: &Cells, x: &[u32], sound: &Sound, predicate: &Predicate) -> Option<Chosen>
     requires { HoldPlaces (length cells.now.cells) x.now }
     ensures none { result ≡ None → PassesOver sound.now cells.now.cells (held x.now) (clause_places sound.now predicate.now) [] }
-    ensures first { IfSome result (λ c. PassesOver sound.now cells.now.cells (held x.now) (clause_places sound.now predicate.now) (c.first.place ∷ places_from sound.now c.first.behind)) }
-    ensures next { IfSome result (λ c. PassesOver sound.now cells.now.cells (held x.now) (places_from sound.now c.first.behind) (possible_places sound.now c.next)) }
-    ensures sure { IfSome result (λ c. IfSome c.next (λ p. p.sure ≡ true → (z : ℕ → ℕ) → Alike predicate.now.arity (held x.now) z → CanTake sound.now cells.now.cells z p.alternative.place)) }
+    ensures some { IfSome result (IsChosen sound.now cells.now.cells (held x.now) predicate.now.arity (clause_places sound.now predicate.now)) }
 {
     let Some(begin) = sound.choice(predicate.start as usize) else {
         return chosen_plainly(sound, predicate);
@@ -491,11 +487,21 @@ pub fn choose(cells: &Cells, x: &[u32], sound: &Sound, predicate: &Predicate) ->
         return chosen_plainly(sound, predicate);
     }
     let key = key_for(cells, x, begin);
-    let Some(at) = first_of_row(sound, predicate.start, key) else {
-        return None;
+    chosen_from(cells, x, predicate.arity, sound, key, begin)
+}
+
+/// The clauses of a predicate that a call on its argument registers may enter.
+#[inline(always)]
+pub fn choose(cells: &Cells, x: &[u32], sound: &Sound, predicate: &Predicate) -> Option<Chosen>
+    requires { HoldPlaces (length cells.now.cells) x.now }
+    ensures none { result ≡ None → PassesOver sound.now cells.now.cells (held x.now) (clause_places sound.now predicate.now) [] }
+    ensures some { IfSome result (IsChosen sound.now cells.now.cells (held x.now) predicate.now.arity (clause_places sound.now predicate.now)) }
+{
+    let Some(row) = sound.row(predicate.start as usize) else {
+        return chosen_in_turn(cells, x, sound, predicate);
     };
-    match choice_or(sound, begin, predicate.start, at) {
-        Some(found) => chosen_from(cells, x, predicate.arity, sound, key, found),
-        None => chosen_plainly(sound, predicate),
+    match own_of(cells, place_in(x, 1)) {
+        Some(own) => chosen_by_row(cells, x, sound, predicate, row, own),
+        None => chosen_in_turn(cells, x, sound, predicate),
     }
 }

@@ -144,6 +144,13 @@ module _ (base code : Compiled) (begins : Begins base code) (alone : StandsAlone
         begins = get-still start _ h.begins;
         leads = λ key.
             leaves-still key _ _ _ _ (named-same (Some start) (lt-ltb _ _ l)) (named-same (first_for r key) (row-within _ r _ w)) (h.leads key);
+        alone = λ key one e.
+            let it = h.alone key one e in
+            record {
+              behind = it.behind;
+              leads = leaves-still key _ _ _ _ (named-same (Some start) (lt-ltb _ _ l)) refl it.leads;
+              others = leaves-still key it.behind [] it.behind [] refl refl it.others;
+            };
       }
 
   rest-still : (from : ℕ) (r : Row) → from < length base.instructions → is_row_within (length base.instructions) r ≡ true → IsRestOf base from r → IsRestOf code from r

@@ -6,19 +6,33 @@ use Rattle.ap_instr.specs.declared.instruction.Instr.TheVariants.{Try, Retry, Tr
 use Rattle.ap_instr.specs.Code.{Compiled}
 use Rattle.ap_instr.specs.StandsFor.{tried}
 use Rattle.ap_index.specs.declared.key.Key.{Key}
+use Rattle.ap_index.specs.declared.key.Keyed.{Keyed}
 use Rattle.ap_index.specs.Keys.{same_key, key_at, IsKeyed}
 use Rattle.ap_index.specs.Hashing.{slot_of}
 use Rattle.ap_index.specs.declared.row.Row.{Row}
 use Rattle.ap_index.specs.declared.row.Link.{Link}
 use Rattle.ap_index.specs.declared.rows.Entry.{Entry}
 use Rattle.ap_index.specs.declared.rows.Entry.TheVariants.{Nothing, Begins, Rest, Behind}
-use Rattle.ap_index.specs.Index.{LeavesOthers, named, tried_from, named_from, in_slot, first_for, IsFilled, IsRowOf, IsLinkOf, IsEntryOf, IsNamedBy}
+use Rattle.ap_index.specs.declared.row.TheConstants.{NONE}
+use Rattle.ap_index.specs.Index.{LeavesOthers, LeavesOne, named, tried_from, named_from, place_or_none, in_slot, first_for, only_for, only_before, IsFilled, IsRowOf, IsLinkOf, IsEntryOf, IsNamedBy}
 use Rattle.ap_index.proofs.Same.{true-same}
 use Rattle.ap_term.proofs.Lists.{slice_get-push, drop-here}
 
 -- a choice for a key was put first in its slot
 abbrev pub PutsFirst : Key → ℕ → Row → Row → Type 0
 PutsFirst asked at old new = (key : Key) → first_for new key ≡ (if slot_of key old.count == slot_of asked old.count then Some at else first_for old key)
+
+-- and its clause is the only one there, where none was
+abbrev pub PutsOnly : Keyed → Row → Row → Type 0
+PutsOnly k old new = (key : Key) → only_for new key ≡ (if slot_of key old.count == slot_of k.key old.count then only_before (first_for old key) k.clause else only_for old key)
+
+-- a place is that place
+pub same-place : (l one : ℕ) → place_or_none l ≡ Some one → one ≡ l
+same-place l one = go (l == NONE)
+  where
+    go : (b : Bool) → (if b then None else Some l) ≡ Some one → one ≡ l
+    go true e = absurd (let z : ⊥ = cc in z)
+    go false e = cc
 
 module _ (code : Compiled) (key : Key) where
   leaves-all : (ls rest : List ℕ) → ls ≡ rest → LeavesOthers code key ls rest
@@ -50,6 +64,27 @@ module _ (code : Compiled) (key : Key) where
       subst (λ ks. LeavesOthers code key ks (from (first_for new key))) (sym here)
       (subst (λ first. LeavesOthers code key (l ∷ ls) (from first)) (sym (put key)) (next asked old.count l at (first_for old key) ls from asks here h (slot_of key old.count == slot_of asked old.count) refl))
 
+-- ---- the only clause
+
+module _ (code : Compiled) (key : Key) where
+  -- one more clause, which is left out, before those
+  one-before : (asked : Key) (l : ℕ) (ls : List ℕ) (one : ℕ) → key_at code l ≡ Some asked → same_key asked key ≡ false → LeavesOne code key ls one → LeavesOne code key (l ∷ ls) one
+  one-before asked l ls one asks other h = record { behind = h.behind; leads = leaves-one code key asked l ls (one ∷ h.behind) asks other h.leads; others = h.others }
+
+  -- a clause before those of which none is left
+  one-here : (l one : ℕ) (ls : List ℕ) (first : Option ℕ) → LeavesOthers code key ls (tried_from code first) → only_before first l ≡ Some one → LeavesOne code key (l ∷ ls) one
+  one-here l one ls None h e = record { behind = ls; leads = leaves-all code key (l ∷ ls) (one ∷ ls) (ap (λ k. k ∷ ls) (sym (same-place l one e))); others = h }
+  one-here l one ls (Some at) h e = absurd (let z : ⊥ = cc in z)
+
+  -- where a choice was put into a row
+  put-alone : (k : Keyed) (old new : Row) (all ls : List ℕ) (one : ℕ) → key_at code k.clause ≡ Some k.key → all ≡ k.clause ∷ ls → LeavesOthers code key ls (tried_from code (first_for old key))
+      → ((o : ℕ) → only_for old key ≡ Some o → LeavesOne code key ls o) → PutsOnly k old new → only_for new key ≡ Some one → LeavesOne code key all one
+  put-alone k old new all ls one asks here h before put e = subst (λ ks. LeavesOne code key ks one) (sym here) (go (slot_of key old.count == slot_of k.key old.count) refl (sym (put key) ∙ e))
+    where
+      go : (b : Bool) → (slot_of key old.count == slot_of k.key old.count) ≡ b → (if b then only_before (first_for old key) k.clause else only_for old key) ≡ Some one → LeavesOne code key (k.clause ∷ ls) one
+      go true s e = one-here k.clause one ls (first_for old key) h e
+      go false s e = one-before k.key k.clause ls one asks (apart code key k.key old.count (same_key k.key key) refl s) (before one e)
+
 -- a choice that is put behind the `try`
 module _ (code : Compiled) (at : ℕ) (here : named_from code (Some at) ≡ tried_from code (Some at)) where
   either : (b : Bool) (o : Option ℕ) → named_from code o ≡ tried_from code o → named_from code (if b then Some at else o) ≡ tried_from code (if b then Some at else o)
@@ -62,7 +97,7 @@ module _ (code : Compiled) (at : ℕ) (here : named_from code (Some at) ≡ trie
 
 -- what choices name
 module _ (code : Compiled) (at l : ℕ) where
-  trust-last : slice_get code.instructions at ≡ Some (Trust l) → tried_from code (Some at) ≡ l ∷ []
+  pub trust-last : slice_get code.instructions at ≡ Some (Trust l) → tried_from code (Some at) ≡ l ∷ []
   trust-last e = ap tried (drop-here code.instructions at (Trust l) e)
 
   retry-more : slice_get code.instructions at ≡ Some (Retry l) → tried_from code (Some at) ≡ l ∷ tried_from code (Some (at + 1))
@@ -104,31 +139,37 @@ row-link code from row asked l count slot next filled = λ key same.
     subst (λ first. LeavesOthers code key (tried_from code (Some from)) (tried_from code first)) (ap (in_slot row) e ∙ sym next) (filled.leads key)
 
 -- a choice behind the `try` more
-pub filled-more : (code : Compiled) (at : ℕ) (asked : Key) (k : IsKeyed code at (λ clause. Retry clause) asked) (old new : Row) → IsFilled code (at + 1) old → PutsFirst asked at old new → IsFilled code at new
-filled-more code at asked k old new h put = record {
-  leads = λ key. put-leaves code key asked old new k.clause at (tried_from code (Some (at + 1))) (tried_from code) k.asks (retry-more code at k.clause k.names) (h.leads key) put;
-  behind_try = λ key. put-behind code at (retry-named code at k.clause k.names) asked old new key (h.behind_try key) put;
+pub filled-more : (code : Compiled) (at : ℕ) (k : Keyed) → IsKeyed code at (λ clause. Retry clause) k → (old new : Row) → IsFilled code (at + 1) old → PutsFirst k.key at old new → PutsOnly k old new → IsFilled code at new
+filled-more code at k is old new h put only = record {
+  leads = λ key. put-leaves code key k.key old new k.clause at (tried_from code (Some (at + 1))) (tried_from code) is.asks (retry-more code at k.clause is.names) (h.leads key) put;
+  behind_try = λ key. put-behind code at (retry-named code at k.clause is.names) k.key old new key (h.behind_try key) put;
+  alone = λ key one e. put-alone code key k old new _ (tried_from code (Some (at + 1))) one is.asks (retry-more code at k.clause is.names) (h.leads key) (h.alone key) only e;
 }
 
 -- the last choice
-pub filled-last : (code : Compiled) (at : ℕ) (asked : Key) (k : IsKeyed code at (λ clause. Trust clause) asked) (old new : Row) → ((key : Key) → first_for old key ≡ None) → PutsFirst asked at old new → IsFilled code at new
-filled-last code at asked k old new empty put = record {
-  leads = λ key.
-      put-leaves code key asked old new k.clause at [] (tried_from code) k.asks (trust-last code at k.clause k.names)
-      (leaves-all code key [] (tried_from code (first_for old key)) (sym (ap (tried_from code) (empty key)))) put;
-  behind_try = λ key.
-      put-behind code at (trust-named code at k.clause k.names) asked old new key
-      (subst (λ first. named_from code first ≡ tried_from code first) (sym (empty key)) refl) put;
-}
+pub filled-last : (code : Compiled) (at : ℕ) (k : Keyed) → IsKeyed code at (λ clause. Trust clause) k → (old new : Row) → ((key : Key) → first_for old key ≡ None) → ((key : Key) → only_for old key ≡ place_or_none NONE) → PutsFirst k.key at old new → PutsOnly k old new
+    → IsFilled code at new
+filled-last code at k is old new empty none put only =
+    let nothing : (key : Key) → LeavesOthers code key [] (tried_from code (first_for old key)) = λ key. leaves-all code key [] (tried_from code (first_for old key)) (sym (ap (tried_from code) (empty key))) in
+    record {
+      leads = λ key. put-leaves code key k.key old new k.clause at [] (tried_from code) is.asks (trust-last code at k.clause is.names) (nothing key) put;
+      behind_try = λ key.
+          put-behind code at (trust-named code at k.clause is.names) k.key old new key
+          (subst (λ first. named_from code first ≡ tried_from code first) (sym (empty key)) refl) put;
+      alone = λ key one e.
+          put-alone code key k old new _ [] one is.asks (trust-last code at k.clause is.names) (nothing key)
+          (λ o f. absurd (let g = sym (none key) ∙ f in let z : ⊥ = cc in z)) only e;
+    }
 
 -- the `try`
-pub filled-first : (code : Compiled) (at : ℕ) (asked : Key) (k : IsKeyed code at (λ clause. Try clause) asked) (old new : Row) → IsFilled code (at + 1) old → PutsFirst asked at old new → IsRowOf code at new
-filled-first code at asked k old new h put = record {
+pub filled-first : (code : Compiled) (at : ℕ) (k : Keyed) → IsKeyed code at (λ clause. Try clause) k → (old new : Row) → IsFilled code (at + 1) old → PutsFirst k.key at old new → PutsOnly k old new → IsRowOf code at new
+filled-first code at k is old new h put only = record {
   clause = k.clause;
-  begins = k.names;
+  begins = is.names;
   leads = λ key.
-      put-leaves code key asked old new k.clause at (tried_from code (Some (at + 1))) (named_from code) k.asks (try-more code at k.clause k.names)
+      put-leaves code key k.key old new k.clause at (tried_from code (Some (at + 1))) (named_from code) is.asks (try-more code at k.clause is.names)
       (subst (LeavesOthers code key (tried_from code (Some (at + 1)))) (sym (h.behind_try key)) (h.leads key)) put;
+  alone = λ key one e. put-alone code key k old new _ (tried_from code (Some (at + 1))) one is.asks (try-more code at k.clause is.names) (h.leads key) (h.alone key) only e;
 }
 
 -- what a list has at a place it has there with more behind it

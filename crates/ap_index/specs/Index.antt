@@ -33,6 +33,12 @@ pub record LeavesOthers (code : Compiled) (key : Key) (ls rest : List ℕ) : Typ
   pub are : ls ≡ passed ++ rest
   pub others : AllByRecursion (AsksOther code key) passed
 
+-- of some clauses' places one is left, and the clauses at all others ask for another first argument
+pub record LeavesOne (code : Compiled) (key : Key) (ls : List ℕ) (one : ℕ) : Type 0 where
+  pub behind : List ℕ
+  pub leads : LeavesOthers code key ls (one ∷ behind)
+  pub others : LeavesOthers code key behind []
+
 -- the clauses that are named behind a `try`, from a choice on
 abbrev pub tried_from : Compiled → Option ℕ → List ℕ
 tried_from code None = []
@@ -48,24 +54,39 @@ abbrev pub named_from : Compiled → Option ℕ → List ℕ
 named_from code None = []
 named_from code (Some at) = named (drop at code.instructions)
 
+-- a place, if it is one
+abbrev pub place_or_none : ℕ → Option ℕ
+place_or_none at = if at == NONE then None else Some at
+
 -- what a row has in a slot
 abbrev pub in_slot : Row → ℕ → Option ℕ
-in_slot r slot = let at = get_or r.slots.items slot NONE in if at == NONE then None else Some at
+in_slot r slot = place_or_none (get_or r.slots.items slot NONE)
 
 -- the first choice for a key
 abbrev pub first_for : Row → Key → Option ℕ
 first_for r key = in_slot r (slot_of key r.count)
 
+-- the clause that alone is left for a key, as far as the row tells
+abbrev pub only_for : Row → Key → Option ℕ
+only_for r key = place_or_none (get_or r.onlys.items (slot_of key r.count) NONE)
+
+-- one clause before those of a choice: it alone is left where there is no such choice
+abbrev pub only_before : Option ℕ → ℕ → Option ℕ
+only_before None clause = place_or_none clause
+only_before (Some at) clause = None
+
 -- a row of a predicate's choices, as far as it was filled: from a place behind the `try` on
 pub record IsFilled (code : Compiled) (from : ℕ) (r : Row) : Type 0 where
   pub leads : (key : Key) → LeavesOthers code key (tried_from code (Some from)) (tried_from code (first_for r key))
   pub behind_try : (key : Key) → named_from code (first_for r key) ≡ tried_from code (first_for r key)
+  pub alone : (key : Key) (one : ℕ) → only_for r key ≡ Some one → LeavesOne code key (tried_from code (Some from)) one
 
 -- the choices of a predicate begin at a place with a row
 pub record IsRowOf (code : Compiled) (start : ℕ) (r : Row) : Type 0 where
   pub clause : ℕ
   pub begins : slice_get code.instructions start ≡ Some (Try clause)
   pub leads : (key : Key) → LeavesOthers code key (named_from code (Some start)) (named_from code (first_for r key))
+  pub alone : (key : Key) (one : ℕ) → only_for r key ≡ Some one → LeavesOne code key (named_from code (Some start)) one
 
 -- they go on at a place with a row
 abbrev pub IsRestOf : Compiled → ℕ → Row → Type 0

@@ -7,6 +7,7 @@ use Rattle.ap_instr.specs.declared.instruction.Instr.TheVariants.{GetConstant, G
 use Rattle.ap_instr.specs.Code.{Compiled}
 use Rattle.ap_index.specs.declared.key.Key.{Key}
 use Rattle.ap_index.specs.declared.key.Key.TheVariants.{Atom, Integer, Structure}
+use Rattle.ap_index.specs.declared.key.Keyed.{Keyed}
 
 abbrev pub same_key : Key → Key → Bool
 same_key (Atom a) (Atom b) = a == b
@@ -48,7 +49,6 @@ IsKeyOf (Integer z) t = t ≡ int z
 IsKeyOf (Structure f n) t = (ts : Trees) × (count_trees ts ≡ n) × (t ≡ node f ts)
 
 -- a choice stands at the place, made of a clause's place in that way, and the clause asks for a key
-pub record IsKeyed (code : Compiled) (at : ℕ) (choice : ℕ → Instr) (key : Key) : Type 0 where
-  pub clause : ℕ
-  pub names : slice_get code.instructions at ≡ Some (choice clause)
-  pub asks : key_at code clause ≡ Some key
+pub record IsKeyed (code : Compiled) (at : ℕ) (choice : ℕ → Instr) (k : Keyed) : Type 0 where
+  pub names : slice_get code.instructions at ≡ Some (choice k.clause)
+  pub asks : key_at code k.clause ≡ Some k.key

@@ -1,6 +1,6 @@
 //! What a clause asks of its first argument.
 
-ghost use Rattle.std.specs.Prelude.{◌≡◌, slice_get, None, IfSome};
+ghost use Rattle.std.specs.Prelude.{◌≡◌, slice_get, None, Some, IfSome};
 ghost use Rattle.ap_instr.specs.declared.instruction.Instr.TheVariants.{Try, Retry, Trust};
 ghost use Rattle.ap_index.specs.Keys.{leaves_first, asked_key, integer_key, key_at, IsKeyed};
 
@@ -79,32 +79,47 @@ fn key_at(code: &Code, at: usize) -> Option<Key>
     None
 }
 
-/// What the clause asks for that a `try` at a place names.
-pub(crate) fn try_key(code: &Code, at: usize) -> Option<Key>
-    ensures { IfSome result (λ key. IsKeyed code.now at (λ clause. Try clause) key) }
+/// A clause's place, and what the clause asks of its first argument.
+#[derive(Clone, Copy)]
+pub(crate) struct Keyed {
+    pub(crate) clause: u32,
+    pub(crate) key: Key,
+}
+
+/// The clause at a place, if it asks for a key.
+fn keyed_at(code: &Code, clause: u32) -> Option<Keyed>
+    ensures { IfSome result (λ keyed. (keyed.clause ≡ clause) × (key_at code.now clause ≡ Some keyed.key)) }
+{
+    let key = key_at(code, clause as usize)?;
+    Some(Keyed { clause, key })
+}
+
+/// The clause that a `try` at a place names, if it asks for a key.
+pub(crate) fn keyed_by_try(code: &Code, at: usize) -> Option<Keyed>
+    ensures { IfSome result (λ keyed. IsKeyed code.now at (λ clause. Try clause) keyed) }
 {
     match instruction_at(code, at) {
-        Some(Instr::Try(clause)) => key_at(code, clause as usize),
+        Some(Instr::Try(clause)) => keyed_at(code, clause),
         _ => None,
     }
 }
 
-/// What the clause asks for that a `retry` at a place names.
-pub(crate) fn retry_key(code: &Code, at: usize) -> Option<Key>
-    ensures { IfSome result (λ key. IsKeyed code.now at (λ clause. Retry clause) key) }
+/// The clause that a `retry` at a place names, if it asks for a key.
+pub(crate) fn keyed_by_retry(code: &Code, at: usize) -> Option<Keyed>
+    ensures { IfSome result (λ keyed. IsKeyed code.now at (λ clause. Retry clause) keyed) }
 {
     match instruction_at(code, at) {
-        Some(Instr::Retry(clause)) => key_at(code, clause as usize),
+        Some(Instr::Retry(clause)) => keyed_at(code, clause),
         _ => None,
     }
 }
 
-/// What the clause asks for that a `trust` at a place names.
-pub(crate) fn trust_key(code: &Code, at: usize) -> Option<Key>
-    ensures { IfSome result (λ key. IsKeyed code.now at (λ clause. Trust clause) key) }
+/// The clause that a `trust` at a place names, if it asks for a key.
+pub(crate) fn keyed_by_trust(code: &Code, at: usize) -> Option<Keyed>
+    ensures { IfSome result (λ keyed. IsKeyed code.now at (λ clause. Trust clause) keyed) }
 {
     match instruction_at(code, at) {
-        Some(Instr::Trust(clause)) => key_at(code, clause as usize),
+        Some(Instr::Trust(clause)) => keyed_at(code, clause),
         _ => None,
     }
 }

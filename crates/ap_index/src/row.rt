@@ -6,12 +6,14 @@ ghost use Rattle.std.specs.Prelude.{◌≡◌, ◌<◌, vec_len};
 pub(crate) const NONE: u32 = 0xffff_ffff;
 
 /// Choices in a row, by slots: each key has one of so many, where the place of the first choice for a key of that slot stands,
-/// or that of the choice behind the row, if there is one.
+/// or that of the choice behind the row, if there is one; and the place of the clause, where one alone is left.
 #[derive(Drop)]
 pub struct Row {
     pub(crate) slots: Vec<u32>,
+    pub(crate) onlys: Vec<u32>,
     pub(crate) count: u32,
     ghost full: { vec_len slots ≡ count },
+    ghost whole: { vec_len onlys ≡ count },
     ghost some: { 0 < count },
 }
 

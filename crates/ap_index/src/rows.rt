@@ -1,16 +1,16 @@
 //! Rows of choices: which choice comes first for a key, and which one next.
 
-ghost use Rattle.std.specs.Prelude.{◌≡◌, ℕ, ◌+◌, ◌<◌, ◌≤◌, ◌==◌, ◌^◌, if◌then◌else◌, None, Some, true, IfOk, IfSome, OnOk, length, slice_get, get_or};
+ghost use Rattle.std.specs.Prelude.{◌≡◌, ℕ, ◌+◌, ◌<◌, ◌≤◌, ◌==◌, ◌^◌, if◌then◌else◌, [], ◌∷◌, None, Some, true, IfOk, IfSome, OnOk, length, slice_get, get_or};
 ghost use Rattle.std.specs.Option.{ForSome};
 ghost use Rattle.ap_instr.specs.Code.{Compiled};
 ghost use Rattle.ap_index.specs.declared.key.Key.{Key};
 ghost use Rattle.ap_index.specs.declared.rows.Entry.TheVariants.{Nothing};
 ghost use Rattle.ap_index.specs.Hashing.{slot_of};
-ghost use Rattle.ap_index.specs.Index.{LeavesOthers, tried_from, first_for, in_slot, named_from, IsFilled, IsRowOf, IsRestOf, IsLinkOf, IsEntryOf, AreRowsOf};
+ghost use Rattle.ap_index.specs.Index.{LeavesOthers, tried_from, first_for, only_for, only_before, place_or_none, in_slot, named_from, IsFilled, IsRowOf, IsRestOf, IsLinkOf, IsEntryOf, AreRowsOf};
 ghost use Rattle.ap_index.specs.Within.{are_rows_within};
 
 use crate::hashing::Hashed;
-use crate::key::{Key, instruction_at, retry_key, trust_key, try_key};
+use crate::key::{Key, Keyed, instruction_at, keyed_by_retry, keyed_by_trust, keyed_by_try};
 use crate::row::{Link, NONE, Row};
 use crate::within::{are_links_within, are_rows_within};
 use ap_instr::{Code, Instr};
@@ -44,15 +44,17 @@ pub(crate) struct Rows {
 }
 
 impl Row {
-    /// Without choices yet, with room for some.
-    fn new(alloc: Global, choices: u32, behind: Option<u32>) -> Result<Row, NoMemory>
+    /// Without choices yet, with room for some. The clause of the choice behind it is the only one, or `NONE`.
+    fn new(alloc: Global, choices: u32, behind: Option<u32>, only: u32) -> Result<Row, NoMemory>
         requires some { 0 < choices }
         requires place { ForSome behind (λ at. at < NONE) }
-        ensures { IfOk result (λ row. (key : Key) → first_for row key ≡ behind) }
+        ensures first { IfOk result (λ row. (key : Key) → first_for row key ≡ behind) }
+        ensures only { IfOk result (λ row. (key : Key) → only_for row key ≡ place_or_none only) }
     {
         let count = choices.saturating_mul(SLOTS_EACH);
         Ok(Row {
             slots: Vec::from_elem(alloc, behind.unwrap_or(NONE), count as usize)?,
+            onlys: Vec::from_elem(alloc, only, count as usize)?,
             count,
         })
     }
@@ -78,6 +80,15 @@ impl Row {
         }
     }
 
+    /// The clause that alone is left for a key, as far as that is known.
+    #[inline(always)]
+    pub fn only(&self, key: Hashed) -> Option<u32>
+        ensures { result ≡ only_for self.now key.key }
+    {
+        let place = self.onlys[key.slot(self.count)];
+        if place == NONE { None } else { Some(place) }
+    }
+
     /// What comes behind a choice for a key.
     fn link(&self, key: Key) -> Link
         ensures count { result.count ≡ self.now.count }
@@ -92,12 +103,17 @@ impl Row {
         }
     }
 
-    /// A choice is first now for the keys of its key's slot.
-    fn put(&mut self, key: Key, place: u32)
+    /// A choice is first now for the keys of its key's slot, and its clause the only one, where none was there.
+    fn put(&mut self, keyed: Keyed, place: u32)
         requires { place < NONE }
-        ensures { (k : Key) → first_for self.new k ≡ (if slot_of k self.old.count == slot_of key self.old.count then Some place else first_for self.old k) }
+        ensures first { (k : Key) → first_for self.new k ≡ (if slot_of k self.old.count == slot_of keyed.key self.old.count then Some place else first_for self.old k) }
+        ensures only { (k : Key) → only_for self.new k ≡ (if slot_of k self.old.count == slot_of keyed.key self.old.count then only_before (first_for self.old k) keyed.clause else only_for self.old k) }
     {
-        let slot = Hashed::new(key).slot(self.count);
+        let slot = Hashed::new(keyed.key).slot(self.count);
+        self.onlys[slot] = match self.at(slot) {
+            None => keyed.clause,
+            Some(_) => NONE,
+        };
         self.slots[slot] = place;
     }
 }
@@ -213,11 +229,11 @@ impl Rows {
             return Ok(());
         };
         for at in (start + 1..end).rev() {
-            let Some(key) = retry_key(code, at as usize) else {
+            let Some(keyed) = keyed_by_retry(code, at as usize) else {
                 return Ok(());
             };
-            self.put_link(at + 1, row.link(key))?;
-            row.put(key, at);
+            self.put_link(at + 1, row.link(keyed.key))?;
+            row.put(keyed, at);
         }
         self.add_first(code, start, row)
     }
@@ -229,14 +245,14 @@ impl Rows {
         requires are_rows { AreRowsOf code.now self.old }
         ensures { OnOk result (AreRowsOf code.now self.new) }
     {
-        if let Some(first_key) = try_key(code, start as usize) {
-            self.put_link(start + 1, row.link(first_key))?;
-            row.put(first_key, start);
+        if let Some(first) = keyed_by_try(code, start as usize) {
+            self.put_link(start + 1, row.link(first.key))?;
+            row.put(first, start);
             return self.put_first(start, row);
         }
-        if let Some(key) = retry_key(code, start as usize) {
-            self.put_link(start + 1, row.link(key))?;
-            row.put(key, start);
+        if let Some(keyed) = keyed_by_retry(code, start as usize) {
+            self.put_link(start + 1, row.link(keyed.key))?;
+            row.put(keyed, start);
             return self.put_rest(start, row);
         }
         Ok(())
@@ -296,6 +312,16 @@ fn is_behind_try(code: &Code, at: u32) -> bool
     }
 }
 
+/// The clause that a `trust` at a place names; `NONE` where none stands there.
+fn last_clause(code: &Code, at: u32) -> u32
+    ensures { (one : ℕ) → place_or_none result ≡ Some one → tried_from code.now (Some at) ≡ one ∷ [] }
+{
+    match instruction_at(code, at as usize) {
+        Some(Instr::Trust(clause)) => clause,
+        _ => NONE,
+    }
+}
+
 /// A row before the choices in front of a place are put in: with the one there, if that is a `trust` of a clause with a key,
 /// else with the one there behind it.
 fn end_of_row(alloc: Global, code: &Code, choices: u32, at: u32) -> Result<Option<Row>, NoMemory>
@@ -303,21 +329,21 @@ fn end_of_row(alloc: Global, code: &Code, choices: u32, at: u32) -> Result<Optio
     requires below { at < NONE }
     ensures { IfOk result (λ r. IfSome r (λ row. IsFilled code.now at row)) }
 {
-    if let Some(last_key) = trust_key(code, at as usize) {
-        let mut row = Row::new(alloc, choices, None)?;
-        row.put(last_key, at);
+    if let Some(last) = keyed_by_trust(code, at as usize) {
+        let mut row = Row::new(alloc, choices, None, NONE)?;
+        row.put(last, at);
         return Ok(Some(row));
     }
     if !is_behind_try(code, at) {
         return Ok(None);
     }
-    let row = Row::new(alloc, choices, Some(at))?;
+    let row = Row::new(alloc, choices, Some(at), last_clause(code, at))?;
     Ok(Some(row))
 }
 
 /// Whether a choice of a clause with a key stands at a place, and another choice has to come.
 fn goes_on(code: &Code, at: u32) -> bool {
-    try_key(code, at as usize).is_some() || retry_key(code, at as usize).is_some()
+    keyed_by_try(code, at as usize).is_some() || keyed_by_retry(code, at as usize).is_some()
 }
 
 /// The rows of code's choices at so many places. Choices that are few aren't in them.

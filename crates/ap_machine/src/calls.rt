@@ -14,7 +14,7 @@ ghost use Rattle.ap_standing.specs.Machine.{Point, calling, inside, failed, plac
 ghost use Rattle.ap_standing.specs.Laws.{IsTurn, KeepsStanding};
 ghost use Rattle.ap_control.specs.Heads.{PassesOver};
 ghost use Rattle.ap_control.specs.Taking.{CanTake};
-ghost use Rattle.ap_control.specs.Choosing.{Alike, possible_places};
+ghost use Rattle.ap_control.specs.Choosing.{IsChosen, possible_places};
 ghost use Rattle.ap_machine.specs.View.{IsFor};
 ghost use Rattle.ap_machine.specs.Live.{UnifiesAtNewest, KeepsLive};
 ghost use Rattle.ap_machine.specs.Choices.{Stays, AtNewest, Returned, LeavesOut, places_of, called_point, points_left};
@@ -87,9 +87,7 @@ impl Search {
     /// The clauses of a predicate that a call on the argument registers may enter.
     fn chosen(&self, sound: &Sound, predicate: &Predicate) -> Option<Chosen>
         ensures none { result ≡ None → PassesOver sound.now self.now.machine.cells (held self.now.machine.x) (clause_places sound.now predicate.now) [] }
-        ensures first { IfSome result (λ c. PassesOver sound.now self.now.machine.cells (held self.now.machine.x) (clause_places sound.now predicate.now) (c.first.place ∷ places_from sound.now c.first.behind)) }
-        ensures next { IfSome result (λ c. PassesOver sound.now self.now.machine.cells (held self.now.machine.x) (places_from sound.now c.first.behind) (possible_places sound.now c.next)) }
-        ensures sure { IfSome result (λ c. IfSome c.next (λ p. p.sure ≡ true → (z : ℕ → ℕ) → Alike predicate.now.arity (held self.now.machine.x) z → CanTake sound.now self.now.machine.cells z p.alternative.place)) }
+        ensures some { IfSome result (IsChosen sound.now self.now.machine.cells (held self.now.machine.x) predicate.now.arity (clause_places sound.now predicate.now)) }
     {
         choose(&self.cells, &self.x, sound, predicate)
     }
@@ -139,20 +137,18 @@ impl Search {
             self.fail();
             return Ok(());
         };
-        let Some(Chosen { first, next }) = self.chosen(sound, &predicate) else {
-            self.fail();
-            return Ok(());
-        };
-        let Some(second) = next else {
-            self.resume(first.place as usize);
-            return Ok(());
-        };
-        if second.sure {
-            self.keep(number, predicate.arity, second.alternative)?;
-            self.resume(first.place as usize);
-        } else {
-            self.keep(number, predicate.arity, first)?;
-            self.fail();
+        match self.chosen(sound, &predicate) {
+            None => self.fail(),
+            Some(Chosen::Only(place)) => self.resume(place as usize),
+            Some(Chosen::First(first, second)) => {
+                if second.sure {
+                    self.keep(number, predicate.arity, second.alternative)?;
+                    self.resume(first.place as usize);
+                } else {
+                    self.keep(number, predicate.arity, first)?;
+                    self.fail();
+                }
+            }
         }
         Ok(())
     }

@@ -12,6 +12,6 @@ loop-at-preserved c =
     let filled : IsFilled code (at + 1) row = subst (λ n. IsFilled code n row) e c.loop-at.invariant.filled in
     record {
       order = omega arith;
-      rows = c.in_ok-put_link.ensures code c.loop-at.invariant.rows (row-link code (at + 1) row c.in-Some-retry_key.key c.link.result c.link.ensures.count c.link.ensures.slot c.link.ensures.next filled);
-      filled = filled-more code at c.in-Some-retry_key.key c.in-Some-retry_key.ensures row c.put.new.self filled c.put.ensures;
+      rows = c.in_ok-put_link.ensures code c.loop-at.invariant.rows (row-link code (at + 1) row c.in-Some-keyed_by_retry.keyed.key c.link.result c.link.ensures.count c.link.ensures.slot c.link.ensures.next filled);
+      filled = filled-more code at c.in-Some-keyed_by_retry.keyed c.in-Some-keyed_by_retry.ensures row c.put.new.self filled c.put.ensures.first c.put.ensures.only;
     }
