@@ -23,7 +23,8 @@ use Rattle.ap_term.proofs.Lists.{filter-push, own_key}
 use Rattle.ap_reach.specs.declared.called.Called.{Called}
 use Rattle.ap_reach.specs.declared.called.Called.TheVariants.{All as Whole, Atom, Integer}
 use Rattle.ap_reach.specs.Reached.{is_key, Place, is_place, is_called, has_call, place_of, is_beside, Extends, heads, argument, is_variable, fits, heads_open, is_open, is_open_before, is_before, leads, leads_before, is_for, answers, clauses_for, all_called, contribution, gathered, is_among, IsAmong, AreAmong, BodyIsAmong, CallsAmong, IsNamed, AreNamed, IsPartNamed}
-use Rattle.ap_reach.proofs.Same.{own_call, same_call}
+use Rattle.ap_reach.proofs.Same.{own_call}
+use Rattle.ap_reach.specs.Hashed.{same_call, called_eq}
 
 pub extends_none : (ks : List Called) → Extends ks ks
 extends_none ks = ([], sym (append-nil ks))
@@ -415,18 +416,6 @@ open_before_all k n f ts e = go (argument ts k.1) refl
     go : (o : Option Tree) → argument ts k.1 ≡ o → (nat_lt k.1 n && (is_variable o && is_key (f, count_trees ts) k.0)) ≡ (is_variable o && is_key (f, count_trees ts) k.0)
     go (Some t) d = let w = argument-within ts k.1 t d in ap (λ b. b && (is_variable (Some t) && is_key (f, count_trees ts) k.0)) ((Decides-ltb k.1 n).1 (omega arith))
     go None d = sym (never (nat_lt k.1 n))
-
--- the test of the code
-pub called_eq : (k l : Called) → eq-value.it k l ≡ is_called k l
-called_eq (Whole f n) (Whole g m) = refl
-called_eq (Whole f n) (Atom g m j b) = refl
-called_eq (Whole f n) (Integer g m j b) = refl
-called_eq (Atom f n i a) (Whole g m) = refl
-called_eq (Atom f n i a) (Atom g m j b) = refl
-called_eq (Atom f n i a) (Integer g m j b) = refl
-called_eq (Integer f n i a) (Whole g m) = refl
-called_eq (Integer f n i a) (Atom g m j b) = refl
-called_eq (Integer f n i a) (Integer g m j b) = refl
 
 -- ---- what is put in
 

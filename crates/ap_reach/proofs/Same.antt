@@ -25,29 +25,9 @@ use Rattle.ap_reach.specs.declared.called.Called.{Called}
 use Rattle.ap_reach.specs.declared.called.Called.TheVariants.{All as Whole, Atom, Integer}
 use Rattle.ap_reach.specs.Reached.{Key, is_key, is_called, has_call, key_of, place_of, is_beside, ArePlaced, heads, argument, argument_of, is_variable, fits, fits_in, heads_open, is_open, leads, is_closed, answers as answers_by, clauses_for, contribution, gathered, IsAmong, AreAmong, BodyIsAmong, CallsAmong, IsReached}
 use Rattle.ap_reach.specs.Laws.{AreSameFor, IsStateAmong}
+pub use Rattle.ap_reach.specs.Hashed.{same_call}
 
 -- ---- calls
-
-pub same_call : (k l : Called) → is_called k l ≡ true → k ≡ l
-same_call (Whole f n) (Whole g m) e =
-    let b = and_parts (f == g) (n == m) e in
-    ap₂ (λ x y. Whole x y) ((Decides-eqb f g).0 b.0) ((Decides-eqb n m).0 b.1)
-same_call (Atom f n i a) (Atom g m j c) e =
-    let b = and_parts (f == g) ((n == m) && ((i == j) && (a == c))) e in
-    let d = and_parts (n == m) ((i == j) && (a == c)) b.1 in
-    let x = and_parts (i == j) (a == c) d.1 in
-    ap₂ (λ y z. Atom y z i a) ((Decides-eqb f g).0 b.0) ((Decides-eqb n m).0 d.0) ∙ ap₂ (λ y z. Atom g m y z) ((Decides-eqb i j).0 x.0) ((Decides-eqb a c).0 x.1)
-same_call (Integer f n i a) (Integer g m j c) e =
-    let b = and_parts (f == g) ((n == m) && ((i == j) && int_eq a c)) e in
-    let d = and_parts (n == m) ((i == j) && int_eq a c) b.1 in
-    let x = and_parts (i == j) (int_eq a c) d.1 in
-    ap₂ (λ y z. Integer y z i a) ((Decides-eqb f g).0 b.0) ((Decides-eqb n m).0 d.0) ∙ ap₂ (λ y z. Integer g m y z) ((Decides-eqb i j).0 x.0) ((Decides-int_eq a c).0 x.1)
-same_call (Whole f n) (Atom g m j c) e = absurd (false≢true e)
-same_call (Whole f n) (Integer g m j c) e = absurd (false≢true e)
-same_call (Atom f n i a) (Whole g m) e = absurd (false≢true e)
-same_call (Atom f n i a) (Integer g m j c) e = absurd (false≢true e)
-same_call (Integer f n i a) (Whole g m) e = absurd (false≢true e)
-same_call (Integer f n i a) (Atom g m j c) e = absurd (false≢true e)
 
 pub both : (a b : Bool) → a ≡ true → b ≡ true → (a && b) ≡ true
 both a b e f = ap (λ c. c && b) e ∙ f

@@ -1,3 +1,4 @@
 pub mod Reached
 pub mod Index
 pub mod Laws
+pub mod Hashed

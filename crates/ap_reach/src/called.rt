@@ -11,11 +11,12 @@ ghost use Rattle.ap_reach.specs.Index.{IsPlacedIn};
 use ap_term::NoMemory;
 use indexmap::{IndexMap, IndexSet};
 use std::alloc::Global;
+use std::hash::{Hash, Hasher};
 use std::marker::Model;
 
 /// The clauses that a goal can call: by the name and arity of a predicate, all of them, or those with a constant as the argument at a
 /// place, which is counted from 0.
-#[derive(Clone, Copy, Debug, PartialEq, Eq, Hash)]
+#[derive(Clone, Copy, Debug, PartialEq, Eq)]
 pub enum Called {
     All(u32, usize),
     Atom(u32, usize, usize, u32),
@@ -30,6 +31,31 @@ impl Called {
         ensures { result ≡ Integer name arity place z }
     {
         Called::Integer(name, arity, place, z)
+    }
+}
+
+/// Few writes are made of what is called, since it is looked up for each argument of each clause.
+impl Hash for Called {
+    ghost use Rattle.ap_reach.specs.Hashed.{hashed, alike};
+
+    ghost hash_input = { hashed };
+
+    ghost respects_eq = { alike };
+
+    fn hash<H: Hasher>(&self, state: &mut H) {
+        match *self {
+            Called::All(name, _) => state.write_u32(name),
+            Called::Atom(name, _, place, a) => {
+                state.write_u64(u64::from(name) * 4_294_967_296 + u64::from(a));
+                state.write_usize(place);
+            }
+            Called::Integer(name, _, place, z) => {
+                state.write_i64(z);
+                state.write_u64(
+                    u64::from(name) * 4_294_967_296 + (place as u64).min(4_294_967_295),
+                );
+            }
+        }
     }
 }
 

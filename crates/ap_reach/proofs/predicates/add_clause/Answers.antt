@@ -5,8 +5,8 @@ use Rattle.indexmap.specs.IndexMap.{get}
 use Rattle.ap_reach.specs.contracts.called.CalledPartialEq.TheImpl.{eq-value}
 use Rattle.ap_reach.specs.Reached.{is_called}
 use Rattle.ap_reach.specs.Index.{listed}
-use Rattle.ap_reach.proofs.Same.{same_call}
-use Rattle.ap_reach.proofs.Naming.{had_listed, put_turn, called_eq, lookup_same}
+use Rattle.ap_reach.specs.Hashed.{same_call, called_eq}
+use Rattle.ap_reach.proofs.Naming.{had_listed, put_turn, lookup_same}
 use Rattle.ap_reach.proofs.predicates.add_clause.Goals as goal
 
 pub returns : goal.returns
