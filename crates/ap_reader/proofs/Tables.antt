@@ -1,12 +1,13 @@
 -- Tables of names that grow.
-use Rattle.std.proofs.Common.{◌≡◌, ℕ, zero, suc, ◌+◌, ◌≤◌, Bool, true, false, cond, List, [], ◌∷◌, ◌++◌, length, Some, slice_get, refl, sym, ap, subst, ◌∙◌, append_assoc, arith, length-append}
+use Rattle.std.proofs.Common.{◌≡◌, ℕ, zero, suc, ◌+◌, ◌≤◌, ◌<◌, Bool, true, false, ◌||◌, cond, List, [], ◌∷◌, ◌++◌, length, take, Some, slice_get, refl, sym, ap, subst, ◌∙◌, append_assoc, arith, length-append}
 use Rattle.std.specs.Prelude.{bytes_eq}
 use Rattle.std.proofs.lemmas.List.{append-nil}
 use Rattle.std.proofs.lemmas.Bool.{or_parts}
 use Rattle.std.proofs.lemmas.Slice.Eq.{bytes_eq-Decides}
 use Rattle.std.proofs.lemmas.Option.{same_Some}
 use Rattle.ap_lexer.specs.Lexeme.{Text}
-use Rattle.ap_term.specs.AtomTable.{is_held, insert_name, insert_names, IsWithoutRepeats, IsAtomTable}
+use Rattle.ap_term.specs.declared.fixed.TheConstants.{COUNT}
+use Rattle.ap_term.specs.AtomTable.{fixed_names, is_held, insert_name, insert_names, IsWithoutRepeats, IsAtomTable}
 use Rattle.ap_term.specs.declared.names.InternErr.{InternErr}
 use Rattle.ap_term.specs.declared.names.InternErr.TheVariants as err
 use Rattle.ap_reader.specs.Build.{place_of, Extends, FaultAt}
@@ -67,3 +68,26 @@ fault-at err.NoMemory added more all first old new grows same fault = extends-tr
 
 pub grown : (first old new added : List Text) → Extends first old → new ≡ insert_names old added → Extends first new
 grown first old new added grows e = subst (Extends first) (sym e) (extends-trans first old (insert_names old added) grows (extends-names old added))
+
+-- a name that stands at a place is held
+held-at : (names : List Text) (a : ℕ) (name : Text) → slice_get names a ≡ Some name → is_held names name ≡ true
+held-at [] a name e = absurd (cc)
+held-at (x ∷ xs) zero name e = ap (λ b. b || is_held xs name) ((bytes_eq-Decides name x).1 (sym (same_Some x name e)))
+held-at (x ∷ xs) (suc a) name e = ap (λ b. bytes_eq name x || b) (held-at xs a name e) ∙ last (bytes_eq name x)
+  where
+    last : (b : Bool) → (b || true) ≡ true
+    last true = refl
+    last false = refl
+
+pub kept-at : (names : List Text) (a : ℕ) (name : Text) → slice_get names a ≡ Some name → names ≡ insert_name names name
+kept-at names a name e = sym (ap (λ b. cond b names (names ++ name ∷ [])) (held-at names a name e))
+
+front-at : (k : ℕ) (names : List Text) (a : ℕ) → a < k → slice_get (take k names) a ≡ slice_get names a
+front-at zero names a h = absurd (omega (arith, h))
+front-at (suc k) [] a h = refl
+front-at (suc k) (x ∷ xs) zero h = refl
+front-at (suc k) (x ∷ xs) (suc a) h = front-at k xs a (omega (arith, h))
+
+-- each table has the fixed names at their places
+pub fixed-at : (names : List Text) (a : ℕ) (name : Text) → IsAtomTable names → a < COUNT → slice_get fixed_names a ≡ Some name → slice_get names a ≡ Some name
+fixed-at names a name h few e = sym (front-at COUNT names a few) ∙ ap (λ ns. slice_get ns a) h.fixed ∙ e

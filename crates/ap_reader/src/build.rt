@@ -1,8 +1,9 @@
 //! The term that steps make. The names go into the table of atoms as they come.
 
-ghost use Rattle.std.specs.Prelude.{◌≡◌, List, [], ◌∷◌, ◌++◌, IfOk, map, codes, slice_get};
+ghost use Rattle.std.specs.Prelude.{◌≡◌, ◌<◌, List, [], ◌∷◌, ◌++◌, IfOk, IfSome, Some, map, codes, slice_get};
 ghost use Rattle.ap_lexer.specs.Lexeme.{Text};
-ghost use Rattle.ap_term.specs.AtomTable.{insert_names};
+ghost use Rattle.ap_term.specs.declared.fixed.TheConstants.{COUNT};
+ghost use Rattle.ap_term.specs.AtomTable.{fixed_names, insert_names};
 ghost use Rattle.ap_term.specs.TermView.{tree_of, trees_of};
 ghost use Rattle.ap_term.specs.Tree.{node, more, none};
 ghost use Rattle.ap_reader.specs.Written.{Written, Node, Cons, Nil, cell, leaf_of, leaf_at, meaning};
@@ -14,7 +15,7 @@ ghost use Rattle.ap_reader.specs.Step.{postfix};
 
 use crate::leaf::{Leaf, name_at};
 use crate::pass::Step;
-use ap_term::{Args, Atom, Atoms, InternErr, NoMemory, Term};
+use ap_term::{Args, Atom, Atoms, InternErr, NoMemory, Term, fixed};
 use std::alloc::Global;
 
 /// A term, or the items of what is open.
@@ -24,11 +25,34 @@ pub(crate) enum Value {
     Items(Vec<Term>),
 }
 
+/// The number of a name that stands in most bodies: each table of names holds it from the start.
+fn common(name: &[u8]) -> Option<u32>
+    ensures { IfSome result (λ n. (n < COUNT) × (slice_get fixed_names n ≡ Some name.now)) }
+{
+    match name {
+        [b','] => Some(fixed::COMMA),
+        [b':', b'-'] => Some(fixed::NECK),
+        [b'='] => Some(fixed::UNIFY),
+        [b'i', b's'] => Some(fixed::IS),
+        [b'+'] => Some(fixed::PLUS),
+        [b'-'] => Some(fixed::MINUS),
+        [b'*'] => Some(fixed::TIMES),
+        [b'<'] => Some(fixed::LESS),
+        [b'>'] => Some(fixed::GREATER),
+        [b'&'] => Some(fixed::PARALLEL),
+        _ => None,
+    }
+}
+
 /// The atom of a name, which stays its place in the table however that grows.
 fn atom(alloc: Global, atoms: &mut Atoms, name: &str) -> Result<Atom, InternErr>
     ensures place { IfOk result (λ a. (more : List Text) → a ≡ place_of (insert_names atoms.new more) name.now) }
     ensures table { Interned (name.now ∷ []) atoms.old atoms.new result }
 {
+    if let Some(number) = common(name.as_bytes()) {
+        let _held = atoms.mark();
+        return Ok(Atom::at(number));
+    }
     match atoms.intern(alloc, name) {
         Ok(atom) => {
             let _kept = atoms.mark();

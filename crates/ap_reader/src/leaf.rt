@@ -1,6 +1,6 @@
 //! What each token is as an operand or a functor: a variable's number or a name.
 
-ghost use Rattle.std.specs.Prelude.{◌≡◌, ℕ, ◌+◌, ◌<◌, ◌^◌, List, IfOk, OnOk, map, drop, length};
+ghost use Rattle.std.specs.Prelude.{◌≡◌, ℕ, ◌+◌, ◌<◌, ◌^◌, List, IfOk, OnOk, map, drop, length, bytes_eq};
 ghost use Rattle.std.specs.Borrow.{Bor};
 ghost use Rattle.ap_lexer.specs.Lexeme.{Text};
 ghost use Rattle.ap_lexer.specs.Token.{Placed, view};
@@ -88,6 +88,16 @@ pub(crate) struct Variables<'a> {
     pub(crate) names: Vec<&'a str>,
 }
 
+/// Whether two names are the same. Most variables have one letter.
+fn is_same(left: &str, right: &str) -> bool
+    ensures { result ≡ bytes_eq left.now right.now }
+{
+    match (left.as_bytes(), right.as_bytes()) {
+        ([a], [b]) => a == b,
+        _ => left == right,
+    }
+}
+
 /// The place of a name, from 1.
 fn place_in(names: &[&str], name: &str) -> Option<u64>
     requires { length names.now < 2 ^ 63 }
@@ -96,7 +106,7 @@ fn place_in(names: &[&str], name: &str) -> Option<u64>
     let mut at = 1;
     let mut left = names;
     while let [first, rest @ ..] = left {
-        if *first == name {
+        if is_same(first, name) {
             return Some(at);
         }
         at += 1;
@@ -111,7 +121,7 @@ impl<'a> Variables<'a> {
         requires { Numbers self.now.numbers (texts self.now.names.items) }
         ensures { result ≡ spec.known (texts self.now.names.items) name.now }
     {
-        if name == "_" {
+        if is_same(name, "_") {
             return None;
         }
         let near = NEAR.min(self.names.len());

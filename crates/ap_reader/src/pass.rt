@@ -1,5 +1,6 @@
 // The pass that finds a term: one word after another, over what is open.
-ghost use Rattle.std.specs.Prelude.{◌≡◌, ℕ, ◌+◌, ◌^◌, ◌≤◌, pos, neg_ℤ, List, [], ◌∷◌, ◌++◌, true, map, vec_len, OnOk, OnErr};
+ghost use Rattle.std.specs.Prelude.{◌≡◌, ℕ, ◌+◌, ◌^◌, ◌≤◌, pos, neg_ℤ, List, [], ◌∷◌, ◌++◌, true, None, Some, map, vec_len, OnOk, OnErr, MatchOption};
+ghost use Rattle.ap_reader.specs.declared.pass.Open.{Open};
 ghost use Rattle.ap_reader.specs.Grammar.{Tree, spelled, IsWhole, infix_rank, prefix_rank};
 ghost use Rattle.ap_reader.specs.Machine.{Frame, State, Has, room, reduced, prefixed, shifted, closed, list_closed, parted, barred, on_want, on_has, next, parsed};
 
@@ -136,6 +137,18 @@ fn due(top: Open, most: u16) -> Option<Step>
     }
 }
 
+/// What the operator that is open last gives, where it takes its operand.
+fn due_last(stack: &[Open], most: u16) -> Option<Step>
+    ensures { MatchOption result
+        ((rest : List Open) (opened : Open) → stack.now ≡ rest ++ opened ∷ [] → due most opened ≡ None)
+        (λ step. (rest : List Open) × (opened : Open) × (stack.now ≡ rest ++ opened ∷ []) × (due most opened ≡ Some step)) }
+{
+    match stack.split_last() {
+        Some((top, _)) => due(*top, most),
+        None => None,
+    }
+}
+
 /// What is open, and the steps that were given.
 #[derive(Drop)]
 struct Pass {
@@ -149,19 +162,12 @@ impl Pass {
         ensures taken { Takes most self.old.stack.items self.old.out.items result self.new.stack.items self.new.out.items }
         ensures shorter { result ≡ Ok true → vec_len self.new.stack + 1 ≡ vec_len self.old.stack }
     {
-        let Some(top) = self.stack.pop() else {
+        let Some(step) = due_last(&self.stack, most) else {
             return Ok(false);
         };
-        match due(top, most) {
-            Some(step) => {
-                self.out.push(step)?;
-                Ok(true)
-            }
-            None => {
-                self.stack.push(top)?;
-                Ok(false)
-            }
-        }
+        let _taken = self.stack.pop();
+        self.out.push(step)?;
+        Ok(true)
     }
 
     /// Lets each open operator of priority at most `most` take its operand.
