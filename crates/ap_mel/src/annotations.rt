@@ -19,8 +19,8 @@ use ap_certify::Certified;
 use ap_cge::{Annotated, hand_written};
 use ap_fixpoint::analyse;
 use ap_patterns::{Entries, Table};
-use ap_term::{NoMemory, Program};
-use ap_udg::{Rule, annotate_by, has_groups};
+use ap_term::{Clause, NoMemory, Program};
+use ap_udg::{Rule, annotate_by, annotated_of, copy_clauses, has_groups};
 use std::alloc::Global;
 
 /// Which groups are made beside those that were written by hand.
@@ -38,71 +38,75 @@ pub enum Kind {
 pub fn annotate(alloc: Global, program: &Program, table: &Table) -> Result<Annotated, NoMemory>
     ensures { IfOk result (λ a. IsAnnotated Conditional (patterns table.now) program.now a) }
 {
-    annotate_by(alloc, Rule::Conditional, program, table)
+    let clauses = annotate_by(alloc, Rule::Conditional, program, table)?;
+    annotated_of(alloc, clauses)
 }
 
-/// The program with its first groups.
-fn first(alloc: Global, kind: Kind, program: &Program, table: &Table) -> Result<Annotated, NoMemory>
-    ensures { IfOk result (λ a. IsFirst kind (patterns table.now) program.now a) }
+/// The program's clauses with their first groups.
+fn first(
+    alloc: Global,
+    kind: Kind,
+    program: &Program,
+    table: &Table,
+) -> Result<Vec<Clause>, NoMemory>
+    ensures { IfOk result (λ a. IsFirst kind (patterns table.now) program.now a.items) }
 {
     match kind {
-        Kind::Mel => annotate(alloc, program, table),
-        Kind::Udg => ap_udg::annotate(alloc, program, table),
-        Kind::None => hand_written(alloc, program),
+        Kind::Mel => annotate_by(alloc, Rule::Conditional, program, table),
+        Kind::Udg => annotate_by(alloc, Rule::Unconditional, program, table),
+        Kind::None => copy_clauses(alloc, program.as_slice()),
     }
 }
 
 /// Whether no clause has a group.
-fn is_plain(program: &Program) -> bool
-    ensures { result ≡ is_plain program.now }
+fn is_plain(clauses: &[Clause]) -> bool
+    ensures { result ≡ is_plain clauses.now }
 {
-    program.as_slice().iter().all(|clause| !has_groups(clause))
+    clauses.iter().all(|clause| !has_groups(clause))
 }
 
-/// The program with its first groups, passed over until a pass leaves it as it is.
+/// The program's clauses with their first groups, passed over until a pass leaves them as they are.
 fn pass_on(
     alloc: Global,
     program: &Program,
     entries: &Entries,
     kind: Kind,
-    grouped: Annotated,
-) -> Result<Certified, NoMemory>
+    grouped: Vec<Clause>,
+) -> Result<Vec<Clause>, NoMemory>
     requires marked { IsMarked entries.now }
-    requires length { length program.now ≡ length grouped }
-    ensures made { IfOk result (λ c. (t : Patterns) → IsFix entries.now program.now t → IsFirst kind t program.now grouped → IsMade kind entries.now program.now c.program) }
-    ensures scope { IfOk result (λ c. IsScopeOf entries.now c.scope) }
-    ensures sound { IfOk result (λ c. (t : Patterns) → IsFirst kind t program.now grouped → IsSoundAnnotation program.now c.program (Of entries.now)) }
+    requires length { length program.now ≡ length grouped.items }
+    ensures made { IfOk result (λ a. (t : Patterns) → IsFix entries.now program.now t → IsFirst kind t program.now grouped.items → IsMade kind entries.now program.now a.items) }
+    ensures sound { IfOk result (λ a. (t : Patterns) → IsFirst kind t program.now grouped.items → IsSoundAnnotation program.now a.items (Of entries.now)) }
 {
-    let mut current = grouped;
+    let mut current = annotated_of(alloc, grouped)?;
     loop {
         let table = analyse(alloc, &current, entries)?;
-        let Pass { annotated, settled } = pass_over(alloc, kind, &table, program, &current)?;
+        let Pass { mended, settled } = pass_over(alloc, kind, &table, program, &current)?;
         if settled {
-            return certified(current, entries);
+            return Ok(mended);
         }
-        current = annotated;
+        current = annotated_of(alloc, mended)?;
     }
 }
 
-/// The program with its groups. Where nothing is grouped, the table of the program as it is written is that of the program with its
-/// groups, and no pass changes it.
-fn annotate_by_passes(
+/// The clauses of a program as it is written, with the groups that `annotate_sound` finds. Where nothing is grouped, the table of the
+/// program as it is written is that of the program with its groups, and no pass changes it.
+pub fn sound_clauses(
     alloc: Global,
-    program: &Program,
+    written: &Annotated,
     entries: &Entries,
     kind: Kind,
-) -> Result<Certified, NoMemory>
+) -> Result<Vec<Clause>, NoMemory>
     requires { IsMarked entries.now }
-    ensures made { IfOk result (λ c. IsMade kind entries.now program.now c.program) }
-    ensures scope { IfOk result (λ c. IsScopeOf entries.now c.scope) }
-    ensures sound { IfOk result (λ c. IsSoundAnnotation program.now c.program (Of entries.now)) }
+    ensures made { IfOk result (λ a. IsMade kind entries.now written.now a.items) }
+    ensures sound { IfOk result (λ a. IsSoundAnnotation written.now a.items (Of entries.now)) }
 {
-    let _good = program.as_slice();
-    let written = hand_written(alloc, program)?;
-    let table = analyse(alloc, &written, entries)?;
+    let table = analyse(alloc, written, entries)?;
+    let program = written.program();
+    let clauses = program.as_slice();
     let grouped = first(alloc, kind, program, &table)?;
-    if is_plain(program) && is_plain(grouped.program()) {
-        return certified(grouped, entries);
+    if is_plain(clauses) && is_plain(&grouped) {
+        return Ok(grouped);
     }
     pass_on(alloc, program, entries, kind, grouped)
 }
@@ -124,8 +128,10 @@ pub fn annotate_sound(
     ensures scope { IfOk result (λ c. IsScopeOf entries.now c.scope) }
     ensures sound { IfOk result (λ c. IsSoundAnnotation program.now c.program (Of entries.now)) }
 {
-    if is_lone(program) {
+    if is_lone(program.as_slice()) {
         return as_written(alloc, program, entries);
     }
-    annotate_by_passes(alloc, program, entries, kind)
+    let written = hand_written(alloc, program)?;
+    let clauses = sound_clauses(alloc, &written, entries, kind)?;
+    certified(annotated_of(alloc, clauses)?, entries)
 }

@@ -11,4 +11,5 @@ pub mod laws;
 mod lone;
 mod passes;
 
-pub use annotations::{Kind, annotate, annotate_sound};
+pub use annotations::{Kind, annotate, annotate_sound, sound_clauses};
+pub use lone::{is_lone, is_lone_clause};

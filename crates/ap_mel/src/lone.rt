@@ -53,20 +53,18 @@ fn is_lone_body(parts: &[Part]) -> bool
     true
 }
 
-fn is_lone_clause(clause: &Clause) -> bool
+/// The same of a clause.
+pub fn is_lone_clause(clause: &Clause) -> bool
     ensures { result ≡ is_lone_body clause.now.body }
 {
     is_lone_body(clause.body().as_slice())
 }
 
 /// Whether no clause has a group, or two goals in a row that aren't built in.
-pub fn is_lone(program: &Program) -> bool
-    ensures { result ≡ is_lone program.now }
+pub fn is_lone(clauses: &[Clause]) -> bool
+    ensures { result ≡ is_lone clauses.now }
 {
-    program
-        .as_slice()
-        .iter()
-        .all(|clause| is_lone_clause(clause))
+    clauses.iter().all(|clause| is_lone_clause(clause))
 }
 
 /// The program as it is, where there is nothing to group.

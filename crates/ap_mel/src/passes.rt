@@ -134,9 +134,9 @@ fn mend_clause(
     table: &Table,
     written: &Clause,
     clause: &Clause,
-    out: &mut Program,
+    out: &mut Vec<Clause>,
 ) -> Result<bool, NoMemory>
-    ensures out { OnOk result (out.new ≡ out.old ++ mended_clause kind (patterns table.now) written.now clause.now ∷ []) }
+    ensures out { OnOk result (out.new.items ≡ out.old.items ++ mended_clause kind (patterns table.now) written.now clause.now ∷ []) }
     ensures settled { IfOk result (λ b. b ≡ is_clause_settled kind (patterns table.now) written.now clause.now) }
 {
     let mut body = Body::new(alloc);
@@ -157,10 +157,10 @@ fn mend_clause(
     Ok(settled)
 }
 
-/// What a pass makes of an annotated program, and whether that stays as it is.
+/// The clauses that a pass makes of an annotated program, and whether that stays as it is.
 #[derive(Drop)]
 pub struct Pass {
-    pub annotated: Annotated,
+    pub mended: Vec<Clause>,
     pub settled: bool,
 }
 
@@ -173,18 +173,17 @@ pub fn pass_over(
     annotated: &Annotated,
 ) -> Result<Pass, NoMemory>
     requires { length written.now ≡ length annotated.now }
-    ensures mended { IfOk result (λ p. p.annotated ≡ mended_program kind (patterns table.now) written.now annotated.now) }
+    ensures mended { IfOk result (λ p. p.mended.items ≡ mended_program kind (patterns table.now) written.now annotated.now) }
     ensures settled { IfOk result (λ p. p.settled ≡ is_program_settled kind (patterns table.now) written.now annotated.now) }
     ensures formed { IfOk result (λ _. IsProgram annotated.now) }
 {
-    let mut out = Program::new(alloc);
+    let mut mended = Vec::new(alloc);
     let mut settled = true;
     let written = written.as_slice();
     let clauses = annotated.program().as_slice();
     for i in 0..clauses.len() {
-        let stays = mend_clause(alloc, kind, table, &written[i], &clauses[i], &mut out)?;
+        let stays = mend_clause(alloc, kind, table, &written[i], &clauses[i], &mut mended)?;
         settled = settled & stays;
     }
-    let annotated = Annotated::new(out);
-    Ok(Pass { annotated, settled })
+    Ok(Pass { mended, settled })
 }

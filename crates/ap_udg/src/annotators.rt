@@ -9,6 +9,7 @@ ghost use Rattle.ap_udg.specs.Annotated.{is_group, has_groups, IsBody, IsAnnotat
 
 use crate::completions::completed;
 use crate::groups::grouped;
+use crate::programs::annotated_of;
 use crate::runs::Rule;
 use crate::states::start;
 use ap_cge::Annotated;
@@ -79,7 +80,7 @@ fn annotated_clause(
     Ok(Clause::new(head, body, clause.vars(), clause.line()))
 }
 
-/// The program with the groups that the rule takes by a table. In a clause without groups that were written by hand, from
+/// A program's clauses with the groups that the rule takes by a table. In a clause without groups that were written by hand, from
 /// each user goal on, the longest run of user goals that may stand together becomes a group, where it has two goals or
 /// more, with the checks that its state doesn't give.
 pub fn annotate_by(
@@ -87,19 +88,20 @@ pub fn annotate_by(
     rule: Rule,
     program: &Program,
     table: &Table,
-) -> Result<Annotated, NoMemory>
-    ensures { IfOk result (λ a. IsAnnotated rule (patterns table.now) program.now a) }
+) -> Result<Vec<Clause>, NoMemory>
+    ensures { IfOk result (λ a. IsAnnotated rule (patterns table.now) program.now a.items) }
 {
-    let mut annotated = Program::new(alloc);
+    let mut annotated = Vec::new(alloc);
     for clause in program.as_slice() {
         annotated.push(annotated_clause(alloc, rule, table, clause)?)?;
     }
-    Ok(Annotated::new(annotated))
+    Ok(annotated)
 }
 
 /// The program with those groups that need no check (Muthukumar and Hermenegildo, the annotator UDG).
 pub fn annotate(alloc: Global, program: &Program, table: &Table) -> Result<Annotated, NoMemory>
     ensures { IfOk result (λ a. IsAnnotated Unconditional (patterns table.now) program.now a) }
 {
-    annotate_by(alloc, Rule::Unconditional, program, table)
+    let clauses = annotate_by(alloc, Rule::Unconditional, program, table)?;
+    annotated_of(alloc, clauses)
 }

@@ -1,10 +1,10 @@
-//! Parts and goals of their own.
+//! Parts, goals and clauses of their own.
 
 ghost use Rattle.std.specs.Prelude.{◌≡◌, IfOk};
 ghost use Rattle.ap_term.specs.GoalView.{part_of};
 ghost use Rattle.ap_term.specs.TermView.{trees_of};
 
-use ap_term::{Args, NoMemory, Part, Same, Term, instance_part, instances};
+use ap_term::{Args, Clause, NoMemory, Part, Same, Term, copy_clause, instance_part, instances};
 use std::alloc::Global;
 
 /// A part of its own with the same trees.
@@ -21,4 +21,15 @@ pub fn copy_goals(alloc: Global, goals: &[Term]) -> Result<Args, NoMemory>
     ensures { IfOk result (λ gs. gs ≡ trees_of goals.now) }
 {
     instances(alloc, &Same, goals)
+}
+
+/// Clauses of their own with the same trees.
+pub fn copy_clauses(alloc: Global, clauses: &[Clause]) -> Result<Vec<Clause>, NoMemory>
+    ensures { IfOk result (λ cs. cs.items ≡ clauses.now) }
+{
+    let mut copies = Vec::new(alloc);
+    for clause in clauses {
+        copies.push(copy_clause(alloc, clause)?)?;
+    }
+    Ok(copies)
 }

@@ -10,11 +10,13 @@ mod completions;
 mod copies;
 mod groups;
 pub mod laws;
+mod programs;
 mod runs;
 mod states;
 
 pub use annotators::{annotate, annotate_by, has_groups};
 pub use completions::{missing, with_checks};
-pub use copies::copy_part;
+pub use copies::{copy_clauses, copy_part};
+pub use programs::{annotated_of, program_of};
 pub use runs::Rule;
 pub use states::{behind, start};

@@ -13,7 +13,7 @@ loop-i-preserved c =
     let m : c.loop-i.i < length A = c.loop-i-test.true in
     let l : c.loop-i.i < length P = omega (arith, e, m) in
     record {
-      whole = clauses-turn c.args.kind t P A c.loop-i.i c.index-written-i.result c.index-clauses-i.result c.loop-i.out c.mend_clause.new.out (mended_program c.args.kind t P A) l m
+      whole = clauses-turn c.args.kind t P A c.loop-i.i c.index-written-i.result c.index-clauses-i.result c.loop-i.mended.items c.mend_clause.new.out.items (mended_program c.args.kind t P A) l m
           c.index-written-i.is c.index-clauses-i.is c.in_ok-stays.ensures.out c.loop-i.invariant.whole;
       stays = all_settled-turn c.args.kind t P A c.loop-i.i c.index-written-i.result c.index-clauses-i.result c.loop-i.settled c.in_ok-stays.stays (is_program_settled c.args.kind t P A) l m
           c.index-written-i.is c.index-clauses-i.is c.in_ok-stays.ensures.settled c.loop-i.invariant.stays;

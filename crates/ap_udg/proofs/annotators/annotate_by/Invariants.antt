@@ -4,4 +4,4 @@ use Rattle.ap_udg.specs.Annotated.{IsAnnotated}
 use Rattle.ap_udg.proofs.annotators.annotate_by.Given as goal
 
 abbrev pub invariant-loop-clause : goal.invariant-loop-clause
-invariant-loop-clause l = IsAnnotated l.rule (patterns l.table) (take l.clause-index l.clause-items) l.annotated
+invariant-loop-clause l = IsAnnotated l.rule (patterns l.table) (take l.clause-index l.clause-items) l.annotated.items
