@@ -1,8 +1,8 @@
 -- A program that is, without its groups, two put together with a clause between them, cut at that clause.
-use Rattle.std.proofs.Common.{◌≡◌, ℕ, suc, ◌+◌, ◌-◌, [], ◌∷◌, ◌++◌, length, take, drop, get_or, ap, ap₂, sym, subst, refl, ◌∙◌}
-use Rattle.std.proofs.Math.Seq.{take-append_seam, get_or-append_seam, drop-append-add, take-length}
+use Rattle.std.proofs.Common.{◌≡◌, suc, ◌+◌, ◌<◌, [], ◌∷◌, ◌++◌, length, take, drop, get_or, ap, ap₂, sym, refl, ◌∙◌, arith}
+use Rattle.std.specs.List.{remove}
+use Rattle.std.proofs.Math.Seq.{take-append_seam, drop-append_seam}
 use Rattle.std.proofs.lemmas.List.{length-append}
-use native.Mathlib.Omega.{arith}
 use Rattle.ap_term.specs.Goals.{Clause, Program, Query, joined}
 use Rattle.ap_cge.specs.Stripped.{stripped_clause, stripped}
 
@@ -56,24 +56,13 @@ cut_at (x ∷ xs) (c ∷ cs) q l e =
       of_behind = k.of_behind;
     }
 
-size : (x f p b : ℕ) → x ≡ f + suc b → f ≡ p → x - (p + 1) ≡ b
-size x f p b e h = omega (arith, e, h)
-
--- its pieces by their places
-pub pieces : (x p l : Program) (q d : Clause) (k : IsCut x p q l)
-    → (take (length p) x ≡ k.front) × (get_or x (length p) d ≡ k.clause) × (take (length x - (length p + 1)) (drop (length p + 1) x) ≡ k.behind)
-pieces x p l q d k =
-    let front : take (length k.front) (k.front ++ k.clause ∷ k.behind) ≡ k.front = take-append_seam k.front (k.clause ∷ k.behind) in
-    let clause : get_or (k.front ++ k.clause ∷ k.behind) (length k.front) d ≡ k.clause = get_or-append_seam k.front k.clause k.behind d in
-    let behind : drop (length k.front + 1) (k.front ++ k.clause ∷ k.behind) ≡ k.behind = drop-append-add k.front (k.clause ∷ k.behind) 1 in
-    let count : length (k.front ++ k.clause ∷ k.behind) ≡ length k.front + length (k.clause ∷ k.behind) = length-append k.front (k.clause ∷ k.behind) in
-    let longer : length x ≡ length k.front + length (k.clause ∷ k.behind) = ap length k.same ∙ count in
-    let many : length x - (length p + 1) ≡ length k.behind = size (length x) (length k.front) (length p) (length k.behind) longer k.as_many in (
-      subst (λ n. take n x ≡ k.front) k.as_many (subst (λ y. take (length k.front) y ≡ k.front) (sym k.same) front),
-      subst (λ n. get_or x n d ≡ k.clause) k.as_many (subst (λ y. get_or y (length k.front) d ≡ k.clause) (sym k.same) clause),
-      let dropped : drop (length p + 1) x ≡ k.behind = subst (λ n. drop (n + 1) x ≡ k.behind) k.as_many (subst (λ y. drop (length k.front + 1) y ≡ k.behind) (sym k.same) behind) in
-          ap (λ n. take n (drop (length p + 1) x)) many ∙ ap (take (length k.behind)) dropped ∙ take-length k.behind,
-    )
+-- it has more clauses than p
+pub longer : (p : Program) (q : Query) (asked x counted : Program) → asked ≡ joined p q → stripped x ≡ stripped asked → counted ≡ p → length counted < length x
+longer p q asked x counted joins strips counts =
+    let k : IsCut x p q.question q.lifted = cut_at x p q.question q.lifted (strips ∙ ap stripped joins) in
+    let many : length x ≡ length k.front + suc (length k.behind) = ap length k.same ∙ length-append k.front (k.clause ∷ k.behind) in
+    let few : length counted ≡ length k.front = ap length counts ∙ sym k.as_many in
+    omega (arith, many, few)
 
 -- The clauses up to a query's, that clause, and those behind it: without groups they are what was joined.
 pub record ArePieces (p : Program) (q : Query) (x front : Program) (question : Clause) (behind : Program) : Type 0 where
@@ -82,19 +71,20 @@ pub record ArePieces (p : Program) (q : Query) (x front : Program) (question : C
   pub of_question : stripped_clause question ≡ stripped_clause q.question
   pub of_lifted : stripped behind ≡ stripped q.lifted
 
-pub are_pieces : (p : Program) (q : Query) (asked x clauses counted front behind : Program) (question d : Clause)
-    → asked ≡ joined p q → clauses ≡ x → stripped x ≡ stripped asked → counted ≡ p
-    → front ≡ take (length counted) clauses → question ≡ d → d ≡ get_or clauses (length counted) d
-    → behind ≡ take (length clauses - (length counted + 1)) (drop (length counted + 1) clauses)
+-- its first clauses were split off, and the next one was taken from the others
+pub are_pieces : (p : Program) (q : Query) (asked x counted front others behind : Program) (question : Clause)
+    → asked ≡ joined p q → stripped x ≡ stripped asked → counted ≡ p
+    → front ≡ take (length counted) x → others ≡ drop (length counted) x → question ≡ get_or others 0 question → behind ≡ remove others 0
     → ArePieces p q x front question behind
-are_pieces p q asked x clauses counted front behind question d joins same strips counts fronts asks at behinds =
-    let k : IsCut clauses p q.question q.lifted = cut_at clauses p q.question q.lifted (ap stripped same ∙ strips ∙ ap stripped joins) in
-    let parts = pieces clauses p q.lifted q.question d k in
-    let front_is : front ≡ k.front = fronts ∙ ap (λ (c : Program). take (length c) clauses) counts ∙ parts.0 in
-    let question_is : question ≡ k.clause = asks ∙ at ∙ ap (λ (c : Program). get_or clauses (length c) d) counts ∙ parts.1 in
-    let behind_is : behind ≡ k.behind = behinds ∙ ap (λ (c : Program). take (length clauses - (length c + 1)) (drop (length c + 1) clauses)) counts ∙ parts.2 in
+are_pieces p q asked x counted front others behind question joins strips counts fronts rests asks behinds =
+    let k : IsCut x p q.question q.lifted = cut_at x p q.question q.lifted (strips ∙ ap stripped joins) in
+    let few : length counted ≡ length k.front = ap length counts ∙ sym k.as_many in
+    let front_is : front ≡ k.front = fronts ∙ ap₂ take few k.same ∙ take-append_seam k.front (k.clause ∷ k.behind) in
+    let rest_is : others ≡ k.clause ∷ k.behind = rests ∙ ap₂ drop few k.same ∙ drop-append_seam k.front (k.clause ∷ k.behind) in
+    let question_is : question ≡ k.clause = asks ∙ ap (λ cs. get_or cs 0 question) rest_is in
+    let behind_is : behind ≡ k.behind = behinds ∙ ap (λ cs. remove cs 0) rest_is in
     record {
-      whole = sym same ∙ k.same ∙ sym (ap₂ (λ (a b : Program). a ++ question ∷ b) front_is behind_is ∙ ap (λ (c : Clause). k.front ++ c ∷ k.behind) question_is);
+      whole = k.same ∙ sym (ap₂ (λ (a b : Program). a ++ question ∷ b) front_is behind_is ∙ ap (λ (c : Clause). k.front ++ c ∷ k.behind) question_is);
       of_program = ap stripped front_is ∙ k.of_front;
       of_question = ap stripped_clause question_is ∙ k.of_clause;
       of_lifted = ap stripped behind_is ∙ k.of_behind;

@@ -8,8 +8,10 @@ use Rattle.ap_top.specs.Last.{IsLastOf}
 use Rattle.ap_top.specs.declared.last.Last.{Last}
 
 pub with_code : (last : Last) (code : Kept) → code ≡ last.code → (p : Program) (kind : Kind) (q : Query) → IsLastOf p kind q last
-    → IsLastOf p kind q (record { calls = last.calls; part = last.part; grouped = last.grouped; code = code; is_plain = last.is_plain })
+    → IsLastOf p kind q (record { calls = last.calls; grouped = last.grouped; code = code; is_plain = last.is_plain })
 with_code last code same p kind q before = record {
+  part = before.part;
+  formed = before.formed;
   reached = before.reached;
   here = before.here;
   groups = before.groups;

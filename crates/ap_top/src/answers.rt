@@ -139,7 +139,6 @@ pub fn put_answers<R: Threads + Wait + Sync, G: Gate, K: Sink>(
         return Err(Halt::NoMemory);
     };
     let _whole = program.program().as_slice();
-    let _good = last.part.as_slice();
     let _asked = query.question();
     let ended = solve_with_pads(
         alloc,

@@ -12,7 +12,7 @@ ghost use Rattle.ap_top.specs.Last.{IsLast, IsLastOf};
 use ap_grouping::{Grouped, group_query, has_no_groups, regroup_query};
 use ap_mel::Kind;
 use ap_reach::{Calls, Predicates, calls_of, part_of};
-use ap_term::{NoMemory, Program, Query};
+use ap_term::{NoMemory, Query};
 use ap_worker::{Beside, KeptCode};
 use std::alloc::Global;
 
@@ -20,7 +20,6 @@ use std::alloc::Global;
 #[derive(Drop)]
 pub struct Last {
     pub calls: Calls,
-    pub part: Program,
     /// The part and the query, with their groups.
     pub grouped: Grouped,
     /// The code of the part with its groups.
@@ -41,12 +40,12 @@ fn group_part(
     ensures { IfOk result (IsLastOf program.now kind query.now) }
 {
     let part = part_of(alloc, program, &calls)?;
-    let grouped = group_query(alloc, &part, query, kind)?;
+    let _good = part.as_slice();
+    let grouped = group_query(alloc, part, query, kind)?;
     let code = KeptCode::of(alloc, &grouped.program)?;
     let is_plain = has_no_groups(query);
     Ok(Last {
         calls,
-        part,
         grouped,
         code,
         is_plain,
@@ -71,7 +70,6 @@ fn take_again(
     let is_plain = has_no_groups(query);
     let Last {
         calls,
-        part,
         grouped,
         code,
         ..
@@ -84,7 +82,6 @@ fn take_again(
     };
     Ok(Some(Last {
         calls,
-        part,
         grouped,
         code,
         is_plain,

@@ -11,9 +11,11 @@ returns c = λ p kind last reaches.
     let own : Reaches p asked c.args.last.calls = subst (Reaches p asked) (sym same) reaches in
     let gets : GetsGroups c.args.last.grouped.query asked c.in-Some.asked = subst (λ o. IfSome o (λ again. GetsGroups c.args.last.grouped.query asked again)) c.in-Some.is c.in_ok-asked.ensures in
     record {
+      part = before.part;
+      formed = before.formed;
       reached = before.reached;
       here = before.reached asked own;
-      groups = gets kind c.args.last.part c.args.last.grouped.program last.0 (before.plain c.if-not-last.false) c.as_slice-good.ensures.kept before.groups;
+      groups = gets kind before.part c.args.last.grouped.program last.0 (before.plain c.if-not-last.false) c.as_slice-good.ensures.kept before.groups;
       code = before.code;
       plain = λ e. c.has_no_groups-is_plain.ensures e;
     }
