@@ -1,16 +1,19 @@
 -- Rounds that go through the clauses again that read a changed pattern are the rounds of the definition.
-use Rattle.std.proofs.Common.{◌≡◌, ℕ, zero, suc, ◌+◌, ◌⊎◌, inl, inr, Bool, true, false, List, [], ◌∷◌, length, refl, ap, sym, ◌∙◌, subst, arith}
+use Rattle.std.proofs.Common.{◌≡◌, ℕ, zero, suc, ◌+◌, ◌⊎◌, inl, inr, Bool, true, false, List, [], ◌∷◌, Option, Some, None, length, refl, ap, sym, ◌∙◌, subst, arith}
 use Rattle.std.specs.List.{flat_map, All}
 use Rattle.std.proofs.Math.Path.{fun_ext}
 use Rattle.ap_term.specs.Goals.{Program, Clause}
+use Rattle.ap_absunify.specs.declared.states.State.TheVariants.{Unreachable}
+use Rattle.ap_patterns.specs.declared.tables.Predicate.{Predicate}
 use Rattle.ap_patterns.specs.declared.tables.Row.{Row}
 use Rattle.ap_patterns.specs.declared.slots.Slot.{Slot}
 use Rattle.ap_patterns.specs.declared.slots.Slot.TheVariants.{Call, Success}
 use Rattle.ap_patterns.specs.declared.slots.Given.{Given}
 use Rattle.ap_patterns.specs.declared.entries.Entries.{Entries}
-use Rattle.ap_patterns.specs.Given.{Patterns, patterns, given, given_by_entries, given_by_clause}
+use Rattle.ap_patterns.specs.Given.{Patterns, patterns, call_at, given, given_by_entries, given_by_clause}
+use Rattle.ap_patterns.specs.Table.{predicate_of}
 use Rattle.ap_patterns.specs.Covered.{IsHeld, IsClosed}
-use Rattle.ap_patterns.proofs.Coverings.{Below, covered-Below}
+use Rattle.ap_patterns.proofs.Coverings.{Below, Below-covered, covered-Below}
 use Rattle.ap_fixpoint.specs.Fix.{first, next, table, IsFix}
 use Rattle.ap_fixpoint.specs.Reads.{is_among, reads, IsReread}
 use Rattle.ap_fixpoint.specs.Rounds.{steps, changed}
@@ -18,6 +21,7 @@ use Rattle.ap_fixpoint.proofs.Members.{Has, Has-left, Has-right, Has-cases, Has-
 use Rattle.ap_fixpoint.proofs.Joins.{AllKept, united_holds, united-kept, united-fewer}
 use Rattle.ap_fixpoint.proofs.Stepping.{steps-united, unchanged}
 use Rattle.ap_fixpoint.proofs.Reading.{unread}
+use Rattle.ap_fixpoint.proofs.Unreached.{nothing-covered, unreached-clause}
 
 pub table-kept : (E : Entries) (A : Program) (n : ℕ) → AllKept (table E A n)
 table-kept E A zero x = tt
@@ -37,8 +41,22 @@ pub record IsGoing (E : Entries) (A : Program) (t : Patterns) (gs : List Given) 
   pub only : (g : Given) → Has g gs → Has g (given E A t)
   pub enough : (g : Given) → Has g (given E A t) → Has g gs ⊎ Below g.pattern (t g.slot)
 
-pub going-first : (E : Entries) (A : Program) → IsGoing E A (patterns []) (given E A (patterns []))
-going-first E A = record { round = 0; reached = sym none-first; only = λ g h. h; enough = λ g h. inl h }
+-- at first no clause is called
+pub going-first : (E : Entries) (A : Program) → IsGoing E A (patterns []) (given_by_entries E A)
+going-first E A = record {
+  round = 0;
+  reached = sym none-first;
+  only = λ g h. Has-left g (given_by_entries E A) (flat_map (given_by_clause (patterns [])) A) h;
+  enough = λ g h. elim (Has-cases g (given_by_entries E A) (flat_map (given_by_clause (patterns [])) A) h) [
+    | inl i ↦ inl i
+    | inr i ↦ (let r = Has-from (given_by_clause (patterns [])) g A i in
+        inr (Below-covered g.pattern (patterns [] g.slot) (nothing-covered (patterns []) (given_by_clause (patterns []) r.0) (unreached-clause (patterns []) r.0 (never (predicate_of r.0.head))) g r.2)))
+  ];
+}
+  where
+    never : (p : Option Predicate) → call_at (patterns []) p ≡ Unreachable
+    never None = refl
+    never (Some p) = refl
 
 pub going-kept : (E : Entries) (A : Program) (t : Patterns) (gs : List Given) → IsGoing E A t gs → AllKept t
 going-kept E A t gs h = subst AllKept h.reached (table-kept E A h.round)
@@ -67,7 +85,7 @@ going-next E A t gs now h read = record {
     covered g i = subst (λ z. Below g.pattern (z g.slot)) (sym round) (united_holds (given E A t) t g i)
 
     by_clause : (g : Given) (c : Clause) → Has c A → Has g (given_by_clause (steps gs gs t) c) → (b : Bool) → reads (changed gs gs t) c ≡ b → Has g now ⊎ Below g.pattern (steps gs gs t g.slot)
-    by_clause g c i j true e = inl (read.enough c i e g j)
+    by_clause g c i j true e = elim (read.enough c i e g j) [ inl k ↦ inl k | inr k ↦ inr (Below-covered g.pattern (steps gs gs t g.slot) k) ]
     by_clause g c i j false e =
         inr (covered g (Has-right g (given_by_entries E A) (flat_map (given_by_clause t) A)
         (Has-flat_map (given_by_clause t) g c A i (subst (Has g) (unread (changed gs gs t) t (steps gs gs t) (λ x k. unchanged gs gs t x k) c e) j))))
@@ -97,9 +115,9 @@ going-end E A t gs h none = record {
 
 -- ---- the loop
 
-pub going-init : (E : Entries) (A P : Program) (rs : List Row) (gs : List Given) → P ≡ A → rs ≡ [] → gs ≡ given E P (patterns rs) → IsGoing E A (patterns rs) gs
+pub going-init : (E : Entries) (A P : Program) (rs : List Row) (gs : List Given) → P ≡ A → rs ≡ [] → gs ≡ given_by_entries E P → IsGoing E A (patterns rs) gs
 going-init E A P rs gs p r g =
-    subst (λ z. IsGoing E A (patterns rs) z) (sym (g ∙ ap (λ z. given E z (patterns rs)) p)) (subst (λ z. IsGoing E A (patterns z) (given E A (patterns z))) (sym r) (going-first E A))
+    subst (λ z. IsGoing E A (patterns rs) z) (sym (g ∙ ap (given_by_entries E) p)) (subst (λ z. IsGoing E A (patterns z) (given_by_entries E A)) (sym r) (going-first E A))
 
 pub going-turn : (E : Entries) (A P : Program) (t new : Patterns) (gs now : List Given) (ch : List Slot) → P ≡ A → IsGoing E A t gs → ch ≡ changed gs gs t → new ≡ steps gs gs t
     → IsReread P ch new now → IsGoing E A new now

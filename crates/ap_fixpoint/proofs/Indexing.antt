@@ -10,10 +10,12 @@ use Rattle.ap_term.specs.Goals.{Program, Clause}
 use Rattle.ap_patterns.specs.declared.slots.Slot.{Slot}
 use Rattle.ap_patterns.specs.declared.slots.Given.{Given}
 use Rattle.ap_patterns.specs.Given.{Patterns, given_by_clause}
+use Rattle.ap_patterns.specs.Covered.{is_covered}
 use Rattle.ap_fixpoint.specs.Fix.{same_slot}
 use Rattle.ap_fixpoint.specs.Reads.{slots_of, is_among, reads, noted, readers_from, IsIndex, given_if_there, given_by_number, is_last, once, given_by_numbers, IsReread}
 use Rattle.ap_fixpoint.proofs.Members.{Has, Has-left, Has-right, Has-flat_map, Has-from}
 use Rattle.ap_fixpoint.proofs.Joins.{same_slot-true, same_slot-refl}
+use Rattle.ap_fixpoint.proofs.Unreached.{uncovered-Has, uncovered-cases}
 
 -- ---- members by their places
 
@@ -72,7 +74,7 @@ readers-Has n (d ∷ ds) (suc k) c x e h =
 
 there-only : (t : Patterns) (A : Program) (n : ℕ) (g : Given) → Has g (given_by_number t A n) → Has g (flat_map (given_by_clause t) A)
 there-only t [] n g h = absurd h
-there-only t (c ∷ cs) zero g h = Has-left g (given_by_clause t c) (flat_map (given_by_clause t) cs) h
+there-only t (c ∷ cs) zero g h = Has-left g (given_by_clause t c) (flat_map (given_by_clause t) cs) (uncovered-Has t (given_by_clause t c) g h)
 there-only t (c ∷ cs) (suc n) g h = Has-right g (given_by_clause t c) (flat_map (given_by_clause t) cs) (there-only t cs n g h)
 
 once-Has : (last : Option ℕ) (ns : List ℕ) (k : ℕ) → Has k ns → Has k (once last ns) ⊎ (last ≡ Some k)
@@ -101,7 +103,7 @@ pub reread : (A : Program) (f : Slot → List ℕ) (ys : List Slot) (t : Pattern
     → IsReread A ys t gs
 reread A f ys t ns gs index order e = record {
   only = λ g h. (let r = Has-from (given_by_number t A) g (once None ns) (subst (Has g) e h) in there-only t A r.0 g r.2);
-  enough = λ c h i g j. subst (Has g) (sym e) (from_clause c h i g j);
+  enough = λ c h i g j. from_clause c h i g j;
 }
   where
     number : (c : Clause) (k : ℕ) → slice_get A k ≡ Some c → reads ys c ≡ true → Has k (once None ns)
@@ -110,10 +112,13 @@ reread A f ys t ns gs index order e = record {
         let here : Has k (f r.0) = subst (Has k) (sym (index r.0)) (subst (λ m. Has m (readers_from 0 A r.0)) (let z : 0 + k ≡ k = omega arith in z) (readers-Has 0 A k c r.0 at r.1)) in
         once-all ns k (Has-permutation k (flat_map f ys) ns order (Has-flat_map f k r.0 ys (among-Has r.0 ys r.2) here))
 
-    from_clause : (c : Clause) → Has c A → reads ys c ≡ true → (g : Given) → Has g (given_by_clause t c) → Has g (given_by_numbers t A ns)
+    from_clause : (c : Clause) → Has c A → reads ys c ≡ true → (g : Given) → Has g (given_by_clause t c) → Has g gs ⊎ (is_covered g.pattern (t g.slot) ≡ true)
     from_clause c h i g j =
         let r = Has-place c A h in
-        Has-flat_map (given_by_number t A) g r.0 (once None ns) (number c r.0 r.1 i) (subst (λ o. Has g (given_if_there t o)) (sym r.1) j)
+        elim (uncovered-cases t (given_by_clause t c) g j) [
+          | inl k ↦ inl (subst (Has g) (sym e) (Has-flat_map (given_by_number t A) g r.0 (once None ns) (number c r.0 r.1 i) (subst (λ o. Has g (given_if_there t o)) (sym r.1) k)))
+          | inr k ↦ inr k
+        ]
 
 -- ---- the walks
 

@@ -3,6 +3,8 @@ pub mod Members
 pub mod Order
 pub mod Joins
 pub mod Stepping
+pub mod Unreached
+pub mod OpenGoals
 pub mod Reading
 pub mod Fixing
 pub mod Turns

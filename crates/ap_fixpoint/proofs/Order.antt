@@ -56,7 +56,7 @@ union_left s t = within-made s (union s t) (λ x h. has-union s t x ∙ or_left 
 union_right : (s t : ℕ) → within t (union s t) ≡ true
 union_right s t = within-made t (union s t) (λ x h. has-union s t x ∙ or_right (has s x) (has t x) h)
 
-union_least : (s t r : ℕ) → within s r ≡ true → within t r ≡ true → within (union s t) r ≡ true
+pub union_least : (s t r : ℕ) → within s r ≡ true → within t r ≡ true → within (union s t) r ≡ true
 union_least s t r h k =
     within-made (union s t) r (λ x i. elim (or_cases (has s x) (has t x) (sym (has-union s t x) ∙ i)) [ inl j ↦ within-at s r x h j | inr j ↦ within-at t r x k j ])
 

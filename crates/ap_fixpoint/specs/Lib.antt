@@ -5,3 +5,4 @@ pub mod Members
 pub mod Numbered
 pub mod Reads
 pub mod Rounds
+pub mod Uncovered

@@ -1,5 +1,5 @@
 -- On which patterns of a table it turns what a clause gives, and what the clauses give that read one of some slots.
-use Rattle.std.specs.Prelude.{◌≡◌, ℕ, ◌+◌, ◌==◌, Bool, true, false, if◌then◌else◌, List, [], ◌∷◌, ◌++◌, Option, Some, None, slice_get}
+use Rattle.std.specs.Prelude.{◌≡◌, ◌⊎◌, ℕ, ◌+◌, ◌==◌, Bool, true, false, if◌then◌else◌, List, [], ◌∷◌, ◌++◌, Option, Some, None, slice_get}
 use Rattle.std.specs.List.{flat_map, list_any}
 use Rattle.ap_term.specs.Tree.{Trees, none, more}
 use Rattle.ap_term.specs.Goals.{Part, call, group, Clause, Program}
@@ -9,7 +9,9 @@ use Rattle.ap_patterns.specs.declared.slots.Slot.TheVariants.{Call, Success}
 use Rattle.ap_patterns.specs.declared.slots.Given.{Given}
 use Rattle.ap_patterns.specs.Given.{Patterns, given_by_clause}
 use Rattle.ap_patterns.specs.Table.{predicate_of}
+use Rattle.ap_patterns.specs.Covered.{is_covered}
 use Rattle.ap_fixpoint.specs.Fix.{same_slot}
+use Rattle.ap_fixpoint.specs.Uncovered.{uncovered}
 use Rattle.ap_fixpoint.specs.Members.{Has}
 
 abbrev pub call_slot : Option Predicate → List Slot
@@ -54,11 +56,11 @@ readers_from n (c ∷ cs) x = noted n (slots_of c) x ++ readers_from (n + 1) cs 
 abbrev pub IsIndex : Program → (Slot → List ℕ) → Type 0
 IsIndex A f = (x : Slot) → f x ≡ readers_from 0 A x
 
--- ---- what clauses give that are named by their numbers
+-- ---- what clauses give that are named by their numbers, as far as the table doesn't cover it
 
 abbrev pub given_if_there : Patterns → Option Clause → List Given
 given_if_there t None = []
-given_if_there t (Some c) = given_by_clause t c
+given_if_there t (Some c) = uncovered t (given_by_clause t c)
 
 abbrev pub given_by_number : Patterns → Program → ℕ → List Given
 given_by_number t A n = given_if_there t (slice_get A n)
@@ -75,7 +77,7 @@ once last (n ∷ ns) = if is_last last n then once last ns else n ∷ once (Some
 abbrev pub given_by_numbers : Patterns → Program → List ℕ → List Given
 given_by_numbers t A ns = flat_map (given_by_number t A) (once None ns)
 
--- nothing but what the clauses give, and all of it that clauses give which read one of the slots
+-- nothing but what the clauses give, and all of it that clauses give which read one of the slots, but for what is covered
 pub record IsReread (A : Program) (ys : List Slot) (t : Patterns) (gs : List Given) : Type 0 where
   pub only : (g : Given) → Has g gs → Has g (flat_map (given_by_clause t) A)
-  pub enough : (c : Clause) → Has c A → reads ys c ≡ true → (g : Given) → Has g (given_by_clause t c) → Has g gs
+  pub enough : (c : Clause) → Has c A → reads ys c ≡ true → (g : Given) → Has g (given_by_clause t c) → Has g gs ⊎ (is_covered g.pattern (t g.slot) ≡ true)

@@ -5,7 +5,7 @@ ghost use Rattle.ap_patterns.specs.Given.{patterns};
 ghost use Rattle.ap_patterns.specs.Entry.{IsMarked};
 ghost use Rattle.ap_fixpoint.specs.Fix.{IsFix};
 
-use crate::programs::given_at_start;
+use crate::programs::given_by_entries;
 use crate::readers::{given_by_readers, readers_of};
 use crate::tables::unite_all;
 use ap_cge::Annotated;
@@ -23,7 +23,7 @@ pub fn analyse(alloc: Global, annotated: &Annotated, entries: &Entries) -> Resul
     let program = annotated.program();
     let readers = readers_of(alloc, program)?;
     let mut table = Table::new(alloc);
-    let mut given = given_at_start(alloc, entries, program, &table)?;
+    let mut given = given_by_entries(alloc, entries, program)?;
     loop {
         let changed = unite_all(alloc, &mut table, given.as_slice())?;
         let slots = changed.as_slice();

@@ -9,8 +9,10 @@ mod bodies;
 mod clauses;
 pub mod laws;
 mod numbered;
+mod open;
 mod programs;
 mod readers;
+mod slots;
 mod sums;
 mod tables;
 

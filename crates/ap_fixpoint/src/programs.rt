@@ -1,13 +1,12 @@
-//! What the entries and the clauses of a program give to the patterns of a table.
+//! What the entries of a program give to the patterns of a table.
 
 ghost use Rattle.std.specs.Prelude.{◌≡◌, ◌++◌, [], ◌∷◌, IfOk, OnOk};
-ghost use Rattle.ap_patterns.specs.Given.{patterns, given_by_heads, given_by_entries, given};
+ghost use Rattle.ap_patterns.specs.Given.{given_by_heads, given_by_entries};
 ghost use Rattle.ap_patterns.specs.declared.slots.Slot.TheVariants.{Call};
 ghost use Rattle.ap_term.specs.declared.fixed.TheConstants.{QUERY};
 ghost use Rattle.ap_patterns.specs.Entry.{IsMarked};
 
-use crate::clauses::add_clause;
-use ap_patterns::{Entries, Given, Predicate, Slot, Table, any_pattern, arity, query_call};
+use ap_patterns::{Entries, Given, Predicate, Slot, any_pattern, arity, query_call};
 use ap_term::{Clause, NoMemory, Program};
 use std::alloc::Global;
 
@@ -37,7 +36,7 @@ fn add_heads(alloc: Global, clauses: &[Clause], given: &mut Vec<Given>) -> Resul
 }
 
 /// The calls with which a program is entered.
-fn given_by_entries(
+pub fn given_by_entries(
     alloc: Global,
     entries: &Entries,
     program: &Program,
@@ -60,21 +59,4 @@ fn given_by_entries(
             Ok(given)
         }
     }
-}
-
-/// All that is given to the patterns of a table, by the entries and by each clause.
-pub fn given_at_start(
-    alloc: Global,
-    entries: &Entries,
-    program: &Program,
-    table: &Table,
-) -> Result<Vec<Given>, NoMemory>
-    requires { IsMarked entries.now }
-    ensures { IfOk result (λ r. r.items ≡ given entries.now program.now (patterns table.now)) }
-{
-    let mut given = given_by_entries(alloc, entries, program)?;
-    for clause in program.as_slice() {
-        add_clause(alloc, table, clause, &mut given)?;
-    }
-    Ok(given)
 }
