@@ -15,8 +15,9 @@ use Rattle.ap_udg.specs.Completed.{start, behind}
 use Rattle.ap_mel.specs.declared.annotations.Kind.{Kind}
 use Rattle.ap_mel.specs.Lone.{is_plain}
 use Rattle.ap_mel.specs.Made.{IsFirst, IsMade, begun}
-use Rattle.ap_mel.specs.Mended.{is_bare, is_body_settled, is_program_settled}
+use Rattle.ap_mel.specs.Mended.{is_bare, mended_clause, is_body_settled, is_clause_settled, is_program_settled}
 use Rattle.ap_mel.proofs.Certifying.{first-kept, made, settled-given, sound}
+use Rattle.ap_mel.proofs.Mending.{clause_stays}
 
 stripped-body : (ps : List Part) → list_any is_group ps ≡ false → flat_map stripped_part ps ≡ ps
 stripped-body [] w = refl
@@ -36,6 +37,15 @@ body_settled : (bare analysed : Bool) (t : Patterns) (s : State) (ps : List Part
 body_settled bare analysed t s [] w = refl
 body_settled bare analysed t s (call g ∷ ps) w = body_settled bare analysed t (behind analysed t s (call g)) ps w
 body_settled bare analysed t s (group cs gs ∷ ps) w = absurd (false≢true (sym w))
+
+-- a clause without groups stays as it is in each pass
+pub plain-clause : (k : Kind) (t : Patterns) (c d : Clause) → has_groups d ≡ false → is_clause_settled k t c d ≡ true
+plain-clause k t c d w = body_settled (is_bare k c) (is_analysed d) t (start t d) d.body w
+
+pub plain-stays : (k : Kind) (t : Patterns) (c d : Clause) → has_groups d ≡ false → mended_clause k t c d ≡ d
+plain-stays k t c d w = clause_stays k t c d (plain-clause k t c d w)
+
+pub ruleset rules_of_plain = (plain-clause, plain-stays)
 
 plain-settled : (k : Kind) (t : Patterns) (P : Program) → is_plain P ≡ true → is_program_settled k t P P ≡ true
 plain-settled k t [] w = refl
