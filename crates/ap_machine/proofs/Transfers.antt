@@ -1,12 +1,14 @@
 -- A search at an instruction of control, and at the end of a clause.
-use Rattle.std.proofs.Common.{◌≡◌, ℕ, ◌+◌, ◌-◌, ◌<◌, ◌≤◌, ◌⊎◌, List, ◌∷◌, length, map, slice_get, Some, None, inl, inr, sym, subst, arith}
+use Rattle.std.proofs.Common.{◌≡◌, ℕ, ◌+◌, ◌-◌, ◌<◌, ◌≤◌, ◌⊎◌, List, ◌∷◌, length, map, slice_get, Some, None, inl, inr, ap, sym, ◌∙◌, subst, arith}
 use Rattle.std.proofs.lemmas.Option.{slice_get_within}
 use Rattle.ap_tracked.specs.Tracked.{Tracked}
 use Rattle.ap_cells.specs.Store.{Store, IsStore}
 use Rattle.ap_instr.specs.declared.instruction.Instr.{Instr}
 use Rattle.ap_instr.specs.declared.compiled.Predicate.{Predicate}
 use Rattle.ap_instr.specs.Code.{Compiled}
-use Rattle.ap_instr.specs.Step.{call, execute, proceed, other, step_of}
+use Rattle.ap_instr.specs.declared.instruction.Instr.TheVariants.{Deallocate, Proceed}
+use Rattle.ap_instr.specs.Step.{call, execute, proceed, frame, other, step_of}
+use Rattle.ap_instr.specs.Steps.{steps_from}
 use Rattle.ap_instr.proofs.Steps.{steps-past}
 use Rattle.ap_control.specs.Runs.{IsEndAt}
 use Rattle.ap_environments.specs.Kept.{Kept}
@@ -14,8 +16,8 @@ use Rattle.ap_steps.specs.Moves.{held, IsStuck}
 use Rattle.ap_steps.specs.Standing.{Return}
 use Rattle.ap_standing.specs.Machine.{calling, inside, returning, failed, Machine}
 use Rattle.ap_standing.specs.Holds.{IsApart, Holds}
-use Rattle.ap_standing.specs.Laws.{machine, KeepsStanding}
-use Rattle.ap_standing.proofs.Machines.{failed-inside, failed-at, made-call, made-last-call, ended, jumped, came-back}
+use Rattle.ap_standing.specs.Laws.{machine, AsksNoMore, KeepsStanding}
+use Rattle.ap_standing.proofs.Machines.{failed-inside, failed-at, made-call, made-last-call, made-ending-call, steps-at, ended, jumped, came-back}
 use Rattle.ap_machine.specs.View.{Paused, point_of}
 use Rattle.ap_machine.specs.Jumps.{JumpsTo}
 use Rattle.ap_machine.specs.Sane.{Sane}
@@ -37,6 +39,14 @@ module _ (code : Compiled) (m : Machine) (at : ℕ) (ss : List Tracked) (h : Hol
 
     pub calls_last : (number : ℕ) (q : Predicate) → step_of code i ≡ execute q.name q.arity → slice_get code.predicates number ≡ Some q → IsApart q → Holds code (record m { now = calling number }) ss
     calls_last number q e known apart = made-last-call code m.roots m.points m.returns m.cells m.x m.y at i number q m.y stands e known apart ss h
+
+    pub calls_ending : (number : ℕ) (q : Predicate) → step_of code i ≡ call q.name q.arity → AsksNoMore (steps_from code (at + 1)) → slice_get code.predicates number ≡ Some q → IsApart q → Holds code (record m { now = calling number }) ss
+    calls_ending number q e last known apart = made-ending-call code m.roots m.points m.returns m.cells m.x m.y at i number q m.y stands e last known apart ss h
+
+-- where an environment is given back and the clause ends, nothing more is asked for
+pub ends-here : (code : Compiled) (at : ℕ) → slice_get code.instructions at ≡ Some Deallocate → slice_get code.instructions (at + 1) ≡ Some Proceed → AsksNoMore (steps_from code at)
+ends-here code at e f =
+    subst AsksNoMore (sym (steps-at code at Deallocate e (λ d. cc) ∙ ap (λ is. frame ∷ is) (steps-at code (at + 1) Proceed f (λ d. cc)))) tt
 
 -- a jump is taken
 pub jumps-on : (code : Compiled) (s t : Paused) (at to : ℕ) → s.machine.now ≡ inside at → JumpsTo code at to → t ≡ record s { machine = record s.machine { now = inside to } } → KeepsStanding code s.machine t.machine

@@ -6,12 +6,13 @@ ghost use Rattle.ap_tracked.specs.Tracked.{Tracked};
 ghost use Rattle.ap_cells.specs.Store.{Keeps};
 ghost use Rattle.ap_instr.specs.declared.compiled.Predicate.{Predicate};
 ghost use Rattle.ap_instr.specs.Code.{Compiled};
+ghost use Rattle.ap_instr.specs.Steps.{steps_from};
 ghost use Rattle.ap_needs.specs.Needs.{AllHaveTargets, room, wants, IsRoomOf};
 ghost use Rattle.ap_steps.specs.Moves.{held, HoldPlaces};
 ghost use Rattle.ap_control.specs.Runs.{RanOrStuck, IsTransferAt, IsEndAt};
 ghost use Rattle.ap_standing.specs.Machine.{inside, returning, failed};
 ghost use Rattle.ap_standing.specs.Holds.{Holds};
-ghost use Rattle.ap_standing.specs.Laws.{KeepsStanding};
+ghost use Rattle.ap_standing.specs.Laws.{AsksNoMore, KeepsStanding};
 ghost use Rattle.ap_machine.specs.View.{IsFor};
 ghost use Rattle.ap_machine.specs.Advanced.{GoesOn};
 ghost use Rattle.ap_machine.specs.Choices.{Stays};
@@ -96,6 +97,22 @@ pub(crate) fn is_known(code: &Code, number: u32) -> bool
     match code.predicates().get(number as usize) {
         Some(_) => true,
         None => false,
+    }
+}
+
+/// Whether the clause ends behind a place: its environment is given back there, and nothing more is asked for.
+#[inline(always)]
+fn ends_behind(code: &Code, at: usize) -> bool
+    requires { at < length code.now.instructions }
+    ensures { result ≡ true → AsksNoMore (steps_from code.now (at + 1)) }
+{
+    let next = next_place(code, at);
+    match instruction_at(code, next) {
+        Some(Instr::Deallocate) => matches!(
+            instruction_at(code, next_place(code, next)),
+            Some(Instr::Proceed)
+        ),
+        _ => false,
     }
 }
 
@@ -243,6 +260,11 @@ impl Search {
             Some(instr) => match instr {
                 Instr::Call(number) => {
                     if is_known(code, number) {
+                        // The caller's return does, where nothing is left of this clause.
+                        if ends_behind(code, at) {
+                            self.next = Now::Calling(number);
+                            return Ok(Some(Due::Call(number)));
+                        }
                         let place = behind(at)?;
                         self.environments.push(place, used(&self.y))?;
                         self.next = Now::Calling(number);

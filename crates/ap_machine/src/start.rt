@@ -26,6 +26,9 @@ use ap_term::{Atom, NoMemory};
 use ap_unify::Work;
 use std::alloc::Global;
 
+/// A search has room for so many cells when it begins. So the first clauses that a small goal enters take no more memory.
+const FIRST_CELLS: usize = 64;
+
 /// Registers that hold place 0.
 fn registers(alloc: Global, count: usize) -> Result<Vec<u32>, NoMemory>
     ensures { IfOk result (λ registers. registers.items ≡ replicate count 0) }
@@ -67,7 +70,7 @@ fn with_bottom(alloc: Global) -> Result<Cells, NoMemory>
     ensures { IfOk result (λ cells. HasBottom cells) }
 {
     let mut cells = Cells::new(alloc);
-    cells.reserve(1)?;
+    cells.reserve(FIRST_CELLS)?;
     cells.push(Cell::Atom(Atom::at(0)));
     Ok(cells)
 }

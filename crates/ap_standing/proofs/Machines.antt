@@ -2,7 +2,7 @@
 use Rattle.std.proofs.Common.{◌≡◌, ℕ, ◌+◌, ◌<◌, List, [], ◌∷◌, ◌++◌, length, slice_get, Some, refl, ap, sym, ◌∙◌, subst, arith}
 use Rattle.std.specs.List.{AllByRecursion}
 use Rattle.ap_tracked.specs.Sets.{SameSet, IsSetOf}
-use Rattle.ap_term.specs.Tree.{Tree, Trees, atom, none, append_trees}
+use Rattle.ap_term.specs.Tree.{Tree, Trees, atom, none, more, append_trees}
 use Rattle.ap_term.proofs.Facts.{funext}
 use Rattle.ap_tracked.specs.Tracked.{Tracked}
 use Rattle.ap_tracked.specs.Instances.{Inst}
@@ -11,10 +11,10 @@ use Rattle.ap_instr.specs.declared.instruction.Instr.{Instr}
 use Rattle.ap_instr.specs.declared.compiled.Predicate.{Predicate}
 use Rattle.ap_instr.specs.Code.{Compiled}
 use Rattle.ap_instr.specs.declared.instruction.Instr.TheVariants.{Jump}
-use Rattle.ap_instr.specs.Step.{Step, call as call_step, execute, proceed, jump, other, step_of}
+use Rattle.ap_instr.specs.Step.{Step, call as call_step, execute, proceed, frame, jump, other, step_of}
 use Rattle.ap_instr.specs.Steps.{skipped, steps_from}
 use Rattle.ap_instr.proofs.Steps.{steps_law}
-use Rattle.ap_instr.specs.Runs.{AsksOpenly}
+use Rattle.ap_instr.specs.Runs.{Runs, AsksOpenly, applied, spread, lost}
 use Rattle.ap_match.specs.Fits.{Fits}
 use Rattle.ap_resolution.proofs.Unified.{IsSetOf-same}
 use Rattle.ap_steps.specs.Moves.{held, Moves, IsStuck}
@@ -22,7 +22,7 @@ use Rattle.ap_steps.specs.Standing.{Return, Standing, Waits, AtCall, InCode, ret
 use Rattle.ap_steps.proofs.Entry.{calls_are}
 use Rattle.ap_standing.specs.Machine.{Point, calling, inside, returning, failed, Machine, AreWithin}
 use Rattle.ap_standing.specs.Holds.{AtReturn, AtCallOf, SetOf, IsApart, IsOpenAt, AreOpen, HoldsPoints, Holds}
-use Rattle.ap_standing.specs.Laws.{machine}
+use Rattle.ap_standing.specs.Laws.{machine, AsksNoMore}
 use Rattle.ap_standing.proofs.Children.{no-state}
 use Rattle.ap_standing.proofs.Moved.{moved, stuck}
 use Rattle.ap_standing.proofs.Turns.{SameSet-trans, SameSet-sym}
@@ -103,6 +103,28 @@ steps-at code at i e h =
 steps-by : (code : Compiled) (at : ℕ) (i : Instr) (s : Step) → slice_get code.instructions at ≡ Some i → step_of code i ≡ s → (s ≡ jump → ⊥) → steps_from code at ≡ s ∷ steps_from code (at + 1)
 steps-by code at i s e o h = steps-at code at i e (λ d. h (sym o ∙ d)) ∙ ap (λ j. j ∷ steps_from code (at + 1)) o
 
+-- where a clause ends nothing is asked for
+no-more : (is : List Step) → AsksNoMore is → (x y : ℕ → Tree) (bs : Trees) → Runs is none x y bs → bs ≡ none
+no-more [] h x y bs r = absurd h
+no-more (proceed ∷ is) h x y bs r = r
+no-more (frame ∷ is) h x y bs r = no-more is h x y bs r
+no-more (i ∷ is) h x y bs r = absurd h
+
+ends-there : (is : List Step) → AsksNoMore is → (x y : ℕ → Tree) → Runs is none x y none
+ends-there [] h x y = absurd h
+ends-there (proceed ∷ is) h x y = refl
+ends-there (frame ∷ is) h x y = ends-there is h x y
+ends-there (i ∷ is) h x y = absurd h
+
+-- a call behind which the clause ends is its last one
+ending-call : (code : Compiled) (s : Standing) (x y : ℕ → ℕ) (p n : ℕ) (is : List Step) → AsksNoMore is → SameSet (InCode code s x y (call_step p n ∷ is)) (AtCall code s x p n)
+ending-call code s x y p n is h gs t = (
+  λ m.
+      let g : Tree = applied p (spread (λ v. m.0 (x v)) 1 n) in
+      (m.0, m.2, m.3, m.5 ∙ ap (λ b. append_trees b m.2) (m.4.1 ∙ ap (more g) (no-more is h lost (λ v. m.0 (y v)) m.4.0 m.4.2)), m.6),
+  λ m. (m.0, more (applied p (spread (λ v. m.0 (x v)) 1 n)) none, m.1, m.2, (none, refl, ends-there is h lost (λ v. m.0 (y v))), m.3, m.4),
+)
+
 module _ (code : Compiled) (roots : List ℕ) (qs : List Point) (ws : List Return) where
   -- instructions on registers and cells
   pub went : (cs ds : List Raw) (x y x' y' : List ℕ) (at to : ℕ) → Moves cs (held x) (held y) (steps_from code at) ds (held x') (held y') (steps_from code to)
@@ -166,6 +188,19 @@ module _ (code : Compiled) (roots : List ℕ) (qs : List Point) (ws : List Retur
         (subst (λ f. SameSet (SetOf code (machine cs x y ws roots qs (inside at))) (AtCallOf code st x f)) (sym known)
         (subst (λ is. SameSet (InCode code st (held x) (held y) is) (AtCall code st (held x) q.name q.arity)) (sym same)
         (calls_are.executes code st (held x) (held y) q.name q.arity (steps_from code (at + 1)))))
+        (λ o os. (is-apart code number q known apart, os))
+
+    -- a call behind which the clause ends
+    pub made-ending-call : (i : Instr) (number : ℕ) (q : Predicate) (y' : List ℕ) → slice_get code.instructions at ≡ Some i → step_of code i ≡ call_step q.name q.arity
+        → AsksNoMore (steps_from code (at + 1)) → slice_get code.predicates number ≡ Some q → IsApart q
+        → (ss : List Tracked) → Holds code (machine cs x y ws roots qs (inside at)) ss → Holds code (machine cs x y' ws roots qs (calling number)) ss
+    made-ending-call i number q y' e o last known apart =
+        let same : steps_from code at ≡ call_step q.name q.arity ∷ steps_from code (at + 1) = steps-by code at i (call_step q.name q.arity) e o (λ d. cc) in
+        let st : Standing = record { cells = cs; returns = ws; roots = roots } in
+        holds-same code (machine cs x y ws roots qs (inside at)) (machine cs x y' ws roots qs (calling number)) refl refl
+        (subst (λ f. SameSet (SetOf code (machine cs x y ws roots qs (inside at))) (AtCallOf code st x f)) (sym known)
+        (subst (λ is. SameSet (InCode code st (held x) (held y) is) (AtCall code st (held x) q.name q.arity)) (sym same)
+        (ending-call code st (held x) (held y) q.name q.arity (steps_from code (at + 1)) last)))
         (λ o os. (is-apart code number q known apart, os))
 
     -- the end of a clause

@@ -4,7 +4,7 @@ use Rattle.std.specs.List.{AllByRecursion}
 use Rattle.ap_tracked.specs.Sets.{SameSet}
 use Rattle.ap_term.specs.Tuples.{tuple_under}
 use Rattle.ap_match.proofs.Tuples.{tuple_under-agree}
-use Rattle.ap_term.specs.Tree.{Tree, Trees, none, more, append_trees}
+use Rattle.ap_term.specs.Tree.{Tree, Trees, none, append_trees}
 use Rattle.ap_term.proofs.Facts.{funext}
 use Rattle.ap_cells.specs.declared.cells.Raw.{Raw}
 use Rattle.ap_cells.specs.Trees.{tree_at, trees}

@@ -3,9 +3,8 @@ use Rattle.std.proofs.Common.{◌≡◌, ℕ, ◌+◌, true, ◌&&◌, IsTrue, n
 use Rattle.std.specs.List.{AllByRecursion, flat_map, list_all}
 use Rattle.std.proofs.lemmas.Bool.{false≢true, and_parts}
 use Rattle.std.proofs.lemmas.List.Elements.{All-head, All-tail}
-use Rattle.ap_term.proofs.TreeLists.{count_trees-instance_all}
 use Rattle.ap_term.specs.Tree.{Tree, Trees, var, int, atom, node, none, more, count_trees}
-use Rattle.ap_term.specs.Substitution.{instance, instance_all, Subst, value, shift}
+use Rattle.ap_term.specs.Substitution.{instance, Subst, value, shift}
 use Rattle.ap_term.specs.Unification.{mgu}
 use Rattle.ap_term.specs.Builtins.{builtin}
 use Rattle.ap_term.specs.Goals as goals

@@ -15,7 +15,7 @@ use Rattle.ap_instr.specs.declared.instruction.Instr.{Instr}
 use Rattle.ap_instr.specs.declared.compiled.Predicate.{Predicate}
 use Rattle.ap_instr.specs.Builtin.{relation_name}
 use Rattle.ap_instr.specs.Code.{Compiled}
-use Rattle.ap_instr.specs.Step.{call, execute, proceed, builtin, jump, other, step_of}
+use Rattle.ap_instr.specs.Step.{Step, call, execute, proceed, frame, builtin, jump, other, step_of}
 use Rattle.ap_instr.specs.Steps.{skipped, steps_from}
 use Rattle.ap_instr.specs.Runs.{AsksOpenly}
 use Rattle.ap_instr.specs.StandsFor.{StandsFor, clause_places}
@@ -37,6 +37,12 @@ KeepsStanding code m m' = (ss : List Tracked) → Holds code m ss → Holds code
 abbrev pub IsTurn : Compiled → Program → Machine → Machine → Type 0
 IsTurn code p m m' = (ss : List Tracked) → Holds code m ss → (ts : List Tracked) × Turned p 1 ss ts × Holds code m' ts
 
+-- the clause ends there, and asks for nothing more
+abbrev pub AsksNoMore : List Step → Type 0
+AsksNoMore (proceed ∷ is) = Unit {0}
+AsksNoMore (frame ∷ is) = AsksNoMore is
+AsksNoMore _ = ⊥
+
 -- Instructions, calls that are made and clauses that end are no turns: the machine stands for the same states.
 pub record MoveLaw : Type 0 where
   pub goes : (code : Compiled) (roots : List ℕ) (qs : List Point) (ws : List Return) (cs ds : List Raw) (x y x' y' : List ℕ) (at to : ℕ)
@@ -50,6 +56,9 @@ pub record MoveLaw : Type 0 where
       → KeepsStanding code (machine cs x y ws roots qs (inside at)) (machine cs x y' (record { place = at + 1; y = saved } ∷ ws) roots qs (calling number))
   pub calls_last : (code : Compiled) (roots : List ℕ) (qs : List Point) (ws : List Return) (cs : List Raw) (x y : List ℕ) (at : ℕ) (i : Instr) (number : ℕ) (q : Predicate) (y' : List ℕ)
       → slice_get code.instructions at ≡ Some i → step_of code i ≡ execute q.name q.arity → slice_get code.predicates number ≡ Some q → IsApart q
+      → KeepsStanding code (machine cs x y ws roots qs (inside at)) (machine cs x y' ws roots qs (calling number))
+  pub calls_ending : (code : Compiled) (roots : List ℕ) (qs : List Point) (ws : List Return) (cs : List Raw) (x y : List ℕ) (at : ℕ) (i : Instr) (number : ℕ) (q : Predicate) (y' : List ℕ)
+      → slice_get code.instructions at ≡ Some i → step_of code i ≡ call q.name q.arity → AsksNoMore (steps_from code (at + 1)) → slice_get code.predicates number ≡ Some q → IsApart q
       → KeepsStanding code (machine cs x y ws roots qs (inside at)) (machine cs x y' ws roots qs (calling number))
   pub ends : (code : Compiled) (roots : List ℕ) (qs : List Point) (ws : List Return) (cs : List Raw) (x y : List ℕ) (at : ℕ) (i : Instr) (x' y' : List ℕ) → slice_get code.instructions at ≡ Some i
       → step_of code i ≡ proceed → KeepsStanding code (machine cs x y ws roots qs (inside at)) (machine cs x' y' ws roots qs returning)

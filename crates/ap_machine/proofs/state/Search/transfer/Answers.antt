@@ -5,7 +5,7 @@ use Rattle.ap_steps.specs.Moves.{held}
 use Rattle.ap_standing.specs.Machine.{inside}
 use Rattle.ap_machine.specs.View.{machine_of}
 use Rattle.ap_machine.proofs.Ran.{opened}
-use Rattle.ap_machine.proofs.Transfers.{nowhere, breaks, ends, calls_last, called}
+use Rattle.ap_machine.proofs.Transfers.{nowhere, breaks, ends, calls_last, calls_ending, called}
 use Rattle.ap_machine.proofs.state.Search.transfer.Goals as goal
 
 pub returns-in-None-clause-holds : goal.returns-in-None-clause-holds
@@ -72,6 +72,15 @@ returns-then-is_known-2-clause-holds c = λ apart ss h.
     let k = c.is_known-in-Execute.ensures.known c.if-is_known-2.true in
     calls_last c.args.code.now m c.args.at ss o c.in-Some.instr (sym c.in-Some.ensures) c.in-Execute.number k.0 (ap (step_of c.args.code.now) c.in-Execute.is ∙ ap (λ f. with_predicate f execute) k.1) k.1
     (apart c.args.at c.in-Execute.number c.in-Some.instr k.0 (sym c.in-Some.ensures) (ap called_by c.in-Execute.is) k.1)
+
+pub returns-then-ends_behind-clause-holds : goal.returns-then-ends_behind-clause-holds
+returns-then-ends_behind-clause-holds c = λ apart ss h.
+    let a = c.self.inside in
+    let m = machine_of a.cells a.environments a.x.items a.y.items a.roots.items a.next in
+    let o = opened c.args.code.now ss c.args.self.now m (inside c.args.at) (ap (λ s. s.machine) c.self.view_is) c.requires.here h in
+    let k = c.is_known.ensures.known c.if-is_known.true in
+    calls_ending c.args.code.now m c.args.at ss o c.in-Some.instr (sym c.in-Some.ensures) c.in-Call.number k.0 (ap (step_of c.args.code.now) c.in-Call.is ∙ ap (λ f. with_predicate f call) k.1)
+    (c.ends_behind.ensures c.if-ends_behind.true) k.1 (apart c.args.at c.in-Call.number c.in-Some.instr k.0 (sym c.in-Some.ensures) (ap called_by c.in-Call.is) k.1)
 
 pub returns-then-is_known-clause-holds : goal.returns-then-is_known-clause-holds
 returns-then-is_known-clause-holds c = λ apart ss h.
