@@ -1,6 +1,6 @@
 //! The section, one move after another.
 
-ghost use Rattle.std.specs.Prelude.{◌≡◌, ◌+◌, ◌-◌, ◌<◌, ◌≤◌, max, length, replicate, true, false, Ok, Some, None, IfOk, IfSome};
+ghost use Rattle.std.specs.Prelude.{◌≡◌, ◌+◌, ◌-◌, ◌<◌, ◌≤◌, max, length, true, false, Ok, Some, None, IfOk, IfSome};
 ghost use Rattle.ap_term.specs.Blocks.{IsPrefix};
 ghost use Rattle.ap_instr.specs.Code.{Compiled};
 ghost use Rattle.ap_machine.specs.View.{Paused};
@@ -26,7 +26,9 @@ use ap_ledger::Share;
 use ap_machine::{Hook, Turn as SearchTurn};
 use ap_term::NoMemory;
 use ap_tied::reaching_law;
-use std::alloc::Global;
+
+/// No group has more goals.
+const MOST_GOALS: usize = 255;
 
 /// Why the section came back.
 #[derive(Debug, Clone, Copy, PartialEq, Eq)]
@@ -46,7 +48,7 @@ pub enum Turn {
 }
 
 /// Whether a round is over.
-fn is_over(round: Round) -> bool
+pub(crate) fn is_over(round: Round) -> bool
     ensures over { result ≡ true → round ≡ Round.Closed }
     ensures open { result ≡ false → round ≡ Round.Closed → ⊥ }
 {
@@ -54,14 +56,6 @@ fn is_over(round: Round) -> bool
         Round::Closed => true,
         _ => false,
     }
-}
-
-/// So many goals that meet no fault.
-fn quiet_goals(alloc: Global, count: usize) -> Result<Vec<bool>, NoMemory>
-    ensures { IfOk result (λ goals. goals.items ≡ replicate count false) }
-{
-    let goals = vec![in alloc; false; count]?;
-    Ok(goals)
 }
 
 impl Section {
@@ -82,8 +76,12 @@ impl Section {
         ensures { IfOk result (λ frame. (t : Paused) → (forked : HasForked sound.now (out-Section self.now).search t) → IsOpened (length forked.forked.goals) ((out-Section self.now).search.budget - (out-Section self.now).search.spent) frame) }
     {
         let goals = self.search.group_goals(sound);
-        let loud = quiet_goals(self.alloc, goals)?;
-        Frame::open(self.alloc, goals, self.search.rest(), &loud)
+        if goals > MOST_GOALS {
+            return Err(NoMemory);
+        }
+        // None of them meets a fault.
+        let quiet = [false; MOST_GOALS];
+        Frame::open(self.alloc, goals, self.search.rest(), &quiet[..goals])
     }
 
     /// Forks the group at which the search stands, or goes past it. The frame comes first, so that no fork is without one.

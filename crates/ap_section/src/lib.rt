@@ -8,6 +8,7 @@
 #![tactic(auto)]
 
 mod advance;
+mod emptying;
 mod release;
 mod section;
 mod settle;

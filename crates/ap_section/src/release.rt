@@ -5,7 +5,7 @@ use ap_copy::Parcelled;
 use ap_frames::{Answer, Frame, Slot, Stand};
 use std::alloc::Global;
 
-/// Lists the section that a slot holds.
+/// Lists the section that a slot holds, if it may hold others.
 fn list_held(slot: Slot<Section, Parcelled>, left: &mut Vec<Section>) {
     let Slot { stand, .. } = slot;
     let Stand::Answered(answer) = stand else {
@@ -13,7 +13,9 @@ fn list_held(slot: Slot<Section, Parcelled>, left: &mut Vec<Section>) {
     };
     let Answer { section, .. } = answer;
     if let Some(section) = section {
-        let _listed = left.push(section);
+        if !section.frames.is_empty() {
+            let _listed = left.push(section);
+        }
     }
 }
 
@@ -37,6 +39,9 @@ impl Section {
     /// Drops the section, and those in its slots one after another: as long as memory for a list of them can be had, no depth of
     /// frames is one of the machine's stack.
     pub fn release(self, alloc: Global) {
+        if self.frames.is_empty() {
+            return;
+        }
         let mut left = Vec::new(alloc);
         let _listed = left.push(self);
         for _ in 0..u64::MAX {

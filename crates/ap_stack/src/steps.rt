@@ -38,6 +38,7 @@ impl<'a> Stack<'a> {
                 Ok(Step::Went)
             }
             Settled::Joined | Settled::Broken => {
+                self.newest.drop_sections();
                 self.tends = false;
                 Ok(Step::Went)
             }

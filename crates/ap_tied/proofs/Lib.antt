@@ -1,5 +1,6 @@
 pub mod Common
 pub mod Framed
+pub mod Emptied
 pub mod Settled
 pub mod Turned
 pub mod Forgotten

@@ -41,6 +41,7 @@ use Rattle.ap_tie.proofs.Rejoined.{rejoins}
 use Rattle.ap_tied.specs.Ties.{IsSimple, AreSimple, SlotsAreSimple, IsKnownGoal, IsQuietStack, IsSearched, IsTied}
 use Rattle.ap_tied.specs.Settling.{AreAnswersOf, IsRedoable, HasMet, SettlingLaw}
 use Rattle.ap_tied.proofs.Common.{closed_in_order, closed_in_round}
+use Rattle.ap_tied.proofs.Emptied.{empties}
 use Rattle.ap_tied.proofs.Framed.{one-event, counted, stands-round, stores-behind, may-shut}
 
 -- ---- tuples and answers
@@ -255,6 +256,7 @@ settling = record {
   closes = λ code m n c b f q rd w qs st e fails judges rests is_kept redoable at p o t searched tied.
       let h = breaks_then code p o m n c b f q rd w qs st e t tied fails judges rests in
       ((Break, []) ∷ [], h.0, one-event p Break t h.0 h.1, closed-tied code p o m n c b f q rd w qs st e t tied fails judges rests is_kept redoable at);
+  empties = empties;
   spends = λ code p o m c b f q rd w qs st t tied fails judges.
       judging.spends code p o m c b f q rd w qs st t fails (stands-round code p o m c b f q rd w qs st t tied.simple tied.holds tied.quiet.2) tied.holds judges;
 }

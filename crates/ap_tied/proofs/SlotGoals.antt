@@ -7,7 +7,7 @@ use Rattle.ap_term.specs.Tuples.{tuple_under, arguments}
 use Rattle.ap_term.proofs.TreeLists.{LocalAll-arguments}
 use Rattle.ap_term.proofs.TreeLists.{arguments-applied}
 use Rattle.ap_term.specs.declared.clauses.Check.{Check}
-use Rattle.ap_term.specs.Tree.{Tree, Trees, var, int, atom, node, none, more, append_trees}
+use Rattle.ap_term.specs.Tree.{Tree, Trees, var, none, more, append_trees}
 use Rattle.ap_term.specs.Substitution.{instance, instance_all}
 use Rattle.ap_term.specs.UpToNames.{renumbered}
 use Rattle.ap_term.specs.Vars.{Local, LocalAll}

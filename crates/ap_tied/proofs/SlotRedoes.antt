@@ -24,7 +24,7 @@ use Rattle.ap_frames.specs.declared.frame.Round.TheVariants.{Later, Closed}
 use Rattle.ap_frames.specs.declared.slots.Stand.{Stand}
 use Rattle.ap_frames.specs.declared.slots.Stand.TheVariants.{Ready, Waiting, Running, Answered, Replayed, Ended, GivenBack}
 use Rattle.ap_frames.specs.declared.slots.Run.TheVariants as runs
-use Rattle.ap_frames.specs.Slots.{has_answer, has_more, stands_answered}
+use Rattle.ap_frames.specs.Slots.{has_answer, has_more, more_at, tuples_of}
 use Rattle.ap_frames.specs.Rows.{at_place, standing}
 use Rattle.ap_frames.specs.Rounds.{numbered, reset, reset_by, without_cost}
 use Rattle.ap_frames.specs.Verdicts.{next_redo, place_behind}
@@ -119,15 +119,6 @@ kept_answered (core.held m a t c) h = refl
 kept_answered (redone m b t i) h = h
 kept_answered (again m a t c) h = refl
 kept_answered (drained m b t i e) h = h
-
-more_answered : (x : Progress) → conditions.has_more x ≡ true → conditions.has_answer x ≡ true
-more_answered (idle i) h = h
-more_answered (stored m) h = h
-more_answered (busy b t) h = h
-more_answered (core.held m a t c) h = refl
-more_answered (redone m b t i) h = h
-more_answered (again m a t c) h = refl
-more_answered (drained m b t i e) h = h
 
 restarted_redone : (r : ℕ) (x : Progress) → conditions.has_more x ≡ true → WasRedone (restarted_with r x)
 restarted_redone r (idle i) h = absurd (false≢true h)
@@ -252,15 +243,15 @@ record AtAnswer (code : Compiled) (p : Rules) (b : ℕ) (g : Tree) (h : Held) (x
   simple : IsSimple left
   is : (x ≡ core.held earlier found_answer left cost) ⊎ (x ≡ again earlier found_answer left cost)
 
-at_answer : (code : Compiled) (p : Rules) (b : ℕ) (g : Tree) (e : Stand (Unit {0})) (h : Held) (x : Progress) → stands_answered e ≡ true → HoldsAnswer code e h → HoldsSource code p b g h x → IsSimpleProgress x → AtAnswer code p b g h x
-at_answer code p b g Ready h x a k s m = absurd (false≢true a)
-at_answer code p b g Waiting h x a k s m = absurd (false≢true a)
-at_answer code p b g GivenBack h x a k s m = absurd (false≢true a)
-at_answer code p b g (Running j) h x a k s m = absurd (false≢true a)
-at_answer code p b g (Ended e c) h x a k s m = absurd (false≢true a)
-at_answer code p b g (Replayed j) h x a k s m = absurd k
-at_answer code p b g (Answered y) nothing x a k s m = absurd k
-at_answer code p b g (Answered y) (views.held u) x a k (is_at, (l, e, t, z, c, source, comes, is_of, is)) m = record {
+at_answer : (code : Compiled) (p : Rules) (b n : ℕ) (g : Tree) (e : Stand (Unit {0})) (h : Held) (x : Progress) → more_at n e ≡ true → HoldsAnswer code e h → HoldsSource code p b g h x → IsSimpleProgress x → AtAnswer code p b g h x
+at_answer code p b n g Ready h x a k s m = absurd (false≢true a)
+at_answer code p b n g Waiting h x a k s m = absurd (false≢true a)
+at_answer code p b n g GivenBack h x a k s m = absurd (false≢true a)
+at_answer code p b n g (Running j) h x a k s m = absurd (false≢true a)
+at_answer code p b n g (Ended e c) h x a k s m = absurd (false≢true a)
+at_answer code p b n g (Replayed j) h x a k s m = absurd k
+at_answer code p b n g (Answered y) nothing x a k s m = absurd (false≢true (sym k.1 ∙ a))
+at_answer code p b n g (Answered y) (views.held u) x a k (is_at, (l, e, t, z, c, source, comes, is_of, is)) m = record {
   inner = u;
   is_held = refl;
   quiet = k.1;
@@ -372,7 +363,7 @@ redoes code p o m c b f q w qs st t i searched tied failed_now next = (
     has_more_now = next_more i first.slots at.goal false at.progress is_next at.place_at
 
     held_there : AtAnswer code p first.forked.next at.goal at.hold at.progress
-    held_there = at_answer code p first.forked.next at.goal at.row.stand at.hold at.progress (sym (alike_slots.same q at.row.stand (_) at.progress at.fits.1).answer ∙ more_answered at.progress has_more_now) at.quiet at.fits.2 at.simple
+    held_there = at_answer code p first.forked.next (length (tuples_of at.row)) at.goal at.row.stand at.hold at.progress (sym (alike_slots.same q at.row.stand (_) at.progress at.fits.1).more ∙ has_more_now) at.quiet at.fits.2 at.simple
 
     placed : place_in i (redo_from r first.slots) ≡ Some (at.goal, (false, redone (held_there.earlier ++ held_there.found_answer ∷ []) busy_kind.Running (given r held_there.left) (spent_by held_there.left)))
     placed = redone_place r i first.slots at.goal false at.progress is_next at.place_at ∙ ap (λ x. Some (at.goal, (false, x))) (restarted_is r at.progress held_there.earlier held_there.found_answer held_there.left held_there.cost held_there.is)

@@ -22,6 +22,7 @@ use Rattle.ap_tie.specs.Sections.{Row, Section, section, Stack, bottom, parcall,
 use Rattle.ap_tie.specs.Settled.{HasFailed, stays}
 use Rattle.ap_tie.specs.Tied.{IsAtAnswer}
 use Rattle.ap_tied.specs.Ties.{IsSearched, IsTied, Goes}
+use Rattle.ap_tied.specs.Emptied.{emptied_behind}
 
 -- the tuple of the answer that the section's machine stands at, up to names
 abbrev pub IsAnswerIn : Section → Trees → Type 0
@@ -61,6 +62,9 @@ pub record SettlingLaw : Type 0 where
   pub closes : (code : Compiled) (m n : Machine) (c b : ℕ) (f : Forked) (q : ℕ) (rd : Round) (w : Slots) (qs : List Point) (st : Stack) (e : ℕ)
       → HasFailed m.roots [] m → judged q rd (rows w) ≡ Broken e → list_any is_running (rows w) ≡ false → stays rd (rows w) ≡ true → IsRedoable (rows w) → HasFailed m.roots [] n
       → Goes code (section m c b (parcall f q rd w qs st)) (section n (c + e) b (parcall f q Closed w qs st))
+  -- slots behind the i-th one give their sections away where they have no other answer, which is no event
+  pub empties : (code : Compiled) (m : Machine) (c b : ℕ) (f : Forked) (q i : ℕ) (w : Slots) (qs : List Point) (st : Stack)
+      → Goes code (section m c b (parcall f q Closed w qs st)) (section m c b (parcall f q Closed (emptied_behind i w) qs st))
   pub spends : (code : Compiled) (p : Rules) (o : Tracked) (m : Machine) (c b : ℕ) (f : Forked) (q : ℕ) (rd : Round) (w : Slots) (qs : List Point) (st : Stack) (t : Task)
       → IsTied code p o (section m c b (parcall f q rd w qs st)) t → HasFailed m.roots [] m → judged q rd (rows w) ≡ Spent → has_spent p.loud t ≡ true
 

@@ -83,8 +83,8 @@ IsQuietRound _ = Unit {0}
 abbrev pub stack_in : Section → Stack
 stack_in (section m c b st) = st
 
--- No slot is loud or has stored answers, one that has an answer holds the section that found it, whose frames are closed, and no
--- frame drains a slot; the same of the sections that slots hold.
+-- No slot is loud or has stored answers, one that has an answer holds the section that found it, whose frames are closed, or nothing
+-- where there is no other answer, and no frame drains a slot; the same of the sections that slots hold.
 abbrev mutual
   pub IsQuiet : Compiled → Section → Type 0
   IsQuiet code (section m c b st) = IsQuietStack code m.roots st
@@ -99,7 +99,7 @@ abbrev mutual
   AreQuietSlots code (slot x h w) = (x.is_loud ≡ false) × (x.tuples ≡ None) × HoldsAnswer code x.stand h × AreQuietSlots code w
 
   pub HoldsAnswer : Compiled → Stand (Unit {0}) → Held → Type 0
-  HoldsAnswer code (Answered a) nothing = ⊥
+  HoldsAnswer code (Answered a) nothing = (a.section ≡ None) × (a.has_more ≡ false)
   HoldsAnswer code (Answered a) (held s) = (a.section ≡ Some tt) × IsQuiet code s × AreClosed (stack_in s)
   HoldsAnswer code (Replayed k) h = ⊥
   HoldsAnswer code _ h = h ≡ nothing

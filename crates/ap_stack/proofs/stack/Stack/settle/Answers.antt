@@ -58,7 +58,11 @@ returns-in-Joined-clause-goes c =
     let code = code_in s in
     let good = c.requires.good in
     let t : Stack = record s { newest = c.settle.new.self; tends = false } in
-    moved-alone p s t refl refl refl refl c.sharing_law.ensures good c.requires.none (c.settle.ensures.ready code good.ready) (λ h. absurd (false≢true h)) (c.settle.ensures.goes code good.ready) (stays-pays p s t refl refl (c.settle.ensures.owes code good.ready))
+    let u : Stack = record s { newest = c.drop_sections.new.self; tends = false } in
+    let ready = c.settle.ensures.ready code good.ready in
+    let first = moved-alone p s t refl refl refl refl c.sharing_law.ensures good c.requires.none ready (λ h. absurd (false≢true h)) (c.settle.ensures.goes code good.ready) (stays-pays p s t refl refl (c.settle.ensures.owes code good.ready)) in
+    let second = moved-alone p t u refl refl refl refl c.sharing_law.ensures first.good c.requires.none (c.drop_sections.ensures.ready code ready) (λ h. absurd (false≢true h)) (c.drop_sections.ensures.goes code) (stays-pays p t u refl refl c.drop_sections.ensures.owes) in
+    goes-then p p p s t u first second
 
 pub returns-in-Spent-clause-goes : goal.returns-in-Spent-clause-goes
 returns-in-Spent-clause-goes c =
