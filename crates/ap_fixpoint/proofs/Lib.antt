@@ -14,3 +14,4 @@ pub mod Grouping
 pub mod Heights
 pub mod Bounds
 pub mod Ending
+pub mod Ungrouped

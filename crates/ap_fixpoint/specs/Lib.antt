@@ -1,3 +1,4 @@
+pub mod Answered
 pub mod Fix
 pub mod Formed
 pub mod Laws

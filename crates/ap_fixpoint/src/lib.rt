@@ -5,6 +5,7 @@
 #![tactic(auto)]
 
 mod analysis;
+mod answered;
 mod bodies;
 mod clauses;
 pub mod laws;
@@ -17,3 +18,4 @@ mod sums;
 mod tables;
 
 pub use analysis::analyse;
+pub use answered::is_table_with_groups;

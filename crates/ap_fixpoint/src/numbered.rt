@@ -6,13 +6,13 @@ ghost use Rattle.ap_fixpoint.specs.Fix.{same_slot};
 ghost use Rattle.ap_patterns.specs.Table.{key_of, is_key};
 ghost use Rattle.ap_fixpoint.specs.Numbered.{numbers_at, numbers_of};
 
-use ap_patterns::{Predicate, Slot};
+use ap_patterns::{KeyHasher, Predicate, Slot};
 use ap_term::NoMemory;
 use std::alloc::Global;
 use std::collections::HashMap;
 
 /// Numbers by a predicate's name and arity.
-type Lists = HashMap<(u32, u64), Vec<usize>>;
+type Lists = HashMap<(u32, u64), Vec<usize>, KeyHasher>;
 
 fn key_of(predicate: &Predicate) -> (u32, u64)
     ensures { result ≡ key_of predicate.now }
@@ -55,8 +55,8 @@ impl Numbered {
         ensures { (x : Slot) → numbers_of result x ≡ [] }
     {
         Numbered {
-            calls: HashMap::new(alloc),
-            answers: HashMap::new(alloc),
+            calls: HashMap::with_hasher(alloc, KeyHasher::new()),
+            answers: HashMap::with_hasher(alloc, KeyHasher::new()),
         }
     }
 

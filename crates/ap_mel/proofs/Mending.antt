@@ -116,7 +116,7 @@ body_stays bare analysed t s (p ∷ ps) h =
     let r = and_parts (is_settled bare s p) (is_body_settled bare analysed t (behind analysed t s p) ps) h in
     ap (λ qs. qs ++ mended_body bare analysed t (behind analysed t s p) ps) (part_stays bare s p r.0) ∙ ap (λ qs. p ∷ qs) (body_stays bare analysed t (behind analysed t s p) ps r.1)
 
-clause_stays : (k : Kind) (t : Patterns) (c d : Clause) → is_clause_settled k t c d ≡ true → mended_clause k t c d ≡ d
+pub clause_stays : (k : Kind) (t : Patterns) (c d : Clause) → is_clause_settled k t c d ≡ true → mended_clause k t c d ≡ d
 clause_stays k t c d h = ap (λ b. record { head = d.head; body = b; vars = d.vars; line = d.line }) (body_stays (is_bare k c) (is_analysed d) t (start t d) d.body h)
 
 pub program-stays : (k : Kind) (t : Patterns) (P A : Program) → length P ≡ length A → is_program_settled k t P A ≡ true → mended_program k t P A ≡ A

@@ -15,8 +15,9 @@ use Rattle.ap_udg.specs.Completed.{start, behind}
 use Rattle.ap_mel.specs.declared.annotations.Kind.{Kind}
 use Rattle.ap_mel.specs.Lone.{is_plain}
 use Rattle.ap_mel.specs.Made.{IsFirst, IsMade, begun}
-use Rattle.ap_mel.specs.Mended.{is_bare, is_body_settled, is_program_settled}
+use Rattle.ap_mel.specs.Mended.{is_bare, mended_clause, is_body_settled, is_clause_settled, is_program_settled}
 use Rattle.ap_mel.proofs.Certifying.{first-kept, made, settled-given, sound}
+use Rattle.ap_mel.proofs.Mending.{clause_stays}
 
 stripped-body : (ps : List Part) → list_any is_group ps ≡ false → flat_map stripped_part ps ≡ ps
 stripped-body [] w = refl
@@ -37,15 +38,28 @@ body_settled bare analysed t s [] w = refl
 body_settled bare analysed t s (call g ∷ ps) w = body_settled bare analysed t (behind analysed t s (call g)) ps w
 body_settled bare analysed t s (group cs gs ∷ ps) w = absurd (false≢true (sym w))
 
+-- a clause without groups stays as it is in each pass
+pub plain-clause : (k : Kind) (t : Patterns) (c d : Clause) → has_groups d ≡ false → is_clause_settled k t c d ≡ true
+plain-clause k t c d w = body_settled (is_bare k c) (is_analysed d) t (start t d) d.body w
+
+pub plain-stays : (k : Kind) (t : Patterns) (c d : Clause) → has_groups d ≡ false → mended_clause k t c d ≡ d
+plain-stays k t c d w = clause_stays k t c d (plain-clause k t c d w)
+
+pub ruleset rules_of_plain = (plain-clause, plain-stays)
+
 plain-settled : (k : Kind) (t : Patterns) (P : Program) → is_plain P ≡ true → is_program_settled k t P P ≡ true
 plain-settled k t [] w = refl
 plain-settled k t (c ∷ cs) w =
     let r = and_parts (not (has_groups c)) (is_plain cs) w in
     ap (λ b. b && is_program_settled k t cs cs) (body_settled (is_bare k c) (is_analysed c) t (start t c) c.body (not-true (has_groups c) r.0)) ∙ plain-settled k t cs r.1
 
+-- a program without groups is what its first groups leave of it without them
+pub first-stripped : (k : Kind) (t : Patterns) (P A : Program) → IsFirst k t P A → is_plain P ≡ true → P ≡ stripped A
+first-stripped k t P A one p = sym ((first-kept k t P A one).1 ∙ stripped-plain P p)
+
 -- a program without groups that has got none is as it was
 pub ungrouped : (k : Kind) (t : Patterns) (P A : Program) → IsFirst k t P A → is_plain P ≡ true → is_plain A ≡ true → A ≡ P
-ungrouped k t P A one p a = sym (stripped-plain A a) ∙ (first-kept k t P A one).1 ∙ stripped-plain P p
+ungrouped k t P A one p a = sym (first-stripped k t P A one p ∙ stripped-plain A a)
 
 -- and it is what the passes end at
 pub plain-made : (k : Kind) (E : Entries) (P : Program) (t : Patterns) → IsFix E P t → IsFirst k t P P → is_plain P ≡ true → IsMade k E P P

@@ -1,20 +1,8 @@
 -- Programs with nothing to group.
-use Rattle.std.specs.Prelude.{Bool, true, false, not, ◌&&◌, List, [], ◌∷◌}
+pub use Rattle.ap_udg.specs.Lone.{is_call, is_lone_behind, is_lone_body}
+use Rattle.std.specs.Prelude.{Bool, not}
 use Rattle.std.specs.List.{list_all}
-use Rattle.ap_term.specs.Goals.{Part, call, group, has_groups, Program}
-use Rattle.ap_udg.specs.Runs.{is_user_call}
-
-abbrev pub is_call : Part → Bool
-is_call (call g) = true
-is_call (group cs gs) = false
-
--- no group, and of two goals in a row one is built in; whether the goal before is none that is built in is told
-abbrev pub is_lone_behind : Bool → List Part → Bool
-is_lone_behind user [] = true
-is_lone_behind user (p ∷ ps) = is_call p && (not (user && is_user_call p) && is_lone_behind (is_user_call p) ps)
-
-abbrev pub is_lone_body : List Part → Bool
-is_lone_body ps = is_lone_behind false ps
+use Rattle.ap_term.specs.Goals.{has_groups, Program}
 
 abbrev pub is_lone : Program → Bool
 is_lone p = list_all (λ c. is_lone_body c.body) p

@@ -1,12 +1,13 @@
 //! Annotated programs, certified for their entries.
 
-ghost use Rattle.std.specs.Prelude.{◌≡◌, length, IfOk};
+ghost use Rattle.std.specs.Prelude.{◌≡◌, true, length, IfOk};
 ghost use Rattle.ap_patterns.specs.Given.{Patterns, patterns};
 ghost use Rattle.ap_patterns.specs.Entry.{IsMarked};
 ghost use Rattle.ap_certify.specs.declared.certified.Scope.TheVariants.{Of};
 ghost use Rattle.ap_certify.specs.Certificate.{IsSoundAnnotation};
 ghost use Rattle.ap_udg.specs.declared.runs.Rule.TheVariants.{Conditional};
 ghost use Rattle.ap_udg.specs.Annotated.{IsAnnotated};
+ghost use Rattle.ap_cge.specs.Stripped.{stripped};
 ghost use Rattle.ap_fixpoint.specs.Fix.{IsFix};
 ghost use Rattle.ap_mel.specs.Lone.{is_plain};
 ghost use Rattle.ap_mel.specs.Made.{IsFirst, IsMade};
@@ -17,7 +18,7 @@ use crate::lone::{as_written, is_lone};
 use crate::passes::{Pass, pass_over};
 use ap_certify::Certified;
 use ap_cge::{Annotated, hand_written};
-use ap_fixpoint::analyse;
+use ap_fixpoint::{analyse, is_table_with_groups};
 use ap_patterns::{Entries, Table};
 use ap_term::{Clause, NoMemory, Program};
 use ap_udg::{Rule, annotate_by, annotated_of, copy_clauses, has_groups};
@@ -65,27 +66,51 @@ fn is_plain(clauses: &[Clause]) -> bool
     clauses.iter().all(|clause| !has_groups(clause))
 }
 
-/// The program's clauses with their first groups, passed over until a pass leaves them as they are.
+/// The table of a program with its first groups: where nothing is grouped by hand, it may be that of the program as it is
+/// written.
+fn first_table(
+    alloc: Global,
+    current: &Annotated,
+    entries: &Entries,
+    plain: bool,
+    table: Table,
+) -> Result<Table, NoMemory>
+    requires marked { IsMarked entries.now }
+    requires written { plain ≡ true → IsFix entries.now (stripped current.now) (patterns table) }
+    ensures { IfOk result (λ t. IsFix entries.now current.now (patterns t)) }
+{
+    let program = current.program();
+    if plain && is_table_with_groups(&table, entries, program.as_slice()) {
+        return Ok(table);
+    }
+    analyse(alloc, current, entries)
+}
+
+/// The program with its first groups, passed over until a pass leaves it as it is; the first pass goes by the table that is
+/// there.
 fn pass_on(
     alloc: Global,
     program: &Program,
     entries: &Entries,
     kind: Kind,
-    grouped: Vec<Clause>,
+    grouped: Annotated,
+    table: Table,
 ) -> Result<Vec<Clause>, NoMemory>
     requires marked { IsMarked entries.now }
-    requires length { length program.now ≡ length grouped.items }
-    ensures made { IfOk result (λ a. (t : Patterns) → IsFix entries.now program.now t → IsFirst kind t program.now grouped.items → IsMade kind entries.now program.now a.items) }
-    ensures sound { IfOk result (λ a. (t : Patterns) → IsFirst kind t program.now grouped.items → IsSoundAnnotation program.now a.items (Of entries.now)) }
+    requires length { length program.now ≡ length grouped }
+    requires table { IsFix entries.now grouped (patterns table) }
+    ensures made { IfOk result (λ a. (t : Patterns) → IsFix entries.now program.now t → IsFirst kind t program.now grouped → IsMade kind entries.now program.now a.items) }
+    ensures sound { IfOk result (λ a. (t : Patterns) → IsFirst kind t program.now grouped → IsSoundAnnotation program.now a.items (Of entries.now)) }
 {
-    let mut current = annotated_of(alloc, grouped)?;
+    let mut current = grouped;
+    let mut table = table;
     loop {
-        let table = analyse(alloc, &current, entries)?;
         let Pass { mended, settled } = pass_over(alloc, kind, &table, program, &current)?;
         if settled {
             return Ok(mended);
         }
         current = annotated_of(alloc, mended)?;
+        table = analyse(alloc, &current, entries)?;
     }
 }
 
@@ -105,10 +130,13 @@ pub fn sound_clauses(
     let program = written.program();
     let clauses = program.as_slice();
     let grouped = first(alloc, kind, program, &table)?;
-    if is_plain(clauses) && is_plain(&grouped) {
+    let plain = is_plain(clauses);
+    if plain && is_plain(&grouped) {
         return Ok(grouped);
     }
-    pass_on(alloc, program, entries, kind, grouped)
+    let current = annotated_of(alloc, grouped)?;
+    let table = first_table(alloc, &current, entries, plain, table)?;
+    pass_on(alloc, program, entries, kind, current, table)
 }
 
 /// The program with groups that may run side by side in every search of a query that is as the entries say. The groups are

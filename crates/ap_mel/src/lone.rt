@@ -1,59 +1,22 @@
 //! Programs of which no clause has two goals in a row that aren't built in, so that there is nothing to group.
 
-ghost use Rattle.std.specs.Prelude.{◌≡◌, true, map, IfOk};
-ghost use Rattle.ap_term.specs.GoalView.{part_of};
+ghost use Rattle.std.specs.Prelude.{◌≡◌, true, IfOk};
 ghost use Rattle.ap_certify.specs.declared.certified.Scope.TheVariants.{Of};
 ghost use Rattle.ap_certify.specs.Certificate.{IsSoundAnnotation};
 ghost use Rattle.ap_certify.specs.Scopes.{IsScopeOf};
-ghost use Rattle.ap_udg.specs.Runs.{is_user_call};
 ghost use Rattle.ap_mel.specs.declared.annotations.Kind.{Kind};
-ghost use Rattle.ap_mel.specs.Lone.{is_call, is_lone_behind, is_lone_body, is_lone};
+ghost use Rattle.ap_mel.specs.Lone.{is_lone_body, is_lone};
 ghost use Rattle.ap_mel.specs.Made.{IsMade};
 
 use crate::entries::certified;
 use ap_certify::Certified;
 use ap_cge::hand_written;
-use ap_patterns::{Entries, is_builtin};
-use ap_term::{Clause, NoMemory, Part, Program};
+use ap_patterns::Entries;
+use ap_term::{Clause, NoMemory, Program};
+use ap_udg::is_lone_body;
 use std::alloc::Global;
 
-fn is_call(part: &Part) -> bool
-    ensures { result ≡ is_call (part_of part.now) }
-{
-    match part {
-        Part::Call(_) => true,
-        Part::Group { .. } => false,
-    }
-}
-
-fn is_user_call(part: &Part) -> bool
-    ensures { result ≡ is_user_call (part_of part.now) }
-{
-    match part {
-        Part::Call(goal) => !is_builtin(goal),
-        Part::Group { .. } => false,
-    }
-}
-
-/// Whether a body has no group, and of two goals in a row one is built in.
-fn is_lone_body(parts: &[Part]) -> bool
-    ensures { result ≡ is_lone_body (map part_of parts.now) }
-{
-    let mut is_behind = false;
-    for part in parts {
-        if !is_call(part) {
-            return false;
-        }
-        let is_user = is_user_call(part);
-        if is_behind && is_user {
-            return false;
-        }
-        is_behind = is_user;
-    }
-    true
-}
-
-/// The same of a clause.
+/// Whether a clause has no group, and of two goals in a row one is built in.
 pub fn is_lone_clause(clause: &Clause) -> bool
     ensures { result ≡ is_lone_body clause.now.body }
 {

@@ -18,7 +18,7 @@ use ap_absunify::State;
 use ap_cge::Annotated;
 use ap_conditions::{Simplified, full, simplify};
 use ap_patterns::{Table, is_analysed};
-use ap_term::{Body, Checks, Clause, NoMemory, Part, Program, Term, copy_term};
+use ap_term::{Body, Checks, Clause, NoMemory, Part, Program, Term, copy_clause, copy_term};
 use ap_udg::{behind, copy_part, has_groups, missing, start, with_checks};
 use std::alloc::Global;
 
@@ -127,7 +127,7 @@ fn is_bare(kind: Kind, clause: &Clause) -> bool
 
 /// Puts in what becomes of a clause of an annotated program; `written` is the clause that was read. Whether it stays as it
 /// is.
-#[tactic(auto, using(ap_fixpoint::proofs::Formed::rules_of_clauses))]
+#[tactic(auto, using(ap_fixpoint::proofs::Formed::rules_of_clauses, crate::proofs::Plain::rules_of_plain))]
 fn mend_clause(
     alloc: Global,
     kind: Kind,
@@ -139,6 +139,10 @@ fn mend_clause(
     ensures out { OnOk result (out.new.items ≡ out.old.items ++ mended_clause kind (patterns table.now) written.now clause.now ∷ []) }
     ensures settled { IfOk result (λ b. b ≡ is_clause_settled kind (patterns table.now) written.now clause.now) }
 {
+    if !has_groups(clause) {
+        out.push(copy_clause(alloc, clause)?)?;
+        return Ok(true);
+    }
     let mut body = Body::new(alloc);
     let start = start(alloc, table, clause)?;
     let parts = clause.body().as_slice();

@@ -6,3 +6,4 @@ pub mod Marks
 pub mod Arguments
 pub mod MarkTurns
 pub mod Coverings
+pub mod OwnSets

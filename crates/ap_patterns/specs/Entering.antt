@@ -1,6 +1,6 @@
 -- Entering a clause: the places stand as variables beside the clause's own, each is unified with its argument of the
 -- head, and then they are let go.
-use Rattle.std.specs.Prelude.{ℕ, zero, suc, ◌+◌, ◌-◌, if◌then◌else◌, List, [], ◌∷◌, map}
+use Rattle.std.specs.Prelude.{ℕ, zero, suc, ◌+◌, ◌-◌, if◌then◌else◌, List, [], ◌∷◌, ◌++◌, map}
 use Rattle.ap_term.specs.Tree.{Tree, Trees, var, atom, none, more, count_trees}
 use Rattle.ap_term.specs.Unification.{Equations}
 use Rattle.ap_sharing.specs.VarSet.{has, empty, just, union}
@@ -21,6 +21,11 @@ own (suc n) = union (own n) (just (suc n))
 abbrev pub with_own : ℕ → List ℕ → List ℕ
 with_own zero ss = ss
 with_own (suc n) ss = insert_set (with_own n ss) (just (suc n))
+
+-- each of these variables alone
+abbrev pub own_sets : ℕ → List ℕ
+own_sets zero = []
+own_sets (suc n) = own_sets n ++ just (suc n) ∷ []
 
 -- place i of k places as variable n + i
 abbrev pub beside : ℕ → ℕ → ℕ → ℕ

@@ -7,7 +7,7 @@ ghost use Rattle.ap_term.specs.WellFormed.{numbered, numbered_all};
 ghost use Rattle.ap_absunify.specs.AfterEqual.{after_all};
 ghost use Rattle.ap_sharing.specs.Sets.{sets_of};
 ghost use Rattle.ap_patterns.specs.Places.{arguments};
-ghost use Rattle.ap_patterns.specs.Entering.{own, with_own, beside, beside_own, head_equations, enter};
+ghost use Rattle.ap_patterns.specs.Entering.{own, with_own, own_sets, beside, beside_own, head_equations, enter};
 
 use crate::calls::Pattern;
 use crate::places::{arguments, only_if};
@@ -29,15 +29,16 @@ fn own(n: u64) -> VarSet
     vars
 }
 
-/// Puts in each of the variables from 1 to n alone.
-fn add_own(n: u64, sets: &mut Sets) -> Result<(), NoMemory>
+/// Each of the variables from 1 to n alone, with room for more sets.
+fn own_sets(alloc: Global, n: u64, more: usize) -> Result<Vec<VarSet>, NoMemory>
     requires { n ≤ 255 }
-    ensures { IfOk result (λ _. sets.new ≡ with_own n sets.old) }
+    ensures { IfOk result (λ r. r.items ≡ own_sets n) }
 {
+    let mut sets = Vec::with_capacity(alloc, more.saturating_add(n as usize))?;
     for x in 0..n {
-        sets.insert(VarSet::just(x + 1))?;
+        sets.push(VarSet::just(x + 1))?;
     }
-    Ok(())
+    Ok(sets)
 }
 
 /// Of k places each place i of s as the variable n + i.
@@ -54,30 +55,39 @@ fn beside(n: u64, k: u64, s: VarSet) -> VarSet
 }
 
 /// A pattern of k places beside n variables that are free and share nothing.
-fn beside_own(alloc: Global, n: u64, k: u64, pattern: &Pattern) -> Result<State, NoMemory>
-    requires { n + k ≤ 255 }
+fn beside_own(
+    alloc: Global,
+    n: u64,
+    vars: VarSet,
+    k: u64,
+    pattern: &Pattern,
+) -> Result<State, NoMemory>
+    requires few { n + k ≤ 255 }
+    requires own { vars ≡ own n }
     ensures { IfOk result (λ r. r ≡ beside_own n k pattern.now) }
 {
     match pattern {
         State::Unreachable => Ok(State::Unreachable),
         State::Reachable { share, free } => {
-            let mut sets = sets_beside(alloc, n, k, share.sets())?;
-            add_own(n, &mut sets)?;
+            let sets = sets_beside(alloc, n, k, share.sets())?;
             let share = Share::new(sets, beside(n, k, share.any()));
-            let vars = own(n).union(beside(n, k, free.vars()));
-            Ok(made(share, Free::new(vars)))
+            let free = Free::new(vars.union(beside(n, k, free.vars())));
+            Ok(made(share, free))
         }
     }
 }
 
-/// The sets with each place of k as a variable beside n.
+/// The sets with each place of k as a variable beside n, and each of these n alone. Sets that ascend are made in order.
 fn sets_beside(alloc: Global, n: u64, k: u64, sets: &Sets) -> Result<Sets, NoMemory>
     requires { n + k ≤ 255 }
-    ensures { IfOk result (λ r. r ≡ sets_of (map (beside n k) sets.now)) }
+    ensures { IfOk result (λ r. r ≡ with_own n (sets_of (map (beside n k) sets.now))) }
 {
-    let sets = sets.as_slice();
-    let moved = sets.iter().map(|s| beside(n, k, *s)).collect(alloc)?;
-    Sets::of(moved)
+    let places = sets.as_slice();
+    let mut all = own_sets(alloc, n, places.len())?;
+    for s in places {
+        all.push(beside(n, k, *s))?;
+    }
+    Sets::of(all)
 }
 
 /// The state after each place, as a variable beside n, was unified with its argument of the head.
@@ -101,7 +111,8 @@ pub fn enter(alloc: Global, n: u64, head: &Term, pattern: &Pattern) -> Result<St
     ensures { IfOk result (λ r. r ≡ enter n (tree_of head.now) pattern.now) }
 {
     let args = arguments(head);
-    let beside = beside_own(alloc, n, args.len() as u64, pattern)?;
+    let vars = own(n);
+    let beside = beside_own(alloc, n, vars, args.len() as u64, pattern)?;
     let unified = after_head(alloc, n, args, beside)?;
-    unified.project(alloc, &own(n))
+    unified.project(alloc, &vars)
 }

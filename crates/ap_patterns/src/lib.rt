@@ -7,6 +7,7 @@
 mod calls;
 mod clauses;
 mod entries;
+mod keys;
 pub mod laws;
 mod places;
 mod returns;
@@ -17,6 +18,7 @@ mod unknown;
 pub use calls::{Pattern, call_pattern};
 pub use clauses::enter;
 pub use entries::{Entries, Entry, Mark, query_call};
+pub use keys::KeyHasher;
 pub use returns::after_call;
 pub use slots::{Given, Slot, after_goal, call_at, is_builtin, is_covered, pattern_at, success_at};
 pub use tables::{Predicate, Row, Table};

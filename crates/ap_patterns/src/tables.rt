@@ -6,6 +6,7 @@ ghost use Rattle.ap_term.specs.TermView.{tree_of};
 ghost use Rattle.ap_patterns.specs.Table.{predicate_of, row_of, place_of, set_call, set_success, key_of, is_key};
 
 use crate::calls::Pattern;
+use crate::keys::KeyHasher;
 use ap_absunify::State;
 use ap_term::{Atom, NoMemory, Term};
 use std::alloc::Global;
@@ -59,7 +60,7 @@ impl Row {
 }
 
 /// Places by a predicate's name and arity.
-type Places = HashMap<(u32, u64), usize>;
+type Places = HashMap<(u32, u64), usize, KeyHasher>;
 
 fn key_of(predicate: &Predicate) -> (u32, u64)
     ensures { result ≡ key_of predicate.now }
@@ -106,7 +107,7 @@ impl Table {
     {
         Table {
             rows: Vec::new(alloc),
-            places: HashMap::new(alloc),
+            places: HashMap::with_hasher(alloc, KeyHasher::new()),
         }
     }
 

@@ -2,3 +2,4 @@ pub mod LongestRuns
 pub mod Bodies
 pub mod Annotations
 pub mod OneAnnotation
+pub mod LoneBodies

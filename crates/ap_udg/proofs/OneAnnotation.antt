@@ -114,7 +114,7 @@ one_grouping r t s0 ps0 qs0 rs (next s ps n p qs i g) h = go (λ us. one_groupin
         subst (λ z. Grouped r t (after_part t s z) (drop n ps) k.rest) (sym same.1) (subst (λ z. Grouped r t (after_part t s k.part) (drop z ps) k.rest) (sym same.0) k.then) in
         ap₂ (λ x xs. x ∷ xs) same.1 (ih k.rest other) ∙ sym k.whole
 
-a_body : (hand analysed : Bool) (r : Rule) (t : Patterns) (c : Clause) → (body : List Part) × IsBody hand analysed r t c body
+pub a_body : (hand analysed : Bool) (r : Rule) (t : Patterns) (c : Clause) → (body : List Part) × IsBody hand analysed r t c body
 a_body true analysed r t c = (completed_body analysed t (start t c) c.body, refl)
 a_body false true r t c = a_grouping r t (length c.body) (start t c) c.body (omega arith)
 a_body false false r t c = (c.body, refl)

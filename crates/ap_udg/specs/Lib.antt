@@ -1,4 +1,5 @@
 pub mod Runs
+pub mod Lone
 pub mod Completed
 pub mod Grouped
 pub mod Annotated

@@ -9,12 +9,13 @@ ghost use Rattle.ap_udg.specs.Annotated.{is_group, has_groups, IsBody, IsAnnotat
 
 use crate::completions::completed;
 use crate::groups::grouped;
+use crate::lone::is_lone_body;
 use crate::programs::annotated_of;
 use crate::runs::Rule;
 use crate::states::start;
 use ap_cge::Annotated;
 use ap_patterns::{Table, is_analysed};
-use ap_term::{Body, Clause, NoMemory, Part, Program, add_copies, copy_term};
+use ap_term::{Body, Clause, NoMemory, Part, Program, add_copies, copy_clause, copy_term};
 use std::alloc::Global;
 
 fn is_group(part: &Part) -> bool
@@ -66,7 +67,7 @@ fn annotated_body(
     Ok(body)
 }
 
-/// A clause with its groups.
+/// A clause with its groups. One with nothing to group is copied, whatever its state.
 fn annotated_clause(
     alloc: Global,
     rule: Rule,
@@ -75,6 +76,9 @@ fn annotated_clause(
 ) -> Result<Clause, NoMemory>
     ensures { IfOk result (λ c. IsAnnotatedClause rule (patterns table.now) clause.now c) }
 {
+    if is_lone_body(clause.body().as_slice()) {
+        return copy_clause(alloc, clause);
+    }
     let body = annotated_body(alloc, rule, table, clause)?;
     let head = copy_term(alloc, clause.head())?;
     Ok(Clause::new(head, body, clause.vars(), clause.line()))

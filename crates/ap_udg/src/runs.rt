@@ -47,7 +47,7 @@ fn may_stand(alloc: Global, rule: Rule, s: &State, goals: &[Term]) -> Result<boo
     Ok(rule.takes(&left))
 }
 
-fn is_user_call(part: &Part) -> bool
+pub fn is_user_call(part: &Part) -> bool
     ensures { result ≡ is_user_call (part_of part.now) }
 {
     match part {
