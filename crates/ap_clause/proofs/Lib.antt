@@ -1,5 +1,6 @@
 pub mod Walks
 pub mod Forms
+pub mod PlainNames
 pub mod Arities
 pub mod Bodies
 pub mod Names

@@ -1,11 +1,12 @@
 -- What the code keeps of written terms to judge their form.
-use Rattle.std.specs.Prelude.{true, false, [], ◌∷◌}
+use Rattle.std.specs.Prelude.{Bool, true, false, not, ◌&&◌, [], ◌∷◌, codes, bytes_eq}
+use Rattle.ap_lexer.specs.Lexeme.{Text}
 use Rattle.ap_reader.specs.Written.{Written, Variable}
 use Rattle.ap_reader.specs.Evaluated.{Value, ATerm, Gathered}
 use Rattle.ap_clause.specs.declared.form.Form.{Form}
 use Rattle.ap_clause.specs.declared.form.Shape.{Shape}
 use Rattle.ap_clause.specs.declared.form.Shape.TheVariants as shape
-use Rattle.ap_clause.specs.Form.{is_variable, are_checks, is_condition, is_conditional, is_body, is_head, is_clause, is_query}
+use Rattle.ap_clause.specs.Form.{connective, is_head_named, is_variable, are_checks, is_condition, is_conditional, is_body, is_head, is_clause, is_query}
 
 abbrev pub form_of : Written → Form
 form_of x = record {
@@ -22,6 +23,10 @@ form_of x = record {
 -- a compound that no rule singles out
 abbrev pub plain : Form
 plain = record { variable = false; checks = false; condition = false; conditional = false; body = true; head = true; clause = true; query = true }
+
+-- a name that no rule singles out
+abbrev pub is_plain_name : Text → Bool
+is_plain_name f = is_head_named (connective f) && (not (bytes_eq f (codes ":-")) && (not (bytes_eq f (codes "?-")) && (not (bytes_eq f (codes "ground")) && not (bytes_eq f (codes "indep")))))
 
 abbrev pub shape_of : Value → Shape
 shape_of (ATerm x) = shape.Term (form_of x)

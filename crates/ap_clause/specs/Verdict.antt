@@ -3,6 +3,7 @@ use Rattle.std.specs.Prelude.{◌≡◌, ℕ, ◌+◌, ◌≤◌, true, List, []
 use Rattle.std.specs.declared.alloc.Global.{Global}
 use Rattle.std.specs.declared.vec.Vec.{Vec}
 use Rattle.ap_lexer.specs.Lexeme.{Text}
+use Rattle.ap_reader.specs.Leaves.{texts}
 use Rattle.ap_lexer.specs.declared.cut.Piece.{Piece}
 use Rattle.ap_term.specs.Tree.{Tree}
 use Rattle.ap_term.specs.AtomTable.{capacity}
@@ -34,7 +35,7 @@ abbrev pub position : List Text → Counts → Position
 position table counts = record { table = table; counts = counts }
 
 abbrev pub taken_of : List Text → Read → Taken
-taken_of table r = record { rule = r.rule; names = r.names.items; after = position table r.counts }
+taken_of table r = record { rule = r.rule; names = texts r.names.items; after = position table r.counts }
 
 -- the predicates that were lifted, for whose names the table has room
 abbrev pub IsCounted : Counts → Read → List Text → Type 0

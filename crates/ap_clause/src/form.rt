@@ -1,7 +1,7 @@
 //! The form of a clause: which written terms can be clauses and queries, by their steps.
 
-ghost use Rattle.std.specs.Prelude.{◌≡◌, ℕ, pos, [], ◌∷◌, ◌++◌, List, IfOk, map, slice_get};
-ghost use Rattle.ap_reader.specs.Written.{Written, Node, Cons, Nil, Paren, cell, leaf_of, leaf_at, meaning};
+ghost use Rattle.std.specs.Prelude.{◌≡◌, ℕ, pos, [], ◌∷◌, ◌++◌, List, IfOk, IfSome, IsTrue, map, slice_get};
+ghost use Rattle.ap_reader.specs.Written.{Written, Writtens, Node, Cons, Nil, Paren, cell, leaf_of, leaf_at, meaning};
 ghost use Rattle.ap_reader.specs.Written as written;
 ghost use Rattle.ap_reader.specs.Evaluated.{Value, Gathered, top_term, top_items, below, made, left, with_rest, cells, stacked};
 ghost use Rattle.ap_reader.specs.Grammar.{Tree};
@@ -301,10 +301,46 @@ fn shape_after(stack: &mut Vec<Shape>, leaves: &[Leaf], step: Step) -> Shape
     }
 }
 
+/// Whether a compound has the form of a plain goal, whatever its arguments are: no rule singles its name out.
+fn is_plain_name(name: &str) -> bool
+    ensures { result ≡ shape.is_plain_name name.now }
+{
+    if !matches!(connective_named(name), Connective::Other) {
+        return false;
+    }
+    match name.as_bytes() {
+        [b':' | b'?', b'-'] => false,
+        _ => name != "ground" && name != "indep",
+    }
+}
+
+/// The name of a compound that isn't written as an operator; most facts are one.
+fn compound_name<'l>(leaves: &'l [Leaf], steps: &[Step]) -> Option<&'l str>
+    ensures { IfSome result (λ name. (t : Tree) → steps.now ≡ postfix t → (ts : Writtens) × (meaning (map leaf_of leaves.now) t ≡ Node name.now ts)) }
+{
+    match steps.split_last() {
+        Some((Step::Compound(at), _)) => Some(name_at(leaves, *at)),
+        _ => None,
+    }
+}
+
+/// Whether a term is a compound of a plain name.
+fn is_plain(leaves: &[Leaf], steps: &[Step]) -> bool
+    ensures { IsTrue result → (t : Tree) → steps.now ≡ postfix t → shape.plain ≡ form_of (meaning (map leaf_of leaves.now) t) }
+{
+    match compound_name(leaves, steps) {
+        Some(name) => is_plain_name(name),
+        None => false,
+    }
+}
+
 /// The form of a term, by its steps.
 pub(crate) fn form_by(alloc: Global, leaves: &[Leaf], steps: &[Step]) -> Result<Form, NoMemory>
     ensures { IfOk result (λ f. (t : Tree) → steps.now ≡ postfix t → f ≡ form_of (meaning (map leaf_of leaves.now) t)) }
 {
+    if is_plain(leaves, steps) {
+        return Ok(plain());
+    }
     let mut stack = Vec::new(alloc);
     let mut rest = steps;
     while let [step, after @ ..] = rest {

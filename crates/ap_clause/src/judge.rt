@@ -20,7 +20,7 @@ use crate::refusal::{Refusal, What};
 use crate::source::Source;
 use ap_lifting::{Body, Rule, Sizes, predicates_of, sizes_of};
 use ap_reader::own_names;
-use ap_term::{Atom, Atoms, MAX_ATOMS, Name, Term, fixed};
+use ap_term::{Atom, Atoms, MAX_ATOMS, Name, NoMemory, Term, fixed};
 use std::alloc::Global;
 
 /// How many predicates were lifted and clauses made before a clause.
@@ -30,11 +30,11 @@ pub struct Counts {
     pub clauses: u64,
 }
 
-/// A clause that was read, the names of its variables, and the counts behind it.
+/// A clause that was read, the names of its variables as they stand in the text, and the counts behind it.
 #[derive(Drop)]
-pub struct Read {
+pub struct Read<'a> {
     pub rule: Rule,
-    pub names: Vec<Name>,
+    pub names: Vec<&'a str>,
     pub counts: Counts,
 }
 
@@ -103,19 +103,25 @@ fn limited(
     }
 }
 
-/// The verdict on a clause by its term, whose names the table has. The names of its variables are made their own
-/// only where it isn't too large.
-pub(crate) fn judge(
+/// The names of a clause's variables, each its own.
+pub(crate) fn variables_of(alloc: Global, read: &Read) -> Result<Vec<Name>, NoMemory>
+    ensures { IfOk result (λ v. v.items ≡ texts read.now.names.items) }
+{
+    own_names(alloc, &read.names)
+}
+
+/// The verdict on a clause by its term, whose names the table has.
+pub(crate) fn judge<'a>(
     alloc: Global,
     source: Source,
     term: Term,
-    names: &[&str],
+    names: Vec<&'a str>,
     line: u64,
     before: Counts,
     atoms: &Atoms,
-) -> Result<Read, Refusal>
-    requires { CanBeRule source (tree_of term) (length (texts names.now)) line }
-    ensures verdict { Gives (λ v. v ≡ spec.judged_term source before atoms.now (texts names.now) line (tree_of term)) atoms.now result }
+) -> Result<Read<'a>, Refusal>
+    requires { CanBeRule source (tree_of term) (length (texts names.items)) line }
+    ensures verdict { Gives (λ v. v ≡ spec.judged_term source before atoms.now (texts names.entry.items) line (tree_of term)) atoms.now result }
     ensures counted { IfOk result (λ r. IsCounted before r atoms.now) }
 {
     let narrow = is_narrow(&term);
@@ -129,16 +135,12 @@ pub(crate) fn judge(
     if let Some(name) = first_outside(source, &halves.0, &halves.1) {
         return Err(Refusal::Outside { line, name });
     }
-    let (rule, clauses) = match limited(source, narrow, halves, names.len(), line, before.clauses) {
-        Ok(limited) => limited,
-        Err(what) => return Err(Refusal::TooLarge { line, what }),
-    };
-    match own_names(alloc, names) {
-        Ok(names) => Ok(Read {
+    match limited(source, narrow, halves, names.len(), line, before.clauses) {
+        Ok((rule, clauses)) => Ok(Read {
             rule,
             names,
             counts: Counts { lifted, clauses },
         }),
-        Err(_) => Err(Refusal::NoMemory),
+        Err(what) => Err(Refusal::TooLarge { line, what }),
     }
 }

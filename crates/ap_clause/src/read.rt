@@ -13,7 +13,7 @@ ghost use Rattle.ap_clause.specs.Reads.{AcceptsProgram, RefusesProgram, AcceptsQ
 ghost use Rattle.ap_clause.specs.Verdict.{ReadsOn, GivesAll, IsCounted, AreCounted};
 
 use crate::fresh::fresh_names;
-use crate::judge::{Counts, Read};
+use crate::judge::{Counts, Read, variables_of};
 use crate::refusal::Refusal;
 use crate::source::Source;
 use crate::take::{take_piece, take_tokens};
@@ -29,7 +29,7 @@ fn take_next<'a>(
     tokens: &mut Vec<Token<'a>>,
     before: Counts,
     atoms: &mut Atoms,
-) -> Result<Option<Read>, Refusal>
+) -> Result<Option<Read<'a>>, Refusal>
     requires { Stands cutter.old }
     ensures text { text_of cutter.new ≡ text_of cutter.old }
     ensures stands { OnOk result (Stands cutter.new) }
@@ -131,11 +131,10 @@ fn read_query(
         Ok(read) => read,
         Err(refusal) => return Err(refusal),
     };
-    let Read {
-        rule,
-        names: variables,
-        counts,
-    } = read;
+    let Ok(variables) = variables_of(alloc, &read) else {
+        return Err(Refusal::NoMemory);
+    };
+    let Read { rule, counts, .. } = read;
     let Ok(names) = fresh_names(alloc, counts.lifted, atoms) else {
         return Err(Refusal::NoMemory);
     };

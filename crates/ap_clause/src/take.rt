@@ -51,13 +51,13 @@ fn names_of<'a>(written: WrittenTerm<'a>) -> Vec<&'a str>
 }
 
 /// The verdict on the term that a piece's tokens spell.
-fn take(
+fn take<'a>(
     alloc: Global,
     source: Source,
-    written: WrittenTerm,
+    written: WrittenTerm<'a>,
     before: Counts,
     atoms: &mut Atoms,
-) -> Result<Read, Refusal>
+) -> Result<Read<'a>, Refusal>
     requires { (front : List Placed) × ((t : Tree) × StandsFor front t written) }
     ensures verdict { (front : List Placed) (t : Tree) → StandsFor front t written.entry → Gives (λ v. v ≡ spec.judged_sentence source (position atoms.old before) written.entry.line (record { front = front; tree = t })) atoms.new result }
     ensures counted { IfOk result (λ r. IsCounted before r atoms.new) }
@@ -74,7 +74,7 @@ fn take(
         Ok(term) => {
             let _kept = atoms.mark();
             let names = names_of(written);
-            judge(alloc, source, term, &names, line, before, atoms)
+            judge(alloc, source, term, names, line, before, atoms)
         }
         Err(ReadErr::NotAClause { line }) => Err(Refusal::NotAClause { line }),
         Err(ReadErr::TooDeep { line }) => Err(Refusal::TooDeep { line }),
@@ -105,14 +105,14 @@ fn written_in<'a>(alloc: Global, tokens: &[Token<'a>]) -> Result<WrittenTerm<'a>
 
 /// The verdict on a piece by its tokens, behind so many lifted predicates and clauses. The tokens are let go before
 /// their term is built; the table may have some of its names after an error.
-pub(crate) fn take_tokens(
+pub(crate) fn take_tokens<'a>(
     alloc: Global,
     source: Source,
     piece: &Piece,
-    tokens: &mut Vec<Token>,
+    tokens: &mut Vec<Token<'a>>,
     before: Counts,
     atoms: &mut Atoms,
-) -> Result<Read, Refusal>
+) -> Result<Read<'a>, Refusal>
     ensures verdict { Gives (λ v. spec.JudgesBy piece.now.bad source (position atoms.old before) (map view tokens.old.items) v) atoms.new result }
     ensures counted { IfOk result (λ r. IsCounted before r atoms.new) }
     ensures grows { Extends atoms.old atoms.new }
@@ -131,14 +131,14 @@ pub(crate) fn take_tokens(
 
 /// The verdict on a piece of a text, behind so many lifted predicates and clauses. The table may have some of its names
 /// after an error.
-pub(crate) fn take_piece(
+pub(crate) fn take_piece<'a>(
     alloc: Global,
     source: Source,
-    text: &[u8],
+    text: &'a [u8],
     piece: &Piece,
     before: Counts,
     atoms: &mut Atoms,
-) -> Result<Read, Refusal>
+) -> Result<Read<'a>, Refusal>
     requires { Contains (pieces_of text.now) piece.now }
     ensures verdict { Gives (λ v. spec.Judges source text.now (position atoms.old before) piece.now v) atoms.new result }
     ensures counted { IfOk result (λ r. IsCounted before r atoms.new) }

@@ -7,8 +7,8 @@ ghost use Rattle.ap_lexer.specs.Cutter.{text_of, Stands, left, IsNext, HasTokens
 
 use crate::ahead::Ahead;
 use crate::cut::{begun_after, ended, feeds, span, start, unended};
-use crate::recognize::lexeme;
-use crate::split::{put, token_of};
+use crate::recognize::{is_gap_at, lexeme};
+use crate::split::add_token;
 use crate::{NoMemory, Piece, Token};
 
 /// Cuts a text into its pieces one after another, each with its tokens, so that each byte is looked at once.
@@ -49,9 +49,14 @@ impl<'a> Cutter<'a> {
         let mut begun = None;
         while self.at < text.len() {
             let (at, line) = (self.at, self.line);
+            if is_gap_at(text, at) {
+                self.at = at + 1;
+                self.line = line + feeds(span(text, at, 1)) as u64;
+                continue;
+            }
             let (kind, len) = lexeme(&mut self.ahead, text, at);
             let spelling = span(text, at, len);
-            put(out, token_of(kind, spelling, at, line))?;
+            add_token(out, kind, spelling, at, line)?;
             let (from, first) = start(begun, at, line);
             self.at = at + len;
             self.line = line + feeds(spelling) as u64;

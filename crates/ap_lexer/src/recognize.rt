@@ -1,4 +1,5 @@
-ghost use Rattle.std.specs.Prelude.{◌≡◌, ◌+◌, ◌<◌, ◌≤◌, ◌^◌, drop, length, nat_le, slice_index, IfSome};
+ghost use Rattle.std.specs.Prelude.{◌≡◌, ◌+◌, ◌<◌, ◌≤◌, ◌^◌, drop, length, nat_le, slice_index, IfSome, IsTrue};
+ghost use Rattle.ap_lexer.specs.declared.kind.LexemeKind.TheVariants.{Layout};
 ghost use Rattle.ap_lexer.specs.Lexeme as spec;
 ghost use Rattle.ap_lexer.specs.Ahead.{IsSound};
 
@@ -134,6 +135,15 @@ fn plain(text: &[u8]) -> Lexeme
     } else {
         bad(text)
     }
+}
+
+/// Whether layout stands at a place of a text: one byte, which is a lexeme of its own.
+#[tactic(auto, unfolding(crate::specs::Lexeme::lexeme))]
+pub(crate) fn is_gap_at(text: &[u8], at: usize) -> bool
+    requires { at < length text.now }
+    ensures { IsTrue result → spec.lexeme (drop at text.now) ≡ (Layout, 1) }
+{
+    is_layout(text[at])
 }
 
 /// What stands at a place of a text.

@@ -25,33 +25,25 @@ pub struct Token<'a> {
     pub line: u64,
 }
 
-/// The token that a lexeme is, if it is one.
-pub(crate) fn token_of<'a>(
+/// Adds the token that a lexeme is, if it is one.
+pub(crate) fn add_token<'a>(
+    out: &mut Vec<Token<'a>>,
     kind: LexemeKind,
     text: &'a [u8],
     at: usize,
     line: u64,
-) -> Option<Token<'a>>
+) -> Result<(), NoMemory>
     requires { at + length text.now < 2 ^ 64 }
-    ensures { (whole : Text) → text.now ≡ take (length text.now) (drop at whole) → line ≡ line_at whole at → map spec.view (option_to_list result) ≡ spec.token_of kind whole at (length text.now) }
+    ensures { OnOk result ((whole : Text) → text.now ≡ take (length text.now) (drop at whole) → line ≡ line_at whole at → map spec.view out.new.items ≡ map spec.view out.old.items ++ spec.token_of kind whole at (length text.now)) }
 {
-    match kind {
-        LexemeKind::Token(kind) => Some(Token {
+    if let LexemeKind::Token(kind) = kind {
+        out.push(Token {
             kind,
             text,
             from: at,
             to: at + text.len(),
             line,
-        }),
-        _ => None,
-    }
-}
-
-pub(crate) fn put<'a>(out: &mut Vec<Token<'a>>, token: Option<Token<'a>>) -> Result<(), NoMemory>
-    ensures { OnOk result (map spec.view out.new.items ≡ map spec.view out.old.items ++ map spec.view (option_to_list token.entry)) }
-{
-    if let Some(token) = token {
-        out.push(token)?;
+        })?;
     }
     Ok(())
 }
@@ -87,7 +79,7 @@ pub fn tokens<'a>(alloc: Global, text: &'a [u8], piece: &Piece) -> Result<Vec<To
     while at < piece.to {
         let (kind, len) = lexeme(&mut ahead, text, at);
         let spelling = span(text, at, len);
-        put(&mut out, token_of(kind, spelling, at, line))?;
+        add_token(&mut out, kind, spelling, at, line)?;
         line += feeds(spelling) as u64;
         at += len;
     }

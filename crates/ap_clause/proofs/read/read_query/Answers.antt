@@ -21,10 +21,10 @@ question-requires-clause-head c =
 pub question-requires-clause-variables : goal.question-requires-clause-variables
 question-requires-clause-variables c =
     let t = taken_of c.take_piece.new.atoms c.in-Ok.read in
-    (judges_taken source.Query c.args.text.now (position c.args.atoms.now (record { lifted = 0; clauses = length c.as_slice.result.now })) c.args.piece.now t c.in-Ok.ensures.verdict).named
+    ap length c.in-Ok-variables_of.ensures ∙ (judges_taken source.Query c.args.text.now (position c.args.atoms.now (record { lifted = 0; clauses = length c.as_slice.result.now })) c.args.piece.now t c.in-Ok.ensures.verdict).named
 
 pub returns-in-Ok-question-clause-accepts : goal.returns-in-Ok-question-clause-accepts
 returns-in-Ok-question-clause-accepts c =
     let named = c.in-Ok-fresh_names.ensures in
     let t = taken_of c.take_piece.new.atoms c.in-Ok.read in
-    (t, named.0, subst (λ n. Judges source.Query c.args.text.now (position c.args.atoms.now (record { lifted = 0; clauses = n })) c.args.piece.now (Took t)) (ap length c.as_slice.ensures.clauses) c.in-Ok.ensures.verdict, named.1, named.2, c.in-Ok-question.ensures ∙ ap (λ l. lifted_query (slice_index l) t.rule t.names) (c.deref.ensures.value ∙ named.4), named.3)
+    (t, named.0, subst (λ n. Judges source.Query c.args.text.now (position c.args.atoms.now (record { lifted = 0; clauses = n })) c.args.piece.now (Took t)) (ap length c.as_slice.ensures.clauses) c.in-Ok.ensures.verdict, named.1, named.2, c.in-Ok-question.ensures ∙ ap (λ vs. lifted_query (slice_index c.deref.result.now) t.rule vs) c.in-Ok-variables_of.ensures ∙ ap (λ l. lifted_query (slice_index l) t.rule t.names) (c.deref.ensures.value ∙ named.4), named.3)

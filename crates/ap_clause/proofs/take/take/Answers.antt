@@ -18,7 +18,7 @@ judge-requires c =
     let old = c.args.atoms.now in
     let new = c.term.new.atoms in
     let fits = fits_is c.args.source c.args.before old new front t w stands c.in-Ok.form c.fits.result c.in-Ok.ensures c.fits.ensures ∙ c.if-not-fits.false in
-    let names_are : w.names.items ≡ c.deref.result.now = search rules in
+    let names_are : w.names.items ≡ c.names_of-names.result.items = search rules in
     subst (λ ns. CanBeRule c.args.source (tree_of c.in-Ok-term.term) (length (texts ns)) w.line) names_are
     (built_rule c.args.source c.args.before old new front t w stands c.in-Ok-term.term c.mark-kept.ensures.kept fits (c.in-Ok-term.ensures t stands.steps))
 

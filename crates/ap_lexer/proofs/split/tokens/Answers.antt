@@ -28,15 +28,14 @@ loop-at-preserved c =
     let spelling = c.span-spelling.result.now in
     let long : length spelling ≡ x.1 = ap length c.span-spelling.ensures ∙ length-take-le x.1 (drop at text) (omega (arith, c.lexeme-kind.ensures.within, length-drop at text)) in
     let fed = c.feeds.ensures ∙ ap (count_by (λ y. y == 10)) c.span-spelling.ensures in
-    let token = c.token_of.ensures text (c.span-spelling.ensures ∙ ap (λ n. take n (drop at text)) (sym long)) inv.line_is ∙ ap (token_of x.0 text at) long in
-    let new = c.in_ok-put.ensures ∙ ap (λ l. map view c.loop-at.out.items ++ l) token in
+    let new = c.in_ok-add_token.ensures text (c.span-spelling.ensures ∙ ap (λ n. take n (drop at text)) (sym long)) inv.line_is ∙ ap (λ n. map view c.loop-at.out.items ++ token_of x.0 text at n) long in
     record {
       is_piece = inv.is_piece;
       in_range = c.lexeme-kind.ensures.within.1;
       sound = c.lexeme-kind.ensures.sound;
       line_is = omega (arith, inv.line_is, fed, line_more text at x.1);
       line_low = omega (arith, inv.line_low, fed, feeds_few text at x.1);
-      rest_is = turned text at c.args.piece.now.to (map view c.loop-at.out.items) (map view c.put.new.out.items) (tokens text c.args.piece.now) x here c.loop-at-test.true c.lexeme-kind.ensures.within.0 c.lexeme-kind.ensures.value new inv.rest_is;
+      rest_is = turned text at c.args.piece.now.to (map view c.loop-at.out.items) (map view c.add_token.new.out.items) (tokens text c.args.piece.now) x here c.loop-at-test.true c.lexeme-kind.ensures.within.0 c.lexeme-kind.ensures.value new inv.rest_is;
     }
 
 pub returns-clause-ok : goal.returns-clause-ok

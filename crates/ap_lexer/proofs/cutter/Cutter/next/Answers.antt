@@ -1,5 +1,8 @@
 use Rattle.std.proofs.Common.{◌≡◌, ◌+◌, ◌++◌, None, refl, ap, sym, ◌∙◌, map, length, drop, take, arith, length-take-le, length-drop}
 use Rattle.std.specs.Prelude.{count_by, ◌==◌}
+use Rattle.std.proofs.lemmas.List.{append-nil}
+use Rattle.ap_lexer.specs.declared.kind.LexemeKind.TheVariants as kind
+use Rattle.ap_lexer.specs.Lexeme.{lexeme}
 use Rattle.ap_lexer.specs.Piece.{ended_by, role, begun_after, start}
 use Rattle.ap_lexer.specs.Token.{token_of, view}
 use Rattle.ap_lexer.specs.Cutter.{left}
@@ -20,8 +23,8 @@ loop-self-init c = record {
 pub lexeme-kind-requires-clause-sound : goal.lexeme-kind-requires-clause-sound
 lexeme-kind-requires-clause-sound c = c.loop-self.invariant.sound
 
-pub returns-in_err-put-clause-text : goal.returns-in_err-put-clause-text
-returns-in_err-put-clause-text c = c.loop-self.invariant.same
+pub returns-in_err-add_token-clause-text : goal.returns-in_err-add_token-clause-text
+returns-in_err-add_token-clause-text c = c.loop-self.invariant.same
 
 pub returns-then-is_some-clause-text : goal.returns-then-is_some-clause-text
 returns-then-is_some-clause-text c = c.loop-self.invariant.same
@@ -33,8 +36,8 @@ returns-then-is_some-clause-stands c =
     let at = c.loop-self.self.at in
     let b = inv.left_is.0 in
     let x = c.lexeme-kind.result in
-    let fed = c.feeds.ensures ∙ ap (count_by (λ y. y == 10)) c.span-spelling.ensures in
-    stands (record { text = c.loop-self.self.text; ahead = c.lexeme-kind.new.ahead; at = at + x.1; line = c.loop-self.self.line + c.feeds.result })
+    let fed = c.feeds-in-loop-self.ensures ∙ ap (count_by (λ y. y == 10)) c.span-spelling.ensures in
+    stands (record { text = c.loop-self.self.text; ahead = c.lexeme-kind.new.ahead; at = at + x.1; line = c.loop-self.self.line + c.feeds-in-loop-self.result })
     text inv.same c.lexeme-kind.ensures.within.1 c.lexeme-kind.ensures.sound (omega (arith, inv.line_is, fed, line_more text at x.1))
 
 pub returns-then-is_some-clause-next : goal.returns-then-is_some-clause-next
@@ -47,7 +50,7 @@ returns-then-is_some-clause-next c =
     let began = c.start-from.ensures text b inv.left_is.1 inv.line_is in
     let given = c.ended-piece.ensures text at began.1 inv.line_is ∙ ap (λ f. ended_by (role x.0) text f at (at + x.1)) began.0 in
     next_closed c.ended-piece.result text b at x c.args.self.now
-    (record { text = c.loop-self.self.text; ahead = c.lexeme-kind.new.ahead; at = at + x.1; line = c.loop-self.self.line + c.feeds.result })
+    (record { text = c.loop-self.self.text; ahead = c.lexeme-kind.new.ahead; at = at + x.1; line = c.loop-self.self.line + c.feeds-in-loop-self.result })
     (sym c.is_some.ensures ∙ c.if-is_some.true) given inv.same refl c.loop-self-test.true c.lexeme-kind.ensures.within.0 c.lexeme-kind.ensures.value inv.left_is.2
 
 pub returns-then-is_some-clause-tokens : goal.returns-then-is_some-clause-tokens
@@ -58,17 +61,16 @@ returns-then-is_some-clause-tokens c =
     let b = inv.left_is.0 in
     let x = c.lexeme-kind.result in
     let long : length c.span-spelling.result.now ≡ x.1 = ap length c.span-spelling.ensures ∙ length-take-le x.1 (drop at text) (omega (arith, c.lexeme-kind.ensures.within, length-drop at text)) in
-    let token = c.token_of.ensures text (c.span-spelling.ensures ∙ ap (λ n. take n (drop at text)) (sym long)) inv.line_is ∙ ap (token_of x.0 text at) long in
-    let turn : Turn text b at x (map view c.loop-self.out.items) (map view c.put.new.out.items) = record {
+    let turn : Turn text b at x (map view c.loop-self.out.items) (map view c.add_token.new.out.items) = record {
       inside = c.loop-self-test.true;
       some = c.lexeme-kind.ensures.within.0;
       is = c.lexeme-kind.ensures.value;
-      put = c.in_ok-put.ensures ∙ ap (λ l. map view c.loop-self.out.items ++ l) token;
+      put = c.in_ok-add_token.ensures text (c.span-spelling.ensures ∙ ap (λ n. take n (drop at text)) (sym long)) inv.line_is ∙ ap (λ n. map view c.loop-self.out.items ++ token_of x.0 text at n) long;
       held = inv.left_is.3;
     } in
     let began = c.start-from.ensures text b inv.left_is.1 inv.line_is in
     let given = c.ended-piece.ensures text at began.1 inv.line_is ∙ ap (λ f. ended_by (role x.0) text f at (at + x.1)) began.0 in
-    tokens_closed c.ended-piece.result text b at x (map view c.loop-self.out.items) (map view c.put.new.out.items) given turn
+    tokens_closed c.ended-piece.result text b at x (map view c.loop-self.out.items) (map view c.add_token.new.out.items) given turn
 
 pub loop-self-preserved : goal.loop-self-preserved
 loop-self-preserved c =
@@ -78,17 +80,16 @@ loop-self-preserved c =
     let b = inv.left_is.0 in
     let x = c.lexeme-kind.result in
     let long : length c.span-spelling.result.now ≡ x.1 = ap length c.span-spelling.ensures ∙ length-take-le x.1 (drop at text) (omega (arith, c.lexeme-kind.ensures.within, length-drop at text)) in
-    let token = c.token_of.ensures text (c.span-spelling.ensures ∙ ap (λ n. take n (drop at text)) (sym long)) inv.line_is ∙ ap (token_of x.0 text at) long in
-    let turn : Turn text b at x (map view c.loop-self.out.items) (map view c.put.new.out.items) = record {
+    let turn : Turn text b at x (map view c.loop-self.out.items) (map view c.add_token.new.out.items) = record {
       inside = c.loop-self-test.true;
       some = c.lexeme-kind.ensures.within.0;
       is = c.lexeme-kind.ensures.value;
-      put = c.in_ok-put.ensures ∙ ap (λ l. map view c.loop-self.out.items ++ l) token;
+      put = c.in_ok-add_token.ensures text (c.span-spelling.ensures ∙ ap (λ n. take n (drop at text)) (sym long)) inv.line_is ∙ ap (λ n. map view c.loop-self.out.items ++ token_of x.0 text at n) long;
       held = inv.left_is.3;
     } in
     let began = c.start-from.ensures text b inv.left_is.1 inv.line_is in
     let given = c.ended-piece.ensures text at began.1 inv.line_is ∙ ap (λ f. ended_by (role x.0) text f at (at + x.1)) began.0 in
-    let fed = c.feeds.ensures ∙ ap (count_by (λ y. y == 10)) c.span-spelling.ensures in
+    let fed = c.feeds-in-loop-self.ensures ∙ ap (count_by (λ y. y == 10)) c.span-spelling.ensures in
     let none = not_ended c.ended-piece.result (ended_by (role x.0) text (start b at) at (at + x.1)) (sym c.is_some.ensures ∙ c.if-is_some.false) given in
     record {
       same = inv.same;
@@ -100,7 +101,37 @@ loop-self-preserved c =
         begun_after (role x.0) b at,
         c.begun_after-begun.ensures text b at inv.left_is.1 began.0 began.1,
         open_next text b at x (left c.args.self.now) c.loop-self-test.true c.lexeme-kind.ensures.within.0 c.lexeme-kind.ensures.value none inv.left_is.2,
-        held_on text b at x (map view c.loop-self.out.items) (map view c.put.new.out.items) none turn,
+        held_on text b at x (map view c.loop-self.out.items) (map view c.add_token.new.out.items) none turn,
+      );
+    }
+
+pub loop-self-preserved-then-is_gap_at : goal.loop-self-preserved-then-is_gap_at
+loop-self-preserved-then-is_gap_at c =
+    let text = c.args.self.now.text.now in
+    let inv = c.loop-self.invariant in
+    let at = c.loop-self.self.at in
+    let b = inv.left_is.0 in
+    let ts = map view c.loop-self.out.items in
+    let is : (kind.Layout, 1) ≡ lexeme (drop at text) = sym (c.is_gap_at.ensures c.if-is_gap_at.true) in
+    let turn : Turn text b at (kind.Layout, 1) ts ts = record {
+      inside = c.loop-self-test.true;
+      some = omega arith;
+      is = is;
+      put = sym (append-nil ts);
+      held = inv.left_is.3;
+    } in
+    let fed = c.feeds.ensures ∙ ap (count_by (λ y. y == 10)) c.span.ensures in
+    record {
+      same = inv.same;
+      in_range = omega (arith, c.loop-self-test.true);
+      sound = inv.sound;
+      line_is = omega (arith, inv.line_is, fed, line_more text at 1);
+      line_low = omega (arith, inv.line_low, fed, feeds_few text at 1);
+      left_is = (
+        b,
+        inv.left_is.1,
+        open_next text b at (kind.Layout, 1) (left c.args.self.now) c.loop-self-test.true (omega arith) is refl inv.left_is.2,
+        held_on text b at (kind.Layout, 1) ts ts refl turn,
       );
     }
 
