@@ -1,9 +1,9 @@
 -- Code that is kept, and clauses of queries behind it.
-use Rattle.std.proofs.Common.{◌≡◌, ℕ, zero, suc, ◌<◌, ◌≤◌, ◌==◌, Bool, true, false, not, ◌&&◌, ◌||◌, if◌then◌else◌, ◌⊎◌, inl, inr, IsTrue, List, [], ◌∷◌, ◌++◌, append-nil, map, option_map, length, take, get_or, ◌+◌, Option, slice_get, Some, None, refl, ap, ap₂, sym, ◌∙◌, subst, arith}
+use Rattle.std.proofs.Common.{◌≡◌, ℕ, zero, suc, ◌<◌, ◌≤◌, ◌==◌, Bool, true, false, not, ◌&&◌, ◌||◌, if◌then◌else◌, ◌⊎◌, inl, inr, IsTrue, List, [], ◌∷◌, ◌++◌, append-nil, map, option_map, length, take, drop, get_or, ◌+◌, Option, slice_get, Some, None, refl, ap, ap₂, sym, ◌∙◌, subst, arith}
 use Rattle.std.specs.List.{AllByRecursion, AllZip, IsDistinct, filter, list_any}
 use Rattle.std.proofs.lemmas.Bool.{false≢true, and_parts}
 use Rattle.std.proofs.lemmas.Bool.Decides.{Decides-eqb}
-use Rattle.std.proofs.lemmas.List.{length-map, take_more, take_all}
+use Rattle.std.proofs.lemmas.List.{length-map, drop_more, drop_all}
 use Rattle.std.proofs.lemmas.List.Elements.{filter-append, All-head, All-tail}
 use Rattle.std.proofs.lemmas.Option.{slice_get-map}
 use Rattle.ap_term.specs.Tree.{Tree, Trees, var, int, atom, node, count_trees}
@@ -206,19 +206,19 @@ has_both k s t p l first grows own h = at (one_either k (with_heads [] p) _ (sub
 
 -- ---- whether clauses are new
 
-new_push : (ks : List Key) (p : Program) (c : Clause) → are_new ks p ≡ true → is_new ks (goal_key c.head) ≡ true → are_new ks (p ++ c ∷ []) ≡ true
-new_push ks [] c h e = ap (λ b. b && true) e
-new_push ks (d ∷ p) c h e =
-    let b = and_parts (is_new ks (goal_key d.head)) (are_new ks p) h in
-    ap (λ d. d && are_new ks (p ++ c ∷ [])) b.0 ∙ new_push ks p c b.1 e
+new_more : (ks : List Key) (cs : Program) (i : ℕ) (c : Clause) → i < length cs → c ≡ get_or cs i c → are_new ks (drop i cs) ≡ (is_new ks (goal_key c.head) && are_new ks (drop (i + 1) cs))
+new_more ks cs i c l e = ap (are_new ks) (drop_more cs i c l ∙ ap (λ d. d ∷ drop (i + 1) cs) (sym e))
 
-pub new_turn : (ks : List Key) (cs : Program) (i : ℕ) (c : Clause) → i < length cs → c ≡ get_or cs i c → is_new ks (goal_key c.head) ≡ true → are_new ks (take i cs) ≡ true → are_new ks (take (i + 1) cs) ≡ true
-new_turn ks cs i c l e n h =
-    let front : take (i + 1) cs ≡ take i cs ++ c ∷ [] = take_more cs i c l ∙ ap (λ d. take i cs ++ d ∷ []) (sym e) in
-    subst (λ ds. are_new ks ds ≡ true) (sym front) (new_push ks (take i cs) c h n)
+pub new_turn : (ks : List Key) (cs : Program) (i : ℕ) (c : Clause) (whole : Bool) → i < length cs → c ≡ get_or cs i c → is_new ks (goal_key c.head) ≡ true → are_new ks (drop i cs) ≡ whole → are_new ks (drop (i + 1) cs) ≡ whole
+new_turn ks cs i c whole l e n k = ap (λ b. b && are_new ks (drop (i + 1) cs)) (sym n) ∙ sym (new_more ks cs i c l e) ∙ k
 
-pub new_end : (ks : List Key) (cs : Program) (i : ℕ) → length cs ≤ i → are_new ks (take i cs) ≡ true → are_new ks cs ≡ true
-new_end ks cs i l h = subst (λ ds. are_new ks ds ≡ true) (take_all i cs l) h
+pub new_found : (ks : List Key) (cs : Program) (i : ℕ) (c : Clause) (whole : Bool) → i < length cs → c ≡ get_or cs i c → is_new ks (goal_key c.head) ≡ false → are_new ks (drop i cs) ≡ whole → false ≡ whole
+new_found ks cs i c whole l e n k = ap (λ b. b && are_new ks (drop (i + 1) cs)) (sym n) ∙ sym (new_more ks cs i c l e) ∙ k
+
+pub new_done : (ks : List Key) (cs : Program) (i : ℕ) (whole : Bool) → length cs ≤ i → are_new ks (drop i cs) ≡ whole → true ≡ whole
+new_done ks cs i whole l k = ap (are_new ks) (sym (drop_all i cs l)) ∙ k
+
+pub ruleset rules_of_new = (new_turn, new_found, new_done)
 
 -- ---- what is kept
 

@@ -1,6 +1,6 @@
 //! Code of a program that is kept, and code of a query's clauses behind it.
 
-ghost use Rattle.std.specs.Prelude.{◌≡◌, true, take, ◌++◌, IfOk, IfSome, OnOk};
+ghost use Rattle.std.specs.Prelude.{◌≡◌, true, take, ◌++◌, is_none, IfOk, IfSome, OnOk};
 ghost use Rattle.std.specs.List.{filter};
 ghost use Rattle.ap_term.specs.declared.fixed.TheConstants.{QUERY};
 ghost use Rattle.ap_term.specs.Goals.{Program as Clauses};
@@ -11,10 +11,11 @@ ghost use Rattle.ap_codecheck.specs.Rules.{IsSound};
 ghost use Rattle.ap_codecheck.specs.Tables.{GoesOnBehind, IsExtentOf};
 ghost use Rattle.ap_codegen.specs.Assembled.{Grows, StandsBeside};
 ghost use Rattle.ap_codegen.specs.Kept.{AreMade, made_code, is_new, are_new};
-ghost use Rattle.ap_codegen.specs.KeptCode.{IsKept, code_of};
+ghost use Rattle.ap_codegen.specs.KeptCode.{IsKept, code_of, has_one_of};
 
 use crate::asking::asked_clauses;
 use crate::index::index_of;
+use crate::permanent::count;
 use crate::programs::{Made, add_heads, add_predicates, none_made};
 use crate::tables::Tables;
 use ap_codecheck::Extent;
@@ -38,26 +39,27 @@ fn arity_of(query: &Query) -> u8
 }
 
 /// Whether no predicate of the table is that of the clause.
-fn is_new(tables: &Tables, clause: &Clause) -> bool
-    ensures { result ≡ true → is_new tables.now.predicates (goal_key clause.now.head) ≡ true }
+fn is_new(tables: &Tables, clause: &Clause) -> Result<bool, NoMemory>
+    ensures { IfOk result (λ b. b ≡ is_new tables.now.predicates (goal_key clause.now.head)) }
 {
     match clause.head() {
-        Term::Var(_) | Term::Int(_) => true,
-        Term::Atom(a) => !tables.has(*a, 0),
-        Term::Node(a, args) => args.len() <= 255 && !tables.has(*a, args.len() as u8),
+        Term::Var(_) | Term::Int(_) => Ok(true),
+        Term::Atom(a) => Ok(!tables.has(*a, 0)),
+        Term::Node(a, args) => Ok(!tables.has(*a, count(args)?)),
     }
 }
 
 /// Whether no predicate of the table is one of the clauses.
-fn are_new(tables: &Tables, clauses: &[Clause]) -> bool
-    ensures { result ≡ true → are_new tables.now.predicates clauses.now ≡ true }
+#[tactic(auto, using(crate::proofs::Keeping::rules_of_new))]
+fn are_new(tables: &Tables, clauses: &[Clause]) -> Result<bool, NoMemory>
+    ensures { IfOk result (λ b. b ≡ are_new tables.now.predicates clauses.now) }
 {
     for clause in clauses {
-        if !is_new(tables, clause) {
-            return false;
+        if !is_new(tables, clause)? {
+            return Ok(false);
         }
     }
-    true
+    Ok(true)
 }
 
 /// Copies what is made.
@@ -141,17 +143,19 @@ impl Kept {
         }
     }
 
-    /// Code of the program beside a query. What is made for the query isn't kept. None where the program has or calls a predicate of the
+    /// Code of the program beside a query. What is made for the query isn't kept. None just where the program has or calls a predicate of the
     /// query's clauses.
     pub fn beside(&mut self, alloc: Global, query: &Query) -> Result<Option<Code>, NoMemory>
         ensures stands { IfOk result (λ o. IfSome o (λ code. (p : Clauses) → IsKept self.old p → StandsForQuery code p query.now)) }
         ensures sound { IfOk result (λ o. IfSome o (λ code. (p : Clauses) → IsKept self.old p → IsSound code)) }
         ensures behind { IfOk result (λ o. IfSome o (λ code. GoesOnBehind code (code_of self.old))) }
+        ensures none { IfOk result (λ o. is_none o ≡ has_one_of self.old query.now) }
         ensures same { OnOk result (self.new ≡ self.old) }
     {
         let own = asked_clauses(alloc, query)?;
         let clauses = own.as_slice();
-        if !are_new(&self.tables, clauses) {
+        let all_new = are_new(&self.tables, clauses)?;
+        if !all_new {
             return Ok(None);
         }
         let made = copy_made(alloc, &self.made)?;
