@@ -23,10 +23,11 @@ use Rattle.ap_top.specs.Words.{Asked}
 use Rattle.ap_top.specs.Output.{IsOutput, judged}
 use Rattle.ap_top.specs.Refusals.{refusal_line}
 use Rattle.ap_top.specs.Ends.{SourceEnds, TextEnds, FileEnds, AskedEnds, WordsEnd, Whole, SaysNoMemory, IsTold, IsTaken}
+use Rattle.ap_top.specs.Counts.{HasNoProgram}
 use Rattle.ap_top.specs.declared.status.Tally.{Tally}
 use Rattle.ap_top.specs.declared.status.Status.{Status}
 use Rattle.ap_top.specs.declared.status.Status.TheVariants as status
-use Rattle.ap_top.proofs.Statuses.{tally_calm}
+use Rattle.ap_top.proofs.Statuses.{tally_calm, tally_found}
 use Rattle.ap_top.proofs.ShowLayers.{show_status}
 use Rattle.ap_top.proofs.CodeLayers.{code_status}
 use Rattle.ap_top.proofs.LoadLayers.{load_calm}
@@ -114,6 +115,12 @@ source_status what program table source Rose _ ls (SourceEnds.fault i t b _ r l 
 source_status what program table source Rose _ ls (SourceEnds.too_long i _ t l e) = (λ f. cc, λ f. cc, λ f. cc)
 source_status what program table source Rose _ ls (SourceEnds.read i t s _ told l o e) = let calm = tally_calm t.spent t.refused s e in (calm.0, calm.1, calm.3)
 
+-- over an accepted program
+pub source_found : (what : Asked) (program : Program) (table : List (List ℕ)) (source : Option (List ℕ)) (Rose : List ℕ → Type 0) (s : Status) (ls : List (List ℕ)) → SourceEnds what program table source Rose s ls → HasNoProgram s → ⊥
+source_found what program table source Rose _ ls (SourceEnds.fault i t b _ r l o e) h = h
+source_found what program table source Rose _ ls (SourceEnds.too_long i _ t l e) h = h
+source_found what program table source Rose _ ls (SourceEnds.read i t s _ told l o e) h = tally_found t.spent t.refused s e h
+
 pub text_status : (what : Asked) (bytes : List ℕ) (source : Option (List ℕ)) (Rose : List ℕ → Type 0) (s : Status) (ls : List (List ℕ)) → TextEnds what bytes source Rose s ls → IsOther s
 text_status what bytes source Rose _ ls (TextEnds.refused r _ n e) = (λ f. cc, λ f. cc, λ f. cc)
 text_status what bytes source Rose _ ls (TextEnds.accepted program table s _ r p) = source_status what program table source Rose s ls p
@@ -151,6 +158,10 @@ run_status words entries source FilesRose SourceRose _ ls (WordsEnd.read r s _ i
 pub run_usage : (words : List (List ℕ)) (entries : Option (List (List ℕ × List ℕ))) (source : Option (List ℕ)) (FilesRose : Type 0) (SourceRose : List ℕ → Type 0) (s : Status) (ls : List (List ℕ)) → WordsEnd words entries source FilesRose SourceRose s ls
     → s ≡ status.Usage → IsRead words usage
 run_usage words entries source FilesRose SourceRose _ ls (WordsEnd.read r s _ read ends) is = subst (IsRead words) (asked_usage r entries source FilesRose SourceRose s ls ends is) read
+
+pub given_up_found : (s : Status) → (s ≡ status.NoMemory) ⊎ (s ≡ status.SinkFault) → HasNoProgram s → ⊥
+given_up_found s (inl memory) h = subst HasNoProgram memory h
+given_up_found s (inr sink) h = subst HasNoProgram sink h
 
 pub given_up_usage : {A : Type 0} (s : Status) → (s ≡ status.NoMemory) ⊎ (s ≡ status.SinkFault) → s ≡ status.Usage → A
 given_up_usage s (inl memory) is = let clash : status.NoMemory ≡ status.Usage = sym memory ∙ is in cc

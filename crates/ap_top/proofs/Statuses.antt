@@ -1,11 +1,11 @@
 -- Statuses of faults, and the counts of calls that end with none of them.
-use Rattle.std.proofs.Common.{◌≡◌, ◌≢◌, ℕ, Bool, true, false, List, Option, Result, Ok, Err, sym, ◌∙◌, refl, arith}
+use Rattle.std.proofs.Common.{◌≡◌, ◌≢◌, ℕ, Bool, true, false, List, Option, Result, Ok, Err, IfOk, sym, ◌∙◌, refl, subst, arith}
 use Rattle.ap_outside.specs.Pieces.{Puts}
 use Rattle.ap_outside.specs.Faults.{Rises}
 use Rattle.ap_outside.specs.Halting.{Finishes, SinkCount}
 use Rattle.ap_outside.specs.declared.halting.Halt.{Halt}
 use Rattle.ap_outside.specs.declared.halting.Halt.TheVariants as halt
-use Rattle.ap_top.specs.Counts.{FilesCount, RunSinkCount, SourceCount}
+use Rattle.ap_top.specs.Counts.{FilesCount, HasNoProgram, RunSinkCount, SourceCount}
 use Rattle.ap_top.specs.Status.{status_of, tally}
 use Rattle.ap_top.specs.declared.status.Status.{Status}
 use Rattle.ap_top.specs.declared.status.Status.TheVariants as status
@@ -21,6 +21,16 @@ tally_calm true false _ e =
     (λ f. let g : status.BudgetSpent ≡ status.FileFault = sym e ∙ f in cc, λ f. let g : status.BudgetSpent ≡ status.SinkFault = sym e ∙ f in cc, λ f. let g : status.BudgetSpent ≡ status.SourceFault = sym e ∙ f in cc, λ f. let g : status.BudgetSpent ≡ status.Usage = sym e ∙ f in cc)
 tally_calm false false _ e =
     (λ f. let g : status.Done ≡ status.FileFault = sym e ∙ f in cc, λ f. let g : status.Done ≡ status.SinkFault = sym e ∙ f in cc, λ f. let g : status.Done ≡ status.SourceFault = sym e ∙ f in cc, λ f. let g : status.Done ≡ status.Usage = sym e ∙ f in cc)
+
+pub tally_found : (spent refused : Bool) (s : Status) → s ≡ status_of (tally spent refused) → HasNoProgram s → ⊥
+tally_found spent true s e h = subst HasNoProgram e h
+tally_found true false s e h = subst HasNoProgram e h
+tally_found false false s e h = subst HasNoProgram e h
+
+-- what holds whatever the status is
+pub stays_found : (P : Type 0) → P → (r : Result Status Halt) → IfOk r (λ s. HasNoProgram s → P)
+stays_found P p (Ok s) = λ h. p
+stays_found P p (Err e) = tt
 
 -- E being the lines that go with a status, of which one goes with no lines
 module _ (a b : Option (List (List ℕ))) (E : Status → List (List ℕ) → Type 0) where
@@ -53,6 +63,11 @@ module _ (a b : Option (List (List ℕ))) (E : Status → List (List ℕ) → Ty
   source_kept never count (Ok status.NoMemory) puts = refl
   source_kept never count (Ok status.QueriesTooLong) puts = refl
   source_kept never count (Ok status.EntryRefused) puts = refl
+
+  -- a program was found
+  pub program_found : (P : Type 0) → ((s : Status) (ls : List (List ℕ)) → E s ls → HasNoProgram s → ⊥) → (r : Result Status Halt) → Finishes a b E r → IfOk r (λ s. HasNoProgram s → P)
+  program_found P never (Ok s) puts = λ h. absurd (never s puts.0 puts.2 h)
+  program_found P never (Err e) puts = tt
 
   -- a sink that took all
   pub sink_kept : ((ls : List (List ℕ)) → E status.SinkFault ls → ⊥) → (before now : ℕ) (s : Status) → now ≡ before → Puts a b (E s) → RunSinkCount before now s

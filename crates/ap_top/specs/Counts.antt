@@ -44,3 +44,9 @@ RunEndsSource left _ = ⊤
 abbrev pub EndsSource : Option (List ℕ) → Result Status Halt → Type 0
 EndsSource left (Ok s) = RunEndsSource left s
 EndsSource left (Err _) = ⊤
+
+-- a run that ends so has found no program in its file
+abbrev pub HasNoProgram : Status → Type 0
+HasNoProgram status.FileFault = ⊤
+HasNoProgram status.ProgramRefused = ⊤
+HasNoProgram _ = ⊥

@@ -11,7 +11,7 @@ ghost use Rattle.ap_top.specs.Counted.{AskedCounted, FileCounted, HasAnswered, S
 ghost use Rattle.ap_top.specs.Words.{Asked, IsCommand};
 ghost use Rattle.ap_top.specs.Ends.{AskedEnds, FailsBehind, IsAnswering, NamesProgram, ShowsProgram, CodesProgram, IsShowing, SaysNoMemory, SourceEnds, TextEnds, FileEnds, RunEnds, WordsEnd, Whole};
 ghost use Rattle.ap_top.specs.Unasked.{LeavesQuery};
-ghost use Rattle.ap_top.specs.Counts.{EndsSource, RunEndsSource, SourceCount, FilesCount, RunSinkCount, RunSourceCount, RunFilesCount};
+ghost use Rattle.ap_top.specs.Counts.{EndsSource, HasNoProgram, RunEndsSource, SourceCount, FilesCount, RunSinkCount, RunSourceCount, RunFilesCount};
 
 use crate::answers::Bounds;
 use crate::closing::{close, tell};
@@ -92,6 +92,7 @@ fn run_text<R: Threads + Wait + Sync, G: Gate, S: Source, K: Sink>(
     ensures sink { SinkCount (K.faults out.old) (K.faults out.new) result }
     ensures source { SourceCount (S.faults queries.old) (S.faults queries.new) result }
     ensures end { EndsSource (S.left queries.new) result }
+    ensures unread { IfOk result (λ s. HasNoProgram s → queries.new ≡ queries.old) }
 {
     let Ok(mut atoms) = Atoms::with_key(alloc, key) else {
         return Err(Halt::NoMemory);
@@ -125,6 +126,7 @@ fn run_file<R: Threads + Wait + Sync, G: Gate, F: Files, S: Source, K: Sink>(
     ensures source { SourceCount (S.faults queries.old) (S.faults queries.new) result }
     ensures files { FilesCount (F.faults files.old) (F.faults files.new) result }
     ensures end { EndsSource (S.left queries.new) result }
+    ensures unread { IfOk result (λ s. HasNoProgram s → queries.new ≡ queries.old) }
 {
     let mut text = Vec::new(alloc);
     match files.read(command.file, &mut text, LIMIT) {
@@ -166,6 +168,8 @@ fn run_asked<R: Threads + Wait + RandomSource + Sync, G: Gate, F: Files, S: Sour
     ensures source { SourceCount (S.faults queries.old) (S.faults queries.new) result }
     ensures files { FilesCount (F.faults files.old) (F.faults files.new) result }
     ensures end { (what : Asked) → asks (asked_of asked.entry) ≡ asks (runs what) → EndsSource (S.left queries.new) result }
+    ensures unread { IfOk result (λ s. HasNoProgram s → queries.new ≡ queries.old) }
+    ensures unasked { ((what : Asked) → asks (asked_of asked.entry) ≡ asks (runs what) → ⊥) → queries.new ≡ queries.old }
 {
     let key = NameKey::draw(rt);
     match asked {
@@ -204,6 +208,8 @@ fn run_reading<R: Threads + Wait + RandomSource + Sync, G: Gate, F: Files, S: So
     ensures source { SourceCount (S.faults queries.old) (S.faults queries.new) result }
     ensures files { FilesCount (F.faults files.old) (F.faults files.new) result }
     ensures end { (what : Asked) → reading_of reading.entry ≡ asks (runs what) → EndsSource (S.left queries.new) result }
+    ensures unread { IfOk result (λ s. HasNoProgram s → queries.new ≡ queries.old) }
+    ensures unasked { ((what : Asked) → reading_of reading.entry ≡ asks (runs what) → ⊥) → queries.new ≡ queries.old }
 {
     match reading {
         Reading::Usage => close(USAGE, Status::Usage, out),
@@ -230,6 +236,8 @@ fn run_words<R: Threads + Wait + RandomSource + Sync, G: Gate, F: Files, S: Sour
     ensures source { SourceCount (S.faults queries.old) (S.faults queries.new) result }
     ensures files { FilesCount (F.faults files.old) (F.faults files.new) result }
     ensures end { (what : Asked) → IsCommand (map (λ w. w.now) words.now) what → EndsSource (S.left queries.new) result }
+    ensures unread { IfOk result (λ s. HasNoProgram s → queries.new ≡ queries.old) }
+    ensures unasked { ((what : Asked) → IsCommand (map (λ w. w.now) words.now) what → ⊥) → queries.new ≡ queries.old }
 {
     let Ok(reading) = read(alloc, words) else {
         return Err(Halt::NoMemory);
@@ -285,6 +293,10 @@ pub fn run<R: Threads + Wait + RandomSource + Sync, F: Files, S: Source, K: Sink
 
     // Where `run` answered the queries, the source has nothing left.
     ensures end { (what : Asked) → IsCommand (map (λ w. w.now) words.now) what → RunEndsSource (S.left queries.new) result }
+
+    // The source is as it was where the words don't ask to run a program, and where the file holds none.
+    ensures unasked { ((what : Asked) → IsCommand (map (λ w. w.now) words.now) what → ⊥) → queries.new ≡ queries.old }
+    ensures unread { HasNoProgram result → queries.new ≡ queries.old }
 
     // Where queries were answered, each had the groups of the annotator that was asked for, and what it was charged; one worker
     // alone took no goal of another.

@@ -12,7 +12,7 @@ use Rattle.ap_top.proofs.Complete.{run_answers, run_shows, run_codes, given_up, 
 use Rattle.ap_top.proofs.Counting.{given_up_counts}
 use Rattle.ap_top.proofs.Statuses.{memory_stays, sink_kept, sink_rose}
 use Rattle.ap_top.proofs.Weaker.{run_weaker}
-use Rattle.ap_top.proofs.Layers.{given_up_usage, run_status, run_usage, sink_lines, memory_lines, end_given_up}
+use Rattle.ap_top.proofs.Layers.{given_up_found, given_up_usage, run_status, run_usage, sink_lines, memory_lines, end_given_up}
 use Rattle.ap_top.proofs.command.run.Goals as goal
 
 pub returns-in-Ok-clause-taken : goal.returns-in-Ok-clause-taken
@@ -150,3 +150,6 @@ returns-in-Err-Sink-clause-counted g c = λ h. absurd h
 
 pub returns-in-Err-NoMemory-clause-counted : goal.returns-in-Err-NoMemory-clause-counted
 returns-in-Err-NoMemory-clause-counted g c = λ h. given_up_counts _ c.give_up.result c.give_up.ensures.only h
+
+pub returns-in-Err-NoMemory-clause-unread : goal.returns-in-Err-NoMemory-clause-unread
+returns-in-Err-NoMemory-clause-unread g c = λ h. absurd (given_up_found c.give_up.result c.give_up.ensures.only h)

@@ -11,7 +11,7 @@ use Rattle.ap_top.specs.Counted.{AskedCounted, HasAnswered, LoadCounted}
 use Rattle.ap_top.proofs.Counting.{none_counts}
 use Rattle.ap_top.specs.Ends.{AskedEnds, FileEnds, FailsBehind}
 use Rattle.ap_top.specs.declared.status.Status.TheVariants as status
-use Rattle.ap_top.proofs.Statuses.{source_kept}
+use Rattle.ap_top.proofs.Statuses.{source_kept, stays_found}
 use Rattle.ap_top.proofs.ShowLayers.{show_status}
 use Rattle.ap_top.proofs.command.run_asked.Goals as goal
 
@@ -94,3 +94,17 @@ returns-in-Load-clause-counted g c = λ what is.
     let same : loads c.in-Load.seed c.in-Load.size c.in-Load.workers ≡ what = cc in
     let counted = subst (λ n. IfOk c.load.result (λ s. HasAnswered s → Puts (g.K.Sink.pieces c.args.out.now) (g.K.Sink.pieces c.load.new.out) (LoadCounted c.in-Load.seed c.in-Load.size n))) c.crew_of-crew-in-Load.ensures c.load.ensures.counted in
     subst (λ w. IfOk c.load.result (λ s. HasAnswered s → Puts (g.K.Sink.pieces c.args.out.now) (g.K.Sink.pieces c.load.new.out) (AskedCounted w (g.F.Files.entries c.args.files.now) (g.S.Source.left c.args.queries.now) s))) same counted
+
+-- ---- the source
+
+pub returns-in-Run-clause-unasked : goal.returns-in-Run-clause-unasked
+returns-in-Run-clause-unasked g c = λ other. absurd (other (run_of c.in-Run.command) (ap (λ w. asks (asked_of w)) c.in-Run.is))
+
+pub returns-in-Show-clause-unread : goal.returns-in-Show-clause-unread
+returns-in-Show-clause-unread g c = stays_found _ refl c.show_file.result
+
+pub returns-in-Code-clause-unread : goal.returns-in-Code-clause-unread
+returns-in-Code-clause-unread g c = stays_found _ refl c.code_file.result
+
+pub returns-in-Load-clause-unread : goal.returns-in-Load-clause-unread
+returns-in-Load-clause-unread g c = stays_found _ refl c.load.result

@@ -8,7 +8,7 @@ use Rattle.ap_top.specs.Ends.{FileEnds, TextEnds, FailsBehind}
 use Rattle.ap_top.proofs.Counting.{closed_counts, counts_map, file_counts}
 use Rattle.ap_top.proofs.Layers.{file_fault, file_too_long, file_read, text_status}
 use Rattle.ap_top.specs.declared.status.Status.TheVariants as status
-use Rattle.ap_top.proofs.Statuses.{files_kept}
+use Rattle.ap_top.proofs.Statuses.{files_kept, stays_found}
 use Rattle.ap_top.proofs.command.run_file.Goals as goal
 
 pub returns-in-Err-Failed-clause-lines : goal.returns-in-Err-Failed-clause-lines
@@ -73,3 +73,11 @@ returns-clause-counted g c =
     let whole = c.in-Ok-Whole.ensures.whole (cc) in
     let has : HasContent entries what.file (λ content. text ≡ content) = rw c.deref.ensures.value whole in
     counts_map _ _ (TextCounted what text left) (FileCounted what entries left) (file_counts what entries left text has) c.run_text.result c.run_text.ensures.counted
+
+-- ---- the source
+
+pub returns-in-Err-Failed-clause-unread : goal.returns-in-Err-Failed-clause-unread
+returns-in-Err-Failed-clause-unread g c = stays_found _ refl c.close.result
+
+pub returns-in-Ok-TooLong-clause-unread : goal.returns-in-Ok-TooLong-clause-unread
+returns-in-Ok-TooLong-clause-unread g c = stays_found _ refl c.close-in-Ok-TooLong.result

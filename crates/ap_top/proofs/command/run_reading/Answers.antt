@@ -1,10 +1,11 @@
-use Rattle.std.proofs.Common.{ap, subst, sym, ◌∙◌}
+use Rattle.std.proofs.Common.{ap, refl, subst, sym, ◌∙◌}
 use Rattle.ap_outside.specs.Faults.{Rises}
 use Rattle.ap_outside.specs.Halting.{Finishes}
 use Rattle.ap_outside.proofs.Halts.{finishes_map}
 use Rattle.ap_words.specs.Reading.{reading_of}
 use Rattle.ap_top.specs.Ends.{AskedEnds, FailsBehind}
 use Rattle.ap_top.proofs.Readings.{help_ends, usage_ends, version_ends}
+use Rattle.ap_top.proofs.Statuses.{stays_found}
 use Rattle.ap_top.proofs.command.run_reading.Goals as goal
 
 pub returns-in-Usage-clause-lines : goal.returns-in-Usage-clause-lines
@@ -47,3 +48,15 @@ returns-in-Asks-clause-end g c = λ what is. c.run_asked.ensures.end what (sym (
 
 pub returns-in-Asks-clause-counted : goal.returns-in-Asks-clause-counted
 returns-in-Asks-clause-counted g c = λ what is. c.run_asked.ensures.counted what (sym (ap reading_of c.in-Asks.is) ∙ is)
+
+pub returns-in-Asks-clause-unasked : goal.returns-in-Asks-clause-unasked
+returns-in-Asks-clause-unasked g c = λ other. c.run_asked.ensures.unasked (λ what is. other what (ap reading_of c.in-Asks.is ∙ is))
+
+pub returns-in-Usage-clause-unread : goal.returns-in-Usage-clause-unread
+returns-in-Usage-clause-unread g c = stays_found _ refl c.close.result
+
+pub returns-in-Help-clause-unread : goal.returns-in-Help-clause-unread
+returns-in-Help-clause-unread g c = stays_found _ refl c.tell.result
+
+pub returns-in-Version-clause-unread : goal.returns-in-Version-clause-unread
+returns-in-Version-clause-unread g c = stays_found _ refl c.tell-in-Version.result

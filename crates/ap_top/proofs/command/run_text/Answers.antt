@@ -11,8 +11,9 @@ use Rattle.ap_top.specs.Refusals.{refusal_line}
 use Rattle.ap_top.specs.Ends.{SourceEnds, TextEnds, FailsBehind}
 use Rattle.ap_top.specs.declared.status.Status.TheVariants as status
 use Rattle.ap_top.proofs.Counting.{counts_map}
-use Rattle.ap_top.proofs.Layers.{text_refused}
+use Rattle.ap_top.proofs.Layers.{source_found, text_refused}
 use Rattle.ap_top.proofs.Pieces.{refused}
+use Rattle.ap_top.proofs.Statuses.{program_found}
 use Rattle.ap_top.proofs.Uncalled.{program-leaves}
 use Rattle.ap_top.proofs.command.run_text.Goals as goal
 
@@ -53,6 +54,7 @@ returns-in_err-print_refusal-in-Err g c =
       sink = search rules;
       source = search rules;
       end = search rules;
+      unread = search rules;
     }
 
 pub returns : goal.returns
@@ -71,6 +73,7 @@ returns g c =
       sink = search rules;
       source = search rules;
       end = search rules;
+      unread = λ h. refl;
     }
 
 pub returns-in-Ok-program-clause-counted : goal.returns-in-Ok-program-clause-counted
@@ -82,3 +85,12 @@ returns-in-Ok-program-clause-counted g c =
     let table = c.program.new.atoms in
     let accepts : AcceptsProgram text fixed_names program table = subst (λ t. AcceptsProgram text t program table) c.in-Ok.ensures c.in-Ok-program.ensures.accepts in
     counts_map _ _ (SourceCounted what program table left) (TextCounted what text left) (λ s ls h. (program, table, accepts, h)) c.run_source.result c.run_source.ensures.counted
+
+pub returns-in-Ok-program-clause-unread : goal.returns-in-Ok-program-clause-unread
+returns-in-Ok-program-clause-unread g c =
+    let what = run_of c.args.command.now in
+    let left = g.S.Source.left c.args.queries.now in
+    let Rose = FailsBehind (g.S.Source.left c.args.queries.now) (g.S.Source.left c.run_source.new.queries) (Rises (g.S.Source.faults c.args.queries.now) (g.S.Source.faults c.run_source.new.queries)) in
+    let program = c.in-Ok-program.program in
+    let table = c.program.new.atoms in
+    program_found _ _ (SourceEnds what program table left Rose) _ (source_found what program table left Rose) c.run_source.result c.run_source.ensures.lines

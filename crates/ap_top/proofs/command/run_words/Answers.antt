@@ -1,8 +1,8 @@
-use Rattle.std.proofs.Common.{map}
+use Rattle.std.proofs.Common.{map, subst}
 use Rattle.ap_outside.specs.Faults.{Rises}
 use Rattle.ap_outside.proofs.Halts.{finishes_map}
 use Rattle.ap_words.specs.Asked.{runs}
-use Rattle.ap_words.specs.Reading.{reading_of}
+use Rattle.ap_words.specs.Reading.{IsRead, reading_of}
 use Rattle.ap_top.specs.Ends.{AskedEnds, WordsEnd, FailsBehind}
 use Rattle.ap_top.proofs.command.run_words.Goals as goal
 
@@ -21,3 +21,8 @@ returns-clause-end g c = λ what is. c.run_reading.ensures.end what (c.in-Ok.ens
 
 pub returns-clause-counted : goal.returns-clause-counted
 returns-clause-counted g c = λ what is. c.run_reading.ensures.counted what (c.in-Ok.ensures.alone what is)
+
+pub returns-clause-unasked : goal.returns-clause-unasked
+returns-clause-unasked g c =
+    let words = map (λ w. w.now) c.args.words.now in
+    λ other. c.run_reading.ensures.unasked (λ what is. other what (subst (IsRead words) is c.in-Ok.ensures.is))
