@@ -1,9 +1,9 @@
 //! Sound code for a query. It was compiled, so it isn't checked.
 
-ghost use Rattle.std.specs.Prelude.{◌≡◌, true, IfOk, IfSome, OnOk};
+ghost use Rattle.std.specs.Prelude.{◌≡◌, true, not, IfOk, IfSome, OnOk};
 ghost use Rattle.ap_codecheck.specs.Rules.{IsSound};
 ghost use Rattle.ap_codecheck.specs.Tables.{GoesOnBehind, IsKeptOf};
-ghost use Rattle.ap_codegen.specs.KeptCode.{IsKept, code_of};
+ghost use Rattle.ap_codegen.specs.KeptCode.{IsKept, code_of, has_one_of};
 ghost use Rattle.ap_instr.specs.Code.{Compiled};
 ghost use Rattle.ap_instr.specs.StandsFor.{StandsForQuery};
 
@@ -80,8 +80,8 @@ impl KeptCode {
         Ok(KeptCode { code: kept, tables })
     }
 
-    /// Sound code for the program beside a query, with their groups. Where it goes on behind the program's, it has that one's tables, which
-    /// `take_back` takes.
+    /// Sound code for the program beside a query, with their groups. It goes on behind the program's just where that has no predicate of the
+    /// query's clauses; it has that one's tables then, which `take_back` takes.
     pub fn beside(
         &mut self,
         alloc: Global,
@@ -91,6 +91,7 @@ impl KeptCode {
         requires { IsKept self.old program.now }
         ensures stands { IfOk result (λ found. StandsForQuery found.sound program.now query.now) }
         ensures behind { IfOk result (λ found. found.is_behind ≡ true → GoesOnBehind found.sound (code_of self.old)) }
+        ensures apart { IfOk result (λ found. found.is_behind ≡ not (has_one_of self.old query.now)) }
         ensures same { OnOk result (self.new ≡ self.old) }
     {
         let tables = self.tables.take();
