@@ -91,7 +91,7 @@ impl KeptCode {
         requires { IsKept self.old program.now }
         ensures stands { IfOk result (λ found. StandsForQuery found.sound program.now query.now) }
         ensures behind { IfOk result (λ found. found.is_behind ≡ true → GoesOnBehind found.sound (code_of self.old)) }
-        ensures apart { IfOk result (λ found. found.is_behind ≡ not (has_one_of self.old query.now)) }
+        ensures apart { IfOk result (λ found. has_one_of self.old query.now ≡ not found.is_behind) }
         ensures same { OnOk result (self.new ≡ self.old) }
     {
         let tables = self.tables.take();
