@@ -10,8 +10,8 @@ use Rattle.ap_steps.proofs.NewCells.{KeepTrees-trans, StandApart-trans}
 use Rattle.ap_steps.proofs.Pairs.{pair-targets, pair-targets-next, pair-value, pair-value-next, pair-passed, pair-unbuilt, pair-built, parts-known}
 use Rattle.ap_steps.proofs.arguments.build_arguments.Goals as goal
 
-pub build_argument-requires-clause-has : goal.build_argument-requires-clause-has
-build_argument-requires-clause-has c =
+pub build_argument-left-requires-clause-has : goal.build_argument-left-requires-clause-has
+build_argument-left-requires-clause-has c =
     let code = c.args.code.now in
     let e : slice_get code.instructions c.args.at ≡ Some c.in-Some.one.now = subst (λ is. slice_get is c.args.at ≡ Some c.in-Some.one.now) c.instructions-instructions.ensures c.in-Some.ensures.some in
     let f : slice_get code.instructions (c.args.at + 1) ≡ Some c.in-Some-instruction_in.two.now = subst (λ is. slice_get is (c.args.at + 1) ≡ Some c.in-Some-instruction_in.two.now) c.instructions-instructions.ensures c.in-Some-instruction_in.ensures.some in
@@ -26,8 +26,8 @@ returns-then-not-were_built-clause-built c =
     pair-unbuilt c.args.code.now c.args.at c.args.count c.if-count-eq2.true c.in-Some.one.now c.in-Some-instruction_in.two.now e f c.args.cells.now.cells c.build_argument-left.new.cells.cells c.build_argument-left.new.cells.cells (held c.args.x.now) (held c.args.y.now) (held c.build_argument-left.new.x) (held c.build_argument-left.new.y) (held c.build_argument-left.new.x) (held c.build_argument-left.new.y) (length c.args.cells.now.cells + c.args.count)
     (subst (BuiltOr (length c.args.cells.now.cells + c.args.count) c.args.cells.now.cells (held c.args.x.now) (held c.args.y.now) (step_of code c.in-Some.one.now) c.build_argument-left.new.cells.cells (held c.build_argument-left.new.x) (held c.build_argument-left.new.y)) no (c.build_argument-left.ensures.built (length c.args.cells.now.cells + c.args.count) c.requires.holds_x c.requires.holds_y))
 
-pub build_argument-requires-in-Some-instruction_in-clause-has : goal.build_argument-requires-in-Some-instruction_in-clause-has
-build_argument-requires-in-Some-instruction_in-clause-has c =
+pub build_argument-right-requires-clause-has : goal.build_argument-right-requires-clause-has
+build_argument-right-requires-clause-has c =
     let code = c.args.code.now in
     let e : slice_get code.instructions c.args.at ≡ Some c.in-Some.one.now = subst (λ is. slice_get is c.args.at ≡ Some c.in-Some.one.now) c.instructions-instructions.ensures c.in-Some.ensures.some in
     let f : slice_get code.instructions (c.args.at + 1) ≡ Some c.in-Some-instruction_in.two.now = subst (λ is. slice_get is (c.args.at + 1) ≡ Some c.in-Some-instruction_in.two.now) c.instructions-instructions.ensures c.in-Some-instruction_in.ensures.some in
