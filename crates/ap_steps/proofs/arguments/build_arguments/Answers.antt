@@ -1,11 +1,9 @@
-use Rattle.std.proofs.Common.{◌≡◌, ℕ, ◌+◌, ◌≤◌, true, false, length, slice_get, Some, refl, sym, ap, ◌∙◌, subst, arith}
+use Rattle.std.proofs.Common.{◌≡◌, ◌+◌, ◌≤◌, true, false, length, slice_get, Some, refl, sym, ◌∙◌, subst, arith}
 use Rattle.ap_cells.proofs.Stores.{Keeps-trans}
 use Rattle.ap_instr.specs.Step.{step_of}
-use Rattle.ap_needs.specs.Needs.{HasTargets, is_value, has_value}
+use Rattle.ap_needs.specs.Needs.{HasTargets, has_value}
 use Rattle.ap_steps.specs.Moves.{held}
-use Rattle.ap_steps.specs.declared.arguments.Parts.TheVariants.{Fresh, Values, Stuck}
 use Rattle.ap_steps.specs.Arguments.{BuiltOr, BuiltOrStuck, are_built}
-use Rattle.ap_steps.specs.Ways.{NoneOfControl}
 use Rattle.ap_steps.proofs.NewCells.{KeepTrees-trans, StandApart-trans}
 use Rattle.ap_steps.proofs.Pairs.{pair-targets, pair-targets-next, pair-value, pair-value-next, pair-passed, pair-unbuilt, pair-built, parts-known}
 use Rattle.ap_steps.proofs.arguments.build_arguments.Goals as goal
@@ -104,4 +102,3 @@ returns-in-Some-instruction_in-clause-spare c =
 pub returns-in-Some-instruction_in-clause-keeps : goal.returns-in-Some-instruction_in-clause-keeps
 returns-in-Some-instruction_in-clause-keeps c =
     Keeps-trans c.args.cells.now c.build_argument-left.new.cells c.build_argument-right.new.cells c.build_argument-left.ensures.keeps c.build_argument-right.ensures.keeps
-

@@ -1,4 +1,4 @@
-use Rattle.std.proofs.Common.{◌≡◌, ℕ, ◌+◌, ◌≤◌, true, false, Ok, Err, length, slice_get, Some, sym, ap, ◌∙◌, subst, arith}
+use Rattle.std.proofs.Common.{◌≡◌, ◌+◌, true, false, Ok, Err, length, slice_get, Some, sym, subst}
 use Rattle.std.specs.Prelude.{IfOk, OnErr}
 use Rattle.ap_cells.proofs.Stores.{Keeps-trans}
 use Rattle.ap_instr.specs.Step.{step_of}
