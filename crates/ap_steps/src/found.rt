@@ -51,8 +51,7 @@ fn match_value(
     ensures keeps { Keeps cells.old cells.new }
 {
     let left = read(x, y, v);
-    let answer = equate(cells, left, place, work)?;
-    Ok(answer)
+    equate(cells, left, place, work)
 }
 
 /// `unify_constant C`: the argument is made an atom, if it can be.
@@ -118,10 +117,7 @@ fn match_argument(
             match_variable(cells, x, y, v, place);
             Ok(true)
         }
-        Instr::UnifyValue(v) => {
-            let answer = match_value(cells, x, y, v, place, work)?;
-            Ok(answer)
-        }
+        Instr::UnifyValue(v) => match_value(cells, x, y, v, place, work),
         Instr::UnifyConstant(name) => Ok(match_name(cells, x, y, name, place)),
         Instr::UnifyInteger(i) => Ok(match_listed(cells, x, y, code, i, place)),
         _ => Ok(false),

@@ -148,8 +148,7 @@ pub fn get_structure(
             if !is_of(found, arity, name, count) {
                 return Ok(false);
             }
-            let matched = match_arguments(cells, x, y, code, at, first, count as usize, work)?;
-            Ok(matched)
+            match_arguments(cells, x, y, code, at, first, count as usize, work)
         }
         Top::Int(_) => Ok(false),
         Top::Atom(_) => Ok(false),
