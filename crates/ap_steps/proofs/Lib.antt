@@ -9,3 +9,4 @@ pub mod StructureSteps
 pub mod StructuresTaken
 pub mod MemoryWants
 pub mod NewCells
+pub mod Pairs

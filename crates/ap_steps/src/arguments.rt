@@ -16,7 +16,7 @@ ghost use Rattle.ap_steps.specs.Arguments.{Built, BuiltOr, BuiltOrStuck, are_bui
 ghost use Rattle.ap_steps.specs.Ways.{NoneOfControl};
 
 use crate::registers::{read, write};
-use crate::tables::integer_at;
+use crate::tables::{instruction_in, integer_at};
 use ap_cells::{Cell, Cells, Raw};
 use ap_instr::{Code, Instr, Slot};
 use ap_match::{push_new, push_value};
@@ -139,7 +139,7 @@ pub fn build_integer(cells: &mut Cells, value: i64)
 }
 
 /// `unify_integer I`: the argument is an integer of the code's table. False where the table doesn't have it.
-#[inline(always)]
+#[inline(never)]
 fn build_listed(cells: &mut Cells, code: &Code, i: u32) -> bool
     requires room { 0 < cells.old.spare }
     ensures built { (whole : ℕ) (xs ys : List ℕ) → BuiltOr whole cells.old.cells (held xs) (held ys) (with_integer (slice_get code.now.integers i) unify_constant) cells.new.cells (held xs) (held ys) result }
@@ -203,10 +203,10 @@ pub fn build_argument(
     }
 }
 
-/// The arguments of a structure, by the instructions from a place on: each becomes the next cell, and the structure is to
-/// have its own place behind them.
-#[inline(always)]
-pub fn build_arguments(
+/// The arguments of a structure, by the instructions from a place on, in a loop: each becomes the next cell, and the structure
+/// is to have its own place behind them. It stands apart, so that what calls it stays small.
+#[inline(never)]
+fn build_many(
     cells: &mut Cells,
     x: &mut [u32],
     y: &mut [u32],
@@ -248,4 +248,106 @@ pub fn build_arguments(
         return Parts::Stuck;
     }
     if values { Parts::Values } else { Parts::Fresh }
+}
+
+/// Whether arguments were built.
+#[inline(always)]
+fn were_built(parts: Parts) -> bool
+    ensures { result ≡ are_built parts }
+{
+    match parts {
+        Parts::Fresh => true,
+        Parts::Values => true,
+        Parts::Stuck => false,
+    }
+}
+
+/// What two arguments are built from, the first of which was built.
+#[inline(always)]
+fn joined(left: Parts, right: Parts) -> Parts
+    requires { are_built left ≡ true }
+    ensures built { are_built result ≡ are_built right }
+    ensures fresh { result ≡ Parts.Fresh → (left ≡ Parts.Fresh) × (right ≡ Parts.Fresh) }
+    ensures values { result ≡ Parts.Values → left ≡ Parts.Fresh → right ≡ Parts.Values }
+{
+    match right {
+        Parts::Fresh => left,
+        Parts::Values => Parts::Values,
+        Parts::Stuck => Parts::Stuck,
+    }
+}
+
+/// The arguments of a structure, by the instructions from a place on: each becomes the next cell, and the structure is to
+/// have its own place behind them. Two of them, as a list has, are built without a loop.
+#[inline(always)]
+pub fn build_arguments(
+    cells: &mut Cells,
+    x: &mut [u32],
+    y: &mut [u32],
+    code: &Code,
+    at: usize,
+    count: usize,
+) -> Parts
+    requires room { count ≤ cells.old.spare }
+    requires inside { at ≤ length code.now.instructions }
+    requires targets { AllHaveTargets (drop at code.now.instructions) (length x.old) (length y.old) }
+    requires holds_x { HoldPlacesBut (length cells.old.cells + count) (length cells.old.cells) x.old }
+    requires holds_y { HoldPlacesBut (length cells.old.cells + count) (length cells.old.cells) y.old }
+    ensures built { BuiltOrStuck code.now at count cells.old.cells (held x.old) (held y.old) cells.new.cells (held x.new) (held y.new) (are_built result) }
+    ensures passed { are_built result ≡ true → NoneOfControl code.now.instructions at count }
+    ensures fresh { result ≡ Parts.Fresh → StandApart cells.old.cells cells.new.cells }
+    ensures value { result ≡ Parts.Values → has_value code.now.instructions at count ≡ true }
+    ensures stays { KeepTrees cells.old.cells cells.new.cells }
+    ensures holds_x { (whole : ℕ) → HoldPlacesBut whole (length cells.old.cells) x.old → HoldPlacesBut whole (length cells.new.cells) x.new }
+    ensures holds_y { (whole : ℕ) → HoldPlacesBut whole (length cells.old.cells) y.old → HoldPlacesBut whole (length cells.new.cells) y.new }
+    ensures x_len { length x.new ≡ length x.old }
+    ensures y_len { length y.new ≡ length y.old }
+    ensures spare { are_built result ≡ true → cells.new.spare + count ≡ cells.old.spare }
+    ensures keeps { Keeps cells.old cells.new }
+{
+    if count == 2 {
+        let instructions = code.instructions();
+        let _places = cells.len();
+        if let Some(one) = instruction_in(instructions, at) {
+            if let Some(two) = instruction_in(instructions, at + 1) {
+                let left = build_argument(cells, x, y, code, one);
+                if !were_built(left) {
+                    return Parts::Stuck;
+                }
+                let right = build_argument(cells, x, y, code, two);
+                return joined(left, right);
+            }
+        }
+    }
+    build_many(cells, x, y, code, at, count)
+}
+
+/// The arguments of a structure, as `build_arguments` builds them. It stands apart, so that what calls it stays small.
+#[inline(never)]
+pub fn build_apart(
+    cells: &mut Cells,
+    x: &mut [u32],
+    y: &mut [u32],
+    code: &Code,
+    at: usize,
+    count: usize,
+) -> Parts
+    requires room { count ≤ cells.old.spare }
+    requires inside { at ≤ length code.now.instructions }
+    requires targets { AllHaveTargets (drop at code.now.instructions) (length x.old) (length y.old) }
+    requires holds_x { HoldPlacesBut (length cells.old.cells + count) (length cells.old.cells) x.old }
+    requires holds_y { HoldPlacesBut (length cells.old.cells + count) (length cells.old.cells) y.old }
+    ensures built { BuiltOrStuck code.now at count cells.old.cells (held x.old) (held y.old) cells.new.cells (held x.new) (held y.new) (are_built result) }
+    ensures passed { are_built result ≡ true → NoneOfControl code.now.instructions at count }
+    ensures fresh { result ≡ Parts.Fresh → StandApart cells.old.cells cells.new.cells }
+    ensures value { result ≡ Parts.Values → has_value code.now.instructions at count ≡ true }
+    ensures stays { KeepTrees cells.old.cells cells.new.cells }
+    ensures holds_x { (whole : ℕ) → HoldPlacesBut whole (length cells.old.cells) x.old → HoldPlacesBut whole (length cells.new.cells) x.new }
+    ensures holds_y { (whole : ℕ) → HoldPlacesBut whole (length cells.old.cells) y.old → HoldPlacesBut whole (length cells.new.cells) y.new }
+    ensures x_len { length x.new ≡ length x.old }
+    ensures y_len { length y.new ≡ length y.old }
+    ensures spare { are_built result ≡ true → cells.new.spare + count ≡ cells.old.spare }
+    ensures keeps { Keeps cells.old cells.new }
+{
+    build_arguments(cells, x, y, code, at, count)
 }

@@ -10,7 +10,7 @@ ghost use Rattle.ap_steps.specs.Found.{Matched, MatchedAll};
 ghost use Rattle.ap_steps.specs.Ways.{NoneOfControl};
 
 use crate::registers::{read, write};
-use crate::tables::integer_at;
+use crate::tables::{instruction_in, integer_at};
 use ap_cells::Cells;
 use ap_instr::{Code, Instr, Slot};
 use ap_match::{equate, match_atom, match_integer};
@@ -51,8 +51,7 @@ fn match_value(
     ensures keeps { Keeps cells.old cells.new }
 {
     let left = read(x, y, v);
-    let answer = equate(cells, left, place, work)?;
-    Ok(answer)
+    equate(cells, left, place, work)
 }
 
 /// `unify_constant C`: the argument is made an atom, if it can be.
@@ -71,7 +70,7 @@ fn match_name(cells: &mut Cells, x: &[u32], y: &[u32], name: Atom, place: usize)
 
 /// `unify_integer I`: the argument is made an integer of the code's table, if it can be. False where the table doesn't have
 /// it, too.
-#[inline(always)]
+#[inline(never)]
 fn match_listed(cells: &mut Cells, x: &[u32], y: &[u32], code: &Code, i: u32, place: usize) -> bool
     requires x { HoldPlaces (length cells.old.cells) x.now }
     requires y { HoldPlaces (length cells.old.cells) y.now }
@@ -118,20 +117,17 @@ fn match_argument(
             match_variable(cells, x, y, v, place);
             Ok(true)
         }
-        Instr::UnifyValue(v) => {
-            let answer = match_value(cells, x, y, v, place, work)?;
-            Ok(answer)
-        }
+        Instr::UnifyValue(v) => match_value(cells, x, y, v, place, work),
         Instr::UnifyConstant(name) => Ok(match_name(cells, x, y, name, place)),
         Instr::UnifyInteger(i) => Ok(match_listed(cells, x, y, code, i, place)),
         _ => Ok(false),
     }
 }
 
-/// The arguments of a structure that is there, at places from `first` on, by the instructions from a place of the code on.
-/// False where one can't be matched, whatever comes behind them.
-#[inline(always)]
-pub fn match_arguments(
+/// The arguments of a structure that is there, at places from `first` on, by the instructions from a place of the code on, in a
+/// loop. It stands apart, so that what calls it stays small.
+#[inline(never)]
+fn match_many(
     cells: &mut Cells,
     x: &mut [u32],
     y: &mut [u32],
@@ -173,4 +169,48 @@ pub fn match_arguments(
         return Ok(false);
     }
     Ok(true)
+}
+
+/// The arguments of a structure that is there, at places from `first` on, by the instructions from a place of the code on.
+/// False where one can't be matched, whatever comes behind them. Two of them, as a list has, are taken without a loop.
+#[inline(always)]
+pub fn match_arguments(
+    cells: &mut Cells,
+    x: &mut [u32],
+    y: &mut [u32],
+    code: &Code,
+    at: usize,
+    first: usize,
+    count: usize,
+    work: &mut Work,
+) -> Result<bool, NoMemory>
+    requires inside { at ≤ length code.now.instructions }
+    requires targets { AllHaveTargets (drop at code.now.instructions) (length x.old) (length y.old) }
+    requires holds_x { HoldPlaces (length cells.old.cells) x.old }
+    requires holds_y { HoldPlaces (length cells.old.cells) y.old }
+    requires args { first + count ≤ length cells.old.cells }
+    ensures matched { IfOk result (λ b. MatchedAll code.now at first count cells.old.cells (held x.old) (held y.old) cells.new.cells (held x.new) (held y.new) b) }
+    ensures passed { IfOk result (λ b. b ≡ true → NoneOfControl code.now.instructions at count) }
+    ensures wants { OnErr result (has_value code.now.instructions at count ≡ true) }
+    ensures holds_x { HoldPlaces (length cells.new.cells) x.new }
+    ensures holds_y { HoldPlaces (length cells.new.cells) y.new }
+    ensures x_len { length x.new ≡ length x.old }
+    ensures y_len { length y.new ≡ length y.old }
+    ensures spare { cells.new.spare ≡ cells.old.spare }
+    ensures keeps { Keeps cells.old cells.new }
+{
+    if count == 2 {
+        let instructions = code.instructions();
+        let _places = cells.len();
+        if let Some(one) = instruction_in(instructions, at) {
+            if let Some(two) = instruction_in(instructions, at + 1) {
+                let begun = match_argument(cells, x, y, code, one, first, work)?;
+                if !begun {
+                    return Ok(false);
+                }
+                return match_argument(cells, x, y, code, two, first + 1, work);
+            }
+        }
+    }
+    match_many(cells, x, y, code, at, first, count, work)
 }

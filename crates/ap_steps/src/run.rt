@@ -58,7 +58,7 @@ fn get_listed(cells: &mut Cells, x: &[u32], y: &[u32], code: &Code, i: u32, a: u
 }
 
 /// `put_integer I, A` with an integer of the code's table. False where the table doesn't have it.
-#[inline(always)]
+#[inline(never)]
 fn put_listed(cells: &mut Cells, x: &mut [u32], code: &Code, i: u32, a: u32) -> bool
     requires room { 0 < cells.old.spare }
     requires has { a < length x.old }

@@ -9,7 +9,7 @@ ghost use Rattle.ap_needs.specs.Needs.{has_value, AllHaveTargets};
 ghost use Rattle.ap_steps.specs.Moves.{held, HoldPlaces};
 ghost use Rattle.ap_steps.specs.Ways.{NoneOfControl, StepTaken};
 
-use crate::arguments::{Parts, build_arguments};
+use crate::arguments::{Parts, build_apart, build_arguments};
 use crate::found::match_arguments;
 use crate::registers::{place_in, put};
 use ap_cells::{Cell, Cells, Top};
@@ -48,7 +48,7 @@ pub fn put_structure(
     let first = cells.len();
     let whole = first + count as usize;
     put(x, a as usize, whole as u32);
-    match build_arguments(cells, x, y, code, at, count as usize) {
+    match build_apart(cells, x, y, code, at, count as usize) {
         Parts::Stuck => false,
         Parts::Fresh | Parts::Values => {
             push_new(cells, Cell::Node(name, first, count as u32));
@@ -148,8 +148,7 @@ pub fn get_structure(
             if !is_of(found, arity, name, count) {
                 return Ok(false);
             }
-            let matched = match_arguments(cells, x, y, code, at, first, count as usize, work)?;
-            Ok(matched)
+            match_arguments(cells, x, y, code, at, first, count as usize, work)
         }
         Top::Int(_) => Ok(false),
         Top::Atom(_) => Ok(false),

@@ -1,131 +1,104 @@
-use Rattle.std.proofs.Common.{◌≡◌, ℕ, ◌+◌, ◌-◌, ◌<◌, ◌≤◌, true, length, slice_get, Some, None, sym, ap, ◌∙◌, subst, arith}
-use Rattle.std.proofs.lemmas.Bool.{false≢true}
-use Rattle.std.proofs.lemmas.Option.{slice_get_within}
+use Rattle.std.proofs.Common.{◌≡◌, ◌+◌, ◌≤◌, true, false, length, slice_get, Some, refl, sym, ◌∙◌, subst, arith}
 use Rattle.ap_cells.proofs.Stores.{Keeps-trans}
 use Rattle.ap_instr.specs.Step.{step_of}
-use Rattle.ap_instr.specs.Steps.{steps_from, skipped}
-use Rattle.ap_instr.proofs.Steps.{steps_law, steps-past}
-use Rattle.ap_needs.specs.Needs.{HasTargets, is_value, has_value}
-use Rattle.ap_needs.proofs.Places.{steps-next}
+use Rattle.ap_needs.specs.Needs.{HasTargets, has_value}
 use Rattle.ap_steps.specs.Moves.{held}
-use Rattle.ap_steps.specs.declared.arguments.Parts.TheVariants.{Fresh, Values}
-use Rattle.ap_steps.specs.Arguments.{BuiltOr, BuiltAll, are_built, StandApart}
-use Rattle.ap_steps.proofs.Places.{part-item, part-few, part-all, part-past, part-short, part-within, plain-transfer, targets-here, none-more, none-targets, value-kept, value-among}
+use Rattle.ap_steps.specs.Arguments.{BuiltOr, BuiltOrStuck, are_built}
 use Rattle.ap_steps.proofs.NewCells.{KeepTrees-trans, StandApart-trans}
-use Rattle.ap_steps.proofs.StructureSteps.{BuiltAll-more, BuiltAll-stuck, BuiltAll-end}
+use Rattle.ap_steps.proofs.Pairs.{pair-targets, pair-targets-next, pair-value, pair-value-next, pair-passed, pair-unbuilt, pair-built, parts-known}
 use Rattle.ap_steps.proofs.arguments.build_arguments.Goals as goal
-use Rattle.ap_steps.proofs.arguments.build_arguments.Goals.{in-Fresh, in-Values}
 
-pub build_argument-requires-clause-has : goal.build_argument-requires-clause-has
-build_argument-requires-clause-has c =
-    let v = c.loop-instr.invariant in
-    let e : slice_get c.args.code.now.instructions (c.args.at + c.loop-instr.instr-index) ≡ Some c.instr-item.result = subst (λ is. slice_get is (c.args.at + c.loop-instr.instr-index) ≡ Some c.instr-item.result) c.instructions-instructions.ensures (part-item c.instructions-instructions.result.now c.args.at c.args.count c.min-end.result c.loop-instr.instr-index c.min-end.ensures c.if-prove.false c.instr-item.result _ c.instr-item.is c.loop-instr-test.true) in
-    let h : HasTargets c.instr-item.result (length c.args.x.now) (length c.args.y.now) =
-    (targets-here c.args.code.now.instructions (c.args.at + c.loop-instr.instr-index) (length c.args.x.now) (length c.args.y.now) c.instr-item.result e
-    (none-targets c.args.code.now.instructions c.args.at c.loop-instr.instr-index (length c.args.x.now) (length c.args.y.now) v.passed c.requires.targets)).0
-    in
-    subst (λ n. HasTargets c.instr-item.result n (length c.loop-instr.y)) (sym v.x_len) (subst (HasTargets c.instr-item.result (length c.args.x.now)) (sym v.y_len) h)
+pub build_argument-left-requires-clause-has : goal.build_argument-left-requires-clause-has
+build_argument-left-requires-clause-has c =
+    let code = c.args.code.now in
+    let e : slice_get code.instructions c.args.at ≡ Some c.in-Some.one.now = subst (λ is. slice_get is c.args.at ≡ Some c.in-Some.one.now) c.instructions-instructions.ensures c.in-Some.ensures.some in
+    let f : slice_get code.instructions (c.args.at + 1) ≡ Some c.in-Some-instruction_in.two.now = subst (λ is. slice_get is (c.args.at + 1) ≡ Some c.in-Some-instruction_in.two.now) c.instructions-instructions.ensures c.in-Some-instruction_in.ensures.some in
+    pair-targets c.args.code.now c.args.at c.args.count c.if-count-eq2.true c.in-Some.one.now c.in-Some-instruction_in.two.now e f (length c.args.x.now) (length c.args.y.now) c.requires.targets
 
-pub returns-in-Stuck-clause-built : goal.returns-in-Stuck-clause-built
-returns-in-Stuck-clause-built c =
-    let v = c.loop-instr.invariant in
-    let whole : ℕ = length c.args.cells.now.cells + c.args.count in
-    let e : slice_get c.args.code.now.instructions (c.args.at + c.loop-instr.instr-index) ≡ Some c.instr-item.result = subst (λ is. slice_get is (c.args.at + c.loop-instr.instr-index) ≡ Some c.instr-item.result) c.instructions-instructions.ensures (part-item c.instructions-instructions.result.now c.args.at c.args.count c.min-end.result c.loop-instr.instr-index c.min-end.ensures c.if-prove.false c.instr-item.result _ c.instr-item.is c.loop-instr-test.true) in
-    BuiltAll-stuck whole c.loop-instr.instr-index c.args.count c.args.cells.now.cells c.loop-instr.cells.cells c.build_argument.new.cells.cells (held c.args.x.now) (held c.args.y.now) (held c.loop-instr.x) (held c.loop-instr.y) (held c.build_argument.new.x) (held c.build_argument.new.y)
-    (steps_from c.args.code.now c.args.at) (steps_from c.args.code.now (c.args.at + c.loop-instr.instr-index + 1 + skipped c.instr-item.result (c.args.at + c.loop-instr.instr-index))) (step_of c.args.code.now c.instr-item.result) (part-few c.instructions-instructions.result.now c.args.at c.args.count c.min-end.result c.loop-instr.instr-index c.min-end.ensures c.if-prove.false c.loop-instr-test.true)
-    (subst (λ is. BuiltAll c.loop-instr.instr-index c.args.cells.now.cells (held c.args.x.now) (held c.args.y.now) (steps_from c.args.code.now c.args.at) c.loop-instr.cells.cells (held c.loop-instr.x) (held c.loop-instr.y) is)
-    (steps_law c.args.code.now (c.args.at + c.loop-instr.instr-index) c.instr-item.result e) v.built)
-    (c.in-Stuck.ensures.built whole (v.holds_x whole c.requires.holds_x) (v.holds_y whole c.requires.holds_y))
+pub returns-then-not-were_built-clause-built : goal.returns-then-not-were_built-clause-built
+returns-then-not-were_built-clause-built c =
+    let code = c.args.code.now in
+    let e : slice_get code.instructions c.args.at ≡ Some c.in-Some.one.now = subst (λ is. slice_get is c.args.at ≡ Some c.in-Some.one.now) c.instructions-instructions.ensures c.in-Some.ensures.some in
+    let f : slice_get code.instructions (c.args.at + 1) ≡ Some c.in-Some-instruction_in.two.now = subst (λ is. slice_get is (c.args.at + 1) ≡ Some c.in-Some-instruction_in.two.now) c.instructions-instructions.ensures c.in-Some-instruction_in.ensures.some in
+    let no : are_built c.build_argument-left.result ≡ false = sym c.were_built.ensures ∙ c.if-not-were_built.true in
+    pair-unbuilt c.args.code.now c.args.at c.args.count c.if-count-eq2.true c.in-Some.one.now c.in-Some-instruction_in.two.now e f c.args.cells.now.cells c.build_argument-left.new.cells.cells c.build_argument-left.new.cells.cells (held c.args.x.now) (held c.args.y.now) (held c.build_argument-left.new.x) (held c.build_argument-left.new.y) (held c.build_argument-left.new.x) (held c.build_argument-left.new.y) (length c.args.cells.now.cells + c.args.count)
+    (subst (BuiltOr (length c.args.cells.now.cells + c.args.count) c.args.cells.now.cells (held c.args.x.now) (held c.args.y.now) (step_of code c.in-Some.one.now) c.build_argument-left.new.cells.cells (held c.build_argument-left.new.x) (held c.build_argument-left.new.y)) no (c.build_argument-left.ensures.built (length c.args.cells.now.cells + c.args.count) c.requires.holds_x c.requires.holds_y))
 
-pub returns-in-Stuck-clause-holds_x : goal.returns-in-Stuck-clause-holds_x
-returns-in-Stuck-clause-holds_x c = λ whole h. c.build_argument.ensures.holds_x whole (c.loop-instr.invariant.holds_x whole h)
+pub build_argument-right-requires-clause-has : goal.build_argument-right-requires-clause-has
+build_argument-right-requires-clause-has c =
+    let code = c.args.code.now in
+    let e : slice_get code.instructions c.args.at ≡ Some c.in-Some.one.now = subst (λ is. slice_get is c.args.at ≡ Some c.in-Some.one.now) c.instructions-instructions.ensures c.in-Some.ensures.some in
+    let f : slice_get code.instructions (c.args.at + 1) ≡ Some c.in-Some-instruction_in.two.now = subst (λ is. slice_get is (c.args.at + 1) ≡ Some c.in-Some-instruction_in.two.now) c.instructions-instructions.ensures c.in-Some-instruction_in.ensures.some in
+    let ok : are_built c.build_argument-left.result ≡ true = sym c.were_built.ensures ∙ c.if-not-were_built.false in
+    let h : HasTargets c.in-Some-instruction_in.two.now (length c.args.x.now) (length c.args.y.now) = pair-targets-next c.args.code.now c.args.at c.args.count c.if-count-eq2.true c.in-Some.one.now c.in-Some-instruction_in.two.now e f (length c.args.x.now) (length c.args.y.now) (c.build_argument-left.ensures.argument ok) c.requires.targets in
+    subst (λ n. HasTargets c.in-Some-instruction_in.two.now n (length c.build_argument-left.new.y)) (sym c.build_argument-left.ensures.x_len) (subst (HasTargets c.in-Some-instruction_in.two.now (length c.args.x.now)) (sym c.build_argument-left.ensures.y_len) h)
 
-pub returns-in-Stuck-clause-holds_y : goal.returns-in-Stuck-clause-holds_y
-returns-in-Stuck-clause-holds_y c = λ whole h. c.build_argument.ensures.holds_y whole (c.loop-instr.invariant.holds_y whole h)
+pub returns-in-Some-instruction_in-clause-built : goal.returns-in-Some-instruction_in-clause-built
+returns-in-Some-instruction_in-clause-built c =
+    let code = c.args.code.now in
+    let e : slice_get code.instructions c.args.at ≡ Some c.in-Some.one.now = subst (λ is. slice_get is c.args.at ≡ Some c.in-Some.one.now) c.instructions-instructions.ensures c.in-Some.ensures.some in
+    let f : slice_get code.instructions (c.args.at + 1) ≡ Some c.in-Some-instruction_in.two.now = subst (λ is. slice_get is (c.args.at + 1) ≡ Some c.in-Some-instruction_in.two.now) c.instructions-instructions.ensures c.in-Some-instruction_in.ensures.some in
+    let ok : are_built c.build_argument-left.result ≡ true = sym c.were_built.ensures ∙ c.if-not-were_built.false in
+    subst (BuiltOrStuck code c.args.at c.args.count c.args.cells.now.cells (held c.args.x.now) (held c.args.y.now) c.build_argument-right.new.cells.cells (held c.build_argument-right.new.x) (held c.build_argument-right.new.y)) (sym c.joined.ensures.built)
+    (pair-built c.args.code.now c.args.at c.args.count c.if-count-eq2.true c.in-Some.one.now c.in-Some-instruction_in.two.now e f c.args.cells.now.cells c.build_argument-left.new.cells.cells c.build_argument-right.new.cells.cells (held c.args.x.now) (held c.args.y.now) (held c.build_argument-left.new.x) (held c.build_argument-left.new.y) (held c.build_argument-right.new.x) (held c.build_argument-right.new.y) (length c.args.cells.now.cells + c.args.count) (c.build_argument-left.ensures.argument ok)
+    (subst (BuiltOr (length c.args.cells.now.cells + c.args.count) c.args.cells.now.cells (held c.args.x.now) (held c.args.y.now) (step_of code c.in-Some.one.now) c.build_argument-left.new.cells.cells (held c.build_argument-left.new.x) (held c.build_argument-left.new.y)) ok (c.build_argument-left.ensures.built (length c.args.cells.now.cells + c.args.count) c.requires.holds_x c.requires.holds_y))
+    (are_built c.build_argument-right.result) refl c.build_argument-right.ensures.argument
+    (c.build_argument-right.ensures.built (length c.args.cells.now.cells + c.args.count) (c.build_argument-left.ensures.holds_x (length c.args.cells.now.cells + c.args.count) c.requires.holds_x) (c.build_argument-left.ensures.holds_y (length c.args.cells.now.cells + c.args.count) c.requires.holds_y)))
 
-pub returns-in-Stuck-clause-keeps : goal.returns-in-Stuck-clause-keeps
-returns-in-Stuck-clause-keeps c = Keeps-trans c.args.cells.now c.loop-instr.cells c.build_argument.new.cells c.loop-instr.invariant.keeps c.build_argument.ensures.keeps
+pub returns-in-Some-instruction_in-clause-passed : goal.returns-in-Some-instruction_in-clause-passed
+returns-in-Some-instruction_in-clause-passed c =
+    let code = c.args.code.now in
+    let e : slice_get code.instructions c.args.at ≡ Some c.in-Some.one.now = subst (λ is. slice_get is c.args.at ≡ Some c.in-Some.one.now) c.instructions-instructions.ensures c.in-Some.ensures.some in
+    let f : slice_get code.instructions (c.args.at + 1) ≡ Some c.in-Some-instruction_in.two.now = subst (λ is. slice_get is (c.args.at + 1) ≡ Some c.in-Some-instruction_in.two.now) c.instructions-instructions.ensures c.in-Some-instruction_in.ensures.some in
+    let ok : are_built c.build_argument-left.result ≡ true = sym c.were_built.ensures ∙ c.if-not-were_built.false in
+    λ built. pair-passed c.args.code.now c.args.at c.args.count c.if-count-eq2.true c.in-Some.one.now c.in-Some-instruction_in.two.now e f (c.build_argument-left.ensures.argument ok) (c.build_argument-right.ensures.argument (sym c.joined.ensures.built ∙ built))
 
-pub loop-instr-preserved : goal.loop-instr-preserved
-loop-instr-preserved c =
-    let v = c.loop-instr.invariant in
-    let i : ℕ = c.loop-instr.instr-index in
-    let at : ℕ = c.args.at in
-    let whole : ℕ = length c.args.cells.now.cells + c.args.count in
-    let e : slice_get c.args.code.now.instructions (at + i) ≡ Some c.instr-item.result = subst (λ is. slice_get is (c.args.at + c.loop-instr.instr-index) ≡ Some c.instr-item.result) c.instructions-instructions.ensures (part-item c.instructions-instructions.result.now c.args.at c.args.count c.min-end.result c.loop-instr.instr-index c.min-end.ensures c.if-prove.false c.instr-item.result _ c.instr-item.is c.loop-instr-test.true) in
-    let value : c.build_argument.result ≡ Values → is_value c.instr-item.result ≡ true = c.build_argument.ensures.value in
-    let fresh : c.build_argument.result ≡ Fresh → StandApart c.loop-instr.cells.cells c.build_argument.new.cells.cells = c.build_argument.ensures.fresh in
-    let longer : length c.args.cells.now.cells ≤ length c.loop-instr.cells.cells = let l : length c.loop-instr.cells.cells ≡ length c.args.cells.now.cells + i = v.built.longer in omega arith in
-    let ok : are_built c.build_argument.result ≡ true = elim c.match-build_argument.branch [ in-Fresh w ↦ ap are_built w.in-Fresh.is | in-Values w ↦ ap are_built w.in-Values.is ] in
-    let behind : at + i + 1 ≡ at + (i + 1) = omega arith in
-    record {
-      built =
-          subst (λ n. BuiltAll (i + 1) c.args.cells.now.cells (held c.args.x.now) (held c.args.y.now) (steps_from c.args.code.now at) c.build_argument.new.cells.cells (held c.build_argument.new.x) (held c.build_argument.new.y) (steps_from c.args.code.now n)) behind
-          (BuiltAll-more i c.args.cells.now.cells c.loop-instr.cells.cells c.build_argument.new.cells.cells (held c.args.x.now) (held c.args.y.now) (held c.loop-instr.x) (held c.loop-instr.y) (held c.build_argument.new.x) (held c.build_argument.new.y)
-          (steps_from c.args.code.now at) (steps_from c.args.code.now (at + i + 1)) (step_of c.args.code.now c.instr-item.result)
-          (subst (λ is. BuiltAll i c.args.cells.now.cells (held c.args.x.now) (held c.args.y.now) (steps_from c.args.code.now at) c.loop-instr.cells.cells (held c.loop-instr.x) (held c.loop-instr.y) is) (steps-next c.args.code.now (at + i) c.instr-item.result e (plain-transfer c.instr-item.result (c.build_argument.ensures.argument ok))) v.built)
-          (subst (BuiltOr whole c.loop-instr.cells.cells (held c.loop-instr.x) (held c.loop-instr.y) (step_of c.args.code.now c.instr-item.result) c.build_argument.new.cells.cells (held c.build_argument.new.x) (held c.build_argument.new.y)) ok
-          (c.build_argument.ensures.built whole (v.holds_x whole c.requires.holds_x) (v.holds_y whole c.requires.holds_y))));
-      passed = none-more c.args.code.now.instructions at i c.instr-item.result v.passed e (c.build_argument.ensures.argument ok);
-      value =
-          elim c.match-build_argument.branch [
-            | in-Fresh w ↦ λ some. value-kept c.args.code.now.instructions at i (v.value (sym w.values-is ∙ some))
-            | in-Values w ↦ λ some. value-among c.args.code.now.instructions at i c.instr-item.result e (i + 1) (omega arith) (value w.in-Values.is)
-          ];
-      fresh =
-          elim c.match-build_argument.branch [
-            | in-Fresh w ↦ λ none.
-                StandApart-trans c.args.cells.now.cells c.loop-instr.cells.cells c.build_argument.new.cells.cells longer c.build_argument.ensures.stays (v.fresh (sym w.values-is ∙ none)) (fresh w.in-Fresh.is)
-            | in-Values w ↦ λ none. absurd (false≢true (sym none ∙ w.values-is))
-          ];
-      stays = KeepTrees-trans c.args.cells.now.cells c.loop-instr.cells.cells c.build_argument.new.cells.cells longer v.stays c.build_argument.ensures.stays;
-      few = let l : c.loop-instr.instr-index < c.args.count = part-few c.instructions-instructions.result.now c.args.at c.args.count c.min-end.result c.loop-instr.instr-index c.min-end.ensures c.if-prove.false c.loop-instr-test.true in omega arith;
-      end = let l : c.loop-instr.instr-index < c.min-end.result - c.args.at = part-within c.instructions-instructions.result.now c.args.at c.args.count c.min-end.result c.loop-instr.instr-index c.min-end.ensures c.if-prove.false c.loop-instr-test.true in omega arith;
-      inside = let l : at + i < length c.args.code.now.instructions = slice_get_within c.args.code.now.instructions (at + i) c.instr-item.result e in omega arith;
-      holds_x = λ w h. c.build_argument.ensures.holds_x w (v.holds_x w h);
-      holds_y = λ w h. c.build_argument.ensures.holds_y w (v.holds_y w h);
-      x_len = c.build_argument.ensures.x_len ∙ v.x_len;
-      y_len = c.build_argument.ensures.y_len ∙ v.y_len;
-      spare = omega (arith, c.build_argument.ensures.spare ok);
-      keeps = Keeps-trans c.args.cells.now c.loop-instr.cells c.build_argument.new.cells v.keeps c.build_argument.ensures.keeps;
-    }
+pub returns-in-Some-instruction_in-clause-fresh : goal.returns-in-Some-instruction_in-clause-fresh
+returns-in-Some-instruction_in-clause-fresh c =
+    let code = c.args.code.now in
+    let e : slice_get code.instructions c.args.at ≡ Some c.in-Some.one.now = subst (λ is. slice_get is c.args.at ≡ Some c.in-Some.one.now) c.instructions-instructions.ensures c.in-Some.ensures.some in
+    let f : slice_get code.instructions (c.args.at + 1) ≡ Some c.in-Some-instruction_in.two.now = subst (λ is. slice_get is (c.args.at + 1) ≡ Some c.in-Some-instruction_in.two.now) c.instructions-instructions.ensures c.in-Some-instruction_in.ensures.some in
+    let ok : are_built c.build_argument-left.result ≡ true = sym c.were_built.ensures ∙ c.if-not-were_built.false in
+    let first = subst (BuiltOr (length c.args.cells.now.cells + c.args.count) c.args.cells.now.cells (held c.args.x.now) (held c.args.y.now) (step_of code c.in-Some.one.now) c.build_argument-left.new.cells.cells (held c.build_argument-left.new.x) (held c.build_argument-left.new.y)) ok (c.build_argument-left.ensures.built (length c.args.cells.now.cells + c.args.count) c.requires.holds_x c.requires.holds_y) in
+    let l : length c.build_argument-left.new.cells.cells ≡ length c.args.cells.now.cells + 1 = first.longer in
+    let longer : length c.args.cells.now.cells ≤ length c.build_argument-left.new.cells.cells = omega arith in
+    λ fresh.
+    let both = c.joined.ensures.fresh fresh in
+    StandApart-trans c.args.cells.now.cells c.build_argument-left.new.cells.cells c.build_argument-right.new.cells.cells longer c.build_argument-right.ensures.stays (c.build_argument-left.ensures.fresh both.0) (c.build_argument-right.ensures.fresh both.1)
 
-pub returns-then-values-clause-built : goal.returns-then-values-clause-built
-returns-then-values-clause-built c =
-    let e : c.loop-instr.instr-index ≡ c.args.count = part-all c.instructions-instructions.result.now c.args.at c.args.count c.min-end.result c.loop-instr.instr-index c.min-end.ensures c.if-prove.false c.loop-instr-test.false c.loop-instr.invariant.few c.if-end-at.false in
-    subst (λ n. BuiltAll n c.args.cells.now.cells (held c.args.x.now) (held c.args.y.now) (steps_from c.args.code.now c.args.at) c.loop-instr.cells.cells (held c.loop-instr.x) (held c.loop-instr.y) (steps_from c.args.code.now (c.args.at + n))) e
-    c.loop-instr.invariant.built
+pub returns-in-Some-instruction_in-clause-value : goal.returns-in-Some-instruction_in-clause-value
+returns-in-Some-instruction_in-clause-value c =
+    let code = c.args.code.now in
+    let e : slice_get code.instructions c.args.at ≡ Some c.in-Some.one.now = subst (λ is. slice_get is c.args.at ≡ Some c.in-Some.one.now) c.instructions-instructions.ensures c.in-Some.ensures.some in
+    let f : slice_get code.instructions (c.args.at + 1) ≡ Some c.in-Some-instruction_in.two.now = subst (λ is. slice_get is (c.args.at + 1) ≡ Some c.in-Some-instruction_in.two.now) c.instructions-instructions.ensures c.in-Some-instruction_in.ensures.some in
+    let ok : are_built c.build_argument-left.result ≡ true = sym c.were_built.ensures ∙ c.if-not-were_built.false in
+    λ values.
+    parts-known c.build_argument-left.result ok (has_value code.instructions c.args.at c.args.count ≡ true) (λ left. pair-value-next c.args.code.now c.args.at c.args.count c.if-count-eq2.true c.in-Some.one.now c.in-Some-instruction_in.two.now e f (c.build_argument-right.ensures.value (c.joined.ensures.values values left))) (λ left. pair-value c.args.code.now c.args.at c.args.count c.if-count-eq2.true c.in-Some.one.now c.in-Some-instruction_in.two.now e f (c.build_argument-left.ensures.value left))
 
-pub returns-else-values-clause-built : goal.returns-else-values-clause-built
-returns-else-values-clause-built c =
-    let e : c.loop-instr.instr-index ≡ c.args.count = part-all c.instructions-instructions.result.now c.args.at c.args.count c.min-end.result c.loop-instr.instr-index c.min-end.ensures c.if-prove.false c.loop-instr-test.false c.loop-instr.invariant.few c.if-end-at.false in
-    subst (λ n. BuiltAll n c.args.cells.now.cells (held c.args.x.now) (held c.args.y.now) (steps_from c.args.code.now c.args.at) c.loop-instr.cells.cells (held c.loop-instr.x) (held c.loop-instr.y) (steps_from c.args.code.now (c.args.at + n))) e
-    c.loop-instr.invariant.built
+pub returns-in-Some-instruction_in-clause-stays : goal.returns-in-Some-instruction_in-clause-stays
+returns-in-Some-instruction_in-clause-stays c =
+    let code = c.args.code.now in
+    let e : slice_get code.instructions c.args.at ≡ Some c.in-Some.one.now = subst (λ is. slice_get is c.args.at ≡ Some c.in-Some.one.now) c.instructions-instructions.ensures c.in-Some.ensures.some in
+    let f : slice_get code.instructions (c.args.at + 1) ≡ Some c.in-Some-instruction_in.two.now = subst (λ is. slice_get is (c.args.at + 1) ≡ Some c.in-Some-instruction_in.two.now) c.instructions-instructions.ensures c.in-Some-instruction_in.ensures.some in
+    let ok : are_built c.build_argument-left.result ≡ true = sym c.were_built.ensures ∙ c.if-not-were_built.false in
+    let first = subst (BuiltOr (length c.args.cells.now.cells + c.args.count) c.args.cells.now.cells (held c.args.x.now) (held c.args.y.now) (step_of code c.in-Some.one.now) c.build_argument-left.new.cells.cells (held c.build_argument-left.new.x) (held c.build_argument-left.new.y)) ok (c.build_argument-left.ensures.built (length c.args.cells.now.cells + c.args.count) c.requires.holds_x c.requires.holds_y) in
+    let l : length c.build_argument-left.new.cells.cells ≡ length c.args.cells.now.cells + 1 = first.longer in
+    let longer : length c.args.cells.now.cells ≤ length c.build_argument-left.new.cells.cells = omega arith in
+    KeepTrees-trans c.args.cells.now.cells c.build_argument-left.new.cells.cells c.build_argument-right.new.cells.cells longer c.build_argument-left.ensures.stays c.build_argument-right.ensures.stays
 
-pub returns-then-values-clause-value : goal.returns-then-values-clause-value
-returns-then-values-clause-value c = λ t. let e : c.args.count ≡ c.loop-instr.instr-index = sym (part-all c.instructions-instructions.result.now c.args.at c.args.count c.min-end.result c.loop-instr.instr-index c.min-end.ensures c.if-prove.false c.loop-instr-test.false c.loop-instr.invariant.few c.if-end-at.false) in ap (has_value c.args.code.now.instructions c.args.at) e ∙ c.loop-instr.invariant.value c.if-values.true
+pub returns-in-Some-instruction_in-clause-holds_x : goal.returns-in-Some-instruction_in-clause-holds_x
+returns-in-Some-instruction_in-clause-holds_x c =
+    λ w h. c.build_argument-right.ensures.holds_x w (c.build_argument-left.ensures.holds_x w h)
 
-pub returns-else-values-clause-fresh : goal.returns-else-values-clause-fresh
-returns-else-values-clause-fresh c = λ t. c.loop-instr.invariant.fresh c.if-values.false
+pub returns-in-Some-instruction_in-clause-holds_y : goal.returns-in-Some-instruction_in-clause-holds_y
+returns-in-Some-instruction_in-clause-holds_y c =
+    λ w h. c.build_argument-right.ensures.holds_y w (c.build_argument-left.ensures.holds_y w h)
 
-pub returns-then-values-clause-stays : goal.returns-then-values-clause-stays
-returns-then-values-clause-stays c = c.loop-instr.invariant.stays
+pub returns-in-Some-instruction_in-clause-spare : goal.returns-in-Some-instruction_in-clause-spare
+returns-in-Some-instruction_in-clause-spare c =
+    let ok : are_built c.build_argument-left.result ≡ true = sym c.were_built.ensures ∙ c.if-not-were_built.false in
+    λ built. let p = c.build_argument-left.ensures.spare ok in let q = c.build_argument-right.ensures.spare (sym c.joined.ensures.built ∙ built) in let n : c.args.count ≡ 2 = c.if-count-eq2.true in omega (arith, p, q)
 
-pub returns-else-values-clause-stays : goal.returns-else-values-clause-stays
-returns-else-values-clause-stays c = c.loop-instr.invariant.stays
-
-pub returns-in-Stuck-clause-stays : goal.returns-in-Stuck-clause-stays
-returns-in-Stuck-clause-stays c =
-    let longer : length c.args.cells.now.cells ≤ length c.loop-instr.cells.cells = let l : length c.loop-instr.cells.cells ≡ length c.args.cells.now.cells + c.loop-instr.instr-index = c.loop-instr.invariant.built.longer in omega arith in
-    KeepTrees-trans c.args.cells.now.cells c.loop-instr.cells.cells c.build_argument.new.cells.cells longer c.loop-instr.invariant.stays c.build_argument.ensures.stays
-
-pub returns-then-end-at-clause-built : goal.returns-then-end-at-clause-built
-returns-then-end-at-clause-built c =
-    let less : c.loop-instr.instr-index < c.args.count = part-short c.instructions-instructions.result.now c.args.at c.args.count c.min-end.result c.loop-instr.instr-index c.min-end.ensures c.if-prove.false c.loop-instr.invariant.end c.if-end-at.true in
-    BuiltAll-end (length c.args.cells.now.cells + c.args.count) c.loop-instr.instr-index c.args.count c.args.cells.now.cells c.loop-instr.cells.cells (held c.args.x.now) (held c.args.y.now) (held c.loop-instr.x) (held c.loop-instr.y) (steps_from c.args.code.now c.args.at)
-    less
-    (subst (λ is. BuiltAll c.loop-instr.instr-index c.args.cells.now.cells (held c.args.x.now) (held c.args.y.now) (steps_from c.args.code.now c.args.at) c.loop-instr.cells.cells (held c.loop-instr.x) (held c.loop-instr.y) is)
-    (steps-past c.args.code.now (c.args.at + c.loop-instr.instr-index) (subst (λ is. slice_get is (c.args.at + c.loop-instr.instr-index) ≡ None) c.instructions-instructions.ensures (part-past c.instructions-instructions.result.now c.args.at c.args.count c.min-end.result c.loop-instr.instr-index c.min-end.ensures c.if-prove.false c.loop-instr-test.false c.if-end-at.true))) c.loop-instr.invariant.built)
-
-pub returns-then-end-at-clause-stays : goal.returns-then-end-at-clause-stays
-returns-then-end-at-clause-stays c = c.loop-instr.invariant.stays
+pub returns-in-Some-instruction_in-clause-keeps : goal.returns-in-Some-instruction_in-clause-keeps
+returns-in-Some-instruction_in-clause-keeps c =
+    Keeps-trans c.args.cells.now c.build_argument-left.new.cells c.build_argument-right.new.cells c.build_argument-left.ensures.keeps c.build_argument-right.ensures.keeps

@@ -1,4 +1,4 @@
-use Rattle.std.proofs.Common.{◌≡◌, ℕ, ℤ, false, get_or, refl, ap, subst}
+use Rattle.std.proofs.Common.{◌≡◌, ℕ, ℤ, false, refl, ap, subst}
 use Rattle.ap_term.specs.Vars.{occurs}
 use Rattle.ap_steps.specs.Arguments.{holds_constant}
 use Rattle.ap_cells.specs.declared.cells.Raw.{Raw}

@@ -5,7 +5,7 @@ use Rattle.ap_needs.specs.Needs.{has_value}
 use Rattle.ap_steps.specs.Moves.{held, HoldPlacesBut}
 use Rattle.ap_steps.specs.Arguments.{BuiltAll, KeepTrees, StandApart}
 use Rattle.ap_steps.specs.Ways.{NoneOfControl}
-use Rattle.ap_steps.proofs.arguments.build_arguments.Given as goal
+use Rattle.ap_steps.proofs.arguments.build_many.Given as goal
 
 abbrev pub invariant-loop-instr : goal.invariant-loop-instr
 invariant-loop-instr l = record {

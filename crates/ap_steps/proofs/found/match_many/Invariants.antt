@@ -4,7 +4,7 @@ use Rattle.ap_instr.specs.Steps.{steps_from}
 use Rattle.ap_steps.specs.Moves.{held, HoldPlaces}
 use Rattle.ap_steps.specs.Found.{MovesInside}
 use Rattle.ap_steps.specs.Ways.{NoneOfControl}
-use Rattle.ap_steps.proofs.found.match_arguments.Given as goal
+use Rattle.ap_steps.proofs.found.match_many.Given as goal
 
 abbrev pub invariant-loop-instr : goal.invariant-loop-instr
 invariant-loop-instr l = record {
