@@ -19,6 +19,7 @@ use crate::source::Source;
 use crate::take::{take_piece, take_tokens};
 use ap_lexer::{Cutter, Piece, Token};
 use ap_lifting::{Lifted, Rule, lift_program, lift_question};
+use ap_reader::Room;
 use ap_term::{Atom, Atoms, Name, NoMemory, Program, Query};
 use std::alloc::Global;
 
@@ -26,6 +27,7 @@ use std::alloc::Global;
 fn take_next<'a>(
     alloc: Global,
     cutter: &mut Cutter<'a>,
+    room: &mut Room<'a>,
     tokens: &mut Vec<Token<'a>>,
     before: Counts,
     atoms: &mut Atoms,
@@ -43,7 +45,7 @@ fn take_next<'a>(
         Ok(None) => return Ok(None),
         Err(_) => return Err(Refusal::NoMemory),
     };
-    match take_tokens(alloc, Source::Program, &piece, tokens, before, atoms) {
+    match take_tokens(alloc, Source::Program, &piece, room, tokens, before, atoms) {
         Ok(read) => Ok(Some(read)),
         Err(refusal) => Err(refusal),
     }
@@ -57,6 +59,7 @@ fn take_all(alloc: Global, text: &[u8], atoms: &mut Atoms) -> Result<(Vec<Rule>,
 {
     let _room = atoms.mark();
     let mut cutter = Cutter::new(text);
+    let mut room = Room::new(alloc);
     let mut tokens = Vec::new(alloc);
     let mut rules = Vec::new(alloc);
     let mut counts = Counts {
@@ -64,12 +67,13 @@ fn take_all(alloc: Global, text: &[u8], atoms: &mut Atoms) -> Result<(Vec<Rule>,
         clauses: 0,
     };
     loop {
-        match take_next(alloc, &mut cutter, &mut tokens, counts, atoms) {
+        match take_next(alloc, &mut cutter, &mut room, &mut tokens, counts, atoms) {
             Ok(Some(read)) => {
                 counts = read.counts;
                 let Ok(()) = rules.push(read.rule) else {
                     return Err(Refusal::NoMemory);
                 };
+                room.take_names(read.names);
             }
             Ok(None) => return Ok((rules, counts)),
             Err(refusal) => return Err(refusal),

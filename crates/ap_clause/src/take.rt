@@ -21,7 +21,7 @@ use crate::judge::{Counts, Read, judge};
 use crate::refusal::Refusal;
 use crate::source::Source;
 use ap_lexer::{LexErr, Piece, Token, tokens};
-use ap_reader::{ReadErr, WrittenTerm, parse};
+use ap_reader::{ReadErr, Room, WrittenTerm, parse_in};
 use ap_term::{Atoms, NoMemory};
 use std::alloc::Global;
 
@@ -43,17 +43,11 @@ fn form_of_written(alloc: Global, written: &WrittenTerm) -> Result<Form, NoMemor
     form_by(alloc, &written.leaves, &written.steps)
 }
 
-/// The names alone; what else stands for the term is let go.
-fn names_of<'a>(written: WrittenTerm<'a>) -> Vec<&'a str>
-    ensures { result ≡ written.entry.names }
-{
-    written.names
-}
-
 /// The verdict on the term that a piece's tokens spell.
 fn take<'a>(
     alloc: Global,
     source: Source,
+    room: &mut Room<'a>,
     written: WrittenTerm<'a>,
     before: Counts,
     atoms: &mut Atoms,
@@ -70,10 +64,10 @@ fn take<'a>(
     if !fits(source, form) {
         return Err(Refusal::NotAClause { line });
     }
-    match written.term(alloc, atoms) {
+    match written.term_in(alloc, room, atoms) {
         Ok(term) => {
             let _kept = atoms.mark();
-            let names = names_of(written);
+            let names = room.take_back(written);
             judge(alloc, source, term, names, line, before, atoms)
         }
         Err(ReadErr::NotAClause { line }) => Err(Refusal::NotAClause { line }),
@@ -90,11 +84,15 @@ fn let_go(tokens: &mut Vec<Token>) {
 }
 
 /// What stands for the term that tokens spell, none of which is bad.
-fn written_in<'a>(alloc: Global, tokens: &[Token<'a>]) -> Result<WrittenTerm<'a>, Refusal>
+fn written_in<'a>(
+    alloc: Global,
+    room: &mut Room<'a>,
+    tokens: &[Token<'a>],
+) -> Result<WrittenTerm<'a>, Refusal>
     ensures ok { IfOk result (λ w. Parsed (map view tokens.now) (Ok w)) }
     ensures err { IfErr result (λ r. (r ≡ refusal.NoMemory) ⊎ ((source : Source) (p : Position) → spec.JudgesBy None source p (map view tokens.now) (spec.Refused r))) }
 {
-    match parse(alloc, tokens) {
+    match parse_in(alloc, room, tokens) {
         Ok(written) => Ok(written),
         Err(ReadErr::NotAClause { line }) => Err(Refusal::NotAClause { line }),
         Err(ReadErr::TooDeep { line }) => Err(Refusal::TooDeep { line }),
@@ -109,6 +107,7 @@ pub(crate) fn take_tokens<'a>(
     alloc: Global,
     source: Source,
     piece: &Piece,
+    room: &mut Room<'a>,
     tokens: &mut Vec<Token<'a>>,
     before: Counts,
     atoms: &mut Atoms,
@@ -120,10 +119,10 @@ pub(crate) fn take_tokens<'a>(
     if let Some(line) = piece.bad {
         return Err(Refusal::BadToken { line });
     }
-    match written_in(alloc, tokens.as_slice()) {
+    match written_in(alloc, room, tokens.as_slice()) {
         Ok(written) => {
             let_go(tokens);
-            take(alloc, source, written, before, atoms)
+            take(alloc, source, room, written, before, atoms)
         }
         Err(refusal) => Err(refusal),
     }
@@ -149,5 +148,6 @@ pub(crate) fn take_piece<'a>(
         Err(LexErr::BadToken { line }) => return Err(Refusal::BadToken { line }),
         Err(LexErr::NoMemory) => return Err(Refusal::NoMemory),
     };
-    take_tokens(alloc, source, piece, &mut tokens, before, atoms)
+    let mut room = Room::new(alloc);
+    take_tokens(alloc, source, piece, &mut room, &mut tokens, before, atoms)
 }

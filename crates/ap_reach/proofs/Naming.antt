@@ -1,13 +1,14 @@
 -- Predicates that are put behind others.
 use Rattle.std.proofs.Common.{◌≡◌, ℕ, zero, suc, ◌+◌, ◌<◌, ◌≤◌, ℤ, Bool, true, false, ◌||◌, ◌&&◌, ◌==◌, if◌then◌else◌, ◌⊎◌, inl, inr, List, [], ◌∷◌, ◌++◌, map, length, take, slice_get, get_or, nat_le, nat_lt, Option, Some, None, refl, ap, ap₂, sym, ◌∙◌, subst, arith, append_assoc, append-nil, IsTrue}
-use Rattle.std.proofs.Common.{Vec, Global, Bor, cond}
+use Rattle.std.proofs.Common.{cond}
+use Rattle.std.specs.Prelude.{unwrap_or}
 use Rattle.std.specs.Map.{lookup}
 use Rattle.ap_reach.specs.contracts.called.CalledPartialEq.TheImpl.{eq-value}
-use Rattle.ap_reach.specs.Index.{listed}
+use Rattle.ap_reach.specs.Index.{clauses_of, found}
+use Rattle.ap_reach.specs.declared.predicates.Own.{Own}
+use Rattle.ap_reach.specs.declared.predicates.Own.TheVariants as own
 use Rattle.std.specs.List.{All, list_all, list_any}
-use Rattle.std.specs.Option.{UnwrapsOrElse}
 use Rattle.std.specs.Ordering.{int_eq}
-use Rattle.std.specs.Vec.{vec_len}
 use Rattle.std.proofs.lemmas.List.{take_more, take-append-le, take_all, map-append}
 use Rattle.std.proofs.lemmas.List.Folds.{list_any-append}
 use Rattle.std.proofs.lemmas.List.Elements.{All-nil, All-append, All-cons, All-head, All-tail, All-more, All-weaker}
@@ -447,18 +448,15 @@ has_old false ks new v k e h = go (has_call ks k) refl (is_called k v) refl (sym
 -- ---- clauses in an index
 
 -- what is held, or else something empty, lists what was there
-pub had_listed : (was held : Option (Vec (Bor Clause) Global)) (own : Vec (Bor Clause) Global) → held ≡ was
-    → UnwrapsOrElse held (λ v. (v.items ≡ []) × (vec_len v ≡ 0)) own → listed was ≡ map (λ (r : Bor Clause). r.now) own.items
-had_listed was None own e made = ap listed (sym e) ∙ ap (map (λ (r : Bor Clause). r.now)) (sym made.0)
-had_listed was (Some v) own e same = ap listed (sym e) ∙ ap (λ (u : Vec (Bor Clause) Global). map (λ (r : Bor Clause). r.now) u.items) (sym same)
+pub had_found : (was held : Option Own) (o : Own) → held ≡ was → o ≡ unwrap_or held own.None → found was ≡ clauses_of o
+had_found was None o e made = ap found (sym e) ∙ ap clauses_of (sym made)
+had_found was (Some v) o e made = ap found (sym e) ∙ ap clauses_of (sym made)
 
-pub put_turn : (b : Bool) (before after same : Option (Vec (Bor Clause) Global)) (own new : Vec (Bor Clause) Global) (c : Bor Clause)
-    → after ≡ cond b (Some new) before → new.items ≡ own.items ++ c ∷ [] → (b ≡ true → same ≡ before) → listed same ≡ map (λ (r : Bor Clause). r.now) own.items
-    → listed after ≡ (if b then listed before ++ c.now ∷ [] else listed before)
-put_turn true before after same own new c e n s o =
-    ap listed e ∙ ap (map (λ (r : Bor Clause). r.now)) n ∙ map-append (λ (r : Bor Clause). r.now) own.items (c ∷ [])
-    ∙ ap (λ z. z ++ c.now ∷ []) (sym o ∙ ap listed (s refl))
-put_turn false before after same own new c e n s o = ap listed e
+pub put_turn : (b : Bool) (before after same : Option Own) (o new : Own) (c : Clause)
+    → after ≡ cond b (Some new) before → clauses_of new ≡ clauses_of o ++ c ∷ [] → (b ≡ true → same ≡ before) → found same ≡ clauses_of o
+    → found after ≡ (if b then found before ++ c ∷ [] else found before)
+put_turn true before after same o new c e n s h = ap found e ∙ n ∙ ap (λ z. z ++ c ∷ []) (sym h ∙ ap found (s refl))
+put_turn false before after same o new c e n s h = ap found e
 
 pub lookup_same : {X : Type 0} (f g : Called → Bool) → ((x : Called) → f x ≡ g x) → (es : List (Called × X)) → lookup f es ≡ lookup g es
 lookup_same f g h [] = refl

@@ -1,20 +1,30 @@
 -- The clauses that stand in an index for what is called.
-pub use Rattle.ap_term.specs.GoalView.{listed}
-use Rattle.std.specs.Prelude.{◌≡◌, ℕ, true, List, Some}
-use Rattle.std.specs.Borrow.{Bor}
+use Rattle.std.specs.Prelude.{◌≡◌, ℕ, true, List, [], ◌∷◌, map, Option, Some, None}
 use Rattle.std.specs.List.{list_any}
-use Rattle.std.proofs.Common.{Vec, Global}
 use Rattle.indexmap.specs.IndexMap.{IndexMap, get}
 use Rattle.indexmap.specs.IndexSet.{IndexSet}
-use Rattle.ap_term.specs.Goals.{Clause, Program}
+use Rattle.ap_term.specs.Goals.{Program}
 use Rattle.ap_reach.specs.declared.called.Called.{Called}
+use Rattle.ap_reach.specs.declared.predicates.Own.{Own}
+use Rattle.ap_reach.specs.declared.predicates.Own.TheVariants as own
 use Rattle.ap_reach.specs.Reached.{Key, is_key, Place, is_place, is_called, has_call, key_of, place_of, is_open, clauses_for}
 
-abbrev pub clauses_at : {S : Type 0} → IndexMap Called (Vec (Bor Clause) Global) S → Called → Program
-clauses_at m k = listed (get is_called m k)
+-- the clauses that are called together
+abbrev pub clauses_of : Own → Program
+clauses_of own.None = []
+clauses_of (own.One c) = c.now ∷ []
+clauses_of (own.Several list) = map (λ c. c.now) list.value.items
+
+-- none where there is no key
+abbrev pub found : Option Own → Program
+found None = []
+found (Some o) = clauses_of o
+
+abbrev pub clauses_at : {S : Type 0} → IndexMap Called Own S → Called → Program
+clauses_at m k = found (get is_called m k)
 
 -- the index has the clauses of the program
-abbrev pub Indexes : {S : Type 0} → IndexMap Called (Vec (Bor Clause) Global) S → Program → Type 0
+abbrev pub Indexes : {S : Type 0} → IndexMap Called Own S → Program → Type 0
 Indexes m p = (k : Called) → clauses_at m k ≡ clauses_for k p
 
 -- the set has the places at which a clause of a predicate has a variable

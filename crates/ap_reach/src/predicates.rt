@@ -5,33 +5,69 @@ ghost use Rattle.std.specs.List.{list_any};
 ghost use Rattle.ap_term.specs.Tree.{node};
 ghost use Rattle.ap_term.specs.TermView.{tree_of, trees_of};
 ghost use Rattle.ap_reach.specs.declared.called.Called.{Called as Call};
-ghost use Rattle.ap_reach.specs.Reached.{Place, is_place, is_variable, is_called, is_for, leads, leads_before, heads_open, is_open_before};
-ghost use Rattle.ap_reach.specs.Index.{clauses_at, Indexes, AreOpen};
+ghost use Rattle.ap_reach.specs.Reached.{Place, is_place, is_variable, is_called, is_for, leads, leads_before, heads_open, is_open_before, Extends, CallsAmong};
+ghost use Rattle.ap_reach.specs.Index.{clauses_of, clauses_at, Indexes, AreOpen};
 
 use crate::called::{Called, Calls};
-use crate::calls::{add_all_calls, add_copies};
-use ap_term::{Clause, NoMemory, Program, Term};
+use crate::calls::{add_all_calls, add_body, add_copies};
+use ap_term::{Clause, NoMemory, Program, Term, copy_clause};
 use indexmap::{IndexMap, IndexSet};
 use std::alloc::Global;
 use std::marker::Model;
 
+/// The clauses that are called together, in their order. Most constants have one alone, which takes no list.
+#[derive(Drop)]
+pub(crate) enum Own<'a> {
+    None,
+    One(&'a Clause),
+    Several(Box<Vec<&'a Clause>>),
+}
+
 /// The clauses of each predicate that has one, and of these those for each constant, in their order.
-type Index<'a> = IndexMap<Called, Vec<&'a Clause>>;
+type Index<'a> = IndexMap<Called, Own<'a>>;
 
 /// The names and arities of predicates, each with the place of an argument that is a variable in one of its clauses.
 type Open = IndexSet<((u32, usize), usize)>;
 
+/// The list of two clauses.
+fn both<'a>(alloc: Global, first: &'a Clause, second: &'a Clause) -> Result<Own<'a>, NoMemory>
+    ensures { IfOk result (λ own. clauses_of own ≡ first.now ∷ second.now ∷ []) }
+{
+    let mut list = Vec::with_capacity(alloc, 2)?;
+    list.push(first)?;
+    list.push(second)?;
+    Ok(Own::Several(Box::new(alloc, list)?))
+}
+
+/// One more clause behind others.
+fn put<'a>(alloc: Global, own: &mut Own<'a>, clause: &'a Clause) -> Result<(), NoMemory>
+    ensures { OnOk result (clauses_of own.new ≡ clauses_of own.old ++ clause.now ∷ []) }
+{
+    match own {
+        Own::None => *own = Own::One(clause),
+        Own::One(first) => *own = both(alloc, *first, clause)?,
+        Own::Several(list) => list.push(clause)?,
+    }
+    Ok(())
+}
+
 /// One more clause at a key.
-fn add_clause<'a>(index: &mut Index<'a>, key: Called, clause: &'a Clause) -> Result<(), NoMemory>
+fn add_clause<'a>(
+    alloc: Global,
+    index: &mut Index<'a>,
+    key: Called,
+    clause: &'a Clause,
+) -> Result<(), NoMemory>
     ensures { OnOk result ((k : Call) → clauses_at index.new k ≡ (if is_called key k then clauses_at index.old k ++ clause.now ∷ [] else clauses_at index.old k)) }
 {
-    let own = index.entry(key)?.or_default();
-    own.push(clause)?;
+    let own = index.entry(key)?.or_insert(Own::None);
+    put(alloc, own, clause)?;
     Ok(())
 }
 
 /// One more clause, for its argument at a place, where that is a constant.
 fn add_by_argument<'a>(
+    alloc: Global,
     index: &mut Index<'a>,
     name: u32,
     arity: usize,
@@ -44,11 +80,11 @@ fn add_by_argument<'a>(
     match arg {
         Term::Atom(a) => {
             let key = Called::Atom(name, arity, place, a.number());
-            add_clause(index, key, clause)
+            add_clause(alloc, index, key, clause)
         }
         Term::Int(z) => {
             let key = Called::integer(name, arity, place, *z);
-            add_clause(index, key, clause)
+            add_clause(alloc, index, key, clause)
         }
         _ => Ok(()),
     }
@@ -56,6 +92,7 @@ fn add_by_argument<'a>(
 
 /// One more clause, for each of its arguments that is a constant.
 fn add_by_arguments<'a>(
+    alloc: Global,
     index: &mut Index<'a>,
     name: u32,
     args: &[Term],
@@ -65,22 +102,22 @@ fn add_by_arguments<'a>(
 {
     let arity = args.len();
     for place in 0..arity {
-        add_by_argument(index, name, arity, place, &args[place], clause)?;
+        add_by_argument(alloc, index, name, arity, place, &args[place], clause)?;
     }
     Ok(())
 }
 
 /// One more clause.
-fn add_by_head<'a>(index: &mut Index<'a>, clause: &'a Clause) -> Result<(), NoMemory>
+fn add_by_head<'a>(alloc: Global, index: &mut Index<'a>, clause: &'a Clause) -> Result<(), NoMemory>
     ensures { OnOk result ((k : Call) → clauses_at index.new k ≡ (if leads k clause.now.head then clauses_at index.old k ++ clause.now ∷ [] else clauses_at index.old k)) }
 {
     match clause.head() {
         Term::Var(_) | Term::Int(_) => Ok(()),
-        Term::Atom(a) => add_clause(index, Called::All(a.number(), 0), clause),
+        Term::Atom(a) => add_clause(alloc, index, Called::All(a.number(), 0), clause),
         Term::Node(a, args) => {
             let key = Called::All(a.number(), args.len());
-            add_clause(index, key, clause)?;
-            add_by_arguments(index, a.number(), args.as_slice(), clause)
+            add_clause(alloc, index, key, clause)?;
+            add_by_arguments(alloc, index, a.number(), args.as_slice(), clause)
         }
     }
 }
@@ -91,7 +128,7 @@ fn index_of(alloc: Global, clauses: &[Clause]) -> Result<Index<'_>, NoMemory>
 {
     let mut index = IndexMap::new(alloc);
     for clause in clauses {
-        add_by_head(&mut index, clause)?;
+        add_by_head(alloc, &mut index, clause)?;
     }
     Ok(index)
 }
@@ -166,6 +203,32 @@ impl<'a> Model for Predicates<'a> {
     ghost invariant = { λ a. Indexes a.index a.program.now × AreOpen a.with_variable a.program.now };
 }
 
+/// Adds what the goals of clauses call that are called together.
+fn add_own_calls(program: &Predicates<'_>, calls: &mut Calls, own: &Own) -> Result<(), NoMemory>
+    ensures extends { OnOk result (Extends calls.old calls.new) }
+    ensures among { OnOk result (CallsAmong program.now calls.new (clauses_of own.now)) }
+{
+    match own {
+        Own::None => Ok(()),
+        Own::One(clause) => add_body(program, calls, clause),
+        Own::Several(list) => add_all_calls(program, calls, list.as_slice()),
+    }
+}
+
+/// Puts copies of clauses that are called together behind a part.
+fn add_own_copies(alloc: Global, own: &Own, part: &mut Program) -> Result<(), NoMemory>
+    ensures { OnOk result (part.new ≡ part.old ++ clauses_of own.now) }
+{
+    match own {
+        Own::None => Ok(()),
+        Own::One(clause) => {
+            part.push(copy_clause(alloc, clause)?)?;
+            Ok(())
+        }
+        Own::Several(list) => add_copies(alloc, list.as_slice(), part),
+    }
+}
+
 impl<'a> Predicates<'a> {
     ghost use Rattle.std.specs.Prelude.{◌≡◌, true, ◌++◌, Some, OnOk, IfOk, IfSome};
     ghost use Rattle.ap_term.specs.Tree.{Tree, node};
@@ -231,7 +294,7 @@ impl<'a> Predicates<'a> {
         ensures among { OnOk result (CallsAmong self.now calls.new (clauses_for call self.now)) }
     {
         match self.index.get(&call) {
-            Some(own) => add_all_calls(self, calls, own.as_slice()),
+            Some(own) => add_own_calls(self, calls, own),
             None => Ok(()),
         }
     }
@@ -246,7 +309,7 @@ impl<'a> Predicates<'a> {
         ensures { OnOk result (part.new ≡ part.old ++ clauses_for call self.now) }
     {
         match self.index.get(&call) {
-            Some(own) => add_copies(alloc, own.as_slice(), part),
+            Some(own) => add_own_copies(alloc, own, part),
             None => Ok(()),
         }
     }

@@ -15,6 +15,7 @@ ghost use Rattle.ap_reader.specs.Step.{postfix};
 
 use crate::leaf::{Leaf, name_at};
 use crate::pass::Step;
+use crate::recent::Recent;
 use ap_term::{Args, Atom, Atoms, InternErr, NoMemory, Term, fixed};
 use std::alloc::Global;
 
@@ -45,7 +46,12 @@ fn common(name: &[u8]) -> Option<u32>
 }
 
 /// The atom of a name, which stays its place in the table however that grows.
-fn atom(alloc: Global, atoms: &mut Atoms, name: &str) -> Result<Atom, InternErr>
+fn atom(
+    alloc: Global,
+    recent: &mut Recent,
+    atoms: &mut Atoms,
+    name: &str,
+) -> Result<Atom, InternErr>
     ensures place { IfOk result (λ a. (more : List Text) → a ≡ place_of (insert_names atoms.new more) name.now) }
     ensures table { Interned (name.now ∷ []) atoms.old atoms.new result }
 {
@@ -53,9 +59,14 @@ fn atom(alloc: Global, atoms: &mut Atoms, name: &str) -> Result<Atom, InternErr>
         let _held = atoms.mark();
         return Ok(Atom::at(number));
     }
+    if let Some(atom) = recent.known(atoms, name) {
+        let _found = atoms.mark();
+        return Ok(atom);
+    }
     match atoms.intern(alloc, name) {
         Ok(atom) => {
             let _kept = atoms.mark();
+            recent.keep(name, atom);
             Ok(atom)
         }
         Err(InternErr::Full) => Err(InternErr::Full),
@@ -121,14 +132,20 @@ fn list(alloc: Global, dot: Atom, items: Vec<Term>, tail: Term) -> Result<Term, 
     Ok(rest)
 }
 
-fn leaf(alloc: Global, leaves: &[Leaf], atoms: &mut Atoms, at: usize) -> Result<Value, InternErr>
+fn leaf(
+    alloc: Global,
+    leaves: &[Leaf],
+    recent: &mut Recent,
+    atoms: &mut Atoms,
+    at: usize,
+) -> Result<Value, InternErr>
     ensures value { IfOk result (λ v. (more : List Text) → built_of v ≡ resolved (insert_names atoms.new more) (ATerm (leaf_at (slice_get (map leaf_of leaves.now) at)))) }
     ensures table { Interned (leaf_names (leaf_at (slice_get (map leaf_of leaves.now) at))) atoms.old atoms.new result }
 {
     if let Some(Leaf::Variable(number)) = leaves.get(at) {
         return Ok(Value::Term(Term::Var(*number)));
     }
-    match atom(alloc, atoms, name_at(leaves, at)) {
+    match atom(alloc, recent, atoms, name_at(leaves, at)) {
         Ok(name) => Ok(Value::Term(Term::Atom(name))),
         Err(e) => Err(e),
     }
@@ -137,13 +154,14 @@ fn leaf(alloc: Global, leaves: &[Leaf], atoms: &mut Atoms, at: usize) -> Result<
 fn prefix(
     alloc: Global,
     stack: &mut Vec<Value>,
+    recent: &mut Recent,
     atoms: &mut Atoms,
     name: &str,
 ) -> Result<Value, InternErr>
     ensures value { IfOk result (λ v. (more : List Text) (vs : List spec.Value) → let ns = insert_names atoms.new more in map built_of stack.old.items ≡ stacked (resolved ns) vs → (built_of v ≡ resolved ns (ATerm (Node name.now (Cons (top_term vs) Nil)))) × (map built_of stack.new.items ≡ stacked (resolved ns) (below vs))) }
     ensures table { Interned (name.now ∷ []) atoms.old atoms.new result }
 {
-    match atom(alloc, atoms, name) {
+    match atom(alloc, recent, atoms, name) {
         Ok(functor) => match compound1(alloc, functor, pop_term(stack)) {
             Ok(term) => Ok(Value::Term(term)),
             Err(_) => Err(InternErr::NoMemory),
@@ -155,13 +173,14 @@ fn prefix(
 fn infix(
     alloc: Global,
     stack: &mut Vec<Value>,
+    recent: &mut Recent,
     atoms: &mut Atoms,
     name: &str,
 ) -> Result<Value, InternErr>
     ensures value { IfOk result (λ v. (more : List Text) (vs : List spec.Value) → let ns = insert_names atoms.new more in map built_of stack.old.items ≡ stacked (resolved ns) vs → (built_of v ≡ resolved ns (ATerm (Node name.now (Cons (top_term (below vs)) (Cons (top_term vs) Nil))))) × (map built_of stack.new.items ≡ stacked (resolved ns) (below (below vs)))) }
     ensures table { Interned (name.now ∷ []) atoms.old atoms.new result }
 {
-    match atom(alloc, atoms, name) {
+    match atom(alloc, recent, atoms, name) {
         Ok(functor) => {
             let right = pop_term(stack);
             match compound2(alloc, functor, pop_term(stack), right) {
@@ -186,13 +205,14 @@ fn pop_all(alloc: Global, stack: &mut Vec<Value>) -> Result<Vec<Term>, NoMemory>
 fn compound(
     alloc: Global,
     stack: &mut Vec<Value>,
+    recent: &mut Recent,
     atoms: &mut Atoms,
     name: &str,
 ) -> Result<Value, InternErr>
     ensures value { IfOk result (λ v. (more : List Text) (vs : List spec.Value) → let ns = insert_names atoms.new more in map built_of stack.old.items ≡ stacked (resolved ns) vs → (built_of v ≡ resolved ns (ATerm (Node name.now (spec.with_rest (top_items (below vs)) (Cons (top_term vs) Nil))))) × (map built_of stack.new.items ≡ stacked (resolved ns) (below (below vs)))) }
     ensures table { Interned (name.now ∷ []) atoms.old atoms.new result }
 {
-    match atom(alloc, atoms, name) {
+    match atom(alloc, recent, atoms, name) {
         Ok(functor) => match pop_all(alloc, stack) {
             Ok(items) => Ok(Value::Term(Term::Node(functor, arguments(items)))),
             Err(_) => Err(InternErr::NoMemory),
@@ -205,13 +225,14 @@ fn compound(
 fn listed(
     alloc: Global,
     stack: &mut Vec<Value>,
+    recent: &mut Recent,
     atoms: &mut Atoms,
     tail: Term,
 ) -> Result<Value, InternErr>
     ensures value { IfOk result (λ v. (more : List Text) (vs : List spec.Value) (u : Written) → let ns = insert_names atoms.new more in map built_of stack.old.items ≡ stacked (resolved ns) vs → tree_of tail ≡ term_in ns u → (built_of v ≡ resolved ns (ATerm (spec.cells (top_items (below vs)) (cell (top_term vs) u)))) × (map built_of stack.new.items ≡ stacked (resolved ns) (below (below vs)))) }
     ensures table { Interned (codes "." ∷ []) atoms.old atoms.new result }
 {
-    match atom(alloc, atoms, ".") {
+    match atom(alloc, recent, atoms, ".") {
         Ok(dot) => match pop_all(alloc, stack) {
             Ok(items) => match list(alloc, dot, items, tail) {
                 Ok(term) => Ok(Value::Term(term)),
@@ -228,6 +249,7 @@ fn value_after(
     alloc: Global,
     stack: &mut Vec<Value>,
     leaves: &[Leaf],
+    recent: &mut Recent,
     atoms: &mut Atoms,
     step: Step,
 ) -> Result<Value, InternErr>
@@ -235,31 +257,31 @@ fn value_after(
     ensures table { Interned (step_names (map leaf_of leaves.now) step) atoms.old atoms.new result }
 {
     match step {
-        Step::Operand(at) => leaf(alloc, leaves, atoms, at),
+        Step::Operand(at) => leaf(alloc, leaves, recent, atoms, at),
         Step::Integer(value) => Ok(Value::Term(Term::Int(value))),
-        Step::Prefix(at) => prefix(alloc, stack, atoms, name_at(leaves, at)),
-        Step::Infix(at) => infix(alloc, stack, atoms, name_at(leaves, at)),
+        Step::Prefix(at) => prefix(alloc, stack, recent, atoms, name_at(leaves, at)),
+        Step::Infix(at) => infix(alloc, stack, recent, atoms, name_at(leaves, at)),
         Step::Group => Ok(Value::Term(pop_term(stack))),
         Step::Begin => Ok(Value::Items(Vec::new(alloc))),
         Step::Item => match pop_all(alloc, stack) {
             Ok(items) => Ok(Value::Items(items)),
             Err(_) => Err(InternErr::NoMemory),
         },
-        Step::Compound(at) => compound(alloc, stack, atoms, name_at(leaves, at)),
+        Step::Compound(at) => compound(alloc, stack, recent, atoms, name_at(leaves, at)),
         Step::Empty => {
             let _none = pop_items(alloc, stack);
-            match atom(alloc, atoms, "[]") {
+            match atom(alloc, recent, atoms, "[]") {
                 Ok(name) => Ok(Value::Term(Term::Atom(name))),
                 Err(e) => Err(e),
             }
         }
-        Step::List => match atom(alloc, atoms, "[]") {
-            Ok(name) => listed(alloc, stack, atoms, Term::Atom(name)),
+        Step::List => match atom(alloc, recent, atoms, "[]") {
+            Ok(name) => listed(alloc, stack, recent, atoms, Term::Atom(name)),
             Err(e) => Err(e),
         },
         Step::Tailed => {
             let tail = pop_term(stack);
-            listed(alloc, stack, atoms, tail)
+            listed(alloc, stack, recent, atoms, tail)
         }
     }
 }
@@ -269,6 +291,7 @@ pub(crate) fn build(
     alloc: Global,
     leaves: &[Leaf],
     steps: &[Step],
+    recent: &mut Recent,
     atoms: &mut Atoms,
 ) -> Result<Term, InternErr>
     ensures value { IfOk result (λ r. (t : Tree) → steps.now ≡ postfix t → tree_of r ≡ term_in atoms.new (meaning (map leaf_of leaves.now) t)) }
@@ -276,7 +299,7 @@ pub(crate) fn build(
 {
     let mut stack = Vec::new(alloc);
     for step in steps {
-        match value_after(alloc, &mut stack, leaves, atoms, *step) {
+        match value_after(alloc, &mut stack, leaves, recent, atoms, *step) {
             Ok(value) => {
                 let Ok(()) = stack.push(value) else {
                     return Err(InternErr::NoMemory);

@@ -1,12 +1,14 @@
 //! What each token is as an operand or a functor: a variable's number or a name.
 
-ghost use Rattle.std.specs.Prelude.{◌≡◌, ℕ, ◌+◌, ◌<◌, ◌^◌, List, IfOk, OnOk, map, drop, length, bytes_eq};
+ghost use Rattle.std.specs.Prelude.{◌≡◌, ℕ, ◌+◌, ◌<◌, ◌^◌, List, IfOk, OnOk, MatchOption, map, drop, length, bytes_eq};
 ghost use Rattle.std.specs.Borrow.{Bor};
+ghost use Rattle.std.specs.Str.{IsUtf8};
 ghost use Rattle.ap_lexer.specs.Lexeme.{Text};
 ghost use Rattle.ap_lexer.specs.Token.{Placed, view};
 ghost use Rattle.ap_reader.specs.Written as spec;
 ghost use Rattle.ap_reader.specs.Leaves.{Numbers, NameFor, LeafFor, LeavesFor, both_items, texts};
 
+use crate::room::Room;
 use ap_lexer::{Token, TokenKind};
 use ap_term::NoMemory;
 use std::alloc::{AllocError, Global};
@@ -76,6 +78,19 @@ pub(crate) enum LeafErr {
     /// A name or a variable isn't UTF-8.
     NotText,
     NoMemory,
+}
+
+/// The name that bytes are; most of all names are commas.
+fn plain_name(text: &[u8]) -> Option<&str>
+    ensures { MatchOption result (IsUtf8 text.now → ⊥) (λ name. (name.now ≡ text.now) × IsUtf8 text.now) }
+{
+    if let [b','] = text {
+        return Some(",");
+    }
+    match std::str::from_utf8(text) {
+        Ok(name) => Some(name),
+        Err(_) => None,
+    }
 }
 
 /// How many variables are looked for one after another, which takes less than a map where they are few.
@@ -173,9 +188,9 @@ impl<'a> Variables<'a> {
             | TokenKind::Symbol
             | TokenKind::Cut
             | TokenKind::Semicolon
-            | TokenKind::Comma => match std::str::from_utf8(token.text) {
-                Ok(name) => Ok(Leaf::Name(name)),
-                Err(_) => Err(LeafErr::NotText),
+            | TokenKind::Comma => match plain_name(token.text) {
+                Some(name) => Ok(Leaf::Name(name)),
+                None => Err(LeafErr::NotText),
             },
             TokenKind::Quoted => match unquoted_name(alloc, token.text) {
                 Ok(name) => Ok(Leaf::Unquoted(name)),
@@ -218,15 +233,16 @@ fn unquoted_name(alloc: Global, text: &[u8]) -> Result<String, LeafErr>
 /// What the tokens are, by place, and the names of the variables by number.
 pub(crate) fn leaves<'a>(
     alloc: Global,
+    room: &mut Room<'a>,
     tokens: &[Token<'a>],
 ) -> Result<(Vec<Leaf<'a>>, Vec<&'a str>), LeafErr>
     ensures { LeavesFor (map view tokens.now) (both_items result) }
 {
     let mut variables = Variables {
         numbers: HashMap::new(alloc),
-        names: Vec::new(alloc),
+        names: room.names(alloc),
     };
-    let Ok(mut out) = Vec::with_capacity(alloc, tokens.len()) else {
+    let Ok(mut out) = room.leaves(alloc, tokens.len()) else {
         return Err(LeafErr::NoMemory);
     };
     let mut left = tokens;

@@ -15,6 +15,8 @@ mod law;
 mod leaf;
 mod operators;
 mod pass;
+mod recent;
+mod room;
 mod word;
 mod written;
 
@@ -24,5 +26,6 @@ pub use law::{one_term, one_tree, pass_is_exact, steps_make_the_term, tables_law
 pub use leaf::Leaf;
 pub use operators::{Fixity, OPERATORS, Operator};
 pub use pass::Step;
+pub use room::Room;
 pub use word::Word;
-pub use written::{MAX_OPEN, ReadTerm, WrittenTerm, own_names, parse, read_term};
+pub use written::{MAX_OPEN, ReadTerm, WrittenTerm, own_names, parse, parse_in, read_term};

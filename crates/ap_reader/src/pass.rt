@@ -5,6 +5,7 @@ ghost use Rattle.ap_reader.specs.Grammar.{Tree, spelled, IsWhole, infix_rank, pr
 ghost use Rattle.ap_reader.specs.Machine.{Frame, State, Has, room, reduced, prefixed, shifted, closed, list_closed, parted, barred, on_want, on_has, next, parsed};
 
 use crate::operators::{infix_of, left_max, right_max};
+use crate::room::Room;
 use crate::word::{Word, word_of};
 use ap_lexer::Token;
 use std::alloc::{AllocFailed, Global};
@@ -370,14 +371,18 @@ impl Pass {
 }
 
 /// The steps of the one term that the tokens spell. No token gives more than one.
-pub(crate) fn steps(alloc: Global, tokens: &[Token]) -> Result<Vec<Step>, ParseErr>
+pub(crate) fn steps(
+    alloc: Global,
+    room: &mut Room<'_>,
+    tokens: &[Token],
+) -> Result<Vec<Step>, ParseErr>
     ensures { Finds (words (map view tokens.now)) (items_of result) }
 {
-    let Ok(out) = Vec::with_capacity(alloc, tokens.len()) else {
+    let Ok(out) = room.steps(alloc, tokens.len()) else {
         return Err(ParseErr::NoMemory);
     };
     let mut pass = Pass {
-        stack: Vec::new(alloc),
+        stack: room.open(alloc),
         out,
     };
     let mut mode = Mode::Wants;
@@ -398,6 +403,7 @@ pub(crate) fn steps(alloc: Global, tokens: &[Token]) -> Result<Vec<Step>, ParseE
     };
     pass.reduce(1200)?;
     if pass.stack.is_empty() {
+        room.take_open(pass.stack);
         Ok(pass.out)
     } else {
         Err(ParseErr::NotATerm)

@@ -12,6 +12,7 @@ use crate::depth::{MAX_DEPTH, is_too_deep};
 use crate::error::ReadErr;
 use crate::leaf::{Leaf, LeafErr, leaves};
 use crate::pass::{ParseErr, Step, steps};
+use crate::room::Room;
 use ap_lexer::{Token, TokenKind};
 use ap_term::{Atoms, InternErr, Name, NoMemory, Term};
 use std::alloc::Global;
@@ -71,12 +72,17 @@ fn before_end<'t, 'a>(tokens: &'t [Token<'a>]) -> Option<&'t [Token<'a>]>
     }
 }
 
-/// The term that tokens spell, the last of which is an end token; it isn't built yet.
+/// The term that tokens spell, the last of which is an end token; it isn't built yet. Its lists take
+/// the room of those that are kept.
 ///
 /// # Errors
 /// `TooDeep` where more than `MAX_OPEN` brackets are open at once; else `NotAClause` exactly where
 /// the tokens spell no term (ISO 13211-1, section 6.3); and `NoMemory`. Each has the first line.
-pub fn parse<'a>(alloc: Global, tokens: &[Token<'a>]) -> Result<WrittenTerm<'a>, ReadErr>
+pub fn parse_in<'a>(
+    alloc: Global,
+    room: &mut Room<'a>,
+    tokens: &[Token<'a>],
+) -> Result<WrittenTerm<'a>, ReadErr>
     ensures { spec.Parsed (map view tokens.now) result }
 {
     let line = first_line(tokens);
@@ -86,12 +92,12 @@ pub fn parse<'a>(alloc: Global, tokens: &[Token<'a>]) -> Result<WrittenTerm<'a>,
     let Some(front) = before_end(tokens) else {
         return Err(ReadErr::NotAClause { line });
     };
-    let steps = match steps(alloc, front) {
+    let steps = match steps(alloc, room, front) {
         Ok(steps) => steps,
         Err(ParseErr::NotATerm) => return Err(ReadErr::NotAClause { line }),
         Err(ParseErr::NoMemory) => return Err(ReadErr::NoMemory),
     };
-    match leaves(alloc, front) {
+    match leaves(alloc, room, front) {
         Ok((leaves, names)) => Ok(WrittenTerm {
             steps,
             leaves,
@@ -101,6 +107,17 @@ pub fn parse<'a>(alloc: Global, tokens: &[Token<'a>]) -> Result<WrittenTerm<'a>,
         Err(LeafErr::NotText) => Err(ReadErr::NotAClause { line }),
         Err(LeafErr::NoMemory) => Err(ReadErr::NoMemory),
     }
+}
+
+/// The term that tokens spell, the last of which is an end token; it isn't built yet.
+///
+/// # Errors
+/// As of `parse_in`.
+pub fn parse<'a>(alloc: Global, tokens: &[Token<'a>]) -> Result<WrittenTerm<'a>, ReadErr>
+    ensures { spec.Parsed (map view tokens.now) result }
+{
+    let mut room = Room::new(alloc);
+    parse_in(alloc, &mut room, tokens)
 }
 
 impl<'a> WrittenTerm<'a> {
@@ -124,7 +141,12 @@ impl<'a> WrittenTerm<'a> {
     /// # Errors
     /// `TooDeep` where it is deeper than `MAX_DEPTH`; else `TooManyAtoms` exactly where the table
     /// has no room for its names; and `NoMemory`. Each has the first token's line.
-    pub fn term(&self, alloc: Global, atoms: &mut Atoms) -> Result<Term, ReadErr>
+    pub fn term_in(
+        &self,
+        alloc: Global,
+        room: &mut Room<'a>,
+        atoms: &mut Atoms,
+    ) -> Result<Term, ReadErr>
         ensures { (t : Tree) → self.now.steps.items ≡ postfix t → spec.BuiltTerm (map leaf_of self.now.leaves.items) t self.now.line atoms.old atoms.new result }
     {
         match self.is_too_deep(alloc) {
@@ -133,7 +155,7 @@ impl<'a> WrittenTerm<'a> {
             Err(_) => return Err(ReadErr::NoMemory),
         }
         let mark = atoms.mark();
-        match build(alloc, &self.leaves, &self.steps, atoms) {
+        match build(alloc, &self.leaves, &self.steps, &mut room.recent, atoms) {
             Ok(term) => {
                 let _room = atoms.mark();
                 Ok(term)
@@ -147,6 +169,18 @@ impl<'a> WrittenTerm<'a> {
                 Err(ReadErr::NoMemory)
             }
         }
+    }
+
+    /// The term itself. Its names go into the table of atoms, those of arguments before that of their
+    /// functor; after an error the table is as it was.
+    ///
+    /// # Errors
+    /// As of `term_in`.
+    pub fn term(&self, alloc: Global, atoms: &mut Atoms) -> Result<Term, ReadErr>
+        ensures { (t : Tree) → self.now.steps.items ≡ postfix t → spec.BuiltTerm (map leaf_of self.now.leaves.items) t self.now.line atoms.old atoms.new result }
+    {
+        let mut room = Room::new(alloc);
+        self.term_in(alloc, &mut room, atoms)
     }
 }
 

@@ -18,3 +18,9 @@ returns-in-Some-clause-table c =
 
 pub returns-in-Ok-clause-place : goal.returns-in-Ok-clause-place
 returns-in-Ok-clause-place c = placed c.intern.new.self c.in-Ok.atom c.args.name.now c.mark-kept.ensures.kept c.in-Ok.ensures.atom
+
+pub returns-in-Some-known-clause-place : goal.returns-in-Some-known-clause-place
+returns-in-Some-known-clause-place c = placed c.args.atoms.now c.in-Some-known.atom c.args.name.now c.mark-found.ensures.kept c.in-Some-known.ensures
+
+pub returns-in-Some-known-clause-table : goal.returns-in-Some-known-clause-table
+returns-in-Some-known-clause-table c = kept-at c.args.atoms.now c.in-Some-known.atom c.args.name.now c.in-Some-known.ensures

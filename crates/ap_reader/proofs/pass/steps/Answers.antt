@@ -38,7 +38,7 @@ head_word (t ∷ ts) d before at after w some e h =
     (behind, ap (λ a. word_by t.kind at before (view t) a ∷ behind) (sym (seen-first ts after (h ∙ ap (λ xs. slice_get xs 0) all))) ∙ ap (λ x. x ∷ behind) (sym e))
 
 pub loop-rest-init : goal.loop-rest-init
-loop-rest-init c = (Wants [], record { stack_is = c.new.ensures.items; out_is = c.in-Ok.ensures.items }, refl, omega arith)
+loop-rest-init c = (Wants [], record { stack_is = c.open.ensures; out_is = c.in-Ok.ensures }, refl, omega arith)
 
 pub returns-in-Err : goal.returns-in-Err
 returns-in-Err c =
