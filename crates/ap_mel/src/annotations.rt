@@ -17,8 +17,8 @@ use crate::entries::certified;
 use crate::lone::{as_written, is_lone};
 use crate::passes::{Pass, pass_over};
 use ap_certify::Certified;
-use ap_cge::{Annotated, hand_written};
-use ap_fixpoint::{analyse, is_table_with_groups};
+use ap_cge::Annotated;
+use ap_fixpoint::{analyse, analyse_program, is_table_with_groups};
 use ap_patterns::{Entries, Table};
 use ap_term::{Clause, NoMemory, Program};
 use ap_udg::{Rule, annotate_by, annotated_of, copy_clauses, has_groups};
@@ -140,8 +140,9 @@ pub fn sound_clauses(
     ensures made { IfOk result (λ a. IsMade kind entries.now written.now a.items) }
     ensures sound { IfOk result (λ a. IsSoundAnnotation written.now a.items (Of entries.now)) }
 {
-    let table = analyse(alloc, written, entries)?;
-    clauses_by(alloc, written.program(), entries, kind, table)
+    let program = written.program();
+    let table = analyse_program(alloc, program, entries)?;
+    clauses_by(alloc, program, entries, kind, table)
 }
 
 /// The program with groups that may run side by side in every search of a query that is as the entries say. The groups are
@@ -164,7 +165,7 @@ pub fn annotate_sound(
     if is_lone(program.as_slice()) {
         return as_written(alloc, program, entries);
     }
-    let written = hand_written(alloc, program)?;
-    let clauses = sound_clauses(alloc, &written, entries, kind)?;
+    let table = analyse_program(alloc, program, entries)?;
+    let clauses = clauses_by(alloc, program, entries, kind, table)?;
     certified(annotated_of(alloc, clauses)?, entries)
 }
