@@ -17,5 +17,5 @@ mod slots;
 mod sums;
 mod tables;
 
-pub use analysis::analyse;
+pub use analysis::{analyse, analyse_program};
 pub use answered::is_table_with_groups;

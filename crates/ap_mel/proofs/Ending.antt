@@ -49,7 +49,7 @@ same_itself : (c : Check) → same_check c c ≡ true
 same_itself (Ground x) = same_test x
 same_itself (Indep x y) = or_left (nat_eq x x && nat_eq y y) (nat_eq x y && nat_eq y x) (and_from (nat_eq x x) (nat_eq y y) (same_test x) (same_test y))
 
-written_right : (d : Check) (cs ms : List Check) → IsIn d ms → is_written d (cs ++ ms) ≡ true
+pub written_right : (d : Check) (cs ms : List Check) → IsIn d ms → is_written d (cs ++ ms) ≡ true
 written_right d [] [] h = absurd h
 written_right d [] (m ∷ ms) (inl e) = or_left (same_check d m) (is_written d ms) (ap (same_check d) (sym e) ∙ same_itself d)
 written_right d [] (m ∷ ms) (inr h) = or_right (same_check d m) (is_written d ms) (written_right d [] ms h)

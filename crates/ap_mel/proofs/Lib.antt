@@ -4,3 +4,4 @@ pub mod Certifying
 pub mod Ending
 pub mod Untouched
 pub mod Plain
+pub mod Settled

@@ -27,13 +27,13 @@ stripped-body (group cs gs ∷ ps) w = absurd (false≢true (sym w))
 pub stripped-same : (c : Clause) → not (has_groups c) ≡ true → stripped_clause c ≡ c
 stripped-same c w = ap (λ b. record { head = c.head; body = b; vars = c.vars; line = c.line }) (stripped-body c.body (not-true (has_groups c) w))
 
-stripped-plain : (P : Program) → is_plain P ≡ true → stripped P ≡ P
+pub stripped-plain : (P : Program) → is_plain P ≡ true → stripped P ≡ P
 stripped-plain [] w = refl
 stripped-plain (c ∷ cs) w =
     let r = and_parts (not (has_groups c)) (is_plain cs) w in
     ap (λ x. x ∷ stripped cs) (stripped-same c r.0) ∙ ap (λ xs. c ∷ xs) (stripped-plain cs r.1)
 
-body_settled : (bare analysed : Bool) (t : Patterns) (s : State) (ps : List Part) → list_any is_group ps ≡ false → is_body_settled bare analysed t s ps ≡ true
+pub body_settled : (bare analysed : Bool) (t : Patterns) (s : State) (ps : List Part) → list_any is_group ps ≡ false → is_body_settled bare analysed t s ps ≡ true
 body_settled bare analysed t s [] w = refl
 body_settled bare analysed t s (call g ∷ ps) w = body_settled bare analysed t (behind analysed t s (call g)) ps w
 body_settled bare analysed t s (group cs gs ∷ ps) w = absurd (false≢true (sym w))
@@ -47,7 +47,7 @@ plain-stays k t c d w = clause_stays k t c d (plain-clause k t c d w)
 
 pub ruleset rules_of_plain = (plain-clause, plain-stays)
 
-plain-settled : (k : Kind) (t : Patterns) (P : Program) → is_plain P ≡ true → is_program_settled k t P P ≡ true
+pub plain-settled : (k : Kind) (t : Patterns) (P : Program) → is_plain P ≡ true → is_program_settled k t P P ≡ true
 plain-settled k t [] w = refl
 plain-settled k t (c ∷ cs) w =
     let r = and_parts (not (has_groups c)) (is_plain cs) w in
@@ -56,17 +56,3 @@ plain-settled k t (c ∷ cs) w =
 -- a program without groups is what its first groups leave of it without them
 pub first-stripped : (k : Kind) (t : Patterns) (P A : Program) → IsFirst k t P A → is_plain P ≡ true → P ≡ stripped A
 first-stripped k t P A one p = sym ((first-kept k t P A one).1 ∙ stripped-plain P p)
-
--- a program without groups that has got none is as it was
-pub ungrouped : (k : Kind) (t : Patterns) (P A : Program) → IsFirst k t P A → is_plain P ≡ true → is_plain A ≡ true → A ≡ P
-ungrouped k t P A one p a = sym (first-stripped k t P A one p ∙ stripped-plain A a)
-
--- and it is what the passes end at
-pub plain-made : (k : Kind) (E : Entries) (P : Program) (t : Patterns) → IsFix E P t → IsFirst k t P P → is_plain P ≡ true → IsMade k E P P
-plain-made k E P t f one p = made k E P P P t t f one (begun P refl) f refl (plain-settled k t P p)
-
-pub plain-given : (k : Kind) (E : Entries) (P : Program) (t : Patterns) → IsFix E P t → IsProgram P → is_plain P ≡ true → AreMissingGiven P (Of E)
-plain-given k E P t f good p = settled-given k E P P t refl good f (plain-settled k t P p)
-
-pub plain-sound : (k : Kind) (E : Entries) (P : Program) (t : Patterns) → IsFix E P t → IsFirst k t P P → IsProgram P → is_plain P ≡ true → IsSoundAnnotation P P (Of E)
-plain-sound k E P t f one good p = sound k E P P P t one (begun P refl) (plain-given k E P t f good p)

@@ -17,8 +17,8 @@ use crate::entries::certified;
 use crate::lone::{as_written, is_lone};
 use crate::passes::{Pass, pass_over};
 use ap_certify::Certified;
-use ap_cge::{Annotated, hand_written};
-use ap_fixpoint::{analyse, is_table_with_groups};
+use ap_cge::Annotated;
+use ap_fixpoint::{analyse, analyse_program, is_table_with_groups};
 use ap_patterns::{Entries, Table};
 use ap_term::{Clause, NoMemory, Program};
 use ap_udg::{Rule, annotate_by, annotated_of, copy_clauses, has_groups};
@@ -66,24 +66,14 @@ fn is_plain(clauses: &[Clause]) -> bool
     clauses.iter().all(|clause| !has_groups(clause))
 }
 
-/// The table of a program with its first groups: where nothing is grouped by hand, it may be that of the program as it is
-/// written.
-fn first_table(
-    alloc: Global,
-    current: &Annotated,
-    entries: &Entries,
-    plain: bool,
-    table: Table,
-) -> Result<Table, NoMemory>
-    requires marked { IsMarked entries.now }
-    requires written { plain ≡ true → IsFix entries.now (stripped current.now) (patterns table) }
-    ensures { IfOk result (λ t. IsFix entries.now current.now (patterns t)) }
+/// Whether the table of a program is surely that of the program with these groups too.
+fn is_own_table(table: &Table, entries: &Entries, grouped: &[Clause]) -> bool
+    ensures { result ≡ true → IsFix entries.now (stripped grouped.now) (patterns table.now) → IsFix entries.now grouped.now (patterns table.now) }
 {
-    let program = current.program();
-    if plain && is_table_with_groups(&table, entries, program.as_slice()) {
-        return Ok(table);
+    if is_plain(grouped) {
+        return true;
     }
-    analyse(alloc, current, entries)
+    is_table_with_groups(table, entries, grouped)
 }
 
 /// The program with its first groups, passed over until a pass leaves it as it is; the first pass goes by the table that is
@@ -114,8 +104,32 @@ fn pass_on(
     }
 }
 
-/// The clauses of a program as it is written, with the groups that `annotate_sound` finds. Where nothing is grouped, the table of the
-/// program as it is written is that of the program with its groups, and no pass changes it.
+/// The clauses of a program with the groups that `annotate_sound` finds, by the table of the program as it is written. Where nothing was
+/// grouped by hand and that is the table of the program with its first groups, no pass changes these.
+fn clauses_by(
+    alloc: Global,
+    program: &Program,
+    entries: &Entries,
+    kind: Kind,
+    table: Table,
+) -> Result<Vec<Clause>, NoMemory>
+    requires marked { IsMarked entries.now }
+    requires table { IsFix entries.now program.now (patterns table) }
+    ensures made { IfOk result (λ a. IsMade kind entries.now program.now a.items) }
+    ensures sound { IfOk result (λ a. IsSoundAnnotation program.now a.items (Of entries.now)) }
+{
+    let clauses = program.as_slice();
+    let grouped = first(alloc, kind, program, &table)?;
+    let plain = is_plain(clauses);
+    if plain && is_own_table(&table, entries, &grouped) {
+        return Ok(grouped);
+    }
+    let current = annotated_of(alloc, grouped)?;
+    let own = analyse(alloc, &current, entries)?;
+    pass_on(alloc, program, entries, kind, current, own)
+}
+
+/// The clauses of a program as it is written, with the groups that `annotate_sound` finds.
 pub fn sound_clauses(
     alloc: Global,
     written: &Annotated,
@@ -126,17 +140,9 @@ pub fn sound_clauses(
     ensures made { IfOk result (λ a. IsMade kind entries.now written.now a.items) }
     ensures sound { IfOk result (λ a. IsSoundAnnotation written.now a.items (Of entries.now)) }
 {
-    let table = analyse(alloc, written, entries)?;
     let program = written.program();
-    let clauses = program.as_slice();
-    let grouped = first(alloc, kind, program, &table)?;
-    let plain = is_plain(clauses);
-    if plain && is_plain(&grouped) {
-        return Ok(grouped);
-    }
-    let current = annotated_of(alloc, grouped)?;
-    let table = first_table(alloc, &current, entries, plain, table)?;
-    pass_on(alloc, program, entries, kind, current, table)
+    let table = analyse_program(alloc, program, entries)?;
+    clauses_by(alloc, program, entries, kind, table)
 }
 
 /// The program with groups that may run side by side in every search of a query that is as the entries say. The groups are
@@ -159,7 +165,7 @@ pub fn annotate_sound(
     if is_lone(program.as_slice()) {
         return as_written(alloc, program, entries);
     }
-    let written = hand_written(alloc, program)?;
-    let clauses = sound_clauses(alloc, &written, entries, kind)?;
+    let table = analyse_program(alloc, program, entries)?;
+    let clauses = clauses_by(alloc, program, entries, kind, table)?;
     certified(annotated_of(alloc, clauses)?, entries)
 }

@@ -54,7 +54,7 @@ with_own-kept : (P : ℕ → Type 0) (n : ℕ) (ss : List ℕ) → In P ss → I
 with_own-kept P zero ss h = h
 with_own-kept P (suc n) ss h = In-stays P (with_own n ss) (just (suc n)) (with_own-kept P n ss h)
 
-with_own-own : (P : ℕ → Type 0) (n y : ℕ) (ss : List ℕ) → has (own n) y ≡ true → P (just y) → In P (with_own n ss)
+pub with_own-own : (P : ℕ → Type 0) (n y : ℕ) (ss : List ℕ) → has (own n) y ≡ true → P (just y) → In P (with_own n ss)
 with_own-own P zero y ss h p = absurd (clash (has empty y) h (has-empty y))
 with_own-own P (suc n) y ss h p = go (or_cases (has (own n) y) (has (just (suc n)) y) (sym (has-union (own n) (just (suc n)) y) ∙ h)) (with_own-own P n y ss)
   where
@@ -64,7 +64,7 @@ with_own-own P (suc n) y ss h p = go (or_cases (has (own n) y) (has (just (suc n
 
 -- ---- places beside variables
 
-beside-back : (n k s y : ℕ) → has (beside n k s) y ≡ true → (n < y) × (y ≤ n + k) × (has s (y - n) ≡ true)
+pub beside-back : (n k s y : ℕ) → has (beside n k s) y ≡ true → (n < y) × (y ≤ n + k) × (has s (y - n) ≡ true)
 beside-back n zero s y h = absurd (clash (has empty y) h (has-empty y))
 beside-back n (suc k) s y h =
     go (or_cases (has (beside n k s) y) (has (if has s (suc k) then just (n + suc k) else empty) y) (sym (has-union (beside n k s) (if has s (suc k) then just (n + suc k) else empty) y) ∙ h)) (beside-back n k s y)
@@ -81,7 +81,7 @@ beside-back n (suc k) s y h =
     go (inl j) ih = let r = ih j in (r.0, omega (arith, r.1), r.2)
     go (inr j) ih = last (has s (suc k)) refl j
 
-beside-forth : (n k s y : ℕ) → n < y → y ≤ n + k → has s (y - n) ≡ true → has (beside n k s) y ≡ true
+pub beside-forth : (n k s y : ℕ) → n < y → y ≤ n + k → has s (y - n) ≡ true → has (beside n k s) y ≡ true
 beside-forth n zero s y l h e = absurd (omega arith)
 beside-forth n (suc k) s y l h e =
     has-union (beside n k s) (if has s (suc k) then just (n + suc k) else empty) y ∙ go (n + suc k - y) refl (λ i. beside-forth n k s y l i e)
@@ -293,7 +293,7 @@ enter_arguments-covers n next p gs hs pattern u old mine c m =
 
 mutual
   -- the variables of a term that is numbered up to n are among them
-  numbered-own : (n : ℕ) (t : Tree) → IsTrue (numbered n t) → (x : ℕ) → occurs x t ≡ true → has (own n) x ≡ true
+  pub numbered-own : (n : ℕ) (t : Tree) → IsTrue (numbered n t) → (x : ℕ) → occurs x t ≡ true → has (own n) x ≡ true
   numbered-own n (var y) h x o =
       let e : x ≡ y = same_var x y o in
       let r = and_both (nat_le 1 y) (nat_le y n) h in
@@ -302,7 +302,7 @@ mutual
   numbered-own n (atom a) h x o = absurd (false≢true o)
   numbered-own n (node a ts) h x o = numbered-own_all n ts h x o
 
-  numbered-own_all : (n : ℕ) (ts : Trees) → IsTrue (numbered_all n ts) → (x : ℕ) → occurs_all x ts ≡ true → has (own n) x ≡ true
+  pub numbered-own_all : (n : ℕ) (ts : Trees) → IsTrue (numbered_all n ts) → (x : ℕ) → occurs_all x ts ≡ true → has (own n) x ≡ true
   numbered-own_all n none h x o = absurd (false≢true o)
   numbered-own_all n (more t ts) h x o =
       let r = and_both (numbered n t) (numbered_all n ts) h in

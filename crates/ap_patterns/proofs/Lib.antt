@@ -7,3 +7,4 @@ pub mod Arguments
 pub mod MarkTurns
 pub mod Coverings
 pub mod OwnSets
+pub mod Anyhow

@@ -6,3 +6,4 @@ pub mod Table
 pub mod Given
 pub mod Covered
 pub mod Laws
+pub mod Anyhow

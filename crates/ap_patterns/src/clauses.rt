@@ -1,17 +1,19 @@
 //! Entering a clause.
 
-ghost use Rattle.std.specs.Prelude.{◌≡◌, ◌≤◌, ◌+◌, IfOk, IsTrue, length, map};
+ghost use Rattle.std.specs.Prelude.{◌≡◌, ◌≤◌, ◌+◌, true, IfOk, IsTrue, length, map};
 ghost use Rattle.ap_term.specs.Tree.{count_trees};
 ghost use Rattle.ap_term.specs.TermView.{tree_of, trees_of};
 ghost use Rattle.ap_term.specs.WellFormed.{numbered, numbered_all};
 ghost use Rattle.ap_absunify.specs.AfterEqual.{after_all};
 ghost use Rattle.ap_sharing.specs.Sets.{sets_of};
 ghost use Rattle.ap_patterns.specs.Places.{arguments};
+ghost use Rattle.ap_patterns.specs.Given.{any_pattern};
+ghost use Rattle.ap_patterns.specs.Anyhow.{anyhow};
 ghost use Rattle.ap_patterns.specs.Entering.{own, with_own, own_sets, beside, beside_own, head_equations, enter};
 
 use crate::calls::Pattern;
 use crate::places::{arguments, only_if};
-use ap_absunify::{State, after_unify, made};
+use ap_absunify::{State, add_var_sets, after_unify, made};
 use ap_freeness::Free;
 use ap_sharing::{Sets, Share, VarSet};
 use ap_term::{NoMemory, Term};
@@ -103,6 +105,33 @@ fn after_head(alloc: Global, n: u64, head: &[Term], s: State) -> Result<State, N
     Ok(state)
 }
 
+/// Whether a pattern says nothing of n places.
+fn is_anything(n: u64, pattern: &Pattern) -> bool
+    requires { n ≤ 255 }
+    ensures { result ≡ true → pattern.now ≡ any_pattern n }
+{
+    match pattern {
+        State::Unreachable => false,
+        State::Reachable { share, free } => {
+            share.sets().is_empty() && share.any() == own(n) && free.vars().is_empty()
+        }
+    }
+}
+
+/// The state in which a clause of n variables is entered by a call of which nothing is known.
+#[tactic(auto, using(crate::proofs::Anyhow::rules_of_anyhow))]
+fn anyhow(alloc: Global, n: u64, vars: VarSet, args: &[Term]) -> Result<State, NoMemory>
+    requires few { n ≤ 255 }
+    requires own { vars ≡ own n }
+    requires variables { IsTrue (numbered_all 255 (trees_of args.now)) }
+    ensures { IfOk result (λ r. r ≡ anyhow n (trees_of args.now)) }
+{
+    let mut any = VarSet::new();
+    add_var_sets(args, &mut any);
+    let sets = Sets::of(own_sets(alloc, n, 0)?)?;
+    Ok(made(Share::new(sets, any), Free::new(vars.without(any))))
+}
+
 /// The state in which a clause of n variables is entered.
 #[tactic(auto, using(crate::proofs::Arguments::rules_of_goals))]
 pub fn enter(alloc: Global, n: u64, head: &Term, pattern: &Pattern) -> Result<State, NoMemory>
@@ -112,6 +141,9 @@ pub fn enter(alloc: Global, n: u64, head: &Term, pattern: &Pattern) -> Result<St
 {
     let args = arguments(head);
     let vars = own(n);
+    if is_anything(args.len() as u64, pattern) {
+        return anyhow(alloc, n, vars, args);
+    }
     let beside = beside_own(alloc, n, vars, args.len() as u64, pattern)?;
     let unified = after_head(alloc, n, args, beside)?;
     unified.project(alloc, &vars)

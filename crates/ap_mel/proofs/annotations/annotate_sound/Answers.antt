@@ -15,7 +15,7 @@ returns-clause-made c =
     let E = c.args.entries.now in
     let P = c.args.program.now in
     let A = c.in_ok-annotated_of.field-0 in
-    let is : IsMade k E P A = subst (IsMade k E P) (sym c.in_ok-annotated_of.ensures) (subst (λ p. IsMade k E p c.in_ok-clauses.clauses.items) c.in_ok-written.ensures c.in_ok-clauses.ensures.made) in
+    let is : IsMade k E P A = subst (IsMade k E P) (sym c.in_ok-annotated_of.ensures) c.in_ok-clauses.ensures.made in
     for_ok (λ x. x.program) A (IsMade k E P) is c.certified.result c.certified.ensures.program
 
 pub returns-clause-sound : goal.returns-clause-sound
@@ -23,5 +23,5 @@ returns-clause-sound c =
     let P = c.args.program.now in
     let A = c.in_ok-annotated_of.field-0 in
     let Q : Program → Type 0 = λ a. IsSoundAnnotation P a (Of c.args.entries.now) in
-    let is : Q A = subst Q (sym c.in_ok-annotated_of.ensures) (subst (λ p. IsSoundAnnotation p c.in_ok-clauses.clauses.items (Of c.args.entries.now)) c.in_ok-written.ensures c.in_ok-clauses.ensures.sound) in
+    let is : Q A = subst Q (sym c.in_ok-annotated_of.ensures) c.in_ok-clauses.ensures.sound in
     for_ok (λ x. x.program) A Q is c.certified.result c.certified.ensures.program
