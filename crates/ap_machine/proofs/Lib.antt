@@ -10,7 +10,6 @@ pub mod Returning
 pub mod Ran
 pub mod Transfers
 pub mod Progress
-pub mod Passing
 pub mod Resting
 pub mod Ending
 pub mod Places

@@ -9,7 +9,6 @@ pub mod Stands
 pub mod Lent
 pub mod Due
 pub mod Advanced
-pub mod Passing
 pub mod Ends
 pub mod Started
 pub mod Jumps

@@ -11,9 +11,6 @@ ghost use Rattle.ap_machine.specs.View.{IsFor};
 ghost use Rattle.ap_machine.specs.Direct.{IsDirectDue};
 ghost use Rattle.ap_machine.specs.Due.{IsDue, IsTurnDue};
 ghost use Rattle.ap_machine.specs.Advanced.{Advanced};
-ghost use Rattle.ap_machine.specs.Stands.{IsAtGroup};
-ghost use Rattle.ap_machine.specs.Forking.{HasGonePlain};
-ghost use Rattle.ap_machine.specs.Passing.{HasSearchedOn};
 ghost use Rattle.ap_machine.specs.Ends.{IsEndOf, Ends, AreStates};
 
 use crate::direct::Value;
@@ -37,19 +34,8 @@ pub enum Turn {
     More,
     /// The hook asked for it.
     Stopped,
-    /// The search stands at a group whose goals are wanted.
+    /// The search stands at a group of goals.
     Group,
-}
-
-/// Whether a search stands at a group.
-fn is_group(turn: Turn) -> bool
-    ensures group { result ≡ true → turn ≡ Turn.Group }
-    ensures other { result ≡ false → turn ≡ Turn.Group → ⊥ }
-{
-    match turn {
-        Turn::Group => true,
-        _ => false,
-    }
 }
 
 /// What asks a search to stop, and for its goals.
@@ -171,7 +157,6 @@ impl Search {
         ensures advanced { Advanced sound.now self.old self.new }
         ensures within { self.new.spent ≤ max self.old.budget self.old.spent }
         ensures made { IfOk result (λ found. IfNone found ((self.new.spent ≡ self.old.spent + 1) × (0 < left))) }
-        ensures still { IfOk result (λ found. IfSome found (λ _. self.new.spent ≡ self.old.spent)) }
         ensures few { self.new.spent ≤ self.old.spent + left }
         ensures end { IfOk result (λ found. IfSome found (λ end. Ends sound.now left self.old self.new end)) }
         ensures stopped { result ≡ Ok (Some Turn.Stopped) → H.asked hook.new }
@@ -192,26 +177,6 @@ impl Search {
         Ok(None)
     }
 
-    /// Passes the group at which the search stands, where nobody wants its goals: goes on to where they are called one after another.
-    // Kept out of the machine's loop, which has no need of it where no group is.
-    #[inline(never)]
-    fn pass<H: Hook>(&mut self, sound: &Sound, hook: &H) -> Result<bool, NoMemory>
-        requires here { IsAtGroup sound.now self.old.machine }
-        ensures is_for { IsFor sound.now self.old → IsFor sound.now self.new }
-        ensures passed { result ≡ Ok true → HasGonePlain sound.now self.old self.new }
-        ensures unwanted { result ≡ Ok true → H.is_wanted hook.now ≡ false }
-        ensures wanted { result ≡ Ok false → H.is_wanted hook.now ≡ true }
-        ensures stays { result ≡ Ok false → self.new ≡ self.old }
-        ensures err { OnErr result (self.new ≡ self.old) }
-    {
-        if hook.wants() {
-            return Ok(false);
-        }
-        let to = self.plain_way(sound)?;
-        self.go_plain(to);
-        Ok(true)
-    }
-
     /// Searches on, without a share.
     fn advance_by<H: Hook>(
         &mut self,
@@ -220,41 +185,25 @@ impl Search {
         hook: &mut H,
     ) -> Result<Turn, NoMemory>
         requires { IsFor sound.now self.old }
-        ensures searched { HasSearchedOn sound.now (H.is_wanted hook.old) self.old self.new }
-        ensures more { self.old.spent ≤ self.new.spent }
-        ensures is_for { IsFor sound.now self.new }
+        ensures advanced { Advanced sound.now self.old self.new }
         ensures within { self.new.spent ≤ max self.old.budget self.old.spent }
         ensures few { self.new.spent ≤ self.old.spent + inferences }
         ensures end { IfOk result (λ turn. Ends sound.now inferences self.old self.new turn) }
-        ensures group { result ≡ Ok Turn.Group → H.is_wanted hook.new ≡ true }
         ensures stopped { result ≡ Ok Turn.Stopped → H.asked hook.new }
         ensures asked { H.asked hook.old → H.asked hook.new }
         ensures wish { H.is_wanted hook.new ≡ H.is_wanted hook.old }
     {
         let mut left = inferences;
-        // More groups than that are never passed.
-        let mut groups = u64::MAX;
         'turns: loop {
-            match self.turn(sound, left, hook)? {
-                None => left -= 1,
-                Some(end) => {
-                    if !is_group(end) {
-                        return Ok(end);
-                    }
-                    if !self.pass(sound, hook)? {
-                        return Ok(Turn::Group);
-                    }
-                    if groups == 0 {
-                        return Err(NoMemory);
-                    }
-                    groups -= 1;
-                }
+            if let Some(end) = self.turn(sound, left, hook)? {
+                return Ok(end);
             }
+            left -= 1;
         }
     }
 
-    /// Searches on. It makes at most so many calls, before each of which it asks the hook, and adds their number to the share. Groups
-    /// whose goals aren't wanted are passed. Without memory the search stands where its last call was made, or behind a group.
+    /// Searches on. It makes at most so many calls, before each of which it asks the hook, and adds their number to the share.
+    /// Without memory the search stands where its last call was made.
     pub fn advance<H: Hook>(
         &mut self,
         sound: &Sound,
@@ -263,15 +212,14 @@ impl Search {
         share: &mut Share,
     ) -> Result<Turn, NoMemory>
         requires { IsFor sound.now self.old }
-        // Whatever comes out, as many turns of the model were made as calls were counted, beside groups that were passed.
-        ensures searched { HasSearchedOn sound.now (H.is_wanted hook.old) self.old self.new }
+        // Whatever comes out, as many turns of the model were made as calls were counted.
+        ensures advanced { Advanced sound.now self.old self.new }
         ensures is_for { IsFor sound.now self.new }
         ensures within { self.new.spent ≤ max self.old.budget self.old.spent }
         ensures few { self.new.spent ≤ self.old.spent + inferences }
         ensures share { share.new ≡ capped (share.old + (self.new.spent - self.old.spent)) }
         ensures end { IfOk result (λ turn. Ends sound.now inferences self.old self.new turn) }
         ensures states { IfOk result (λ turn. (ss : List Tracked) → Holds sound.now self.new.machine ss → AreStates self.new.machine ss turn) }
-        ensures group { result ≡ Ok Turn.Group → H.is_wanted hook.new ≡ true }
         ensures stopped { result ≡ Ok Turn.Stopped → H.asked hook.new }
         ensures asked { H.asked hook.old → H.asked hook.new }
         ensures wish { H.is_wanted hook.new ≡ H.is_wanted hook.old }

@@ -199,7 +199,7 @@ impl Search {
     }
 
     /// Finds the place where the goals of the group at which the search stands are called one after another.
-    pub(crate) fn plain_way(&self, sound: &Sound) -> Result<usize, NoMemory>
+    pub fn plain_way(&self, sound: &Sound) -> Result<usize, NoMemory>
         requires here { IsAtGroup sound.now self.now.machine }
         ensures { IfOk result (HasPlainWay sound.now self.now.machine) }
     {
@@ -210,7 +210,7 @@ impl Search {
     }
 
     /// Goes on at a place, where the goals of the group at which the search stands are called one after another.
-    pub(crate) fn go_plain(&mut self, to: usize)
+    pub fn go_plain(&mut self, to: usize)
         ensures goes { self.new ≡ record self.old { machine = record self.old.machine { now = inside to } } }
         ensures is_for { (code : Compiled) → HasPlainWay code self.old.machine to → IsFor code self.old → IsFor code self.new }
     {

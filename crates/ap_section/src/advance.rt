@@ -105,6 +105,28 @@ impl Section {
         Ok(forked)
     }
 
+    /// Takes the group at which the search stands: forks it, as its checks say, where its goals are wanted, and else calls them one
+    /// after another.
+    fn take_group(&mut self, sound: &Sound, wanted: bool) -> Result<bool, NoMemory>
+        requires shut { IsShut sound.now self.old }
+        requires here { IsAtGroup sound.now (machine_in (view_of self.old)) }
+        ensures moved { HasMoved sound.now (view_of self.old) (view_of self.new) }
+        ensures spent { spent_in (view_of self.new) ≡ spent_in (view_of self.old) }
+        ensures ready { IsReady sound.now self.new }
+        ensures forked { result ≡ Ok true → IsAtDueFrame (view_of self.new) }
+        ensures unwanted { wanted ≡ false → result ≡ Ok true → ⊥ }
+        ensures wanted { wanted ≡ true → result ≡ Ok false → HasGoneOn sound.now (out-Section self.old).search (out-Section self.new).search }
+        ensures frames { result ≡ Ok false → frames_in self.new ≡ frames_in self.old }
+    {
+        if wanted {
+            return self.fork(sound);
+        }
+        reaching_law();
+        let to = self.search.plain_way(sound)?;
+        self.search.go_plain(to);
+        Ok(false)
+    }
+
     /// Comes back to the newest frame, where nothing newer is left to do. One that has no slot to redo is dropped.
     fn come_back(&mut self) -> Option<Turn>
         requires end { IsAtEnd (machine_in (view_of self.old)) }
@@ -129,7 +151,7 @@ impl Section {
         None
     }
 
-    /// Searches on up to where the search comes to rest, past groups whose goals nobody wants.
+    /// Searches on up to where the search comes to rest.
     fn search_on<H: Hook>(
         &mut self,
         sound: &Sound,
@@ -143,7 +165,6 @@ impl Section {
         ensures few { spent_in (view_of self.new) ≤ spent_in (view_of self.old) + left }
         ensures end { IfOk result (λ turn. IsEndedBy sound.now left (view_of self.old) (view_of self.new) turn) }
         ensures frames { frames_in self.new ≡ frames_in self.old }
-        ensures group { result ≡ Ok SearchTurn.Group → H.is_wanted hook.new ≡ true }
         ensures stopped { result ≡ Ok SearchTurn.Stopped → H.asked hook.new }
         ensures asked { H.asked hook.old → H.asked hook.new }
         ensures wish { H.is_wanted hook.new ≡ H.is_wanted hook.old }
@@ -153,7 +174,7 @@ impl Section {
         self.search.advance(sound, left, hook, &mut counted)
     }
 
-    /// Goes on to where it comes to rest, or past a group that can't be forked or a frame.
+    /// Goes on to where it comes to rest, or past a group or a frame.
     fn move_on<H: Hook>(
         &mut self,
         sound: &Sound,
@@ -184,7 +205,7 @@ impl Section {
             SearchTurn::More => Ok(Some(Turn::More)),
             SearchTurn::Stopped => Ok(Some(Turn::Stopped)),
             SearchTurn::Group => {
-                if self.fork(sound)? {
+                if self.take_group(sound, hook.wants())? {
                     return Ok(Some(Turn::Fork));
                 }
                 Ok(None)

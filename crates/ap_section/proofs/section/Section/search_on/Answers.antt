@@ -7,8 +7,7 @@ use Rattle.ap_section.specs.Views.{view_of}
 use Rattle.ap_section.specs.Moving.{IsEndedBy}
 use Rattle.ap_section.proofs.Levels.{stack_now, view_of-roll, view_of-out}
 use Rattle.ap_section.proofs.Parts.{shut-out, shut-roll}
-use Rattle.ap_section.proofs.Shut.{seen_now, moved-same}
-use Rattle.ap_section.proofs.Searched.{searched-now}
+use Rattle.ap_section.proofs.Shut.{seen_now, moved-same, turned-now, turned-shut}
 use Rattle.ap_section.proofs.Ended.{search-ends, both-ok, ended-same}
 use Rattle.ap_section.proofs.Counted.{frames-searching}
 use Rattle.ap_section.proofs.section.Section.search_on.Goals as goal
@@ -17,16 +16,13 @@ pub returns-clause-moved : goal.returns-clause-moved
 returns-clause-moved g c =
     let s = out-Section c.args.self.now in
     let x = record s { search = c.advance.new.self } in
-    let h = c.advance.ensures.searched in
     moved-same c.args.sound.now (seen_now s) (seen_now x) (view_of c.args.self.now) (view_of (roll-Section x)) (view_of-out c.args.self.now) (view_of-roll x)
-    (searched-now c.reaching_law.ensures c.args.sound.now s (shut-out c.args.sound.now c.args.self.now c.requires) h.groups c.advance.new.self h.advanced c.advance.ensures.within).0
+    (turned-now c.reaching_law.ensures c.args.sound.now s c.advance.new.self c.advance.ensures.advanced c.advance.ensures.within (shut-out c.args.sound.now c.args.self.now c.requires))
 
 pub returns-clause-shut : goal.returns-clause-shut
 returns-clause-shut g c =
     let s = out-Section c.args.self.now in
-    let h = c.advance.ensures.searched in
-    shut-roll c.args.sound.now (record s { search = c.advance.new.self })
-    (searched-now c.reaching_law.ensures c.args.sound.now s (shut-out c.args.sound.now c.args.self.now c.requires) h.groups c.advance.new.self h.advanced c.advance.ensures.within).1
+    shut-roll c.args.sound.now (record s { search = c.advance.new.self }) (turned-shut c.args.sound.now s c.advance.new.self c.advance.ensures.advanced c.advance.ensures.is_for (shut-out c.args.sound.now c.args.self.now c.requires))
 
 pub returns-clause-end : goal.returns-clause-end
 returns-clause-end g c =
