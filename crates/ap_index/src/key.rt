@@ -64,8 +64,8 @@ fn asked_key(code: &Code, instr: &Instr) -> Option<Key>
     }
 }
 
-/// What the clause at a place asks of the first argument.
-fn key_at(code: &Code, at: usize) -> Option<Key>
+/// What the clause at a place asks of the first argument; none where that is a variable.
+pub fn key_at(code: &Code, at: usize) -> Option<Key>
     ensures { result ≡ key_at code.now at }
 {
     for place in at..code.instructions().len() {

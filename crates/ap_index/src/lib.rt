@@ -21,6 +21,6 @@ pub use choice::{Choice, Named, Next};
 pub use hashing::Hashed;
 pub use head::{Ask, Head};
 pub use index::{Index, index_of};
-pub use key::Key;
+pub use key::{Key, key_at};
 pub use opening::{Way, is_open, way_of};
 pub use row::{Link, Row};
