@@ -22,8 +22,8 @@ use Rattle.ap_direct.specs.declared.goal.Goal.{Goal}
 use Rattle.ap_direct.specs.declared.goal.Goal.TheVariants.{Compare, Match, Give}
 use Rattle.ap_direct.specs.Goals.{operation_name, operand_tree, pair}
 use Rattle.ap_direct_turns.specs.Solved.{own, own_part, SameRegisters, Given, SolvedOn}
-use Rattle.ap_machine.specs.declared.direct.Value.TheVariants.{Holds, Match as Matches, Give as Gives}
-use Rattle.ap_machine.specs.Direct.{HasValue}
+use Rattle.ap_machine.specs.declared.direct.Value.TheVariants.{Holds, Match as Matches}
+use Rattle.ap_machine.specs.Direct.{HasValue, Gives}
 use Rattle.ap_machine.proofs.Kept.{HoldPlaces-more}
 
 operation_named-name : (f : Operation) → operation_named (operation_name f) ≡ Some f
@@ -69,7 +69,7 @@ module _ (cs ds : List Raw) (x y x' y' : List ℕ) where
   match-solved (Match v a) place z r h ex ey answered = (z, h.1, record { same_x = ex; same_y = ey }, subst (λ p. Answered cs ds (λ k. k p ≡ int z) r) h.0 answered)
   match-solved (Give v a) place z r h ex ey answered = absurd h
 
-  pub give-solved : (g : Goal) (w : Slot) (z : ℤ) → HasValue cs x y g (Gives w z) → Given cs ds x y x' y' w z → SolvedOn g cs x y ds x' y' true
+  pub give-solved : (g : Goal) (w : Slot) (z : ℤ) → Gives cs x y g w z → Given cs ds x y x' y' w z → SolvedOn g cs x y ds x' y' true
   give-solved (Compare op a b) w z h given = absurd h
   give-solved (Match v a) w z h given = absurd h
   give-solved (Give v a) w z h given = (z, h.2, subst (λ u. Given cs ds x y x' y' u z) h.0 given, refl)
@@ -83,7 +83,7 @@ module _ (cs : List Raw) (x y : List ℕ) where
   match-inside (Match (Y n) a) place z h hx hy = let l : held y n < length cs = hy n in let e : place ≡ held y n = h.0 in omega arith
   match-inside (Give v a) place z h hx hy = absurd h
 
-  pub give-has : (g : Goal) (w : Slot) (z : ℤ) → HasValue cs x y g (Gives w z) → HasRegister w (length x) (length y)
+  pub give-has : (g : Goal) (w : Slot) (z : ℤ) → Gives cs x y g w z → HasRegister w (length x) (length y)
   give-has (Compare op a b) w z h = absurd h
   give-has (Match v a) w z h = absurd h
   give-has (Give v a) w z h = subst (λ u. HasRegister u (length x) (length y)) (sym h.0) h.1

@@ -13,7 +13,7 @@ use Rattle.ap_machine.specs.Direct.{IsDirectDue}
 abbrev pub IsDue : Compiled → Machine → Due → Type 0
 IsDue code m (Call number) = (m.now ≡ calling number) × ((q : Predicate) × (slice_get code.predicates number ≡ Some q))
 IsDue code m (Goal builtin at) = (m.now ≡ inside at) × (slice_get code.instructions at ≡ Some (Builtin builtin))
-IsDue code m (Direct value to) = IsDirectDue code m value to
+IsDue code m (Direct to value) = IsDirectDue code m value to
 IsDue code m Answer = (m.now ≡ returning) × (m.returns ≡ [])
 IsDue code m Nothing = (m.now ≡ failed) × (m.points ≡ [])
 IsDue code m (Group at) = (m.now ≡ inside at) × IsGroupAt code at
@@ -22,7 +22,7 @@ IsDue code m (Group at) = (m.now ≡ inside at) × IsGroupAt code at
 abbrev pub IsTurnDue : Due → Type 0
 IsTurnDue (Call number) = Unit {0}
 IsTurnDue (Goal builtin at) = Unit {0}
-IsTurnDue (Direct value to) = Unit {0}
+IsTurnDue (Direct to value) = Unit {0}
 IsTurnDue Answer = ⊥
 IsTurnDue Nothing = ⊥
 IsTurnDue (Group at) = ⊥

@@ -24,7 +24,7 @@ Ends code inferences old new Group = IsAtGroup code new.machine
 abbrev pub IsEndOf : Paused → Due → Turn → Type 0
 IsEndOf s (Call number) end = (end ≡ Spent) × (s.budget ≤ s.spent)
 IsEndOf s (Goal builtin at) end = (end ≡ Spent) × (s.budget ≤ s.spent)
-IsEndOf s (Direct value to) end = (end ≡ Spent) × (s.budget ≤ s.spent)
+IsEndOf s (Direct to value) end = (end ≡ Spent) × (s.budget ≤ s.spent)
 IsEndOf s AnswerDue end = end ≡ Answer
 IsEndOf s Nothing end = end ≡ Failed
 IsEndOf s (GroupDue at) end = end ≡ Group

@@ -118,7 +118,7 @@ impl Search {
         match due {
             Due::Call(number) => self.make_call(sound, number),
             Due::Goal(builtin, at) => self.make_goal(sound.code(), builtin, at),
-            Due::Direct(value, to) => self.make_direct(sound.code(), value, to),
+            Due::Direct(to, value) => self.make_direct(sound.code(), value, to),
             Due::Answer => Ok(()),
             Due::Nothing => Ok(()),
             Due::Group(_) => Ok(()),

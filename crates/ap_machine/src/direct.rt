@@ -17,7 +17,7 @@ ghost use Rattle.ap_direct_turns.specs.Laws.{behind_direct};
 ghost use Rattle.ap_direct_turns.specs.Solved.{own, own_part, Given, SolvedOn};
 ghost use Rattle.ap_machine.specs.View.{now_of};
 ghost use Rattle.ap_machine.specs.Choices.{Stays};
-ghost use Rattle.ap_machine.specs.Direct.{HasValue, IsDirectDue};
+ghost use Rattle.ap_machine.specs.Direct.{HasValue, IsDirectDue, given};
 ghost use Rattle.ap_machine.specs.Due.{IsDue};
 
 use crate::due::Due;
@@ -32,15 +32,18 @@ use ap_spec::{applied, compares};
 use ap_steps::registers::{read, write};
 use ap_term::NoMemory;
 
-/// What a goal of arithmetic comes to.
+/// What a goal of arithmetic comes to. Fields of two sizes never stand at one offset, since they would be packed and unpacked wherever
+/// ways meet.
 #[derive(Clone, Copy)]
 pub(crate) enum Value {
     /// Whether it holds.
     Holds(bool),
     /// A place's term is to be this value.
     Match(usize, i64),
-    /// A register gets this value.
-    Give(Slot, i64),
+    /// A temporary register gets this value.
+    GiveTemporary(u32, i64),
+    /// A permanent variable gets it.
+    GivePermanent(u8, i64),
 }
 
 /// The integer at the end of the chain from a place.
@@ -114,6 +117,17 @@ fn is_register(x: &[u32], y: &[u32], v: Slot) -> bool
     }
 }
 
+/// The value that a register gets.
+#[inline(always)]
+fn given(v: Slot, z: i64) -> Value
+    ensures { result ≡ given v z }
+{
+    match v {
+        Slot::X(n) => Value::GiveTemporary(n, z),
+        Slot::Y(n) => Value::GivePermanent(n, z),
+    }
+}
+
 /// What a goal comes to whose operands are integers, if it meets no fault.
 #[inline(always)]
 fn goal_value(cells: &Cells, x: &[u32], y: &[u32], goal: &Goal) -> Option<Value>
@@ -135,7 +149,7 @@ fn goal_value(cells: &Cells, x: &[u32], y: &[u32], goal: &Goal) -> Option<Value>
                 return None;
             }
             let z = part_value(cells, x, y, part)?;
-            Some(Value::Give(*v, z))
+            Some(given(*v, z))
         }
     }
 }
@@ -179,8 +193,12 @@ fn solve_value(
     match value {
         Value::Holds(holds) => Ok(holds),
         Value::Match(place, z) => Ok(match_integer(cells, place, z)),
-        Value::Give(v, z) => {
-            give(cells, x, y, v, z)?;
+        Value::GiveTemporary(n, z) => {
+            give(cells, x, y, Slot::X(n), z)?;
+            Ok(true)
+        }
+        Value::GivePermanent(n, z) => {
+            give(cells, x, y, Slot::Y(n), z)?;
             Ok(true)
         }
     }
@@ -203,7 +221,7 @@ impl Search {
     {
         let direct = sound.direct(at)?;
         let value = goal_value(&self.cells, &self.x, &self.y, &direct.goal)?;
-        Some(Due::Direct(value, direct.to))
+        Some(Due::Direct(direct.to, value))
     }
 
     /// Solves a goal of arithmetic: a turn. Without memory nothing changes.

@@ -24,8 +24,8 @@ pub(crate) enum Due {
     Call(u32),
     /// A built-in goal, which stands at a place.
     Goal(Builtin, usize),
-    /// A goal of arithmetic with this value, behind which the code goes on at a place.
-    Direct(Value, usize),
+    /// A goal of arithmetic behind which the code goes on at a place, and what it comes to.
+    Direct(usize, Value),
     /// The search stands at an answer.
     Answer,
     /// No alternative is left.
