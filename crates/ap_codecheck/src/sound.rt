@@ -203,7 +203,7 @@ impl Sound {
         self.tables.directs.goal(at)
     }
 
-    /// The first place behind this one, before the next transfer of control, at which such a goal begins.
+    /// The first place from this one on, before the next transfer of control, at which such a goal begins.
     #[inline(always)]
     pub fn stop(&self, at: usize) -> usize {
         self.tables.directs.stop(at)

@@ -17,7 +17,7 @@ use ap_term::NoMemory;
 use std::alloc::Global;
 use std::mem;
 
-/// By places, the goal that begins there, and the first place behind it, before the next transfer of control, at which one begins.
+/// By places, the goal that begins there, and the first place from it on, before the next transfer of control, at which one begins.
 #[derive(Drop)]
 pub struct Directs {
     pub goals: Vec<Option<Direct>>,
@@ -209,7 +209,7 @@ fn stands_at(code: &Code, goals: &[Option<Direct>], at: usize) -> bool {
     }
 }
 
-/// Notes for places behind so many the first place behind each at which a goal begins, and lets go goals on structures.
+/// Notes for places behind so many the first place from each on at which a goal begins, and lets go goals on structures.
 fn note_stops(code: &Code, from: usize, goals: &mut Vec<Option<Direct>>, stops: &mut [usize])
     requires fits { length goals.old.items ≡ length stops.old }
     requires asked { AreAsked code.now goals.old.items }
@@ -224,10 +224,12 @@ fn note_stops(code: &Code, from: usize, goals: &mut Vec<Option<Direct>>, stops: 
         if is_transfer(code, place) {
             stop = usize::MAX;
         }
-        stops[place] = stop;
-        if stands_at(code, goals.as_slice(), place) {
+        let begins = stands_at(code, goals.as_slice(), place);
+        if begins {
             stop = place;
-        } else {
+        }
+        stops[place] = stop;
+        if !begins {
             let _lost = take(code, goals, place);
         }
     }
@@ -302,7 +304,7 @@ impl Directs {
         }
     }
 
-    /// The first place behind this one, before the next transfer of control, at which a goal begins.
+    /// The first place from this one on, before the next transfer of control, at which a goal begins.
     #[inline(always)]
     pub fn stop(&self, at: usize) -> usize {
         match self.stops.get(at) {

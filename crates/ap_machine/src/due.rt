@@ -34,20 +34,20 @@ pub(crate) enum Due {
     Group(usize),
 }
 
-/// Where a run stops that began at a place and is at another one: the first place behind it, before the next transfer of control, at
-/// which a goal of arithmetic begins; outside of the code where it has stopped before, so that a goal that couldn't be solved there is
-/// put as a whole.
+/// Where a run stops that begins at a place: the first place behind it, before the next transfer of control, at which a goal of arithmetic
+/// begins. `first` is the first such place from it on; where that is the place itself, its goal is put as a whole.
 #[inline(always)]
-fn stop_behind(sound: &Sound, begin: usize, at: usize) -> usize
+fn stop_behind(sound: &Sound, at: usize, first: usize) -> usize
     ensures { (at < result) ⊎ (length sound.now.instructions ≤ result) }
 {
-    if at == begin {
-        let stop = sound.stop(at);
-        if stop > at {
-            return stop;
-        }
+    if first > at {
+        return first;
     }
-    sound.code().instructions().len()
+    let places = sound.code().instructions().len();
+    if at >= places {
+        return places;
+    }
+    sound.stop(at + 1).max(at + 1)
 }
 
 impl Search {
@@ -83,10 +83,13 @@ impl Search {
         let code = sound.code();
         let mut place = at;
         'goals: loop {
-            if let Some(due) = self.direct_due(sound, place) {
-                return Ok(Some(due));
+            let first = sound.stop(place);
+            if first <= place {
+                if let Some(due) = self.direct_due(sound, place) {
+                    return Ok(Some(due));
+                }
             }
-            let stop = stop_behind(sound, at, place);
+            let stop = stop_behind(sound, place, first);
             let Some(to) = self.run_on(code, sound.room(), place, stop)? else {
                 return Ok(None);
             };
