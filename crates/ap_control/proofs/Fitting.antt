@@ -1,5 +1,5 @@
 -- How the arguments of a call stand to what a head asks of them.
-use Rattle.std.proofs.Common.{◌≡◌, ℕ, zero, suc, ◌+◌, ◌≤◌, List, [], ◌∷◌, ◌++◌, take, slice_get, Option, Some, None, Bool, true, false, refl, ap, sym, ◌∙◌, subst, arith}
+use Rattle.std.proofs.Common.{◌≡◌, ℕ, zero, suc, ◌+◌, List, [], ◌∷◌, ◌++◌, take, slice_get, Option, Some, None, Bool, true, false, refl, ap, sym, ◌∙◌, subst, arith}
 use Rattle.std.specs.Prelude.{IfSome, if◌then◌else◌}
 use Rattle.std.specs.List.{AllByRecursion}
 use Rattle.ap_term.specs.Tree.{Tree, var, atom, int, node}
@@ -118,12 +118,6 @@ bound-fit cs p own asked known = go (same_key own asked) refl
     go : (b : Bool) → same_key own asked ≡ b → Under cs (λ k. IsKeyOf asked (k p)) (if b then Has else Lacks)
     go true q = λ k fits. subst (λ key. IsKeyOf key (k p)) (true-same own asked q) (known k fits)
     go false q = λ k fits met. clash own asked (k p) q (known k fits) met
-
--- the first argument, of which the key is known
-pub known-ask : (cs : List Raw) (x : ℕ → ℕ) (arity : ℕ) (own : Hashed) (a : Ask) → HasKey cs x (Some own) → a.argument ≡ 1 → a.argument ≤ arity → IsAskFit cs x arity a (fit_known own.key a.key)
-known-ask cs x arity own a known one few = λ z alike.
-    let e : z a.argument ≡ x 1 = alike a.argument few ∙ ap x one in
-    subst (λ p. Under cs (λ k. IsKeyOf a.key (k p)) (fit_known own.key a.key)) (sym e) (bound-fit cs (x 1) own.key a.key known)
 
 -- an unbound variable takes a term of each key
 pub takes-key : (cs : List Raw) (p x : ℕ) (asked : Key) → tree_at (trees cs) p ≡ var x → IsFit cs p asked Takes

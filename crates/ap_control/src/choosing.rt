@@ -123,20 +123,16 @@ fn fit_key(cells: &Cells, place: usize, asked: Key) -> Fit
     }
 }
 
-/// How an argument of a call with so many stands to what it is asked. Of the first one the key may be known.
+/// How an argument of a call with so many stands to what it is asked.
 #[inline(always)]
-fn fit_ask(cells: &Cells, x: &[u32], arity: u8, key: &Option<Hashed>, ask: &Ask) -> Fit
+fn fit_ask(cells: &Cells, x: &[u32], arity: u8, ask: &Ask) -> Fit
     requires holds { HoldPlaces (length cells.now.cells) x.now }
-    requires key { HasKey cells.now.cells (held x.now) key.now }
     ensures { IsAskFit cells.now.cells (held x.now) arity ask.now result }
 {
     if ask.argument > arity as u32 {
         return Fit::Open;
     }
-    match *key {
-        Some(own) if ask.argument == 1 => fit_known(own.key(), ask.key),
-        _ => fit_key(cells, place_in(x, ask.argument), ask.key),
-    }
+    fit_key(cells, place_in(x, ask.argument), ask.key)
 }
 
 /// How all of what is asked is, where some of it was so and one more is so. Of two that take a variable it isn't told, since that may be
@@ -156,14 +152,13 @@ fn both(some: Fit, one: Fit) -> Fit
 
 /// How the arguments of a call stand to what they are asked.
 #[inline(always)]
-fn fit_all(cells: &Cells, x: &[u32], arity: u8, key: &Option<Hashed>, asks: &[Ask]) -> Fit
+fn fit_all(cells: &Cells, x: &[u32], arity: u8, asks: &[Ask]) -> Fit
     requires holds { HoldPlaces (length cells.now.cells) x.now }
-    requires key { HasKey cells.now.cells (held x.now) key.now }
     ensures { AreFit cells.now.cells (held x.now) arity asks.now result }
 {
     let mut fit = Fit::Has;
     for ask in asks {
-        match fit_ask(cells, x, arity, key, ask) {
+        match fit_ask(cells, x, arity, ask) {
             Fit::Has => {}
             Fit::Lacks => return Fit::Lacks,
             other => fit = both(fit, other),
@@ -200,15 +195,11 @@ fn chance_by(fit: Fit, head: &Head) -> Chance
 
 /// Whether the clause of a choice can be entered by a call on so many argument registers, by what its head asks of them.
 #[inline(always)]
-fn chance_of(cells: &Cells, x: &[u32], arity: u8, key: &Option<Hashed>, choice: &Choice) -> Chance
+fn chance_of(cells: &Cells, x: &[u32], arity: u8, choice: &Choice) -> Chance
     requires holds { HoldPlaces (length cells.now.cells) x.now }
-    requires key { HasKey cells.now.cells (held x.now) key.now }
     ensures { (code : Compiled) → IsChoiceOf code choice.now → IsChance code cells.now.cells (held x.now) arity choice.now.named.place result }
 {
-    chance_by(
-        fit_all(cells, x, arity, key, choice.head.asks()),
-        &choice.head,
-    )
+    chance_by(fit_all(cells, x, arity, choice.head.asks()), &choice.head)
 }
 
 /// From a place behind a choice the next choice for the first argument, by the row that may go on there.
@@ -224,14 +215,14 @@ fn next_of_row(sound: &Sound, own: Hashed, at: usize) -> Option<usize>
 
 /// From a choice the next one for the first argument, by what is known there.
 #[inline(always)]
-fn next_choice(sound: &Sound, key: &Option<Hashed>, choice: &Choice) -> Option<usize>
+fn next_choice(sound: &Sound, key: Option<Hashed>, choice: &Choice) -> Option<usize>
     requires { IsChoiceOf sound.now choice.now }
-    ensures { (cs : List Raw) (x : ℕ → ℕ) → HasKey cs x key.now → PassesOver sound.now cs x (places_from sound.now choice.now.named.behind) (places_from sound.now result) }
+    ensures { (cs : List Raw) (x : ℕ → ℕ) → HasKey cs x key → PassesOver sound.now cs x (places_from sound.now choice.now.named.behind) (places_from sound.now result) }
 {
     let Some(at) = choice.named.behind else {
         return None;
     };
-    let Some(own) = *key else {
+    let Some(own) = key else {
         return Some(at);
     };
     match choice.next {
@@ -263,22 +254,21 @@ fn next_unknown(sound: &Sound, from: Option<usize>) -> Option<Possible>
     }
 }
 
-/// The first clause from the choice at a place on that isn't passed over.
-#[inline(never)]
-fn possible_at(
+/// The first clause from a choice on that isn't passed over.
+fn possible_from(
     cells: &Cells,
     x: &[u32],
     arity: u8,
     sound: &Sound,
-    key: &Option<Hashed>,
-    begin: usize,
+    key: Option<Hashed>,
+    from: Option<usize>,
 ) -> Option<Possible>
     requires holds { HoldPlaces (length cells.now.cells) x.now }
-    requires key { HasKey cells.now.cells (held x.now) key.now }
-    ensures passes { PassesOver sound.now cells.now.cells (held x.now) (places_from sound.now (Some begin)) (possible_places sound.now result) }
+    requires key { HasKey cells.now.cells (held x.now) key }
+    ensures passes { PassesOver sound.now cells.now.cells (held x.now) (places_from sound.now from) (possible_places sound.now result) }
     ensures sure { IfSome result (λ p. p.sure ≡ true → (z : ℕ → ℕ) → Alike arity (held x.now) z → CanTake sound.now cells.now.cells z p.alternative.place) }
 {
-    let mut rest = Some(begin);
+    let mut rest = from;
     while let Some(at) = rest {
         let Some(choice) = sound.choice(at) else {
             return next_unknown(sound, rest);
@@ -290,7 +280,7 @@ fn possible_at(
             place: choice.named.place,
             behind: choice.named.behind,
         };
-        match chance_of(cells, x, arity, key, choice) {
+        match chance_of(cells, x, arity, choice) {
             Chance::Never => rest = next_choice(sound, key, choice),
             Chance::Sure => {
                 return Some(Possible {
@@ -307,27 +297,6 @@ fn possible_at(
         }
     }
     None
-}
-
-/// The first clause from a choice on that isn't passed over.
-#[inline(always)]
-fn possible_from(
-    cells: &Cells,
-    x: &[u32],
-    arity: u8,
-    sound: &Sound,
-    key: &Option<Hashed>,
-    from: Option<usize>,
-) -> Option<Possible>
-    requires holds { HoldPlaces (length cells.now.cells) x.now }
-    requires key { HasKey cells.now.cells (held x.now) key.now }
-    ensures passes { PassesOver sound.now cells.now.cells (held x.now) (places_from sound.now from) (possible_places sound.now result) }
-    ensures sure { IfSome result (λ p. p.sure ≡ true → (z : ℕ → ℕ) → Alike arity (held x.now) z → CanTake sound.now cells.now.cells z p.alternative.place) }
-{
-    match from {
-        Some(begin) => possible_at(cells, x, arity, sound, key, begin),
-        None => None,
-    }
 }
 
 /// The choice before a place, where that is the place behind it.
@@ -349,8 +318,8 @@ fn choice_before(sound: &Sound, at: usize) -> Option<&Choice>
 
 /// From a place behind a choice the next choice for the first argument, by what is known of the choice before it.
 #[inline(always)]
-fn next_behind(sound: &Sound, key: &Option<Hashed>, behind: Option<usize>) -> Option<usize>
-    ensures { (cs : List Raw) (x : ℕ → ℕ) → HasKey cs x key.now → PassesOver sound.now cs x (places_from sound.now behind) (places_from sound.now result) }
+fn next_behind(sound: &Sound, key: Option<Hashed>, behind: Option<usize>) -> Option<usize>
+    ensures { (cs : List Raw) (x : ℕ → ℕ) → HasKey cs x key → PassesOver sound.now cs x (places_from sound.now behind) (places_from sound.now result) }
 {
     let Some(at) = behind else {
         return None;
@@ -377,11 +346,11 @@ pub fn next_possible(
         return None;
     };
     let Some(choice) = choice_before(sound, at) else {
-        return possible_from(cells, x, arity, sound, &None, behind);
+        return possible_from(cells, x, arity, sound, None, behind);
     };
     let key = key_for(cells, x, choice);
-    let from = next_choice(sound, &key, choice);
-    possible_from(cells, x, arity, sound, &key, from)
+    let from = next_choice(sound, key, choice);
+    possible_from(cells, x, arity, sound, key, from)
 }
 
 /// The clauses that a call may enter.
@@ -413,12 +382,12 @@ fn chosen_among(
     x: &[u32],
     arity: u8,
     sound: &Sound,
-    key: &Option<Hashed>,
+    key: Option<Hashed>,
     found: &Choice,
     from: Option<usize>,
 ) -> Option<Chosen>
     requires holds { HoldPlaces (length cells.now.cells) x.now }
-    requires key { HasKey cells.now.cells (held x.now) key.now }
+    requires key { HasKey cells.now.cells (held x.now) key }
     requires found { IsChoiceOf sound.now found.now }
     requires from { PassesOver sound.now cells.now.cells (held x.now) (places_from sound.now found.now.named.behind) (places_from sound.now from) }
     ensures none { result ≡ None → PassesOver sound.now cells.now.cells (held x.now) (found.now.named.place ∷ places_from sound.now found.now.named.behind) [] }
@@ -429,7 +398,7 @@ fn chosen_among(
         behind: found.named.behind,
     };
     let next = possible_from(cells, x, arity, sound, key, from);
-    match chance_of(cells, x, arity, key, found) {
+    match chance_of(cells, x, arity, found) {
         Chance::Never => {
             let Some(second) = next else {
                 return None;
@@ -449,11 +418,11 @@ fn chosen_from(
     x: &[u32],
     arity: u8,
     sound: &Sound,
-    key: &Option<Hashed>,
+    key: Option<Hashed>,
     found: &Choice,
 ) -> Option<Chosen>
     requires holds { HoldPlaces (length cells.now.cells) x.now }
-    requires key { HasKey cells.now.cells (held x.now) key.now }
+    requires key { HasKey cells.now.cells (held x.now) key }
     requires found { IsChoiceOf sound.now found.now }
     ensures none { result ≡ None → PassesOver sound.now cells.now.cells (held x.now) (found.now.named.place ∷ places_from sound.now found.now.named.behind) [] }
     ensures some { IfSome result (IsChosen sound.now cells.now.cells (held x.now) arity (found.now.named.place ∷ places_from sound.now found.now.named.behind)) }
@@ -499,7 +468,7 @@ fn chosen_by_row(
         return None;
     };
     match sound.choice(at) {
-        Some(found) => chosen_from(cells, x, predicate.arity, sound, &Some(own), found),
+        Some(found) => chosen_from(cells, x, predicate.arity, sound, Some(own), found),
         None => chosen_plainly(sound, predicate),
     }
 }
@@ -518,7 +487,7 @@ fn chosen_in_turn(cells: &Cells, x: &[u32], sound: &Sound, predicate: &Predicate
         return chosen_plainly(sound, predicate);
     }
     let key = key_for(cells, x, begin);
-    chosen_from(cells, x, predicate.arity, sound, &key, begin)
+    chosen_from(cells, x, predicate.arity, sound, key, begin)
 }
 
 /// The clauses of a predicate that a call on its argument registers may enter.
