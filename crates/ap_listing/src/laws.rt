@@ -1,0 +1,13 @@
+//! Laws of a listed switch. Each is the contract of a function that does nothing.
+
+ghost use Rattle.ap_listing.specs.Laws.{LeadsLaw, IndexLaw};
+
+/// A switch leads a call to the clauses that its first argument leaves, in order.
+pub fn leads_law()
+    ensures { LeadsLaw }
+{}
+
+/// Of the clauses that the index gives for a key the switch leaves out none but those that ask for another one.
+pub fn index_law()
+    ensures { IndexLaw }
+{}
