@@ -236,11 +236,11 @@ module _ (names : List (List ℕ)) (code : Compiled) (one : HasOneCell names) (l
 
 -- ---- the law
 
-some_by : (b : Bool) (o : Option Table) (t : Table) → (if b then o else None) ≡ Some t → o ≡ Some t
+pub some_by : (b : Bool) (o : Option Table) (t : Table) → (if b then o else None) ≡ Some t → o ≡ Some t
 some_by true o t e = e
 some_by false o t e = absurd (let z : ⊥ = cc in z)
 
-table_by : (names : List (List ℕ)) (code : Compiled) (p : Predicate) (ls : List ℕ) (ks : List Key) (t : Table) → table_by_keys names code p ls ks ≡ Some t
+pub table_by : (names : List (List ℕ)) (code : Compiled) (p : Predicate) (ls : List ℕ) (ks : List Key) (t : Table) → table_by_keys names code p ls ks ≡ Some t
     → t ≡ table_of (open_clauses code ls) (has_constants ks) (has_functors names ks) (instructions_of code p) (groups code ls ks)
 table_by names code p ls [] t e = absurd (let z : ⊥ = cc in z)
 table_by names code p ls (k ∷ ks) t e = cc

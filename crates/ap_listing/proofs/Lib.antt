@@ -5,4 +5,5 @@ mod Tables
 mod Texts
 mod Cells
 mod Leads
+mod Unbound
 mod Indexed

@@ -3,7 +3,7 @@ use Rattle.std.specs.Prelude.{◌≡◌, ℕ, ◌-◌, if◌then◌else◌, List
 use Rattle.ap_term.specs.AtomTable.{IsAtomTable}
 use Rattle.ap_instr.specs.declared.instruction.Instr.{Instr}
 use Rattle.ap_instr.specs.declared.compiled.Predicate.{Predicate}
-use Rattle.ap_instr.specs.Code.{Compiled}
+use Rattle.ap_instr.specs.Code.{Compiled, instructions_of}
 use Rattle.ap_instr.specs.StandsFor.{clause_places}
 use Rattle.ap_index.specs.declared.key.Key.{Key}
 use Rattle.ap_index.specs.declared.key.Key.TheVariants.{Atom, Integer, Structure}
@@ -53,10 +53,20 @@ leads_from names t k _ = []
 abbrev pub leads : List (List ℕ) → Table → Key → List ℕ
 leads names t k = leads_from names t k (switches names t)
 
+-- those to which it leads a call whose first argument is a variable
+abbrev pub leads_unbound : Table → List Switch → List ℕ
+leads_unbound t (on_term unbound atomic list compound ∷ ss) = clauses_at t unbound
+leads_unbound t _ = []
+
 -- A switch leads a call to the clauses of its predicate that ask for its first argument's key, or for none, in order.
 abbrev pub LeadsLaw : Type 0
 LeadsLaw = (names : List (List ℕ)) (code : Compiled) (p : Predicate) (t : Table) (k : Key) → IsAtomTable names → table names code p ≡ Some t
     → leads names t k ≡ clauses_for code (clause_places code p) k
+
+-- It leads a call whose first argument is a variable to all of them, where the choices that name them are the predicate's own.
+abbrev pub UnboundLaw : Type 0
+UnboundLaw = (names : List (List ℕ)) (code : Compiled) (p : Predicate) (t : Table) → named (instructions_of code p) ≡ clause_places code p → table names code p ≡ Some t
+    → leads_unbound t (switches names t) ≡ clause_places code p
 
 -- What an index passes over, the switch leaves out: of the clauses from the index's first choice on, it leads to the same.
 abbrev pub IndexLaw : Type 0
