@@ -1,12 +1,15 @@
 // Each instruction's line from the outside: the words and operands of the table of instructions.
-use ap_instr::{Builtin, Code, Instr, Predicate, Slot, listing};
+use ap_instr::{Builtin, Code, Instr, Predicate, Slot};
+use ap_listing::listing;
 use ap_term::{Atom, Atoms, Op, Relation, fixed};
 use std::alloc::Global;
 use std::test::Fail;
 
 const LISTED: &str = "q/2:
-  try @2
-  trust @4
+  switch_on_term @2 @1 @4 @4
+  switch_on_constant a @36 @4
+  try @4
+  trust @6
   get_variable Y1 A1
   get_value X3 A2
   get_constant a A1
@@ -27,18 +30,20 @@ const LISTED: &str = "q/2:
   put_structure +/2 A2
   builtin is
   builtin =<
-  check_ground Y1 @2
-  check_indep X3 Y2 @4
+  check_ground Y1 @4
+  check_indep X3 Y2 @6
   alloc_parcall 2
   push_goal 1 q/2
   push_goal 2 p/1
   wait_all
   call q/2
-  jump @0
-  retry @1
+  jump @2
+  retry @3
   fail
   deallocate
   execute p/1
+  try @4
+  trust @6
 p/1:
   get_integer 1 A1
   proceed
@@ -109,8 +114,8 @@ fn instructions(alloc: Global, names: &Names) -> Result<Vec<Instr>, Fail> {
     ]?)
 }
 
-// Each word of the table of instructions with its operands; a predicate that isn't listed, places from a predicate's
-// start, a list's cell and a functor `.` that is none, names that want quotes, integers at the ends of 64 bits.
+// Each word of the table of instructions with its operands, and a switch; a predicate that isn't listed, places from a predicate's
+// first line, a list's cell and a functor `.` that is none, names that want quotes, integers at the ends of 64 bits.
 #[test]
 fn lists_each_instruction(rt: HostRuntime) -> Result<(), Fail> {
     let alloc = rt.alloc();

@@ -3,6 +3,8 @@
 // another one has a temporary while it waits: in a head the last one is taken apart first, in a body it is built first. A
 // variable that outlives a call stands in the environment; any other one in the argument register that it comes from or goes
 // to, if nothing else needs that meanwhile, and else behind the arguments. What stands where it is put already needs no move.
+// Where some clause of two or more asks for a first argument, switches come first, and behind the clauses stand the chains of those
+// keys that two or more of them answer, in the order in which the keys are first asked for, and that of the clauses for all others.
 // A group's checks come first and lead past its goals, which are pushed by their numbers, to the same goals one after another.
 // A variable outlives a group as it outlives a call, and on the other way each of these. At the checks it stands in one place.
 
@@ -37,8 +39,10 @@ q/1:
   deallocate
   proceed
 app/3:
-  try @2
-  trust @5
+  switch_on_term @2 @1 @7 fail
+  switch_on_constant [] @4 fail
+  try @4
+  trust @7
   get_constant [] A1
   get_value X2 A3
   proceed
@@ -222,8 +226,10 @@ const HALVES: &str = "total([], 0).
     deal([E|L], [E|A], B) :- deal(L, B, A).";
 
 const HALVES_LISTED: &str = "total/2:
-  try @2
-  trust @5
+  switch_on_term @2 @1 @7 fail
+  switch_on_constant [] @4 fail
+  try @4
+  trust @7
   get_constant [] A1
   get_integer 0 A2
   proceed
@@ -235,7 +241,7 @@ const HALVES_LISTED: &str = "total/2:
   put_variable Y3 A2
   put_variable Y4 A3
   call deal/3
-  check_indep Y3 Y4 @23
+  check_indep Y3 Y4 @25
   alloc_parcall 2
   put_value Y3 A1
   put_variable Y5 A2
@@ -244,7 +250,7 @@ const HALVES_LISTED: &str = "total/2:
   put_variable Y6 A2
   push_goal 2 total/2
   wait_all
-  jump @29
+  jump @31
   put_value Y3 A1
   put_variable Y5 A2
   call total/2
@@ -262,8 +268,10 @@ const HALVES_LISTED: &str = "total/2:
   deallocate
   proceed
 deal/3:
-  try @2
-  trust @6
+  switch_on_term @2 @1 @8 fail
+  switch_on_constant [] @4 fail
+  try @4
+  trust @8
   get_constant [] A1
   get_constant [] A2
   get_constant [] A3
@@ -277,6 +285,105 @@ deal/3:
   put_value X3 A2
   put_value X5 A3
   execute deal/3
+";
+
+/// Keys of each kind beside a clause that asks for none, constants alone, two clauses that ask for none, and no key.
+const SWITCHES: &str =
+    "p(a, 1).  p(7, 2).  p([_|_], 3).  p(f(_), 4).  p(_, 5).  p(a, 6).  p(g(_, _), 7).  p([], 8).
+    c(a).  c(-3).  c(a).
+    d(f(a)).  d(_).  d(_).
+    v(_, 1).  v(X, X).";
+
+const SWITCHES_LISTED: &str = "p/2:
+  switch_on_term @3 @1 @44 @2
+  switch_on_constant a @39 7 @42 [] @50 @26
+  switch_on_structure f/1 @46 g/2 @48 @26
+  try @11
+  retry @14
+  retry @17
+  retry @22
+  retry @26
+  retry @28
+  retry @31
+  trust @36
+  get_constant a A1
+  get_integer 1 A2
+  proceed
+  get_integer 7 A1
+  get_integer 2 A2
+  proceed
+  get_list A1
+  unify_variable X3
+  unify_variable X4
+  get_integer 3 A2
+  proceed
+  get_structure f/1 A1
+  unify_variable X3
+  get_integer 4 A2
+  proceed
+  get_integer 5 A2
+  proceed
+  get_constant a A1
+  get_integer 6 A2
+  proceed
+  get_structure g/2 A1
+  unify_variable X3
+  unify_variable X4
+  get_integer 7 A2
+  proceed
+  get_constant [] A1
+  get_integer 8 A2
+  proceed
+  try @11
+  retry @26
+  trust @28
+  try @14
+  trust @26
+  try @17
+  trust @26
+  try @22
+  trust @26
+  try @26
+  trust @31
+  try @26
+  trust @36
+c/1:
+  switch_on_term @2 @1 fail fail
+  switch_on_constant a @11 -3 @7 fail
+  try @5
+  retry @7
+  trust @9
+  get_constant a A1
+  proceed
+  get_integer -3 A1
+  proceed
+  get_constant a A1
+  proceed
+  try @5
+  trust @9
+d/1:
+  switch_on_term @2 @13 @13 @1
+  switch_on_structure f/1 @10 @13
+  try @5
+  retry @8
+  trust @9
+  get_structure f/1 A1
+  unify_constant a
+  proceed
+  proceed
+  proceed
+  try @5
+  retry @8
+  trust @9
+  try @8
+  trust @9
+v/2:
+  try @2
+  trust @4
+  get_integer 1 A2
+  proceed
+  get_value X1 A2
+  proceed
 ";
 
 /// As many goals as a group can have.
@@ -355,7 +462,8 @@ a/0:
   proceed
 ";
 
-const LISTINGS: [Command; 12] = [
+const LISTINGS: [Command; 13] = [
+    (CODE, SWITCHES, "", SWITCHES_LISTED, Status::Done),
     (CODE, HALVES, "", HALVES_LISTED, Status::Done),
     (CODE, MANY, "", MANY_LISTED, Status::Done),
     (CODE, PAIRS, "", PAIRS_LISTED, Status::Done),

@@ -8,9 +8,9 @@ use Rattle.ap_term.specs.declared.fixed.TheConstants.{QUERY, TRUE}
 use Rattle.ap_clause.specs.Reads.{AcceptsProgram, RefusesProgram}
 use Rattle.ap_clause.specs.declared.refusal.Refusal.{Refusal}
 use Rattle.ap_instr.specs.Code.{Compiled}
-use Rattle.ap_instr.specs.Listing.{listing}
 use Rattle.ap_instr.specs.StandsFor.{StandsForQuery}
 use Rattle.ap_codecheck.specs.Rules.{IsSound}
+use Rattle.ap_listing.specs.Lines.{listing}
 use Rattle.ap_patterns.specs.declared.entries.Entries.TheVariants.{All}
 use Rattle.ap_mel.specs.declared.annotations.Kind.TheVariants.{Mel}
 use Rattle.ap_top.specs.Shows.{IsAnnotatedAs}

@@ -13,7 +13,7 @@ use crate::status::Status;
 use crate::text_lines::put_text;
 use ap_clause::{Refusal, program};
 use ap_codegen::compile;
-use ap_instr::listing;
+use ap_listing::listing;
 use ap_mel::{Kind, annotate_sound};
 use ap_outside::{FileErr, Files, Got, Halt, Sink};
 use ap_patterns::Entries;

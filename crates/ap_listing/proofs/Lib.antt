@@ -1,0 +1,9 @@
+mod Sets
+mod Keys
+mod Groups
+mod Tables
+mod Texts
+mod Cells
+mod Leads
+mod Unbound
+mod Indexed

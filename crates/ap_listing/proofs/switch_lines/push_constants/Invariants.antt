@@ -1,0 +1,7 @@
+-- What is written and the text of the rest are all of it.
+use Rattle.std.proofs.Common.{◌≡◌, ◌++◌, drop}
+use Rattle.ap_listing.specs.Held.{constants_text}
+use Rattle.ap_listing.proofs.switch_lines.push_constants.Given as goal
+
+abbrev pub invariant-loop-entry : goal.invariant-loop-entry
+invariant-loop-entry l = l.out.items ++ constants_text l.atoms l.origin (drop l.entry-index l.entries) ≡ l.fn.out.items ++ constants_text l.atoms l.origin l.entries

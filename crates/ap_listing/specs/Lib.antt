@@ -1,0 +1,5 @@
+pub mod Switch
+pub mod Grouped
+pub mod Held
+pub mod Lines
+pub mod Laws
