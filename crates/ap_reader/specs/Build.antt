@@ -1,12 +1,11 @@
 -- The term that steps make, with the atoms that its names have in a table.
-use Rattle.std.specs.Prelude.{◌≡◌, ℕ, ◌+◌, List, [], ◌∷◌, ◌++◌, map, if◌then◌else◌, codes, bytes_eq, slice_get, length, ◌<◌, Result, Ok, Err}
+use Rattle.std.specs.Prelude.{◌≡◌, ℕ, ◌+◌, List, [], ◌∷◌, ◌++◌, if◌then◌else◌, codes, bytes_eq, slice_get, length, ◌<◌, Result, Ok, Err}
 use Rattle.ap_term.specs.AtomTable.{insert_names, capacity}
 use Rattle.ap_term.specs.declared.names.InternErr.{InternErr}
 use Rattle.ap_term.specs.declared.names.InternErr.TheVariants as err
 use Rattle.ap_lexer.specs.Lexeme.{Text}
 use Rattle.ap_term.specs.Tree as term
 use Rattle.ap_term.specs.Tree.{Trees, var, int, atom, node, none, more}
-use Rattle.ap_term.specs.TermView.{tree_of}
 use Rattle.ap_reader.specs.declared.pass.Step.{Step}
 use Rattle.ap_reader.specs.declared.pass.Step.TheVariants as step
 use Rattle.ap_reader.specs.Written.{Written, Variable, Integer, Atom, Node, Paren, Writtens, Nil, Cons, leaf_at, name_of, name_at}

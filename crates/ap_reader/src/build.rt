@@ -271,20 +271,22 @@ fn add(
     }
 }
 
-/// The term that the steps of one make. After an error the table has some of its names.
+/// The term that the steps of one make, on a stack whose terms are let go. After an error the table has some of its
+/// names.
 pub(crate) fn build(
     alloc: Global,
     leaves: &[Leaf],
     steps: &[Step],
+    stack: &mut Stack,
     recent: &mut Recent,
     atoms: &mut Atoms,
 ) -> Result<Term, InternErr>
     ensures value { IfOk result (λ r. (t : Tree) → steps.now ≡ postfix t → tree_of r ≡ term_in atoms.new (meaning (map leaf_of leaves.now) t)) }
     ensures table { Interned (names (map leaf_of leaves.now) steps.now) atoms.old atoms.new result }
 {
-    let mut stack = Stack::new(alloc);
+    stack.clear();
     for step in steps {
-        match add(alloc, &mut stack, leaves, recent, atoms, *step) {
+        match add(alloc, stack, leaves, recent, atoms, *step) {
             Ok(()) => {}
             Err(e) => return Err(e),
         }

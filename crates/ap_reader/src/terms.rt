@@ -12,6 +12,9 @@ ghost use Rattle.ap_reader.specs.Held.{Held, row, begins};
 use ap_term::{InternErr, Term};
 use std::alloc::Global;
 
+/// How many terms room is kept for.
+const COMMON_ROOM: usize = 1024;
+
 /// The terms, the last on top, and how many stood below the items of each bracket that is open. An item that is done
 /// stays where it is, and the items of a bracket are taken at once.
 #[derive(Drop)]
@@ -28,6 +31,15 @@ impl Stack {
             terms: Vec::new(alloc),
             begun: Vec::new(alloc),
         }
+    }
+
+    /// Lets all go, but for the room of a common term.
+    pub(crate) fn clear(&mut self)
+        ensures { (ns : List Text) → Held ns [] self.new }
+    {
+        self.terms.clear();
+        self.terms.shrink_to(COMMON_ROOM);
+        self.begun.clear();
     }
 
     /// Puts a term on top.

@@ -19,7 +19,7 @@ loop-step-init c =
     record {
       values = λ t e. (
         [],
-        c.new-stack.ensures (insert_names c.args.atoms.now (names xs c.args.steps.now)),
+        c.clear.ensures (insert_names c.args.atoms.now (names xs c.args.steps.now)),
         subst (AllFit xs []) (append-nil (postfix t) ∙ sym e) (fits xs t [] [] tt),
         ap (evaluated xs []) (e ∙ sym (append-nil (postfix t))) ∙ evaluates xs t [] [],
       );
