@@ -1,6 +1,8 @@
 pub mod Numbers
 pub mod Lexemes
 pub mod Turn
+pub mod Feeds
+pub mod Classes
 pub mod Toks
 pub mod NextPiece
 pub mod Valid

@@ -1,5 +1,5 @@
 ghost use Rattle.std.specs.Prelude.{◌≡◌, ◌==◌, ◌≤◌, ◌+◌, ℕ, Option, List, All, count_by, take, drop, length, option_to_list, IfOk, OnOk, ◌++◌};
-ghost use Rattle.ap_lexer.specs.Lexeme.{Text};
+ghost use Rattle.ap_lexer.specs.Lexeme.{Text, lexeme};
 ghost use Rattle.ap_lexer.specs.Piece as spec;
 ghost use Rattle.ap_lexer.specs.Law.{LieInOrder, IsPieceOf};
 
@@ -36,6 +36,18 @@ pub(crate) fn feeds(text: &[u8]) -> usize
     ensures { result ≡ count_by (λ b. b == 10) text.now }
 {
     text.iter().filter(|b| **b == b'\n').count()
+}
+
+/// How many line feeds a lexeme has: a token has none.
+pub(crate) fn feeds_in(kind: LexemeKind, text: &[u8], at: usize, len: usize) -> usize
+    requires within { at + len ≤ length text.now }
+    requires is { (kind, len) ≡ lexeme (drop at text.now) }
+    ensures { result ≡ count_by (λ b. b == 10) (take len (drop at text.now)) }
+{
+    match kind {
+        LexemeKind::Token(_) => 0,
+        LexemeKind::Layout | LexemeKind::Comment | LexemeKind::Bad(_) => feeds(span(text, at, len)),
+    }
 }
 
 /// Where a piece began, and on which line.

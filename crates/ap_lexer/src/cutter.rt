@@ -6,7 +6,7 @@ ghost use Rattle.ap_lexer.specs.Token.{view};
 ghost use Rattle.ap_lexer.specs.Cutter.{text_of, Stands, left, IsNext, HasTokens};
 
 use crate::ahead::Ahead;
-use crate::cut::{begun_after, ended, feeds, span, start, unended};
+use crate::cut::{begun_after, ended, feeds, feeds_in, span, start, unended};
 use crate::recognize::{is_gap_at, lexeme};
 use crate::split::add_token;
 use crate::{NoMemory, Piece, Token};
@@ -59,7 +59,7 @@ impl<'a> Cutter<'a> {
             add_token(out, kind, spelling, at, line)?;
             let (from, first) = start(begun, at, line);
             self.at = at + len;
-            self.line = line + feeds(spelling) as u64;
+            self.line = line + feeds_in(kind, text, at, len) as u64;
             let piece = ended(kind, from, first, at + len, line);
             if piece.is_some() {
                 return Ok(piece);

@@ -107,15 +107,16 @@ fn quoted(ahead: &mut Ahead, text: &[u8], at: usize, len: Option<usize>) -> Lexe
     }
 }
 
-/// Layout, or a token that can be told from its own bytes and the next.
+/// Layout, or a token that can be told from its own bytes and the next. Most tokens are one byte, and most layout
+/// is gone over before.
 fn plain(text: &[u8]) -> Lexeme
     requires { 0 < length text.now }
     ensures value { result ≡ spec.plain text.now }
     ensures within { (0 < result.1) × (result.1 ≤ length text.now) }
 {
     let b = text[0];
-    if is_layout(b) {
-        (LexemeKind::Layout, 1)
+    if let Some(row) = solo(b) {
+        (LexemeKind::Token(row), 1)
     } else if b.is_ascii_lowercase() {
         (
             LexemeKind::Token(TokenKind::Name),
@@ -130,8 +131,8 @@ fn plain(text: &[u8]) -> Lexeme
         integer(text)
     } else if is_symbol(b) {
         symbols(text)
-    } else if let Some(row) = solo(b) {
-        (LexemeKind::Token(row), 1)
+    } else if is_layout(b) {
+        (LexemeKind::Layout, 1)
     } else {
         bad(text)
     }

@@ -1,18 +1,14 @@
 -- The term that steps make, with the atoms that its names have in a table.
-use Rattle.std.specs.Prelude.{◌≡◌, ℕ, ◌+◌, List, [], ◌∷◌, ◌++◌, map, if◌then◌else◌, codes, bytes_eq, slice_get, length, ◌<◌, Result, Ok, Err}
+use Rattle.std.specs.Prelude.{◌≡◌, ℕ, ◌+◌, List, [], ◌∷◌, ◌++◌, if◌then◌else◌, codes, bytes_eq, slice_get, length, ◌<◌, Result, Ok, Err}
 use Rattle.ap_term.specs.AtomTable.{insert_names, capacity}
 use Rattle.ap_term.specs.declared.names.InternErr.{InternErr}
 use Rattle.ap_term.specs.declared.names.InternErr.TheVariants as err
 use Rattle.ap_lexer.specs.Lexeme.{Text}
 use Rattle.ap_term.specs.Tree as term
 use Rattle.ap_term.specs.Tree.{Trees, var, int, atom, node, none, more}
-use Rattle.ap_term.specs.TermView.{tree_of}
 use Rattle.ap_reader.specs.declared.pass.Step.{Step}
 use Rattle.ap_reader.specs.declared.pass.Step.TheVariants as step
-use Rattle.ap_reader.specs.declared.build.Value as code
-use Rattle.ap_reader.specs.declared.build.Value.TheVariants as build
 use Rattle.ap_reader.specs.Written.{Written, Variable, Integer, Atom, Node, Paren, Writtens, Nil, Cons, leaf_at, name_of, name_at}
-use Rattle.ap_reader.specs.Evaluated.{Value, ATerm, Gathered}
 
 -- the place of a name in a table
 abbrev pub place_of : List Text → Text → ℕ
@@ -65,20 +61,6 @@ FaultAt added old new err.NoMemory = Extends old new
 abbrev pub Interned : {A : Type 0} → List Text → List Text → List Text → Result A InternErr → Type 0
 Interned added old new (Ok a) = new ≡ insert_names old added
 Interned added old new (Err e) = FaultAt added old new e
-
--- ---- what the code keeps of the values
-
-pub data Built : Type 0 where
-  ATree : term.Tree → Built
-  Several : List term.Tree → Built
-
-abbrev pub built_of : code.Value → Built
-built_of (build.Term t) = ATree (tree_of t)
-built_of (build.Items v) = Several (map tree_of v.items)
-
-abbrev pub resolved : List Text → Value → Built
-resolved ns (ATerm x) = ATree (term_in ns x)
-resolved ns (Gathered ys) = Several (map (term_in ns) ys)
 
 -- terms as a list in front of a tail
 abbrev pub tree_cells : ℕ → List term.Tree → term.Tree → term.Tree

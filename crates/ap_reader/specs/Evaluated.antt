@@ -78,11 +78,11 @@ module _ (xs : List Written) where
   cells-push [] x rest = refl
   cells-push (y ∷ ys) x rest = ap (cell y) (cells-push ys x rest)
 
-  arguments-is : (items : Items) (rest : Writtens) → with_rest (each_meaning items) rest ≡ arguments xs items rest
+  pub arguments-is : (items : Items) (rest : Writtens) → with_rest (each_meaning items) rest ≡ arguments xs items rest
   arguments-is Begin rest = refl
   arguments-is (Then items t at) rest = with_rest-push (each_meaning items) (meaning xs t) rest ∙ arguments-is items (Cons (meaning xs t) rest)
 
-  listed-is : (items : Items) (rest : Written) → cells (each_meaning items) rest ≡ listed xs items rest
+  pub listed-is : (items : Items) (rest : Written) → cells (each_meaning items) rest ≡ listed xs items rest
   listed-is Begin rest = refl
   listed-is (Then items t at) rest = cells-push (each_meaning items) (meaning xs t) rest ∙ listed-is items (cell (meaning xs t) rest)
 

@@ -10,5 +10,6 @@ pub mod Bracket
 pub mod Evaluated
 pub mod Depth
 pub mod Build
+pub mod Held
 pub mod Reading
 pub mod Examples

@@ -8,6 +8,8 @@ use Rattle.ap_reader.specs.declared.pass.Step.{Step}
 use Rattle.ap_reader.specs.declared.pass.Step.TheVariants as p
 use Rattle.ap_reader.specs.declared.pass.Open.{Open}
 use Rattle.ap_reader.specs.declared.pass.Open.TheVariants as o
+use Rattle.ap_reader.specs.declared.pass.Around.{Around}
+use Rattle.ap_reader.specs.declared.pass.Around.TheVariants as a
 use Rattle.ap_reader.specs.declared.pass.Mode.{Mode}
 use Rattle.ap_reader.specs.declared.pass.Mode.TheVariants as m
 use Rattle.ap_reader.specs.declared.pass.ParseErr.{ParseErr}
@@ -54,6 +56,12 @@ open_of (InTail items t) = o.Tail
 abbrev pub opens : List Frame → List Open
 opens [] = []
 opens (f ∷ s) = opens s ++ open_of f ∷ []
+
+-- what a comma stands in
+abbrev pub innermost : List Frame → Around
+innermost (Inside (Named at i) items ∷ s) = a.Call
+innermost (Inside Bracket items ∷ s) = a.List
+innermost _ = a.Operand
 
 abbrev pub given : Frame → List Step
 given (AfterPrefix word) = []

@@ -1,30 +1,24 @@
 //! The term that steps make. The names go into the table of atoms as they come.
 
-ghost use Rattle.std.specs.Prelude.{◌≡◌, ◌<◌, List, [], ◌∷◌, ◌++◌, IfOk, IfSome, Some, map, codes, slice_get};
+ghost use Rattle.std.specs.Prelude.{◌≡◌, ◌<◌, List, [], ◌∷◌, IfOk, OnOk, IfSome, Some, map, codes, slice_get};
 ghost use Rattle.ap_lexer.specs.Lexeme.{Text};
 ghost use Rattle.ap_term.specs.declared.fixed.TheConstants.{COUNT};
 ghost use Rattle.ap_term.specs.AtomTable.{fixed_names, insert_names};
 ghost use Rattle.ap_term.specs.TermView.{tree_of, trees_of};
 ghost use Rattle.ap_term.specs.Tree.{node, more, none};
 ghost use Rattle.ap_reader.specs.Written.{Written, Node, Cons, Nil, cell, leaf_of, leaf_at, meaning};
-ghost use Rattle.ap_reader.specs.Evaluated as spec;
-ghost use Rattle.ap_reader.specs.Evaluated.{ATerm, top_term, top_items, below, made, left, stacked};
-ghost use Rattle.ap_reader.specs.Build.{place_of, term_in, leaf_names, step_names, names, Interned, built_of, resolved, tree_cells};
+ghost use Rattle.ap_reader.specs.Evaluated.{Value, ATerm, Gathered, made, left, with_rest, cells};
+ghost use Rattle.ap_reader.specs.Held.{Held, Fits};
+ghost use Rattle.ap_reader.specs.Build.{place_of, term_in, leaf_names, step_names, names, Interned, tree_cells};
 ghost use Rattle.ap_reader.specs.Grammar.{Tree};
 ghost use Rattle.ap_reader.specs.Step.{postfix};
 
 use crate::leaf::{Leaf, name_at};
 use crate::pass::Step;
 use crate::recent::Recent;
+use crate::terms::Stack;
 use ap_term::{Args, Atom, Atoms, InternErr, NoMemory, Term, fixed};
 use std::alloc::Global;
-
-/// A term, or the items of what is open.
-#[derive(Drop)]
-pub(crate) enum Value {
-    Term(Term),
-    Items(Vec<Term>),
-}
 
 /// The number of a name that stands in most bodies: each table of names holds it from the start.
 fn common(name: &[u8]) -> Option<u32>
@@ -74,26 +68,6 @@ fn atom(
     }
 }
 
-/// Takes a term off the stack.
-fn pop_term(stack: &mut Vec<Value>) -> Term
-    ensures { (ns : List Text) (vs : List spec.Value) → map built_of stack.old.items ≡ stacked (resolved ns) vs → (tree_of result ≡ term_in ns (top_term vs)) × (map built_of stack.new.items ≡ stacked (resolved ns) (below vs)) }
-{
-    match stack.pop() {
-        Some(Value::Term(term)) => term,
-        _ => Term::Var(0),
-    }
-}
-
-/// Takes items off the stack.
-fn pop_items(alloc: Global, stack: &mut Vec<Value>) -> Vec<Term>
-    ensures { (ns : List Text) (vs : List spec.Value) → map built_of stack.old.items ≡ stacked (resolved ns) vs → (map tree_of result.items ≡ map (term_in ns) (top_items vs)) × (map built_of stack.new.items ≡ stacked (resolved ns) (below vs)) }
-{
-    match stack.pop() {
-        Some(Value::Items(items)) => items,
-        _ => Vec::new(alloc),
-    }
-}
-
 fn compound1(alloc: Global, name: Atom, x: Term) -> Result<Term, NoMemory>
     ensures { IfOk result (λ t. tree_of t ≡ node name (more (tree_of x) none)) }
 {
@@ -111,12 +85,10 @@ fn compound2(alloc: Global, name: Atom, x: Term, y: Term) -> Result<Term, NoMemo
     Ok(Term::Node(name, Args::from_vec(args)))
 }
 
-/// The arguments, in no more room than they need: most of a program's memory are such lists.
+/// The arguments that items are.
 fn arguments(items: Vec<Term>) -> Args
     ensures { result ≡ trees_of items.items }
 {
-    let mut items = items;
-    items.shrink_to_fit();
     Args::from_vec(items)
 }
 
@@ -132,59 +104,62 @@ fn list(alloc: Global, dot: Atom, items: Vec<Term>, tail: Term) -> Result<Term, 
     Ok(rest)
 }
 
+/// What a token is as an operand.
 fn leaf(
     alloc: Global,
     leaves: &[Leaf],
     recent: &mut Recent,
     atoms: &mut Atoms,
     at: usize,
-) -> Result<Value, InternErr>
-    ensures value { IfOk result (λ v. (more : List Text) → built_of v ≡ resolved (insert_names atoms.new more) (ATerm (leaf_at (slice_get (map leaf_of leaves.now) at)))) }
+) -> Result<Term, InternErr>
+    ensures value { IfOk result (λ t. (more : List Text) → tree_of t ≡ term_in (insert_names atoms.new more) (leaf_at (slice_get (map leaf_of leaves.now) at))) }
     ensures table { Interned (leaf_names (leaf_at (slice_get (map leaf_of leaves.now) at))) atoms.old atoms.new result }
 {
     if let Some(Leaf::Variable(number)) = leaves.get(at) {
-        return Ok(Value::Term(Term::Var(*number)));
+        return Ok(Term::Var(*number));
     }
     match atom(alloc, recent, atoms, name_at(leaves, at)) {
-        Ok(name) => Ok(Value::Term(Term::Atom(name))),
+        Ok(name) => Ok(Term::Atom(name)),
         Err(e) => Err(e),
     }
 }
 
+/// The compound of a name and the term on top.
 fn prefix(
     alloc: Global,
-    stack: &mut Vec<Value>,
+    stack: &mut Stack,
     recent: &mut Recent,
     atoms: &mut Atoms,
     name: &str,
-) -> Result<Value, InternErr>
-    ensures value { IfOk result (λ v. (more : List Text) (vs : List spec.Value) → let ns = insert_names atoms.new more in map built_of stack.old.items ≡ stacked (resolved ns) vs → (built_of v ≡ resolved ns (ATerm (Node name.now (Cons (top_term vs) Nil)))) × (map built_of stack.new.items ≡ stacked (resolved ns) (below vs))) }
+) -> Result<Term, InternErr>
+    ensures value { IfOk result (λ t. (more : List Text) (x : Written) (vs : List Value) → let ns = insert_names atoms.new more in Held ns (ATerm x ∷ vs) stack.old → (tree_of t ≡ term_in ns (Node name.now (Cons x Nil))) × Held ns vs stack.new) }
     ensures table { Interned (name.now ∷ []) atoms.old atoms.new result }
 {
     match atom(alloc, recent, atoms, name) {
-        Ok(functor) => match compound1(alloc, functor, pop_term(stack)) {
-            Ok(term) => Ok(Value::Term(term)),
+        Ok(functor) => match compound1(alloc, functor, stack.take()) {
+            Ok(term) => Ok(term),
             Err(_) => Err(InternErr::NoMemory),
         },
         Err(e) => Err(e),
     }
 }
 
+/// The compound of a name and the two terms on top.
 fn infix(
     alloc: Global,
-    stack: &mut Vec<Value>,
+    stack: &mut Stack,
     recent: &mut Recent,
     atoms: &mut Atoms,
     name: &str,
-) -> Result<Value, InternErr>
-    ensures value { IfOk result (λ v. (more : List Text) (vs : List spec.Value) → let ns = insert_names atoms.new more in map built_of stack.old.items ≡ stacked (resolved ns) vs → (built_of v ≡ resolved ns (ATerm (Node name.now (Cons (top_term (below vs)) (Cons (top_term vs) Nil))))) × (map built_of stack.new.items ≡ stacked (resolved ns) (below (below vs)))) }
+) -> Result<Term, InternErr>
+    ensures value { IfOk result (λ t. (more : List Text) (x y : Written) (vs : List Value) → let ns = insert_names atoms.new more in Held ns (ATerm y ∷ ATerm x ∷ vs) stack.old → (tree_of t ≡ term_in ns (Node name.now (Cons x (Cons y Nil)))) × Held ns vs stack.new) }
     ensures table { Interned (name.now ∷ []) atoms.old atoms.new result }
 {
     match atom(alloc, recent, atoms, name) {
         Ok(functor) => {
-            let right = pop_term(stack);
-            match compound2(alloc, functor, pop_term(stack), right) {
-                Ok(term) => Ok(Value::Term(term)),
+            let right = stack.take();
+            match compound2(alloc, functor, stack.take(), right) {
+                Ok(term) => Ok(term),
                 Err(_) => Err(InternErr::NoMemory),
             }
         }
@@ -192,50 +167,42 @@ fn infix(
     }
 }
 
-/// Takes a term off the stack, and the items below it, which it joins.
-fn pop_all(alloc: Global, stack: &mut Vec<Value>) -> Result<Vec<Term>, NoMemory>
-    ensures { IfOk result (λ v. (ns : List Text) (vs : List spec.Value) → map built_of stack.old.items ≡ stacked (resolved ns) vs → (map tree_of v.items ≡ map (term_in ns) (top_items (below vs) ++ top_term vs ∷ [])) × (map built_of stack.new.items ≡ stacked (resolved ns) (below (below vs)))) }
-{
-    let last = pop_term(stack);
-    let mut items = pop_items(alloc, stack);
-    items.push(last)?;
-    Ok(items)
-}
-
+/// The compound of a name and the items on top, in no more room than they need: most of a program's memory are such
+/// lists.
 fn compound(
     alloc: Global,
-    stack: &mut Vec<Value>,
+    stack: &mut Stack,
     recent: &mut Recent,
     atoms: &mut Atoms,
     name: &str,
-) -> Result<Value, InternErr>
-    ensures value { IfOk result (λ v. (more : List Text) (vs : List spec.Value) → let ns = insert_names atoms.new more in map built_of stack.old.items ≡ stacked (resolved ns) vs → (built_of v ≡ resolved ns (ATerm (Node name.now (spec.with_rest (top_items (below vs)) (Cons (top_term vs) Nil))))) × (map built_of stack.new.items ≡ stacked (resolved ns) (below (below vs)))) }
+) -> Result<Term, InternErr>
+    ensures value { IfOk result (λ t. (more : List Text) (ys : List Written) (x : Written) (vs : List Value) → let ns = insert_names atoms.new more in Held ns (ATerm x ∷ Gathered ys ∷ vs) stack.old → (tree_of t ≡ term_in ns (Node name.now (with_rest ys (Cons x Nil)))) × Held ns vs stack.new) }
     ensures table { Interned (name.now ∷ []) atoms.old atoms.new result }
 {
     match atom(alloc, recent, atoms, name) {
-        Ok(functor) => match pop_all(alloc, stack) {
-            Ok(items) => Ok(Value::Term(Term::Node(functor, arguments(items)))),
+        Ok(functor) => match stack.take_items() {
+            Ok(items) => Ok(Term::Node(functor, arguments(items))),
             Err(_) => Err(InternErr::NoMemory),
         },
         Err(e) => Err(e),
     }
 }
 
-/// A list of the items and the last term, in front of a tail that is off the stack.
+/// A list of the items on top, in front of a tail that was taken.
 fn listed(
     alloc: Global,
-    stack: &mut Vec<Value>,
+    stack: &mut Stack,
     recent: &mut Recent,
     atoms: &mut Atoms,
     tail: Term,
-) -> Result<Value, InternErr>
-    ensures value { IfOk result (λ v. (more : List Text) (vs : List spec.Value) (u : Written) → let ns = insert_names atoms.new more in map built_of stack.old.items ≡ stacked (resolved ns) vs → tree_of tail ≡ term_in ns u → (built_of v ≡ resolved ns (ATerm (spec.cells (top_items (below vs)) (cell (top_term vs) u)))) × (map built_of stack.new.items ≡ stacked (resolved ns) (below (below vs)))) }
+) -> Result<Term, InternErr>
+    ensures value { IfOk result (λ t. (more : List Text) (ys : List Written) (x u : Written) (vs : List Value) → let ns = insert_names atoms.new more in Held ns (ATerm x ∷ Gathered ys ∷ vs) stack.old → tree_of tail ≡ term_in ns u → (tree_of t ≡ term_in ns (cells ys (cell x u))) × Held ns vs stack.new) }
     ensures table { Interned (codes "." ∷ []) atoms.old atoms.new result }
 {
     match atom(alloc, recent, atoms, ".") {
-        Ok(dot) => match pop_all(alloc, stack) {
+        Ok(dot) => match stack.take_items() {
             Ok(items) => match list(alloc, dot, items, tail) {
-                Ok(term) => Ok(Value::Term(term)),
+                Ok(term) => Ok(term),
                 Err(_) => Err(InternErr::NoMemory),
             },
             Err(_) => Err(InternErr::NoMemory),
@@ -244,69 +211,85 @@ fn listed(
     }
 }
 
-/// Takes off the stack what a step takes, and puts its names into the table: what it makes.
-fn value_after(
+/// The term that a step makes of those on top, which are taken. Parentheses leave theirs as it is, and items are taken
+/// when all are there.
+fn term_after(
     alloc: Global,
-    stack: &mut Vec<Value>,
+    stack: &mut Stack,
     leaves: &[Leaf],
     recent: &mut Recent,
     atoms: &mut Atoms,
     step: Step,
-) -> Result<Value, InternErr>
-    ensures value { IfOk result (λ v. (more : List Text) (vs : List spec.Value) → let ns = insert_names atoms.new more in map built_of stack.old.items ≡ stacked (resolved ns) vs → (built_of v ≡ resolved ns (made (map leaf_of leaves.now) step vs)) × (map built_of stack.new.items ≡ stacked (resolved ns) (left (map leaf_of leaves.now) step vs))) }
+) -> Result<Term, InternErr>
+    ensures value { IfOk result (λ t. (more : List Text) (vs : List Value) (x : Written) → let ns = insert_names atoms.new more in Fits step vs → made (map leaf_of leaves.now) step vs ≡ ATerm x → Held ns vs stack.old → (tree_of t ≡ term_in ns x) × Held ns (left (map leaf_of leaves.now) step vs) stack.new) }
     ensures table { Interned (step_names (map leaf_of leaves.now) step) atoms.old atoms.new result }
 {
     match step {
         Step::Operand(at) => leaf(alloc, leaves, recent, atoms, at),
-        Step::Integer(value) => Ok(Value::Term(Term::Int(value))),
+        Step::Integer(value) => Ok(Term::Int(value)),
         Step::Prefix(at) => prefix(alloc, stack, recent, atoms, name_at(leaves, at)),
         Step::Infix(at) => infix(alloc, stack, recent, atoms, name_at(leaves, at)),
-        Step::Group => Ok(Value::Term(pop_term(stack))),
-        Step::Begin => Ok(Value::Items(Vec::new(alloc))),
-        Step::Item => match pop_all(alloc, stack) {
-            Ok(items) => Ok(Value::Items(items)),
-            Err(_) => Err(InternErr::NoMemory),
-        },
         Step::Compound(at) => compound(alloc, stack, recent, atoms, name_at(leaves, at)),
-        Step::Empty => {
-            let _none = pop_items(alloc, stack);
-            match atom(alloc, recent, atoms, "[]") {
-                Ok(name) => Ok(Value::Term(Term::Atom(name))),
+        Step::Empty => match stack.take_items() {
+            Ok(_none) => match atom(alloc, recent, atoms, "[]") {
+                Ok(name) => Ok(Term::Atom(name)),
                 Err(e) => Err(e),
-            }
-        }
+            },
+            Err(e) => Err(e),
+        },
         Step::List => match atom(alloc, recent, atoms, "[]") {
             Ok(name) => listed(alloc, stack, recent, atoms, Term::Atom(name)),
             Err(e) => Err(e),
         },
         Step::Tailed => {
-            let tail = pop_term(stack);
+            let tail = stack.take();
             listed(alloc, stack, recent, atoms, tail)
         }
+        Step::Group | Step::Begin | Step::Item => Ok(stack.take()),
     }
 }
 
-/// The term that the steps of one make. After an error the table has some of its names.
+/// Does a step, whose names go into the table.
+fn add(
+    alloc: Global,
+    stack: &mut Stack,
+    leaves: &[Leaf],
+    recent: &mut Recent,
+    atoms: &mut Atoms,
+    step: Step,
+) -> Result<(), InternErr>
+    ensures value { OnOk result ((more : List Text) (vs : List Value) → let ns = insert_names atoms.new more in Fits step vs → Held ns vs stack.old → Held ns (made (map leaf_of leaves.now) step vs ∷ left (map leaf_of leaves.now) step vs) stack.new) }
+    ensures table { Interned (step_names (map leaf_of leaves.now) step) atoms.old atoms.new result }
+{
+    match step {
+        Step::Begin => stack.begin(),
+        Step::Item | Step::Group => Ok(()),
+        _ => match term_after(alloc, stack, leaves, recent, atoms, step) {
+            Ok(term) => stack.put(term),
+            Err(e) => Err(e),
+        },
+    }
+}
+
+/// The term that the steps of one make, on a stack whose terms are let go. After an error the table has some of its
+/// names.
 pub(crate) fn build(
     alloc: Global,
     leaves: &[Leaf],
     steps: &[Step],
+    stack: &mut Stack,
     recent: &mut Recent,
     atoms: &mut Atoms,
 ) -> Result<Term, InternErr>
     ensures value { IfOk result (λ r. (t : Tree) → steps.now ≡ postfix t → tree_of r ≡ term_in atoms.new (meaning (map leaf_of leaves.now) t)) }
     ensures table { Interned (names (map leaf_of leaves.now) steps.now) atoms.old atoms.new result }
 {
-    let mut stack = Vec::new(alloc);
+    stack.clear();
     for step in steps {
-        match value_after(alloc, &mut stack, leaves, recent, atoms, *step) {
-            Ok(value) => {
-                let Ok(()) = stack.push(value) else {
-                    return Err(InternErr::NoMemory);
-                };
-            }
+        match add(alloc, stack, leaves, recent, atoms, *step) {
+            Ok(()) => {}
             Err(e) => return Err(e),
         }
     }
-    Ok(pop_term(&mut stack))
+    Ok(stack.take())
 }

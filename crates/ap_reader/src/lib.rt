@@ -17,6 +17,7 @@ mod operators;
 mod pass;
 mod recent;
 mod room;
+mod terms;
 mod word;
 mod written;
 

@@ -51,6 +51,15 @@ pub enum Open {
     Tail,
 }
 
+/// What is round a term that a comma follows.
+#[derive(Clone, Copy, Debug, PartialEq, Eq)]
+pub(crate) enum Around {
+    Call,
+    List,
+    /// What takes the comma as an operator.
+    Operand,
+}
+
 #[derive(Clone, Copy, Debug, PartialEq, Eq)]
 pub enum Mode {
     Wants,
@@ -92,7 +101,7 @@ fn prefix_rank(word: Word) -> u16
 
 ghost use Rattle.ap_lexer.specs.Token.{view};
 ghost use Rattle.ap_reader.specs.Word.{words};
-ghost use Rattle.ap_reader.specs.Step.{place, opens, Holds, Awaits, Shows, Follows, Finds, items_of, due, Takes};
+ghost use Rattle.ap_reader.specs.Step.{place, innermost, opens, Holds, Awaits, Shows, Follows, Finds, items_of, due, Takes};
 
 fn place(word: Word) -> usize
     ensures { result ≡ place word }
@@ -124,6 +133,17 @@ fn room(stack: &[Open]) -> u16
         Some(Open::Prefix(word)) => right_max(prefix_rank(*word)),
         Some(Open::Infix(word)) => right_max(infix_rank(*word)),
         Some(_) => 999,
+    }
+}
+
+/// What is round the next comma, by what is open last.
+fn innermost(stack: &[Open]) -> Around
+    ensures { (s : List Frame) → stack.now ≡ opens s → result ≡ innermost s }
+{
+    match stack.last() {
+        Some(Open::Call(_)) => Around::Call,
+        Some(Open::List(_)) => Around::List,
+        _ => Around::Operand,
     }
 }
 
@@ -253,22 +273,18 @@ impl Pass {
     fn comma(&mut self, at: usize) -> Result<Mode, ParseErr>
         ensures { (t : Tree) (s : List Frame) → Holds t s self.old.stack.items self.old.out.items → Follows (parted at (Has t s)) result self.new.stack.items self.new.out.items }
     {
-        match self.stack.pop() {
-            Some(Open::Call(functor)) => {
-                self.stack.push(Open::Call(functor))?;
+        match innermost(&self.stack) {
+            Around::Call => {
                 self.out.push(Step::Item)?;
                 Ok(Mode::Wants)
             }
-            Some(Open::List(_)) => {
+            Around::List => {
+                let _open = self.stack.pop();
                 self.stack.push(Open::List(true))?;
                 self.out.push(Step::Item)?;
                 Ok(Mode::Wants)
             }
-            Some(other) => {
-                self.stack.push(other)?;
-                self.shift(Word::Comma(at))
-            }
-            None => self.shift(Word::Comma(at)),
+            Around::Operand => self.shift(Word::Comma(at)),
         }
     }
 

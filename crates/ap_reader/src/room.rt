@@ -5,6 +5,7 @@ ghost use Rattle.std.specs.Prelude.{◌≡◌, [], IfOk};
 use crate::leaf::Leaf;
 use crate::pass::{Open, Step};
 use crate::recent::Recent;
+use crate::terms::Stack;
 use crate::written::WrittenTerm;
 use std::alloc::{AllocError, Global};
 
@@ -15,6 +16,7 @@ const COMMON_ROOM: usize = 1024;
 #[derive(Drop)]
 pub struct Room<'a> {
     pub(crate) recent: Recent,
+    pub(crate) stack: Stack,
     open: Vec<Open>,
     steps: Vec<Step>,
     leaves: Vec<Leaf<'a>>,
@@ -25,6 +27,7 @@ impl<'a> Room<'a> {
     pub fn new(alloc: Global) -> Room<'a> {
         Room {
             recent: Recent::new(alloc),
+            stack: Stack::new(alloc),
             open: Vec::new(alloc),
             steps: Vec::new(alloc),
             leaves: Vec::new(alloc),

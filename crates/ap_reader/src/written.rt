@@ -155,7 +155,14 @@ impl<'a> WrittenTerm<'a> {
             Err(_) => return Err(ReadErr::NoMemory),
         }
         let mark = atoms.mark();
-        match build(alloc, &self.leaves, &self.steps, &mut room.recent, atoms) {
+        match build(
+            alloc,
+            &self.leaves,
+            &self.steps,
+            &mut room.stack,
+            &mut room.recent,
+            atoms,
+        ) {
             Ok(term) => {
                 let _room = atoms.mark();
                 Ok(term)

@@ -36,8 +36,8 @@ returns-then-is_some-clause-stands c =
     let at = c.loop-self.self.at in
     let b = inv.left_is.0 in
     let x = c.lexeme-kind.result in
-    let fed = c.feeds-in-loop-self.ensures ∙ ap (count_by (λ y. y == 10)) c.span-spelling.ensures in
-    stands (record { text = c.loop-self.self.text; ahead = c.lexeme-kind.new.ahead; at = at + x.1; line = c.loop-self.self.line + c.feeds-in-loop-self.result })
+    let fed = c.feeds_in.ensures in
+    stands (record { text = c.loop-self.self.text; ahead = c.lexeme-kind.new.ahead; at = at + x.1; line = c.loop-self.self.line + c.feeds_in.result })
     text inv.same c.lexeme-kind.ensures.within.1 c.lexeme-kind.ensures.sound (omega (arith, inv.line_is, fed, line_more text at x.1))
 
 pub returns-then-is_some-clause-next : goal.returns-then-is_some-clause-next
@@ -50,7 +50,7 @@ returns-then-is_some-clause-next c =
     let began = c.start-from.ensures text b inv.left_is.1 inv.line_is in
     let given = c.ended-piece.ensures text at began.1 inv.line_is ∙ ap (λ f. ended_by (role x.0) text f at (at + x.1)) began.0 in
     next_closed c.ended-piece.result text b at x c.args.self.now
-    (record { text = c.loop-self.self.text; ahead = c.lexeme-kind.new.ahead; at = at + x.1; line = c.loop-self.self.line + c.feeds-in-loop-self.result })
+    (record { text = c.loop-self.self.text; ahead = c.lexeme-kind.new.ahead; at = at + x.1; line = c.loop-self.self.line + c.feeds_in.result })
     (sym c.is_some.ensures ∙ c.if-is_some.true) given inv.same refl c.loop-self-test.true c.lexeme-kind.ensures.within.0 c.lexeme-kind.ensures.value inv.left_is.2
 
 pub returns-then-is_some-clause-tokens : goal.returns-then-is_some-clause-tokens
@@ -89,7 +89,7 @@ loop-self-preserved c =
     } in
     let began = c.start-from.ensures text b inv.left_is.1 inv.line_is in
     let given = c.ended-piece.ensures text at began.1 inv.line_is ∙ ap (λ f. ended_by (role x.0) text f at (at + x.1)) began.0 in
-    let fed = c.feeds-in-loop-self.ensures ∙ ap (count_by (λ y. y == 10)) c.span-spelling.ensures in
+    let fed = c.feeds_in.ensures in
     let none = not_ended c.ended-piece.result (ended_by (role x.0) text (start b at) at (at + x.1)) (sym c.is_some.ensures ∙ c.if-is_some.false) given in
     record {
       same = inv.same;

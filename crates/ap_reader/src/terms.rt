@@ -1,0 +1,104 @@
+//! The terms that steps have made and that no later step has taken.
+
+ghost use Rattle.std.specs.Prelude.{◌≡◌, ◌≤◌, ◌∷◌, [], List, length, vec_len, Err, IfOk, OnOk, OnErr, map};
+ghost use Rattle.ap_term.specs.declared.names.InternErr.TheVariants.{NoMemory};
+ghost use Rattle.ap_lexer.specs.Lexeme.{Text};
+ghost use Rattle.ap_term.specs.TermView.{tree_of};
+ghost use Rattle.ap_reader.specs.Written.{Written};
+ghost use Rattle.ap_reader.specs.Evaluated.{Value, ATerm, Gathered};
+ghost use Rattle.ap_reader.specs.Build.{term_in};
+ghost use Rattle.ap_reader.specs.Held.{Held, row, begins};
+
+use ap_term::{InternErr, Term};
+use std::alloc::Global;
+
+/// How many terms room is kept for.
+const COMMON_ROOM: usize = 1024;
+
+/// The terms, the last on top, and how many stood below the items of each bracket that is open. An item that is done
+/// stays where it is, and the items of a bracket are taken at once.
+#[derive(Drop)]
+pub(crate) struct Stack {
+    terms: Vec<Term>,
+    begun: Vec<usize>,
+}
+
+impl Stack {
+    pub(crate) fn new(alloc: Global) -> Stack
+        ensures { (ns : List Text) → Held ns [] result }
+    {
+        Stack {
+            terms: Vec::new(alloc),
+            begun: Vec::new(alloc),
+        }
+    }
+
+    /// Lets all go, but for the room of a common term.
+    pub(crate) fn clear(&mut self)
+        ensures { (ns : List Text) → Held ns [] self.new }
+    {
+        self.terms.clear();
+        self.terms.shrink_to(COMMON_ROOM);
+        self.begun.clear();
+    }
+
+    /// Puts a term on top.
+    #[tactic(auto, using(crate::proofs::Held::put_held))]
+    pub(crate) fn put(&mut self, term: Term) -> Result<(), InternErr>
+        ensures value { OnOk result ((ns : List Text) (vs : List Value) (x : Written) → Held ns vs self.old → tree_of term ≡ term_in ns x → Held ns (ATerm x ∷ vs) self.new) }
+        ensures err { OnErr result (result ≡ Err NoMemory) }
+    {
+        match self.terms.push(term) {
+            Ok(()) => Ok(()),
+            Err(_) => Err(InternErr::NoMemory),
+        }
+    }
+
+    /// Begins items, with none.
+    #[tactic(auto, using(crate::proofs::Held::begin_held))]
+    pub(crate) fn begin(&mut self) -> Result<(), InternErr>
+        ensures value { OnOk result ((ns : List Text) (vs : List Value) → Held ns vs self.old → Held ns (Gathered [] ∷ vs) self.new) }
+        ensures err { OnErr result (result ≡ Err NoMemory) }
+    {
+        match self.begun.push(self.terms.len()) {
+            Ok(()) => Ok(()),
+            Err(_) => Err(InternErr::NoMemory),
+        }
+    }
+
+    /// Takes the term on top.
+    #[tactic(auto, using(crate::proofs::Held::take_held, crate::proofs::Held::some_terms))]
+    pub(crate) fn take(&mut self) -> Term
+        ensures { (ns : List Text) (x : Written) (vs : List Value) → Held ns (ATerm x ∷ vs) self.old → (tree_of result ≡ term_in ns x) × Held ns vs self.new }
+    {
+        match self.terms.pop() {
+            Some(term) => term,
+            None => Term::Var(0),
+        }
+    }
+
+    /// The place of the first item of those that began last, which is forgotten.
+    #[tactic(auto, using(crate::proofs::Held::first_held, crate::proofs::Held::some_begun))]
+    fn first_item(&mut self) -> usize
+        ensures within { result ≤ vec_len self.new.terms }
+        ensures terms { self.new.terms ≡ self.old.terms }
+        ensures first { (ns : List Text) (ys : List Written) (vs : List Value) → Held ns (Gathered ys ∷ vs) self.old → (result ≡ length (row ns vs)) × (self.new.begun.items ≡ begins ns vs) }
+    {
+        match self.begun.pop() {
+            Some(from) => from.min(self.terms.len()),
+            None => 0,
+        }
+    }
+
+    /// Takes the items that began last.
+    pub(crate) fn take_items(&mut self) -> Result<Vec<Term>, InternErr>
+        ensures value { IfOk result (λ v. (ns : List Text) (ys : List Written) (vs : List Value) → Held ns (Gathered ys ∷ vs) self.old → (map tree_of v.items ≡ map (term_in ns) ys) × Held ns vs self.new) }
+        ensures err { OnErr result (result ≡ Err NoMemory) }
+    {
+        let from = self.first_item();
+        match self.terms.split_off(from) {
+            Ok(items) => Ok(items),
+            Err(_) => Err(InternErr::NoMemory),
+        }
+    }
+}
