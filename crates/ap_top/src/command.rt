@@ -1,6 +1,8 @@
 //! The run, layer by layer: command line, file, program, source, queries.
 
-ghost use Rattle.std.specs.Prelude.{◌≡◌, ◌≤◌, ◌^◌, [], ◌∷◌, map, IfOk, ◌⊎◌};
+ghost use Rattle.std.specs.Prelude.{◌≡◌, ◌≤◌, ◌^◌, [], ◌∷◌, map, IfErr, IfOk, OnErr, ◌⊎◌};
+ghost use Rattle.ap_clause.specs.declared.refusal.Refusal.TheVariants as refusal;
+ghost use Rattle.ap_clause.specs.Reads.{AcceptsProgram, RefusesProgram};
 ghost use Rattle.ap_outside.specs.Faults.{Rises};
 ghost use Rattle.ap_outside.specs.Pieces.{Puts, CutOf};
 ghost use Rattle.ap_outside.specs.Halting.{Finishes, SinkCount};
@@ -75,20 +77,29 @@ fn run_source<R: Threads + Wait + Sync, G: Gate, S: Source, K: Sink>(
     }
 }
 
+// The program of a text, which is let go: the program, its code and the queries take its room.
+fn program_of(alloc: Global, text: Vec<u8>, atoms: &mut Atoms) -> Result<Program, Refusal>
+    ensures accepts { IfOk result (λ p. AcceptsProgram text.items atoms.old p atoms.new) }
+    ensures refuses { IfErr result (λ r. (r ≡ refusal.NoMemory) ⊎ RefusesProgram text.items atoms.old r) }
+    ensures table { OnErr result (atoms.new ≡ atoms.old) }
+{
+    program(alloc, &text, atoms)
+}
+
 // The bytes of a file.
 fn run_text<R: Threads + Wait + Sync, G: Gate, S: Source, K: Sink>(
     alloc: Global,
     crew: &Crew<R, G>,
     key: NameKey,
-    text: &[u8],
+    text: Vec<u8>,
     command: &Run,
     queries: &mut S,
     out: &mut K,
 ) -> Result<Status, Halt>
     requires budget { command.now.budget ≤ 2 ^ 54 }
     requires workers { crew.now.workers ≡ command.now.workers }
-    ensures lines { Finishes (K.pieces out.old) (K.pieces out.new) (TextEnds (run_of command.now) text.now (S.left queries.old) (FailsBehind (S.left queries.old) (S.left queries.new) (Rises (S.faults queries.old) (S.faults queries.new)))) result }
-    ensures counted { IfOk result (λ s. HasAnswered s → Puts (K.pieces out.old) (K.pieces out.new) (TextCounted (run_of command.now) text.now (S.left queries.old) s)) }
+    ensures lines { Finishes (K.pieces out.old) (K.pieces out.new) (TextEnds (run_of command.now) text.items (S.left queries.old) (FailsBehind (S.left queries.old) (S.left queries.new) (Rises (S.faults queries.old) (S.faults queries.new)))) result }
+    ensures counted { IfOk result (λ s. HasAnswered s → Puts (K.pieces out.old) (K.pieces out.new) (TextCounted (run_of command.now) text.items (S.left queries.old) s)) }
     ensures sink { SinkCount (K.faults out.old) (K.faults out.new) result }
     ensures source { SourceCount (S.faults queries.old) (S.faults queries.new) result }
     ensures end { EndsSource (S.left queries.new) result }
@@ -97,7 +108,7 @@ fn run_text<R: Threads + Wait + Sync, G: Gate, S: Source, K: Sink>(
     let Ok(mut atoms) = Atoms::with_key(alloc, key) else {
         return Err(Halt::NoMemory);
     };
-    match program(alloc, text, &mut atoms) {
+    match program_of(alloc, text, &mut atoms) {
         Ok(program) => run_source(alloc, crew, &program, command, &mut atoms, queries, out),
         Err(Refusal::NoMemory) => Err(Halt::NoMemory),
         Err(refusal) => {
@@ -133,7 +144,7 @@ fn run_file<R: Threads + Wait + Sync, G: Gate, F: Files, S: Source, K: Sink>(
         Err(FileErr::Failed) => close(b"fault: file\n", Status::FileFault, out),
         Err(FileErr::NoMemory) => Err(Halt::NoMemory),
         Ok(Got::TooLong) => close(b"refused: too long\n", Status::ProgramRefused, out),
-        Ok(Got::Whole) => run_text(alloc, crew, key, &text, command, queries, out),
+        Ok(Got::Whole) => run_text(alloc, crew, key, text, command, queries, out),
     }
 }
 

@@ -44,14 +44,14 @@ returns-clause-lines g c =
     let Rose = FailsBehind (g.S.Source.left c.args.queries.now) (g.S.Source.left c.run_text.new.queries) (Rises (g.S.Source.faults c.args.queries.now) (g.S.Source.faults c.run_text.new.queries)) in
     let whole = c.in-Ok-Whole.ensures.whole (cc) in
     let fits = c.in-Ok-Whole.ensures.fits (cc) in
-    let has : HasContent entries what.file (λ content. c.deref.result.now ≡ content) = rw c.deref.ensures.value whole in
-    let short : length c.deref.result.now ≤ 16777216 = rw c.deref.ensures.value fits in
-    finishes_map _ _ (TextEnds what c.deref.result.now left Rose) (FileEnds what entries left Fault Rose) _ (file_read what entries left Fault Rose c.deref.result.now has short) c.run_text.ensures.lines
+    let has : HasContent entries what.file (λ content. c.read.new.into.items ≡ content) = whole in
+    let short : length c.read.new.into.items ≤ 16777216 = fits in
+    finishes_map _ _ (TextEnds what c.read.new.into.items left Rose) (FileEnds what entries left Fault Rose) _ (file_read what entries left Fault Rose c.read.new.into.items has short) c.run_text.ensures.lines
 
 pub returns-clause-files : goal.returns-clause-files
 returns-clause-files g c =
     let what = run_of c.args.command.now in
-    let text = c.deref.result.now in
+    let text = c.read.new.into.items in
     let left = g.S.Source.left c.args.queries.now in
     let Rose = FailsBehind (g.S.Source.left c.args.queries.now) (g.S.Source.left c.run_text.new.queries) (Rises (g.S.Source.faults c.args.queries.now) (g.S.Source.faults c.run_text.new.queries)) in
     files_kept _ _ (TextEnds what text left Rose) (λ ls ends. (text_status what text left Rose status.FileFault ls ends).0 refl) _ _ c.run_text.result (search rules) c.run_text.ensures.lines
@@ -69,9 +69,9 @@ returns-clause-counted g c =
     let what = run_of c.args.command.now in
     let entries = g.F.Files.entries c.args.files.now in
     let left = g.S.Source.left c.args.queries.now in
-    let text = c.deref.result.now in
+    let text = c.read.new.into.items in
     let whole = c.in-Ok-Whole.ensures.whole (cc) in
-    let has : HasContent entries what.file (λ content. text ≡ content) = rw c.deref.ensures.value whole in
+    let has : HasContent entries what.file (λ content. text ≡ content) = whole in
     counts_map _ _ (TextCounted what text left) (FileCounted what entries left) (file_counts what entries left text has) c.run_text.result c.run_text.ensures.counted
 
 -- ---- the source

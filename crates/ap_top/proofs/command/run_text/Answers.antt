@@ -19,28 +19,28 @@ use Rattle.ap_top.proofs.command.run_text.Goals as goal
 
 pub run_source-requires-clause-query : goal.run_source-requires-clause-query
 run_source-requires-clause-query g c κs within =
-    let text = c.args.text.now in
-    let program = c.in-Ok-program.program in
-    let table = c.program.new.atoms in
+    let text = c.args.text.items in
+    let program = c.in-Ok-program_of.program in
+    let table = c.program_of.new.atoms in
     let count : length fixed_names ≡ 84 = refl in
-    program-leaves text fixed_names program table (omega arith) (subst (λ t. AcceptsProgram text t program table) c.in-Ok.ensures c.in-Ok-program.ensures.accepts)
+    program-leaves text fixed_names program table (omega arith) (subst (λ t. AcceptsProgram text t program table) c.in-Ok.ensures c.in-Ok-program_of.ensures.accepts)
 
-pub returns-in-Ok-program-clause-lines : goal.returns-in-Ok-program-clause-lines
-returns-in-Ok-program-clause-lines g c =
+pub returns-in-Ok-program_of-clause-lines : goal.returns-in-Ok-program_of-clause-lines
+returns-in-Ok-program_of-clause-lines g c =
     let what = run_of c.args.command.now in
-    let text = c.args.text.now in
+    let text = c.args.text.items in
     let left = g.S.Source.left c.args.queries.now in
     let Rose = FailsBehind (g.S.Source.left c.args.queries.now) (g.S.Source.left c.run_source.new.queries) (Rises (g.S.Source.faults c.args.queries.now) (g.S.Source.faults c.run_source.new.queries)) in
-    let program = c.in-Ok-program.program in
-    let table = c.program.new.atoms in
-    let accepts : AcceptsProgram text fixed_names program table = subst (λ t. AcceptsProgram text t program table) c.in-Ok.ensures c.in-Ok-program.ensures.accepts in
+    let program = c.in-Ok-program_of.program in
+    let table = c.program_of.new.atoms in
+    let accepts : AcceptsProgram text fixed_names program table = subst (λ t. AcceptsProgram text t program table) c.in-Ok.ensures c.in-Ok-program_of.ensures.accepts in
     finishes_map _ _ (SourceEnds what program table left Rose) (TextEnds what text left Rose) _ (λ s ls ends. TextEnds.accepted program table s ls accepts ends) c.run_source.ensures.lines
 
 pub returns-in_err-print_refusal-in-Err : goal.returns-in_err-print_refusal-in-Err
 returns-in_err-print_refusal-in-Err g c =
     let same : c.from_residual.result ≡ Err c.in_err-print_refusal-in-Err.field-0.0 = search rules in
     let what = run_of c.args.command.now in
-    let text = c.args.text.now in
+    let text = c.args.text.items in
     let left = g.S.Source.left c.args.queries.now in
     let Rose = FailsBehind (g.S.Source.left c.args.queries.now) (g.S.Source.left c.args.queries.now) (Rises (g.S.Source.faults c.args.queries.now) (g.S.Source.faults c.args.queries.now)) in
     let r = c.in-Err.refusal in
@@ -48,7 +48,7 @@ returns-in_err-print_refusal-in-Err g c =
     let refuses : RefusesProgram text fixed_names r = subst (λ t. RefusesProgram text t r) c.in-Ok.ensures (refused (RefusesProgram text c.in-Ok.atoms) r other c.in-Err.ensures.refuses) in
     let fixed = c.in-Err.ensures.table ∙ c.in-Ok.ensures in
     record {
-      lines = passes_halt _ _ (λ _ put. put ≡ refusal_line c.program.new.atoms r ∷ []) (TextEnds what text left Rose) (λ ls any. (status.ProgramRefused, text_refused what text left Rose c.program.new.atoms r fixed refuses ls any.1))
+      lines = passes_halt _ _ (λ _ put. put ≡ refusal_line c.program_of.new.atoms r ∷ []) (TextEnds what text left Rose) (λ ls any. (status.ProgramRefused, text_refused what text left Rose c.program_of.new.atoms r fixed refuses ls any.1))
           c.print_refusal.result _ c.in_err-print_refusal-in-Err.field-0.0 c.in_err-print_refusal-in-Err.was same c.print_refusal.ensures.lines;
       counted = search rules;
       sink = search rules;
@@ -60,7 +60,7 @@ returns-in_err-print_refusal-in-Err g c =
 pub returns : goal.returns
 returns g c =
     let what = run_of c.args.command.now in
-    let text = c.args.text.now in
+    let text = c.args.text.items in
     let left = g.S.Source.left c.args.queries.now in
     let Rose = FailsBehind (g.S.Source.left c.args.queries.now) (g.S.Source.left c.args.queries.now) (Rises (g.S.Source.faults c.args.queries.now) (g.S.Source.faults c.args.queries.now)) in
     let r = c.in-Err.refusal in
@@ -68,7 +68,7 @@ returns g c =
     let refuses : RefusesProgram text fixed_names r = subst (λ t. RefusesProgram text t r) c.in-Ok.ensures (refused (RefusesProgram text c.in-Ok.atoms) r other c.in-Err.ensures.refuses) in
     let fixed = c.in-Err.ensures.table ∙ c.in-Ok.ensures in
     record {
-      lines = puts_map _ _ (λ put. put ≡ refusal_line c.program.new.atoms r ∷ []) (TextEnds what text left Rose status.ProgramRefused) (text_refused what text left Rose c.program.new.atoms r fixed refuses) c.in_ok-print_refusal-in-Err.ensures.lines;
+      lines = puts_map _ _ (λ put. put ≡ refusal_line c.program_of.new.atoms r ∷ []) (TextEnds what text left Rose status.ProgramRefused) (text_refused what text left Rose c.program_of.new.atoms r fixed refuses) c.in_ok-print_refusal-in-Err.ensures.lines;
       counted = λ h. absurd h;
       sink = search rules;
       source = search rules;
@@ -76,21 +76,21 @@ returns g c =
       unread = λ h. refl;
     }
 
-pub returns-in-Ok-program-clause-counted : goal.returns-in-Ok-program-clause-counted
-returns-in-Ok-program-clause-counted g c =
+pub returns-in-Ok-program_of-clause-counted : goal.returns-in-Ok-program_of-clause-counted
+returns-in-Ok-program_of-clause-counted g c =
     let what = run_of c.args.command.now in
-    let text = c.args.text.now in
+    let text = c.args.text.items in
     let left = g.S.Source.left c.args.queries.now in
-    let program = c.in-Ok-program.program in
-    let table = c.program.new.atoms in
-    let accepts : AcceptsProgram text fixed_names program table = subst (λ t. AcceptsProgram text t program table) c.in-Ok.ensures c.in-Ok-program.ensures.accepts in
+    let program = c.in-Ok-program_of.program in
+    let table = c.program_of.new.atoms in
+    let accepts : AcceptsProgram text fixed_names program table = subst (λ t. AcceptsProgram text t program table) c.in-Ok.ensures c.in-Ok-program_of.ensures.accepts in
     counts_map _ _ (SourceCounted what program table left) (TextCounted what text left) (λ s ls h. (program, table, accepts, h)) c.run_source.result c.run_source.ensures.counted
 
-pub returns-in-Ok-program-clause-unread : goal.returns-in-Ok-program-clause-unread
-returns-in-Ok-program-clause-unread g c =
+pub returns-in-Ok-program_of-clause-unread : goal.returns-in-Ok-program_of-clause-unread
+returns-in-Ok-program_of-clause-unread g c =
     let what = run_of c.args.command.now in
     let left = g.S.Source.left c.args.queries.now in
     let Rose = FailsBehind (g.S.Source.left c.args.queries.now) (g.S.Source.left c.run_source.new.queries) (Rises (g.S.Source.faults c.args.queries.now) (g.S.Source.faults c.run_source.new.queries)) in
-    let program = c.in-Ok-program.program in
-    let table = c.program.new.atoms in
+    let program = c.in-Ok-program_of.program in
+    let table = c.program_of.new.atoms in
     program_found _ _ (SourceEnds what program table left Rose) _ (source_found what program table left Rose) c.run_source.result c.run_source.ensures.lines
