@@ -19,7 +19,7 @@ use Rattle.ap_index.specs.Index.{named}
 use Rattle.ap_index.proofs.Same.{true-same}
 use Rattle.ap_listing.specs.declared.switch.Place.{Place}
 use Rattle.ap_listing.specs.declared.switch.Entry.{Entry}
-use Rattle.ap_listing.specs.Switch.{is_constant, is_cell, is_functor, clauses_for, open_clauses, keys_of, groups, rest_of, chain_of, place_for, chains, entries, lines_of, has_constants, has_functors, Table, table_of, has_two, table_by_keys, table, Switch, first_place, constants_place, structures_place, switches}
+use Rattle.ap_listing.specs.Switch.{is_constant, is_cell, is_functor, clauses_for, open_clauses, keys_of, groups, rest_of, chain_of, place_for, chains, entries, lines_of, has_constants, has_functors, Table, table_of, has_two, table_by_keys, table_at, is_short, table, Switch, first_place, constants_place, structures_place, switches}
 use Rattle.ap_listing.specs.Laws.{clauses_in, line_at, led_by, led, leads}
 use Rattle.ap_listing.proofs.Cells.{one_cell}
 use Rattle.ap_listing.proofs.Keys.{not_true, clauses_for-unasked}
@@ -251,6 +251,6 @@ leads_to_clauses names code p t k atoms e =
     let ls = clause_places code p in
     let ks = keys_of code ls in
     let own = instructions_of code p in
-    let is_it = table_by names code p ls ks t (some_by (has_two ls) (table_by_keys names code p ls ks) t e) in
+    let is_it = table_by names code p ls ks t (some_by (has_two ls) (table_by_keys names code p ls ks) t (some_by (is_short code ls) (table_at names code p ls) t e)) in
     let end = found_or names code k one ls ks own (list_any (same_key k) ks) refl (λ n. (clauses_for-unasked code k [] ls n).1) in
     ap (λ s. leads names s k) is_it ∙ kinds names code one ls own ks k end

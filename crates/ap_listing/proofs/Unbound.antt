@@ -9,7 +9,7 @@ use Rattle.ap_instr.specs.Code.{Compiled, instructions_of}
 use Rattle.ap_instr.specs.StandsFor.{tried, clause_places}
 use Rattle.ap_index.specs.declared.key.Key.{Key}
 use Rattle.ap_index.specs.Index.{named}
-use Rattle.ap_listing.specs.Switch.{open_clauses, keys_of, groups, chain_of, chains, lines_of, has_constants, has_functors, Table, has_two, table_by_keys, table, switches}
+use Rattle.ap_listing.specs.Switch.{open_clauses, keys_of, groups, chain_of, chains, lines_of, has_constants, has_functors, Table, has_two, table_by_keys, table_at, is_short, table, switches}
 use Rattle.ap_listing.specs.Laws.{leads_unbound}
 use Rattle.ap_listing.proofs.Leads.{some_by, table_by}
 
@@ -46,11 +46,12 @@ leads_to_all names code p t own_is e =
     let open_ones = open_clauses code ls in
     let behind : List Instr = chains (groups code ls ks) ++ chain_of open_ones in
     let by_keys = table_by_keys names code p ls ks in
-    let is_it = table_by names code p ls ks t (some_by (has_two ls) by_keys t e) in
+    let found = some_by (is_short code ls) (table_at names code p ls) t e in
+    let is_it = table_by names code p ls ks t (some_by (has_two ls) by_keys t found) in
     let lines = lines_of (has_constants ks) (has_functors names ks) in
     let first : lines - lines ≡ 0 = omega arith in
     let none : tried behind ≡ [] = tried-chains (groups code ls ks) (chain_of open_ones) (ap tried (sym (append-nil (chain_of open_ones))) ∙ tried-chain open_ones [] refl) in
-    let some : named own ≡ [] → ⊥ = λ n. not_some t (sym (ap (λ x. if has_two x then by_keys else None) (sym own_is ∙ n)) ∙ e) in
+    let some : named own ≡ [] → ⊥ = λ n. not_some t (sym (ap (λ x. if has_two x then by_keys else None) (sym own_is ∙ n)) ∙ found) in
     ap (λ s. leads_unbound s (switches names s)) is_it
     ∙ ap (λ n. named (drop n ((own ++ chains (groups code ls ks)) ++ chain_of open_ones))) first
     ∙ ap named (append_assoc own (chains (groups code ls ks)) (chain_of open_ones))

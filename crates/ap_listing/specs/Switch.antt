@@ -1,5 +1,5 @@
 -- Where the switch of a predicate leads: by what its clauses ask of the first argument.
-use Rattle.std.specs.Prelude.{ℕ, ◌+◌, ◌==◌, Bool, true, false, not, ◌&&◌, if◌then◌else◌, List, [], ◌∷◌, ◌++◌, length, codes, Option, Some, None}
+use Rattle.std.specs.Prelude.{ℕ, ◌+◌, ◌==◌, Bool, true, false, not, ◌&&◌, if◌then◌else◌, List, [], ◌∷◌, ◌++◌, length, nat_le, codes, Option, Some, None}
 use Rattle.std.specs.List.{filter, list_any}
 use Rattle.std.specs.Str.{bytes_eq}
 use Rattle.ap_writer.specs.Text.{name_at}
@@ -142,9 +142,13 @@ table_by_keys names code p ls (k ∷ ks) =
 abbrev pub table_at : List (List ℕ) → Compiled → Predicate → List ℕ → Option Table
 table_at names code p ls = if has_two ls then table_by_keys names code p ls (keys_of code ls) else None
 
--- A predicate has a switch where it has two clauses or more, and one of them asks for a first argument.
+-- Whether chains stay short: at most 32 of the clauses at some places ask for nothing, each of which stands in the chain of each key.
+abbrev pub is_short : Compiled → List ℕ → Bool
+is_short code ls = nat_le (length (open_clauses code ls)) 32
+
+-- A predicate has a switch where it has two clauses or more, one of them asks for a first argument, and chains stay short.
 abbrev pub table : List (List ℕ) → Compiled → Predicate → Option Table
-table names code p = table_at names code p (clause_places code p)
+table names code p = if is_short code (clause_places code p) then table_at names code p (clause_places code p) else None
 
 -- ---- its lines
 

@@ -2,16 +2,19 @@
 
 ghost use Rattle.std.specs.Prelude.{◌≡◌, ◌+◌, ◌++◌, map, length, IfOk};
 ghost use Rattle.std.specs.List.{list_any};
-ghost use Rattle.ap_listing.specs.Switch.{is_constant, is_cell, is_functor, rest_of, chain_of, place_for, entries, chains, lines_of, table_of, table};
+ghost use Rattle.ap_listing.specs.Switch.{is_constant, is_cell, is_functor, rest_of, chain_of, place_for, entries, chains, lines_of, open_clauses, table_of, table_at, table};
 ghost use Rattle.ap_listing.specs.Grouped.{group_of};
 ghost use Rattle.ap_listing.specs.Held.{table_in, table_if};
 
 use crate::choices::{Choices, Group, choices_of};
 use crate::clauses::clause_places;
-use ap_index::Key;
+use ap_index::{Key, key_at};
 use ap_instr::{Code, Instr, Predicate};
 use ap_term::{Atom, Atoms, NoMemory};
 use std::alloc::Global;
+
+/// Of a predicate with a switch so many clauses may ask for no first argument, since each stands in the chain of each key.
+const MOST_OPEN: usize = 32;
 
 /// A place to which a switch leads: none, a clause by its place in the code, or a line of the predicate by its number.
 #[derive(Clone, Copy)]
@@ -183,7 +186,42 @@ fn switch_by(
     })
 }
 
-/// The switch of a predicate, if it has one: where it has two clauses or more, and some head's first argument isn't a variable.
+/// Counts the clauses at some places that ask for no key.
+fn open_count(code: &Code, places: &[u32]) -> usize
+    ensures { result ≡ length (open_clauses code.now places.now) }
+{
+    let mut count = 0;
+    for clause in places {
+        if key_at(code, *clause as usize).is_none() {
+            count += 1;
+        }
+    }
+    count
+}
+
+/// The switch of a predicate whose clauses stand at some places, if it has two or more, and some head's first argument isn't a variable.
+fn switch_at(
+    alloc: Global,
+    atoms: &Atoms,
+    code: &Code,
+    predicate: &Predicate,
+    places: &[u32],
+) -> Result<Option<Switch>, NoMemory>
+    ensures { IfOk result (λ found. table_if found ≡ table_at atoms.now code.now predicate.now places.now) }
+{
+    if places.len() < 2 {
+        return Ok(None);
+    }
+    let choices = choices_of(alloc, code, places)?;
+    if choices.groups.is_empty() {
+        return Ok(None);
+    }
+    let switch = switch_by(alloc, atoms, code.instructions_of(predicate), &choices)?;
+    Ok(Some(switch))
+}
+
+/// The switch of a predicate, if it has one. Where many heads have a variable first it has none, so that a listing isn't much longer than its
+/// code.
 pub(crate) fn switch_of(
     alloc: Global,
     atoms: &Atoms,
@@ -193,13 +231,8 @@ pub(crate) fn switch_of(
     ensures { IfOk result (λ found. table_if found ≡ table atoms.now code.now predicate.now) }
 {
     let places = clause_places(alloc, code, predicate)?;
-    if places.len() < 2 {
+    if open_count(code, &places) > MOST_OPEN {
         return Ok(None);
     }
-    let choices = choices_of(alloc, code, places.as_slice())?;
-    if choices.groups.is_empty() {
-        return Ok(None);
-    }
-    let switch = switch_by(alloc, atoms, code.instructions_of(predicate), &choices)?;
-    Ok(Some(switch))
+    switch_at(alloc, atoms, code, predicate, &places)
 }
