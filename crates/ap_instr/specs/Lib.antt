@@ -1,7 +1,5 @@
 pub mod Builtin
 pub mod Code
-pub mod Listing
-pub mod Shown
 pub mod Step
 pub mod Steps
 pub mod Runs

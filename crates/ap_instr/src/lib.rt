@@ -1,15 +1,13 @@
-//! Floor: code. The instructions that clauses are compiled to, code made of them, and its listing.
+//! Floor: code. The instructions that clauses are compiled to, and code made of them.
 //!
-//! Stands on `ap_term`, on `ap_writer` for names and on `itoa` for numbers. The one contract used above: a listing names
-//! each instruction of each predicate, in order.
+//! Stands on `ap_term`. What is used above is in `specs`: what an instruction asks for (`Step`), what a run of them does
+//! (`Runs`, `Groups`), and when code stands for a program (`StandsFor`).
 #![tactic(auto)]
 
 mod builtins;
 mod compiled;
 mod instruction;
-mod text;
 
 pub use builtins::Builtin;
 pub use compiled::{Code, Predicate};
 pub use instruction::{Instr, Slot};
-pub use text::listing;

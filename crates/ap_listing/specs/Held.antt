@@ -1,6 +1,6 @@
 -- A line, and a switch, as the code holds them.
 use Rattle.std.specs.Prelude.{ℕ, List, [], ◌∷◌, ◌++◌, Option, Some, None, if◌then◌else◌}
-use Rattle.ap_instr.specs.Listing.{Operand, register, argument, constant, integer, functor, number, predicate, place, Shown}
+use Rattle.ap_listing.specs.Shown.{Operand, register, argument, constant, integer, functor, number, predicate, place, Shown}
 use Rattle.ap_listing.specs.declared.line.Operand.{Operand as Held}
 use Rattle.ap_listing.specs.declared.line.Operand.TheVariants.{Register, Argument, Constant, Integer, Functor, Number, Predicate, Place}
 use Rattle.ap_listing.specs.declared.line.Line.{Line}

@@ -1,3 +1,4 @@
+pub mod Shown
 pub mod Switch
 pub mod Grouped
 pub mod Held

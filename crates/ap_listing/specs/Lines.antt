@@ -6,7 +6,7 @@ use Rattle.ap_writer.specs.Text.{name_at}
 use Rattle.ap_instr.specs.declared.instruction.Instr.{Instr}
 use Rattle.ap_instr.specs.declared.compiled.Predicate.{Predicate}
 use Rattle.ap_instr.specs.Code.{Compiled, instructions_of}
-use Rattle.ap_instr.specs.Listing.{Operand, register, argument, constant, integer, functor, number, predicate, place, Shown, shown_instruction, functor_text, operand_text as plain_text}
+use Rattle.ap_listing.specs.Shown.{Operand, register, argument, constant, integer, functor, number, predicate, place, Shown, shown_instruction, functor_text, operand_text as plain_text}
 use Rattle.ap_index.specs.declared.key.Key.{Key}
 use Rattle.ap_index.specs.declared.key.Key.TheVariants.{Atom, Integer, Structure}
 use Rattle.ap_listing.specs.declared.text.Origin.{Origin}

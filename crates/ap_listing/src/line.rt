@@ -3,7 +3,7 @@
 ghost use Rattle.std.specs.Prelude.{◌≡◌, [], ◌∷◌, ◌==◌, ◌&&◌, codes};
 ghost use Rattle.std.specs.Str.{bytes_eq};
 ghost use Rattle.ap_writer.specs.Text.{name_at};
-ghost use Rattle.ap_instr.specs.Listing.{structure, shown_instruction, shown};
+ghost use Rattle.ap_listing.specs.Shown.{structure, shown_instruction, shown};
 ghost use Rattle.ap_listing.specs.Held.{operand_of, shown_of};
 
 use ap_instr::{Instr, Slot};

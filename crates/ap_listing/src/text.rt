@@ -4,7 +4,7 @@ ghost use Rattle.std.specs.Prelude.{◌≡◌, ◌++◌, OnOk, slice_get};
 ghost use Rattle.std.specs.Fmt.{decimal, signed_decimal};
 ghost use Rattle.ap_writer.specs.Quoted.{name_text};
 ghost use Rattle.ap_writer.specs.Text.{name_at};
-ghost use Rattle.ap_instr.specs.Listing.{register_text, functor_text, predicate_text, integer_text, shown_instruction};
+ghost use Rattle.ap_listing.specs.Shown.{register_text, functor_text, predicate_text, integer_text, shown_instruction};
 ghost use Rattle.ap_listing.specs.Lines.{line_number, operand_text, operands_text, shown_line, lines};
 ghost use Rattle.ap_listing.specs.Held.{operand_of, operands_of, shown_of};
 

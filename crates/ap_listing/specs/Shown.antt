@@ -1,5 +1,5 @@
--- A listing: for each predicate that is listed its name and arity, and its instructions, one a line.
-use Rattle.std.specs.Prelude.{ℕ, ℤ, ◌-◌, List, [], ◌∷◌, ◌++◌, codes, slice_get, Option, Some, None, if◌then◌else◌, ◌==◌, ◌&&◌, flat_map}
+-- An instruction as it is listed, and the texts of what stands in it.
+use Rattle.std.specs.Prelude.{ℕ, ℤ, ◌-◌, List, [], ◌∷◌, ◌++◌, codes, slice_get, Option, Some, None, if◌then◌else◌, ◌==◌, ◌&&◌}
 use Rattle.std.specs.Str.{bytes_eq}
 use Rattle.std.specs.Fmt.{decimal, signed_decimal}
 use Rattle.ap_writer.specs.Quoted.{name_text}
@@ -10,7 +10,7 @@ use Rattle.ap_instr.specs.declared.instruction.Instr.{Instr}
 use Rattle.ap_instr.specs.declared.instruction.Instr.TheVariants.{GetVariable, GetValue, GetConstant, GetInteger, GetStructure, PutVariable, PutValue, PutConstant, PutInteger, PutStructure, UnifyVariable, UnifyValue, UnifyConstant, UnifyInteger, Allocate, Deallocate, Call, Execute, Proceed, Builtin, Jump, Fail, Try, Retry, Trust, CheckGround, CheckIndep, AllocParcall, PushGoal, WaitAll}
 use Rattle.ap_instr.specs.declared.compiled.Predicate.{Predicate}
 use Rattle.ap_instr.specs.Builtin.{builtin_name}
-use Rattle.ap_instr.specs.Code.{Compiled, instructions_of}
+use Rattle.ap_instr.specs.Code.{Compiled}
 
 -- what an operand is of
 pub data Operand : Type 0 where
@@ -93,23 +93,3 @@ shown_instruction names (CheckIndep v w l) = shown (codes "check_indep") (regist
 shown_instruction names (AllocParcall n l) = shown (codes "alloc_parcall") (number n ∷ [])
 shown_instruction names (PushGoal i p) = shown (codes "push_goal") (number i ∷ predicate p ∷ [])
 shown_instruction names WaitAll = shown (codes "wait_all") []
-
--- operands, a blank before each
-abbrev pub operands_text : List (List ℕ) → Compiled → ℕ → List Operand → List ℕ
-operands_text names code start [] = []
-operands_text names code start (o ∷ os) = codes " " ++ (operand_text names code start o ++ operands_text names code start os)
-
--- two blanks, the word, the operands and a line feed
-abbrev pub shown_line : List (List ℕ) → Compiled → ℕ → Shown → List ℕ
-shown_line names code start s = codes "  " ++ (s.word ++ (operands_text names code start s.operands ++ codes "\n"))
-
-abbrev pub lines : List (List ℕ) → Compiled → ℕ → List Instr → List ℕ
-lines names code start [] = []
-lines names code start (i ∷ is) = shown_line names code start (shown_instruction names i) ++ lines names code start is
-
-abbrev pub predicate_lines : List (List ℕ) → Compiled → Predicate → List ℕ
-predicate_lines names code p =
-    if p.is_listed then functor_text names p.name p.arity ++ (codes ":\n" ++ lines names code p.start (instructions_of code p)) else []
-
-abbrev pub listing : List (List ℕ) → Compiled → List ℕ
-listing names code = flat_map (predicate_lines names code) code.predicates

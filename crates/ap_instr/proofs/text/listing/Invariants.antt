@@ -1,8 +1,0 @@
--- What is written and the lines of the other predicates are all of it.
-use Rattle.std.proofs.Common.{◌≡◌, ◌++◌, drop, flat_map}
-use Rattle.ap_instr.specs.Listing.{predicate_lines, listing}
-use Rattle.ap_instr.proofs.text.listing.Given as goal
-
-abbrev pub invariant-loop-predicate : goal.invariant-loop-predicate
-invariant-loop-predicate l =
-    l.out.items ++ flat_map (predicate_lines l.atoms l.code) (drop l.predicate-index l.code.predicates) ≡ listing l.atoms l.code
