@@ -1,12 +1,16 @@
 -- Clauses that a call may enter, by what their heads ask of its arguments.
-use Rattle.std.specs.Prelude.{◌≡◌, ℕ, ◌≤◌, Bool, true, false, if◌then◌else◌, List, [], ◌∷◌, Option, Some, None}
+use Rattle.std.specs.Prelude.{◌≡◌, ℕ, ◌≤◌, ◌⊎◌, Bool, true, false, if◌then◌else◌, List, [], ◌∷◌, Option, Some, None}
 use Rattle.std.specs.List.{AllByRecursion}
-use Rattle.ap_term.specs.Tree.{Tree}
+use Rattle.ap_term.specs.Tree.{Tree, var}
 use Rattle.ap_cells.specs.declared.cells.Raw.{Raw}
+use Rattle.ap_cells.specs.Trees.{tree_at, trees}
 use Rattle.ap_instr.specs.Code.{Compiled}
 use Rattle.ap_index.specs.declared.key.Key.{Key}
 use Rattle.ap_index.specs.declared.hashing.Hashed.{Hashed}
 use Rattle.ap_index.specs.declared.head.Ask.{Ask}
+use Rattle.ap_index.specs.declared.word.Word.{Word}
+use Rattle.ap_index.specs.declared.word.Short.{Short}
+use Rattle.ap_index.specs.Words.{word_of, word_or_nothing, HasAsked}
 use Rattle.ap_index.specs.Keys.{same_key, IsKeyOf}
 use Rattle.ap_index.specs.Heads.{IsMet}
 use Rattle.ap_match.specs.Fits.{Fits}
@@ -16,7 +20,10 @@ use Rattle.ap_control.specs.declared.choosing.Fit.TheVariants.{Has, Takes, Lacks
 use Rattle.ap_control.specs.declared.choosing.Chance.{Chance}
 use Rattle.ap_control.specs.declared.choosing.Chance.TheVariants.{Never, Sure, Open as OpenChance}
 use Rattle.ap_control.specs.declared.alternatives.Alternative.{Alternative}
+use Rattle.ap_control.specs.declared.choosing.First.{First as FirstArgument}
+use Rattle.ap_control.specs.declared.choosing.Known.{Known}
 use Rattle.ap_control.specs.declared.choosing.Possible.{Possible}
+use Rattle.ap_control.specs.declared.choosing.Left.{Left}
 use Rattle.ap_control.specs.declared.choosing.Chosen.{Chosen}
 use Rattle.ap_control.specs.declared.choosing.Chosen.TheVariants.{Only, First}
 use Rattle.ap_control.specs.Heads.{IsShut, PassesOver}
@@ -74,6 +81,31 @@ abbrev pub HasKey : List Raw → (ℕ → ℕ) → Option Hashed → Type 0
 HasKey cs x None = Unit {0}
 HasKey cs x (Some own) = (k : ℕ → Tree) → Fits cs k → IsKeyOf own.key (k (x 1))
 
+-- what a word says of a place's tree: nothing, or that it is an unbound variable, or which key it has
+abbrev pub IsWordAt : List Raw → ℕ → Word → Type 0
+IsWordAt cs p w = (w.kind ≡ 0) ⊎ (((w.kind ≡ 1) × (v : ℕ) × (tree_at (trees cs) p ≡ var v)) ⊎ ((key : Key) × (w ≡ word_of key) × ((k : ℕ → Tree) → Fits cs k → IsKeyOf key (k p))))
+
+-- of an argument of a call with so many
+abbrev pub IsArgument : List Raw → (ℕ → ℕ) → ℕ → ℕ → Word → Type 0
+IsArgument cs x n argument w = (z : ℕ → ℕ) → Alike n x z → IsWordAt cs (z argument) w
+
+-- what is known of the first argument
+abbrev pub IsFirst : List Raw → (ℕ → ℕ) → ℕ → FirstArgument → Type 0
+IsFirst cs x n f = IsArgument cs x n 1 f.word × HasKey cs x f.key
+
+-- and of the second
+abbrev pub IsKnown : List Raw → (ℕ → ℕ) → ℕ → Known → Type 0
+IsKnown cs x n known = IsFirst cs x n known.first × IsArgument cs x n 2 known.second
+
+-- how a tree of which a word tells stands to a key that is asked, if one is
+abbrev pub IsWordFit : Word → Word → Fit → Type 0
+IsWordFit own asked fit = (o : Option Key) → asked ≡ word_or_nothing o → (cs : List Raw) (p : ℕ) → IsWordAt cs p own → Under cs (λ k. HasAsked o (k p)) fit
+
+-- how two arguments stand to what is asked of them
+abbrev pub AreWordsFit : Known → Short → Fit → Type 0
+AreWordsFit known asked fit = (o q : Option Key) → asked.first ≡ word_or_nothing o → asked.second ≡ word_or_nothing q → (cs : List Raw) (x : ℕ → ℕ) (n : ℕ) → IsKnown cs x n known
+    → (z : ℕ → ℕ) → Alike n x z → Under cs (λ k. HasAsked o (k (z 1)) × HasAsked q (k (z 2))) fit
+
 -- the clauses that are left from a possible one on
 abbrev pub possible_places : Compiled → Option Possible → List ℕ
 possible_places code None = []
@@ -82,6 +114,15 @@ possible_places code (Some p) = p.alternative.place ∷ places_from code p.alter
 -- a clause that is said to be sure can be entered
 abbrev pub IsSure : Compiled → List Raw → (ℕ → ℕ) → ℕ → Possible → Type 0
 IsSure code cs x n p = p.sure ≡ true → (z : ℕ → ℕ) → Alike n x z → CanTake code cs z p.alternative.place
+
+-- those that are left from a possible one on, where that is told with the choice behind it
+abbrev pub left_places : Compiled → Option Left → List ℕ
+left_places code None = []
+left_places code (Some l) = l.possible.alternative.place ∷ places_from code l.possible.alternative.behind
+
+-- behind a possible clause those before a choice can't be entered
+abbrev pub IsLeft : Compiled → List Raw → (ℕ → ℕ) → Left → Type 0
+IsLeft code cs x l = PassesOver code cs x (places_from code l.possible.alternative.behind) (places_from code l.rest)
 
 -- of some clauses' places one is left, and those behind it can't be entered
 pub record IsOnly (code : Compiled) (cs : List Raw) (x : ℕ → ℕ) (ls : List ℕ) (one : ℕ) : Type 0 where

@@ -7,18 +7,19 @@ ghost use Rattle.ap_cells.specs.declared.cells.Raw.{Raw};
 ghost use Rattle.ap_instr.specs.StandsFor.{clause_places};
 ghost use Rattle.ap_index.specs.Keys.{same_key, IsKeyOf};
 ghost use Rattle.ap_instr.specs.Code.{Compiled};
-ghost use Rattle.ap_index.specs.Index.{IsChoiceOf, IsRowOf};
+ghost use Rattle.ap_index.specs.declared.key.Key.TheVariants.{Structure};
+ghost use Rattle.ap_index.specs.Index.{named_from, IsChoiceOf, IsRowOf};
 ghost use Rattle.ap_match.specs.Fits.{Fits};
 ghost use Rattle.ap_steps.specs.Moves.{held, HoldPlaces};
 ghost use Rattle.ap_standing.specs.Machine.{places_from};
 ghost use Rattle.ap_control.specs.Heads.{PassesOver};
 ghost use Rattle.ap_control.specs.Taking.{CanTake};
-ghost use Rattle.ap_control.specs.Choosing.{both, chance_by, fit_known, IsFit, IsAskFit, AreFit, IsChance, HasKey, Alike, IsSure, IsChosen, possible_places};
+ghost use Rattle.ap_control.specs.Choosing.{both, chance_by, fit_known, IsFit, IsAskFit, AreFit, IsChance, HasKey, Alike, IsWordAt, IsArgument, IsFirst, IsKnown, IsWordFit, AreWordsFit, IsSure, IsOnly, IsChosen, IsLeft, possible_places, left_places};
 
 use crate::alternatives::{Alternative, first, following};
 use ap_cells::{Cells, Top};
 use ap_codecheck::Sound;
-use ap_index::{Ask, Choice, Hashed, Head, Key, Next, Row};
+use ap_index::{Ask, Choice, Hashed, Head, Key, NOTHING, Next, Row, Short, UNBOUND, Word};
 use ap_instr::Predicate;
 use ap_steps::registers::place_in;
 
@@ -51,18 +52,6 @@ fn own_of(cells: &Cells, place: usize) -> Option<Hashed>
         Some(key) => Some(Hashed::new(key)),
         None => None,
     }
-}
-
-/// What is looked up of the first argument, where that may tell more of the choices from one on.
-#[inline(always)]
-fn key_for(cells: &Cells, x: &[u32], choice: &Choice) -> Option<Hashed>
-    requires { HoldPlaces (length cells.now.cells) x.now }
-    ensures { HasKey cells.now.cells (held x.now) result }
-{
-    if !choice.takes_key {
-        return None;
-    }
-    own_of(cells, place_in(x, 1))
 }
 
 /// How what there is stands to what is asked.
@@ -193,17 +182,185 @@ fn chance_by(fit: Fit, head: &Head) -> Chance
     }
 }
 
-/// Whether the clause of a choice can be entered by a call on so many argument registers, by what its head asks of them.
+/// What is at a place, as a word.
 #[inline(always)]
-fn chance_of(cells: &Cells, x: &[u32], arity: u8, choice: &Choice) -> Chance
+fn word_at(cells: &Cells, place: usize) -> Word
+    requires { place < length cells.now.cells }
+    ensures { IsWordAt cells.now.cells place result }
+{
+    match cells.top(place) {
+        Top::Free(_) => Word::unbound(),
+        Top::Atom(name) => Word::atom(name.number()),
+        Top::Int(value) => Word::integer(value),
+        Top::Node(name, _, count) => Word::structure(name.number(), count),
+    }
+}
+
+/// What an argument is: as a word, and as what is looked up.
+#[derive(Clone, Copy)]
+pub(crate) struct First {
+    pub(crate) word: Word,
+    pub(crate) key: Option<Hashed>,
+}
+
+/// What is at a place.
+#[inline(always)]
+fn first_at(cells: &Cells, place: usize) -> First
+    requires { place < length cells.now.cells }
+    ensures word { IsWordAt cells.now.cells place result.word }
+    ensures key { IfSome result.key (λ own. (k : ℕ → Tree) → Fits cells.now.cells k → IsKeyOf own.key (k place)) }
+{
+    match cells.top(place) {
+        Top::Free(_) => First {
+            word: Word::unbound(),
+            key: None,
+        },
+        Top::Atom(name) => First {
+            word: Word::atom(name.number()),
+            key: Some(Hashed::new(Key::Atom(name.number()))),
+        },
+        Top::Int(value) => First {
+            word: Word::integer(value),
+            key: Some(Hashed::new(Key::Integer(value))),
+        },
+        Top::Node(name, _, count) => First {
+            word: Word::structure(name.number(), count),
+            key: structure_of(name.number(), count),
+        },
+    }
+}
+
+/// What is looked up of a structure; none of one that has more arguments than code has.
+#[inline(always)]
+fn structure_of(name: u32, count: u32) -> Option<Hashed>
+    ensures { IfSome result (λ own. own.key ≡ Structure name count) }
+{
+    if count > 255 {
+        return None;
+    }
+    Some(Hashed::new(Key::Structure(name, count as u8)))
+}
+
+impl First {
+    /// Nothing is told.
+    #[inline(always)]
+    fn nothing() -> First
+        ensures { (cs : List Raw) (x : ℕ → ℕ) (n : ℕ) → IsFirst cs x n result }
+    {
+        First {
+            word: Word::nothing(),
+            key: None,
+        }
+    }
+
+    /// Of a call with so many arguments.
+    #[inline(always)]
+    fn of(cells: &Cells, x: &[u32], arity: u8) -> First
+        requires { HoldPlaces (length cells.now.cells) x.now }
+        ensures { IsFirst cells.now.cells (held x.now) arity result }
+    {
+        if arity == 0 {
+            return First::nothing();
+        }
+        first_at(cells, place_in(x, 1))
+    }
+
+    /// Of a call with so many arguments, where a key of the first one is asked from a choice on.
+    #[inline(always)]
+    fn for_choice(cells: &Cells, x: &[u32], arity: u8, choice: &Choice) -> First
+        requires { HoldPlaces (length cells.now.cells) x.now }
+        ensures { IsFirst cells.now.cells (held x.now) arity result }
+    {
+        if choice.asks_first {
+            First::of(cells, x, arity)
+        } else {
+            First::nothing()
+        }
+    }
+}
+
+/// What the second argument of a call with so many is, as a word, where a key of it is asked from a choice on.
+#[inline(always)]
+fn second_for(cells: &Cells, x: &[u32], arity: u8, choice: &Choice) -> Word
+    requires { HoldPlaces (length cells.now.cells) x.now }
+    ensures { IsArgument cells.now.cells (held x.now) arity 2 result }
+{
+    if arity < 2 || !choice.asks_second {
+        return Word::nothing();
+    }
+    word_at(cells, place_in(x, 2))
+}
+
+/// What is known of the first two arguments of a call.
+#[derive(Clone, Copy)]
+pub(crate) struct Known {
+    pub(crate) first: First,
+    pub(crate) second: Word,
+}
+
+/// How what there is stands to what is asked, by words.
+#[inline(always)]
+fn fit_word(own: Word, asked: Word) -> Fit
+    ensures { IsWordFit own asked result }
+{
+    if asked.kind == NOTHING {
+        return Fit::Has;
+    }
+    if own.kind == NOTHING {
+        return Fit::Open;
+    }
+    if own.kind == UNBOUND {
+        return Fit::Takes;
+    }
+    if own.kind == asked.kind && own.value == asked.value {
+        Fit::Has
+    } else {
+        Fit::Lacks
+    }
+}
+
+/// How the first two arguments stand to what they are asked.
+#[inline(always)]
+fn fit_words(known: &Known, asked: &Short) -> Fit
+    ensures { AreWordsFit known.now asked.now result }
+{
+    match fit_word(known.first.word, asked.first) {
+        Fit::Lacks => Fit::Lacks,
+        Fit::Has => fit_word(known.second, asked.second),
+        some => both(some, fit_word(known.second, asked.second)),
+    }
+}
+
+/// Whether the clause of a choice can be entered by a call on so many argument registers, by all that its head asks of them.
+#[inline(never)]
+fn chance_by_all(cells: &Cells, x: &[u32], arity: u8, choice: &Choice) -> Chance
     requires holds { HoldPlaces (length cells.now.cells) x.now }
     ensures { (code : Compiled) → IsChoiceOf code choice.now → IsChance code cells.now.cells (held x.now) arity choice.now.named.place result }
 {
     chance_by(fit_all(cells, x, arity, choice.head.asks()), &choice.head)
 }
 
+/// Whether the clause of a choice can be entered by a call on so many argument registers, by what its head asks of them.
+#[inline(always)]
+fn chance_of(cells: &Cells, x: &[u32], arity: u8, known: &Known, choice: &Choice) -> Chance
+    requires holds { HoldPlaces (length cells.now.cells) x.now }
+    requires known { IsKnown cells.now.cells (held x.now) arity known.now }
+    ensures { (code : Compiled) → IsChoiceOf code choice.now → IsChance code cells.now.cells (held x.now) arity choice.now.named.place result }
+{
+    match fit_words(known, &choice.short) {
+        Fit::Lacks => Chance::Never,
+        fit => {
+            if choice.short.more {
+                chance_by_all(cells, x, arity, choice)
+            } else {
+                chance_by(fit, &choice.head)
+            }
+        }
+    }
+}
+
 /// From a place behind a choice the next choice for the first argument, by the row that may go on there.
-#[inline(never)]
+#[inline(always)]
 fn next_of_row(sound: &Sound, own: Hashed, at: usize) -> Option<usize>
     ensures { (cs : List Raw) (x : ℕ → ℕ) → HasKey cs x (Some own) → PassesOver sound.now cs x (places_from sound.now (Some at)) (places_from sound.now result) }
 {
@@ -254,49 +411,100 @@ fn next_unknown(sound: &Sound, from: Option<usize>) -> Option<Possible>
     }
 }
 
+/// A clause that isn't passed over, and the choice from which on the others are left.
+#[derive(Clone, Copy)]
+pub(crate) struct Left {
+    pub(crate) possible: Possible,
+    pub(crate) rest: Option<usize>,
+}
+
+/// The next clause from a choice on, of which nothing is known, with those behind it.
+#[inline(always)]
+fn left_unknown(sound: &Sound, from: Option<usize>) -> Option<Left>
+    ensures passes { (cs : List Raw) (x : ℕ → ℕ) → PassesOver sound.now cs x (places_from sound.now from) (left_places sound.now result) }
+    ensures rest { (cs : List Raw) (x : ℕ → ℕ) → IfSome result (IsLeft sound.now cs x) }
+    ensures sure { (n : ℕ) (cs : List Raw) (x : ℕ → ℕ) → IfSome result (λ l. IsSure sound.now cs x n l.possible) }
+{
+    match next_unknown(sound, from) {
+        Some(possible) => Some(Left {
+            possible,
+            rest: possible.alternative.behind,
+        }),
+        None => None,
+    }
+}
+
+/// The clause of a choice, with those behind it for the first argument.
+#[inline(always)]
+fn left_at(sound: &Sound, key: Option<Hashed>, choice: &Choice, sure: bool) -> Left
+    requires { IsChoiceOf sound.now choice.now }
+    ensures place { result.possible.alternative.place ≡ choice.now.named.place }
+    ensures behind { result.possible.alternative.behind ≡ choice.now.named.behind }
+    ensures sure { result.possible.sure ≡ sure }
+    ensures rest { (cs : List Raw) (x : ℕ → ℕ) → HasKey cs x key → IsLeft sound.now cs x result }
+{
+    let alternative = Alternative {
+        place: choice.named.place,
+        behind: choice.named.behind,
+    };
+    Left {
+        possible: Possible { alternative, sure },
+        rest: next_choice(sound, key, choice),
+    }
+}
+
 /// The first clause from a choice on that isn't passed over.
-fn possible_from(
+#[inline(always)]
+fn left_from(
     cells: &Cells,
     x: &[u32],
     arity: u8,
+    known: &Known,
     sound: &Sound,
-    key: Option<Hashed>,
     from: Option<usize>,
-) -> Option<Possible>
+) -> Option<Left>
     requires holds { HoldPlaces (length cells.now.cells) x.now }
-    requires key { HasKey cells.now.cells (held x.now) key }
-    ensures passes { PassesOver sound.now cells.now.cells (held x.now) (places_from sound.now from) (possible_places sound.now result) }
-    ensures sure { IfSome result (λ p. p.sure ≡ true → (z : ℕ → ℕ) → Alike arity (held x.now) z → CanTake sound.now cells.now.cells z p.alternative.place) }
+    requires known { IsKnown cells.now.cells (held x.now) arity known.now }
+    ensures passes { PassesOver sound.now cells.now.cells (held x.now) (places_from sound.now from) (left_places sound.now result) }
+    ensures rest { IfSome result (IsLeft sound.now cells.now.cells (held x.now)) }
+    ensures sure { IfSome result (λ l. IsSure sound.now cells.now.cells (held x.now) arity l.possible) }
 {
     let mut rest = from;
     while let Some(at) = rest {
         let Some(choice) = sound.choice(at) else {
-            return next_unknown(sound, rest);
+            return left_unknown(sound, rest);
         };
         if choice.named.is_first {
-            return next_unknown(sound, rest);
+            return left_unknown(sound, rest);
         }
-        let alternative = Alternative {
-            place: choice.named.place,
-            behind: choice.named.behind,
-        };
-        match chance_of(cells, x, arity, choice) {
-            Chance::Never => rest = next_choice(sound, key, choice),
-            Chance::Sure => {
-                return Some(Possible {
-                    alternative,
-                    sure: true,
-                });
-            }
-            Chance::Open => {
-                return Some(Possible {
-                    alternative,
-                    sure: false,
-                });
-            }
+        match chance_of(cells, x, arity, known, choice) {
+            Chance::Never => rest = next_choice(sound, known.first.key, choice),
+            Chance::Sure => return Some(left_at(sound, known.first.key, choice, true)),
+            Chance::Open => return Some(left_at(sound, known.first.key, choice, false)),
         }
     }
     None
+}
+
+/// The first clause from a choice on that isn't passed over, alone.
+#[inline(always)]
+fn possible_from(
+    cells: &Cells,
+    x: &[u32],
+    arity: u8,
+    known: &Known,
+    sound: &Sound,
+    from: Option<usize>,
+) -> Option<Possible>
+    requires holds { HoldPlaces (length cells.now.cells) x.now }
+    requires known { IsKnown cells.now.cells (held x.now) arity known.now }
+    ensures passes { PassesOver sound.now cells.now.cells (held x.now) (places_from sound.now from) (possible_places sound.now result) }
+    ensures sure { IfSome result (IsSure sound.now cells.now.cells (held x.now) arity) }
+{
+    match left_from(cells, x, arity, known, sound, from) {
+        Some(left) => Some(left.possible),
+        None => None,
+    }
 }
 
 /// The choice before a place, where that is the place behind it.
@@ -316,20 +524,6 @@ fn choice_before(sound: &Sound, at: usize) -> Option<&Choice>
     }
 }
 
-/// From a place behind a choice the next choice for the first argument, by what is known of the choice before it.
-#[inline(always)]
-fn next_behind(sound: &Sound, key: Option<Hashed>, behind: Option<usize>) -> Option<usize>
-    ensures { (cs : List Raw) (x : ℕ → ℕ) → HasKey cs x key → PassesOver sound.now cs x (places_from sound.now behind) (places_from sound.now result) }
-{
-    let Some(at) = behind else {
-        return None;
-    };
-    match choice_before(sound, at) {
-        Some(choice) => next_choice(sound, key, choice),
-        None => behind,
-    }
-}
-
 /// The next clause behind a choice that isn't passed over, for a call on so many argument registers.
 pub fn next_possible(
     cells: &Cells,
@@ -346,11 +540,14 @@ pub fn next_possible(
         return None;
     };
     let Some(choice) = choice_before(sound, at) else {
-        return possible_from(cells, x, arity, sound, None, behind);
+        return next_unknown(sound, behind);
     };
-    let key = key_for(cells, x, choice);
-    let from = next_choice(sound, key, choice);
-    possible_from(cells, x, arity, sound, key, from)
+    let known = Known {
+        first: First::for_choice(cells, x, arity, choice),
+        second: second_for(cells, x, arity, choice),
+    };
+    let from = next_choice(sound, known.first.key, choice);
+    possible_from(cells, x, arity, &known, sound, from)
 }
 
 /// The clauses that a call may enter.
@@ -375,62 +572,52 @@ impl Chosen {
     }
 }
 
-/// The clauses that are left from a choice on, where the others are left from another choice on. None where none of them can be entered.
+/// The first clause from a choice on that isn't passed over, where the choice may be a `try`.
 #[inline(always)]
-fn chosen_among(
+fn left_with(
     cells: &Cells,
     x: &[u32],
     arity: u8,
+    known: &Known,
     sound: &Sound,
-    key: Option<Hashed>,
     found: &Choice,
-    from: Option<usize>,
-) -> Option<Chosen>
+) -> Option<Left>
     requires holds { HoldPlaces (length cells.now.cells) x.now }
-    requires key { HasKey cells.now.cells (held x.now) key }
+    requires known { IsKnown cells.now.cells (held x.now) arity known.now }
     requires found { IsChoiceOf sound.now found.now }
-    requires from { PassesOver sound.now cells.now.cells (held x.now) (places_from sound.now found.now.named.behind) (places_from sound.now from) }
-    ensures none { result ≡ None → PassesOver sound.now cells.now.cells (held x.now) (found.now.named.place ∷ places_from sound.now found.now.named.behind) [] }
-    ensures some { IfSome result (IsChosen sound.now cells.now.cells (held x.now) arity (found.now.named.place ∷ places_from sound.now found.now.named.behind)) }
+    ensures passes { PassesOver sound.now cells.now.cells (held x.now) (found.now.named.place ∷ places_from sound.now found.now.named.behind) (left_places sound.now result) }
+    ensures rest { IfSome result (IsLeft sound.now cells.now.cells (held x.now)) }
 {
-    let own = Alternative {
-        place: found.named.place,
-        behind: found.named.behind,
-    };
-    let next = possible_from(cells, x, arity, sound, key, from);
-    match chance_of(cells, x, arity, found) {
+    match chance_of(cells, x, arity, known, found) {
         Chance::Never => {
-            let Some(second) = next else {
-                return None;
-            };
-            let rest = next_behind(sound, key, second.alternative.behind);
-            let third = possible_from(cells, x, arity, sound, key, rest);
-            Some(Chosen::of(second.alternative, third))
+            let from = next_choice(sound, known.first.key, found);
+            left_from(cells, x, arity, known, sound, from)
         }
-        _ => Some(Chosen::of(own, next)),
+        _ => Some(left_at(sound, known.first.key, found, false)),
     }
 }
 
-/// The clauses that are left from a choice on. Its clause is asked for nothing where there is no other.
+/// The clauses that are left from a choice on.
 #[inline(always)]
 fn chosen_from(
     cells: &Cells,
     x: &[u32],
     arity: u8,
+    known: &Known,
     sound: &Sound,
-    key: Option<Hashed>,
     found: &Choice,
 ) -> Option<Chosen>
     requires holds { HoldPlaces (length cells.now.cells) x.now }
-    requires key { HasKey cells.now.cells (held x.now) key }
+    requires known { IsKnown cells.now.cells (held x.now) arity known.now }
     requires found { IsChoiceOf sound.now found.now }
     ensures none { result ≡ None → PassesOver sound.now cells.now.cells (held x.now) (found.now.named.place ∷ places_from sound.now found.now.named.behind) [] }
     ensures some { IfSome result (IsChosen sound.now cells.now.cells (held x.now) arity (found.now.named.place ∷ places_from sound.now found.now.named.behind)) }
 {
-    match next_choice(sound, key, found) {
-        None => Some(Chosen::Only(found.named.place)),
-        from => chosen_among(cells, x, arity, sound, key, found, from),
-    }
+    let Some(one) = left_with(cells, x, arity, known, sound, found) else {
+        return None;
+    };
+    let next = possible_from(cells, x, arity, known, sound, one.rest);
+    Some(Chosen::of(one.possible.alternative, next))
 }
 
 /// A predicate's first clause, with the next one, of neither of which anything is known.
@@ -445,63 +632,113 @@ fn chosen_plainly(sound: &Sound, predicate: &Predicate) -> Option<Chosen>
     }
 }
 
-/// A predicate's clauses for the first argument, by the row of its choices.
+/// What is known of the first argument of a call, where a key of it is asked from a predicate's first choice on.
 #[inline(always)]
-fn chosen_by_row(
+fn first_for(cells: &Cells, x: &[u32], sound: &Sound, predicate: &Predicate) -> First
+    requires { HoldPlaces (length cells.now.cells) x.now }
+    ensures { IsFirst cells.now.cells (held x.now) predicate.now.arity result }
+{
+    match sound.choice(predicate.start as usize) {
+        Some(begin) => First::for_choice(cells, x, predicate.arity, begin),
+        None => First::nothing(),
+    }
+}
+
+/// A predicate's first choice for a key, by the row of its choices.
+#[inline(always)]
+fn begin_by_row(
     cells: &Cells,
     x: &[u32],
     sound: &Sound,
     predicate: &Predicate,
     row: &Row,
-    own: Hashed,
-) -> Option<Chosen>
-    requires holds { HoldPlaces (length cells.now.cells) x.now }
+    key: Option<Hashed>,
+) -> Option<usize>
     requires row { IsRowOf sound.now predicate.now.start row.now }
-    requires own { HasKey cells.now.cells (held x.now) (Some own) }
+    requires key { HasKey cells.now.cells (held x.now) key }
     ensures none { result ≡ None → PassesOver sound.now cells.now.cells (held x.now) (clause_places sound.now predicate.now) [] }
-    ensures some { IfSome result (IsChosen sound.now cells.now.cells (held x.now) predicate.now.arity (clause_places sound.now predicate.now)) }
+    ensures some { IfSome result (λ at. (at ≡ predicate.now.start → ⊥) → PassesOver sound.now cells.now.cells (held x.now) (clause_places sound.now predicate.now) (named_from sound.now (Some at))) }
 {
-    if let Some(place) = row.only(own) {
-        return Some(Chosen::Only(place));
-    }
-    let Some(at) = row.first(own) else {
-        return None;
-    };
-    match sound.choice(at) {
-        Some(found) => chosen_from(cells, x, predicate.arity, sound, Some(own), found),
-        None => chosen_plainly(sound, predicate),
+    match key {
+        Some(own) => row.first(own),
+        None => Some(predicate.start as usize),
     }
 }
 
-/// A predicate's clauses where no row is asked.
+/// The clauses that are left from a predicate's choice on.
 #[inline(always)]
-fn chosen_in_turn(cells: &Cells, x: &[u32], sound: &Sound, predicate: &Predicate) -> Option<Chosen>
-    requires { HoldPlaces (length cells.now.cells) x.now }
+fn chosen_at(
+    cells: &Cells,
+    x: &[u32],
+    sound: &Sound,
+    predicate: &Predicate,
+    first: First,
+    at: usize,
+) -> Option<Chosen>
+    requires holds { HoldPlaces (length cells.now.cells) x.now }
+    requires first { IsFirst cells.now.cells (held x.now) predicate.now.arity first }
+    requires at { (at ≡ predicate.now.start → ⊥) → PassesOver sound.now cells.now.cells (held x.now) (clause_places sound.now predicate.now) (named_from sound.now (Some at)) }
     ensures none { result ≡ None → PassesOver sound.now cells.now.cells (held x.now) (clause_places sound.now predicate.now) [] }
     ensures some { IfSome result (IsChosen sound.now cells.now.cells (held x.now) predicate.now.arity (clause_places sound.now predicate.now)) }
 {
-    let Some(begin) = sound.choice(predicate.start as usize) else {
+    let Some(found) = sound.choice(at) else {
         return chosen_plainly(sound, predicate);
     };
-    if !begin.named.is_first {
+    if at == predicate.start as usize && !found.named.is_first {
         return chosen_plainly(sound, predicate);
     }
-    let key = key_for(cells, x, begin);
-    chosen_from(cells, x, predicate.arity, sound, key, begin)
+    let known = Known {
+        first,
+        second: second_for(cells, x, predicate.arity, found),
+    };
+    chosen_from(cells, x, predicate.arity, &known, sound, found)
 }
 
 /// The clauses of a predicate that a call on its argument registers may enter.
-#[inline(always)]
 pub fn choose(cells: &Cells, x: &[u32], sound: &Sound, predicate: &Predicate) -> Option<Chosen>
     requires { HoldPlaces (length cells.now.cells) x.now }
     ensures none { result ≡ None → PassesOver sound.now cells.now.cells (held x.now) (clause_places sound.now predicate.now) [] }
     ensures some { IfSome result (IsChosen sound.now cells.now.cells (held x.now) predicate.now.arity (clause_places sound.now predicate.now)) }
 {
+    let start = predicate.start as usize;
+    let row = sound.row(start);
+    let first = match row {
+        Some(_) => First::of(cells, x, predicate.arity),
+        None => first_for(cells, x, sound, predicate),
+    };
+    let begin = match row {
+        Some(row) => begin_by_row(cells, x, sound, predicate, row, first.key),
+        None => Some(start),
+    };
+    match begin {
+        Some(at) => chosen_at(cells, x, sound, predicate, first, at),
+        None => None,
+    }
+}
+
+/// A predicate's clause, where it has no other.
+#[inline(always)]
+fn alone(sound: &Sound, predicate: &Predicate) -> Option<u32>
+    ensures { (cs : List Raw) (x : ℕ → ℕ) → IfSome result (IsOnly sound.now cs x (clause_places sound.now predicate.now)) }
+{
+    match first(sound.code(), predicate) {
+        Some(Alternative { place, behind: None }) => Some(place),
+        _ => None,
+    }
+}
+
+/// The clause that alone a call may enter, where that is told at once: the predicate has no other, or its row has none for the
+/// first argument.
+#[inline(always)]
+pub fn only(cells: &Cells, x: &[u32], sound: &Sound, predicate: &Predicate) -> Option<u32>
+    requires { HoldPlaces (length cells.now.cells) x.now }
+    ensures { IfSome result (IsOnly sound.now cells.now.cells (held x.now) (clause_places sound.now predicate.now)) }
+{
     let Some(row) = sound.row(predicate.start as usize) else {
-        return chosen_in_turn(cells, x, sound, predicate);
+        return alone(sound, predicate);
     };
     match own_of(cells, place_in(x, 1)) {
-        Some(own) => chosen_by_row(cells, x, sound, predicate, row, own),
-        None => chosen_in_turn(cells, x, sound, predicate),
+        Some(own) => row.only(own),
+        None => None,
     }
 }

@@ -213,6 +213,7 @@ module _ (base code : Compiled) (begins : Begins base code) (alone : StandsAlone
       record {
         named = named-still c.at c.named parts.0 h.named;
         head = head-still c.named.place c.head (choice-place c.at c.named h.named).1 h.head;
+        short = h.short;
         next = next-still c.named.behind c.next parts.0 parts.1 h.next;
       }
 

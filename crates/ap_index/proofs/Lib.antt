@@ -6,3 +6,4 @@ pub mod Left
 pub mod Openness
 pub mod Same
 pub mod Slots
+pub mod Words

@@ -20,6 +20,7 @@ use Rattle.ap_index.specs.declared.index.Index.{Index}
 use Rattle.ap_index.specs.Keys.{same_key, key_at}
 use Rattle.ap_index.specs.Hashing.{slot_of}
 use Rattle.ap_index.specs.Heads.{IsHeadOf}
+use Rattle.ap_index.specs.Words.{IsShortOf}
 
 -- the clause at a place asks for another first argument
 pub record AsksOther (code : Compiled) (key : Key) (at : ℕ) : Type 0 where
@@ -122,6 +123,7 @@ IsNextOf code behind (Linked l) = (from : ℕ) → behind ≡ Some from → IsLi
 pub record IsChoiceOf (code : Compiled) (c : Choice) : Type 0 where
   pub named : IsNamedBy code c.at c.named
   pub head : IsHeadOf code c.named.place c.head
+  pub short : IsShortOf c.head.asks.items c.short
   pub next : IsNextOf code c.named.behind c.next
 
 -- and that it stands at a place

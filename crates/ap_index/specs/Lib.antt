@@ -4,3 +4,4 @@ pub mod Hashing
 pub mod Index
 pub mod Opening
 pub mod Within
+pub mod Words

@@ -8,6 +8,7 @@ use crate::head::{Head, head_at};
 use crate::key::instruction_at;
 use crate::row::Link;
 use crate::rows::Rows;
+use crate::word::{Short, shorten};
 use ap_instr::{Code, Instr};
 use ap_term::NoMemory;
 use std::alloc::Global;
@@ -31,18 +32,20 @@ pub enum Next {
     Linked(Link),
 }
 
-/// So many choices are looked at to tell whether a key serves from one of them on.
+/// So many choices are looked at to tell whether anything is asked from one of them on.
 const AHEAD: u32 = 64;
 
 /// The choice at a place: what it names, what the head of its clause asks of the arguments of a call, what is known of the choices
-/// behind it, and whether a key may tell more of those from it on.
+/// behind it, and whether the clauses from it on ask a key of the first argument, and of the second.
 #[derive(Drop)]
 pub struct Choice {
     pub(crate) at: u32,
     pub named: Named,
     pub head: Head,
+    pub short: Short,
     pub next: Next,
-    pub takes_key: bool,
+    pub asks_first: bool,
+    pub asks_second: bool,
 }
 
 /// What a choice at a place names, if one stands there.
@@ -86,16 +89,53 @@ fn next_of(rows: &Rows, behind: Option<usize>) -> Next
     }
 }
 
-/// Whether a row or a link is known of one of the choices from a place on, or they are more than are looked at.
-fn takes_key(code: &Code, rows: &Rows, at: u32) -> bool {
+/// The argument of which an instruction asks a key, if it does.
+fn asked_by(instr: &Instr) -> Option<u32> {
+    match *instr {
+        Instr::GetConstant(_, a) => Some(a),
+        Instr::GetInteger(_, a) => Some(a),
+        Instr::GetStructure(_, _, a) => Some(a),
+        _ => None,
+    }
+}
+
+/// Whether an instruction may stand before one that asks a key.
+fn leads_on(instr: &Instr) -> bool {
+    match *instr {
+        Instr::Allocate(_) => true,
+        Instr::GetVariable(_, _) => true,
+        Instr::UnifyVariable(_) => true,
+        _ => false,
+    }
+}
+
+/// Whether the clause at a place asks a key of an argument.
+fn asks_at(code: &Code, clause: u32, argument: u32) -> bool {
+    for at in clause..clause.saturating_add(AHEAD) {
+        let Some(instr) = instruction_at(code, at as usize) else {
+            return false;
+        };
+        match asked_by(&instr) {
+            Some(asked) if asked == argument => return true,
+            Some(_) => {}
+            None if leads_on(&instr) => {}
+            None => return false,
+        }
+    }
+    false
+}
+
+/// Whether a clause of the choices from a place on asks a key of an argument, or they are more than are looked at.
+fn asks_from(code: &Code, at: u32, argument: u32) -> bool {
     for place in at..at.saturating_add(AHEAD) {
         let Some(named) = named_at(code, place) else {
             return false;
         };
-        match next_of(rows, named.behind) {
-            Next::Any if named.behind.is_none() => return false,
-            Next::Any => {}
-            _ => return true,
+        if asks_at(code, named.place, argument) {
+            return true;
+        }
+        if named.behind.is_none() {
+            return false;
         }
     }
     true
@@ -115,11 +155,14 @@ pub(crate) fn choice_at(
         return Ok(None);
     };
     let head = head_at(alloc, code, named.place as usize)?;
+    let short = shorten(head.asks());
     Ok(Some(Choice {
         at,
         named,
         head,
+        short,
         next: next_of(rows, named.behind),
-        takes_key: takes_key(code, rows, at),
+        asks_first: asks_from(code, at, 1),
+        asks_second: asks_from(code, at, 2),
     }))
 }

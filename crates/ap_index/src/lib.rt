@@ -16,6 +16,7 @@ mod opening;
 mod row;
 mod rows;
 mod within;
+mod word;
 
 pub use choice::{Choice, Named, Next};
 pub use hashing::Hashed;
@@ -24,3 +25,4 @@ pub use index::{Index, index_of};
 pub use key::{Key, key_at};
 pub use opening::{Way, is_open, way_of};
 pub use row::{Link, Row};
+pub use word::{NOTHING, Short, UNBOUND, Word};

@@ -14,7 +14,7 @@ ghost use Rattle.ap_standing.specs.Machine.{Point, calling, inside, failed, plac
 ghost use Rattle.ap_standing.specs.Laws.{IsTurn, KeepsStanding};
 ghost use Rattle.ap_control.specs.Heads.{PassesOver};
 ghost use Rattle.ap_control.specs.Taking.{CanTake};
-ghost use Rattle.ap_control.specs.Choosing.{IsChosen, possible_places};
+ghost use Rattle.ap_control.specs.Choosing.{IsOnly, IsChosen, possible_places};
 ghost use Rattle.ap_machine.specs.View.{IsFor};
 ghost use Rattle.ap_machine.specs.Live.{UnifiesAtNewest, KeepsLive};
 ghost use Rattle.ap_machine.specs.Choices.{Stays, AtNewest, Returned, LeavesOut, places_of, called_point, points_left};
@@ -24,7 +24,7 @@ ghost use Rattle.ap_machine.specs.Back.{CanGoBack, WentBack};
 use crate::state::{Now, Search};
 use ap_cells::{CellMark, Cells};
 use ap_codecheck::Sound;
-use ap_control::{Alternative, Chosen, Possible, can_take, choose, next_possible};
+use ap_control::{Alternative, Chosen, Possible, can_take, choose, next_possible, only};
 use ap_environments::{Choice, Environments, clear};
 use ap_instr::{Code, Predicate};
 use ap_needs::Room;
@@ -120,6 +120,41 @@ impl Search {
         Ok(())
     }
 
+    /// The clause of a predicate that alone a call on the argument registers may enter, where that is told at once.
+    #[inline(always)]
+    fn only(&self, sound: &Sound, predicate: &Predicate) -> Option<u32>
+        ensures { IfSome result (IsOnly sound.now self.now.machine.cells (held self.now.machine.x) (clause_places sound.now predicate.now)) }
+    {
+        only(&self.cells, &self.x, sound, predicate)
+    }
+
+    /// Enters a predicate of the table that may have several clauses for the call.
+    #[inline(never)]
+    fn enter_chosen(&mut self, sound: &Sound, number: u32, predicate: Predicate) -> Result<(), NoMemory>
+        requires due { self.old.machine.now ≡ calling number }
+        requires is_for { IsFor sound.now self.old }
+        requires known { slice_get sound.now.predicates number ≡ Some predicate }
+        ensures turn { OnOk result ((p : Program) (q : PredicateOf) → slice_get sound.now.predicates number ≡ Some q → IsProgram p → StandsFor sound.now p → IsTurn sound.now p self.old.machine self.new.machine) }
+        ensures kept { OnErr result (self.new ≡ self.old) }
+        ensures stays { Stays self.old self.new }
+        ensures live { KeepsLive sound.now self.old.machine self.new.machine }
+    {
+        match self.chosen(sound, &predicate) {
+            None => self.fail(),
+            Some(Chosen::Only(place)) => self.resume(place as usize),
+            Some(Chosen::First(first, second)) => {
+                if second.sure {
+                    self.keep(number, predicate.arity, second.alternative)?;
+                    self.resume(first.place as usize);
+                } else {
+                    self.keep(number, predicate.arity, first)?;
+                    self.fail();
+                }
+            }
+        }
+        Ok(())
+    }
+
     /// Enters a predicate of the table, which is a turn. Clauses that fail at once are passed over, and control goes right
     /// inside the first one that is left; a choice point keeps the next one, where its head surely unifies with the call.
     /// Where that isn't sure, the choice point keeps both, and is gone back to. Without memory nothing changes.
@@ -137,20 +172,13 @@ impl Search {
             self.fail();
             return Ok(());
         };
-        match self.chosen(sound, &predicate) {
-            None => self.fail(),
-            Some(Chosen::Only(place)) => self.resume(place as usize),
-            Some(Chosen::First(first, second)) => {
-                if second.sure {
-                    self.keep(number, predicate.arity, second.alternative)?;
-                    self.resume(first.place as usize);
-                } else {
-                    self.keep(number, predicate.arity, first)?;
-                    self.fail();
-                }
+        match self.only(sound, &predicate) {
+            Some(place) => {
+                self.resume(place as usize);
+                Ok(())
             }
+            None => self.enter_chosen(sound, number, predicate),
         }
-        Ok(())
     }
 
     /// The newest choice point.
