@@ -27,7 +27,7 @@ use Rattle.ap_control.proofs.Unifying.{takes-tree}
 use Rattle.ap_control.specs.Choosing.{Under, both, chance_by, fit_known, Alike, AreFit, IsFit, IsAskFit, IsChance, HasKey}
 
 -- two things at once
-both-under : (cs : List Raw) (P Q : (ℕ → Tree) → Type 0) (f g : Fit) → Under cs P f → Under cs Q g → Under cs (λ k. P k × Q k) (both f g)
+pub both-under : (cs : List Raw) (P Q : (ℕ → Tree) → Type 0) (f g : Fit) → Under cs P f → Under cs Q g → Under cs (λ k. P k × Q k) (both f g)
 both-under cs P Q Has Has p q = λ k fits. (p k fits, q k fits)
 both-under cs P Q Has Takes p q = (q.0, q.1, (p q.0 q.1, q.2))
 both-under cs P Q Has Lacks p q = λ k fits b. q k fits b.1
@@ -58,7 +58,7 @@ both-lacks Lacks = refl
 both-lacks Open = refl
 
 -- the same thing said in another way
-under-same : (cs : List Raw) (P Q : (ℕ → Tree) → Type 0) (f : Fit) → ((k : ℕ → Tree) → P k → Q k) → ((k : ℕ → Tree) → Q k → P k) → Under cs P f → Under cs Q f
+pub under-same : (cs : List Raw) (P Q : (ℕ → Tree) → Type 0) (f : Fit) → ((k : ℕ → Tree) → P k → Q k) → ((k : ℕ → Tree) → Q k → P k) → Under cs P f → Under cs Q f
 under-same cs P Q Has to from h = λ k fits. to k (h k fits)
 under-same cs P Q Takes to from h = (h.0, h.1, to h.0 h.2)
 under-same cs P Q Lacks to from h = λ k fits q. h k fits (from k q)

@@ -7,3 +7,4 @@ pub mod Openness
 pub mod Passed
 pub mod Ran
 pub mod Unifying
+pub mod Words

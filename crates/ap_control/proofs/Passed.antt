@@ -1,5 +1,5 @@
 -- Clauses that are passed over.
-use Rattle.std.proofs.Common.{◌≡◌, ℕ, ◌≤◌, List, [], ◌∷◌, ◌++◌, length, ap, sym, ◌∙◌, append_assoc, length-append, arith}
+use Rattle.std.proofs.Common.{◌≡◌, ℕ, ◌≤◌, List, [], ◌∷◌, ◌++◌, length, Option, Some, subst, ap, sym, ◌∙◌, append_assoc, length-append, arith}
 use Rattle.std.specs.List.{AllByRecursion}
 use Rattle.ap_cells.specs.declared.cells.Raw.{Raw}
 use Rattle.ap_instr.specs.Code.{Compiled}
@@ -7,7 +7,8 @@ use Rattle.ap_standing.specs.Machine.{places_from}
 use Rattle.ap_control.specs.declared.choosing.Chosen.{Chosen}
 use Rattle.ap_control.specs.declared.choosing.Chosen.TheVariants.{Only, First}
 use Rattle.ap_control.specs.Heads.{IsShut, PassesOver}
-use Rattle.ap_control.specs.Choosing.{IsChosen}
+use Rattle.ap_control.specs.declared.choosing.Left.{Left}
+use Rattle.ap_control.specs.Choosing.{IsChosen, left_places}
 
 module _ (code : Compiled) (cs : List Raw) (x : ℕ → ℕ) where
   pub passes-none : (ls rest : List ℕ) → ls ≡ rest → PassesOver code cs x ls rest
@@ -31,6 +32,13 @@ module _ (code : Compiled) (cs : List Raw) (x : ℕ → ℕ) where
 
   pub passes-shorter : (ls rest : List ℕ) → PassesOver code cs x ls rest → length rest ≤ length ls
   passes-shorter ls rest h = omega (arith, ap length h.are, length-append h.passed rest)
+
+  -- a clause is left, and those behind it
+  pub passes-left : (ls : List ℕ) (l : Left) (place : ℕ) (behind : Option ℕ) → l.possible.alternative.place ≡ place → l.possible.alternative.behind ≡ behind
+      → PassesOver code cs x ls (place ∷ places_from code behind) → PassesOver code cs x ls (left_places code (Some l))
+  passes-left ls l place behind e f h =
+      subst (λ p. PassesOver code cs x ls (p ∷ places_from code l.possible.alternative.behind)) (sym e)
+      (subst (λ b. PassesOver code cs x ls (place ∷ places_from code b)) (sym f) h)
 
   -- what is chosen of those that are left is chosen of all
   pub chosen-then : (n : ℕ) (all ls : List ℕ) (c : Chosen) → PassesOver code cs x all ls → IsChosen code cs x n ls c → IsChosen code cs x n all c

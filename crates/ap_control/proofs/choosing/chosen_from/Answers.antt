@@ -1,19 +1,17 @@
-use Rattle.std.proofs.Common.{◌∷◌, refl, subst}
+use Rattle.std.proofs.Common.{List, ℕ, ◌∷◌}
 use Rattle.ap_steps.specs.Moves.{held}
 use Rattle.ap_standing.specs.Machine.{places_from}
-use Rattle.ap_control.specs.Heads.{PassesOver}
-use Rattle.ap_control.proofs.Passed.{passes-none}
+use Rattle.ap_control.specs.Choosing.{possible_places}
+use Rattle.ap_control.proofs.Passed.{passes-then}
 use Rattle.ap_control.proofs.choosing.chosen_from.Goals as goal
 
-pub returns-in-None-clause-some : goal.returns-in-None-clause-some
-returns-in-None-clause-some c =
+pub returns-clause-some : goal.returns-clause-some
+returns-clause-some c =
     let code = c.args.sound.now in
     let cs = c.args.cells.now.cells in
     let x = held c.args.x.now in
     let found = c.args.found.now.named in
-    let behind = places_from code found.behind in
-    record {
-      behind = behind;
-      first = passes-none code cs x (found.place ∷ behind) (found.place ∷ behind) refl;
-      next = subst (λ from. PassesOver code cs x behind (places_from code from)) c.in-None.is (c.next_choice.ensures cs x c.requires.key);
-    }
+    let one = c.in-Some.one in
+    c.of.ensures code cs x c.args.arity (found.place ∷ places_from code found.behind) c.in-Some.ensures.passes
+    (passes-then code cs x (places_from code one.possible.alternative.behind) (places_from code one.rest) (possible_places code c.possible_from-next.result) c.in-Some.ensures.rest c.possible_from-next.ensures.passes)
+    c.possible_from-next.ensures.sure

@@ -13,5 +13,5 @@ returns-clause-passes c =
     let x = held c.args.x.now in
     let from = places_from code c.next_choice-from.result in
     let e : c.in-Some-choice_before.choice.now.named.behind ≡ c.args.behind = c.in-Some-choice_before.ensures.1 ∙ sym c.in-Some.is in
-    passes-then code cs x (places_from code c.args.behind) from (possible_places code c.possible_from-2.result)
-    (subst (λ b. PassesOver code cs x (places_from code b) from) e (c.next_choice-from.ensures cs x c.key_for-key.ensures)) c.possible_from-2.ensures.passes
+    passes-then code cs x (places_from code c.args.behind) from (possible_places code c.possible_from.result)
+    (subst (λ b. PassesOver code cs x (places_from code b) from) e (c.next_choice-from.ensures cs x c.for_choice.ensures.1)) c.possible_from.ensures.passes
