@@ -20,7 +20,7 @@ use Rattle.ap_match.proofs.Maps.{fits-own}
 use Rattle.ap_control.specs.declared.choosing.Fit.{Fit}
 use Rattle.ap_control.specs.declared.choosing.Fit.TheVariants.{Has, Takes, Lacks, Open}
 use Rattle.ap_control.specs.declared.choosing.Known.{Known}
-use Rattle.ap_control.specs.Choosing.{Under, both, Alike, AreFit, IsWordAt, IsKnown, IsWordFit, AreWordsFit, chance_by, IsChance}
+use Rattle.ap_control.specs.Choosing.{Under, both, Alike, AreFit, IsWordAt, IsKnown, IsWordFit, IsOtherFit, AreWordsFit, chance_by, IsChance}
 use Rattle.ap_control.proofs.Keys.{clash}
 use Rattle.ap_index.proofs.Same.{true-same}
 use Rattle.ap_control.proofs.Fitting.{takes-key, both-under, under-same, chance-by}
@@ -89,21 +89,29 @@ has-both Takes = refl
 has-both Lacks = refl
 has-both Open = refl
 
+-- of another argument than the first
+pub other-none : (known : Known) (asked : Short) → asked.second.kind ≡ 0 → IsOtherFit known asked Has
+other-none known asked none None e cs x n is z alike = λ k fits. tt
+other-none known asked none (Some key) e cs x n is z alike = absurd ((kind-of key asked.second.kind (ap (λ (w : Word). w.kind) (sym e))).0 none)
+
+pub other-told : (known : Known) (asked : Short) (f : Fit) → asked.argument ≡ known.argument → IsWordFit known.second asked.second f → IsOtherFit known asked f
+other-told known asked f same h q e cs x n is z alike = subst (λ a. Under cs (λ k. HasAsked q (k (z a))) f) (sym same) (h q e cs (z known.argument) (is z alike))
+
 -- of two arguments
-pub words-both : (known : Known) (asked : Short) (f g : Fit) → IsWordFit known.first.word asked.first f → IsWordFit known.second asked.second g → AreWordsFit known asked (both f g)
+pub words-both : (known : Known) (asked : Short) (f g : Fit) → IsWordFit known.first.word asked.first f → IsOtherFit known asked g → AreWordsFit known asked (both f g)
 words-both known asked f g h i o q e r cs x n is z alike =
-    both-under cs (λ k. HasAsked o (k (z 1))) (λ k. HasAsked q (k (z 2))) f g (h o e cs (z 1) (is.0.0 z alike)) (i q r cs (z 2) (is.1 z alike))
+    both-under cs (λ k. HasAsked o (k (z 1))) (λ k. HasAsked q (k (z asked.argument))) f g (h o e cs (z 1) (is.0.0 z alike)) (i q r cs x n is.1 z alike)
 
 -- of all that is asked in short
 module _ (code : Compiled) (cs : List Raw) (x : ℕ → ℕ) (n : ℕ) (known : Known) (c : Choice) (is : IsChoiceOf code c) (knows : IsKnown cs x n known) where
   module _ (f : Fit) (h : AreWordsFit known c.short f) where
-    two : (z : ℕ → ℕ) → Alike n x z → Under cs (λ k. HasAsked is.short.first (k (z 1)) × HasAsked is.short.second (k (z 2))) f
+    two : (z : ℕ → ℕ) → Alike n x z → Under cs (λ k. HasAsked is.short.first (k (z 1)) × HasAsked is.short.second (k (z c.short.argument))) f
     two = h is.short.first is.short.second is.short.first_is is.short.second_is cs x n knows
 
     -- where no more is asked
     pub chance-by-words : c.short.more ≡ false → IsChance code cs x n c.named.place (chance_by f c.head.whole)
     chance-by-words more = chance-by code cs x n c.named.place c.head is.head f (λ z alike.
-        under-same cs (λ k. HasAsked is.short.first (k (z 1)) × HasAsked is.short.second (k (z 2))) (λ k. AllByRecursion (IsMet (λ w. k (z w))) c.head.asks.items) f
+        under-same cs (λ k. HasAsked is.short.first (k (z 1)) × HasAsked is.short.second (k (z c.short.argument))) (λ k. AllByRecursion (IsMet (λ w. k (z w))) c.head.asks.items) f
         (λ k u. is.short.enough more (λ w. k (z w)) u.0 u.1) (λ k. is.short.needed (λ w. k (z w))) (two z alike))
 
   -- where that can't be

@@ -93,18 +93,23 @@ IsArgument cs x n argument w = (z : ℕ → ℕ) → Alike n x z → IsWordAt cs
 abbrev pub IsFirst : List Raw → (ℕ → ℕ) → ℕ → FirstArgument → Type 0
 IsFirst cs x n f = IsArgument cs x n 1 f.word × HasKey cs x f.key
 
--- and of the second
+-- and of another one
 abbrev pub IsKnown : List Raw → (ℕ → ℕ) → ℕ → Known → Type 0
-IsKnown cs x n known = IsFirst cs x n known.first × IsArgument cs x n 2 known.second
+IsKnown cs x n known = IsFirst cs x n known.first × IsArgument cs x n known.argument known.second
 
 -- how a tree of which a word tells stands to a key that is asked, if one is
 abbrev pub IsWordFit : Word → Word → Fit → Type 0
 IsWordFit own asked fit = (o : Option Key) → asked ≡ word_or_nothing o → (cs : List Raw) (p : ℕ) → IsWordAt cs p own → Under cs (λ k. HasAsked o (k p)) fit
 
+-- how that one stands to what is asked of another one than the first
+abbrev pub IsOtherFit : Known → Short → Fit → Type 0
+IsOtherFit known asked fit = (q : Option Key) → asked.second ≡ word_or_nothing q → (cs : List Raw) (x : ℕ → ℕ) (n : ℕ) → IsArgument cs x n known.argument known.second
+    → (z : ℕ → ℕ) → Alike n x z → Under cs (λ k. HasAsked q (k (z asked.argument))) fit
+
 -- how two arguments stand to what is asked of them
 abbrev pub AreWordsFit : Known → Short → Fit → Type 0
 AreWordsFit known asked fit = (o q : Option Key) → asked.first ≡ word_or_nothing o → asked.second ≡ word_or_nothing q → (cs : List Raw) (x : ℕ → ℕ) (n : ℕ) → IsKnown cs x n known
-    → (z : ℕ → ℕ) → Alike n x z → Under cs (λ k. HasAsked o (k (z 1)) × HasAsked q (k (z 2))) fit
+    → (z : ℕ → ℕ) → Alike n x z → Under cs (λ k. HasAsked o (k (z 1)) × HasAsked q (k (z asked.argument))) fit
 
 -- the clauses that are left from a possible one on
 abbrev pub possible_places : Compiled → Option Possible → List ℕ

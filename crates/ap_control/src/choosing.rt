@@ -8,13 +8,13 @@ ghost use Rattle.ap_instr.specs.StandsFor.{clause_places};
 ghost use Rattle.ap_index.specs.Keys.{same_key, IsKeyOf};
 ghost use Rattle.ap_instr.specs.Code.{Compiled};
 ghost use Rattle.ap_index.specs.declared.key.Key.TheVariants.{Structure};
-ghost use Rattle.ap_index.specs.Index.{named_from, IsChoiceOf, IsRowOf};
+ghost use Rattle.ap_index.specs.Index.{IsChoiceOf, IsRowOf};
 ghost use Rattle.ap_match.specs.Fits.{Fits};
 ghost use Rattle.ap_steps.specs.Moves.{held, HoldPlaces};
 ghost use Rattle.ap_standing.specs.Machine.{places_from};
 ghost use Rattle.ap_control.specs.Heads.{PassesOver};
 ghost use Rattle.ap_control.specs.Taking.{CanTake};
-ghost use Rattle.ap_control.specs.Choosing.{both, chance_by, fit_known, IsFit, IsAskFit, AreFit, IsChance, HasKey, Alike, IsWordAt, IsArgument, IsFirst, IsKnown, IsWordFit, AreWordsFit, IsSure, IsOnly, IsChosen, IsLeft, possible_places, left_places};
+ghost use Rattle.ap_control.specs.Choosing.{both, chance_by, fit_known, IsFit, IsAskFit, AreFit, IsChance, HasKey, Alike, IsWordAt, IsArgument, IsFirst, IsKnown, IsWordFit, IsOtherFit, AreWordsFit, IsSure, IsOnly, IsChosen, IsLeft, possible_places, left_places};
 
 use crate::alternatives::{Alternative, first, following};
 use ap_cells::{Cells, Top};
@@ -279,22 +279,23 @@ impl First {
     }
 }
 
-/// What the second argument of a call with so many is, as a word, where a key of it is asked from a choice on.
+/// What the other argument of which a key is asked from a choice on is in a call with so many, as a word.
 #[inline(always)]
-fn second_for(cells: &Cells, x: &[u32], arity: u8, choice: &Choice) -> Word
+fn other_for(cells: &Cells, x: &[u32], arity: u8, choice: &Choice) -> Word
     requires { HoldPlaces (length cells.now.cells) x.now }
-    ensures { IsArgument cells.now.cells (held x.now) arity 2 result }
+    ensures { IsArgument cells.now.cells (held x.now) arity choice.now.other result }
 {
-    if arity < 2 || !choice.asks_second {
+    if choice.other == 0 || choice.other > arity as u32 {
         return Word::nothing();
     }
-    word_at(cells, place_in(x, 2))
+    word_at(cells, place_in(x, choice.other))
 }
 
-/// What is known of the first two arguments of a call.
+/// What is known of the first argument of a call, and of another one.
 #[derive(Clone, Copy)]
 pub(crate) struct Known {
     pub(crate) first: First,
+    pub(crate) argument: u32,
     pub(crate) second: Word,
 }
 
@@ -319,15 +320,35 @@ fn fit_word(own: Word, asked: Word) -> Fit
     }
 }
 
-/// How the first two arguments stand to what they are asked.
+/// How the argument that is known besides the first one stands to what is asked of another one than the first.
+#[inline(always)]
+fn fit_other(known: &Known, asked: &Short) -> Fit
+    ensures { IsOtherFit known.now asked.now result }
+{
+    if asked.second.kind == NOTHING {
+        return Fit::Has;
+    }
+    if asked.argument != known.argument {
+        return Fit::Open;
+    }
+    fit_word(known.second, asked.second)
+}
+
+/// Whether another argument is asked than the one that is known.
+#[inline(always)]
+fn is_untold(known: &Known, asked: &Short) -> bool {
+    asked.second.kind != NOTHING && asked.argument != known.argument
+}
+
+/// How the arguments stand to what they are asked in short.
 #[inline(always)]
 fn fit_words(known: &Known, asked: &Short) -> Fit
     ensures { AreWordsFit known.now asked.now result }
 {
     match fit_word(known.first.word, asked.first) {
         Fit::Lacks => Fit::Lacks,
-        Fit::Has => fit_word(known.second, asked.second),
-        some => both(some, fit_word(known.second, asked.second)),
+        Fit::Has => fit_other(known, asked),
+        some => both(some, fit_other(known, asked)),
     }
 }
 
@@ -350,7 +371,7 @@ fn chance_of(cells: &Cells, x: &[u32], arity: u8, known: &Known, choice: &Choice
     match fit_words(known, &choice.short) {
         Fit::Lacks => Chance::Never,
         fit => {
-            if choice.short.more {
+            if choice.short.more || is_untold(known, &choice.short) {
                 chance_by_all(cells, x, arity, choice)
             } else {
                 chance_by(fit, &choice.head)
@@ -544,7 +565,8 @@ pub fn next_possible(
     };
     let known = Known {
         first: First::for_choice(cells, x, arity, choice),
-        second: second_for(cells, x, arity, choice),
+        argument: choice.other,
+        second: other_for(cells, x, arity, choice),
     };
     let from = next_choice(sound, known.first.key, choice);
     possible_from(cells, x, arity, &known, sound, from)
@@ -632,66 +654,57 @@ fn chosen_plainly(sound: &Sound, predicate: &Predicate) -> Option<Chosen>
     }
 }
 
-/// What is known of the first argument of a call, where a key of it is asked from a predicate's first choice on.
+/// A predicate's clauses for the first argument, by the row of its choices.
 #[inline(always)]
-fn first_for(cells: &Cells, x: &[u32], sound: &Sound, predicate: &Predicate) -> First
-    requires { HoldPlaces (length cells.now.cells) x.now }
-    ensures { IsFirst cells.now.cells (held x.now) predicate.now.arity result }
-{
-    match sound.choice(predicate.start as usize) {
-        Some(begin) => First::for_choice(cells, x, predicate.arity, begin),
-        None => First::nothing(),
-    }
-}
-
-/// A predicate's first choice for a key, by the row of its choices.
-#[inline(always)]
-fn begin_by_row(
+fn chosen_by_row(
     cells: &Cells,
     x: &[u32],
     sound: &Sound,
     predicate: &Predicate,
     row: &Row,
-    key: Option<Hashed>,
-) -> Option<usize>
-    requires row { IsRowOf sound.now predicate.now.start row.now }
-    requires key { HasKey cells.now.cells (held x.now) key }
-    ensures none { result ≡ None → PassesOver sound.now cells.now.cells (held x.now) (clause_places sound.now predicate.now) [] }
-    ensures some { IfSome result (λ at. (at ≡ predicate.now.start → ⊥) → PassesOver sound.now cells.now.cells (held x.now) (clause_places sound.now predicate.now) (named_from sound.now (Some at))) }
-{
-    match key {
-        Some(own) => row.first(own),
-        None => Some(predicate.start as usize),
-    }
-}
-
-/// The clauses that are left from a predicate's choice on.
-#[inline(always)]
-fn chosen_at(
-    cells: &Cells,
-    x: &[u32],
-    sound: &Sound,
-    predicate: &Predicate,
     first: First,
-    at: usize,
+    own: Hashed,
 ) -> Option<Chosen>
     requires holds { HoldPlaces (length cells.now.cells) x.now }
+    requires row { IsRowOf sound.now predicate.now.start row.now }
     requires first { IsFirst cells.now.cells (held x.now) predicate.now.arity first }
-    requires at { (at ≡ predicate.now.start → ⊥) → PassesOver sound.now cells.now.cells (held x.now) (clause_places sound.now predicate.now) (named_from sound.now (Some at)) }
+    requires own { first.key ≡ Some own }
     ensures none { result ≡ None → PassesOver sound.now cells.now.cells (held x.now) (clause_places sound.now predicate.now) [] }
     ensures some { IfSome result (IsChosen sound.now cells.now.cells (held x.now) predicate.now.arity (clause_places sound.now predicate.now)) }
 {
+    let Some(at) = row.first(own) else {
+        return None;
+    };
     let Some(found) = sound.choice(at) else {
         return chosen_plainly(sound, predicate);
     };
-    if at == predicate.start as usize && !found.named.is_first {
+    let known = Known {
+        first,
+        argument: found.other,
+        second: other_for(cells, x, predicate.arity, found),
+    };
+    chosen_from(cells, x, predicate.arity, &known, sound, found)
+}
+
+/// A predicate's clauses where no row is asked.
+#[inline(always)]
+fn chosen_in_turn(cells: &Cells, x: &[u32], sound: &Sound, predicate: &Predicate) -> Option<Chosen>
+    requires { HoldPlaces (length cells.now.cells) x.now }
+    ensures none { result ≡ None → PassesOver sound.now cells.now.cells (held x.now) (clause_places sound.now predicate.now) [] }
+    ensures some { IfSome result (IsChosen sound.now cells.now.cells (held x.now) predicate.now.arity (clause_places sound.now predicate.now)) }
+{
+    let Some(begin) = sound.choice(predicate.start as usize) else {
+        return chosen_plainly(sound, predicate);
+    };
+    if !begin.named.is_first {
         return chosen_plainly(sound, predicate);
     }
     let known = Known {
-        first,
-        second: second_for(cells, x, predicate.arity, found),
+        first: First::for_choice(cells, x, predicate.arity, begin),
+        argument: begin.other,
+        second: other_for(cells, x, predicate.arity, begin),
     };
-    chosen_from(cells, x, predicate.arity, &known, sound, found)
+    chosen_from(cells, x, predicate.arity, &known, sound, begin)
 }
 
 /// The clauses of a predicate that a call on its argument registers may enter.
@@ -700,20 +713,13 @@ pub fn choose(cells: &Cells, x: &[u32], sound: &Sound, predicate: &Predicate) ->
     ensures none { result ≡ None → PassesOver sound.now cells.now.cells (held x.now) (clause_places sound.now predicate.now) [] }
     ensures some { IfSome result (IsChosen sound.now cells.now.cells (held x.now) predicate.now.arity (clause_places sound.now predicate.now)) }
 {
-    let start = predicate.start as usize;
-    let row = sound.row(start);
-    let first = match row {
-        Some(_) => First::of(cells, x, predicate.arity),
-        None => first_for(cells, x, sound, predicate),
-    };
-    let begin = match row {
-        Some(row) => begin_by_row(cells, x, sound, predicate, row, first.key),
-        None => Some(start),
-    };
-    match begin {
-        Some(at) => chosen_at(cells, x, sound, predicate, first, at),
-        None => None,
+    if let Some(row) = sound.row(predicate.start as usize) {
+        let first = First::of(cells, x, predicate.arity);
+        if let Some(own) = first.key {
+            return chosen_by_row(cells, x, sound, predicate, row, first, own);
+        }
     }
+    chosen_in_turn(cells, x, sound, predicate)
 }
 
 /// A predicate's clause, where it has no other.

@@ -1,8 +1,7 @@
 -- What is asked, in short.
-use Rattle.std.proofs.Common.{◌≡◌, ℕ, zero, suc, ◌+◌, List, [], ◌∷◌, ◌++◌, take, slice_get, Option, Some, None, true, false, refl, ap, sym, ◌∙◌, subst, arith}
+use Rattle.std.proofs.Common.{◌≡◌, ℕ, zero, suc, ◌+◌, List, [], ◌∷◌, ◌++◌, take, slice_get, Option, Some, None, true, refl, ap, sym, ◌∙◌, subst, arith}
 use Rattle.std.specs.List.{AllByRecursion}
 use Rattle.std.proofs.lemmas.Bool.{false≢true}
-use Rattle.ap_term.specs.Tree.{Tree}
 use Rattle.ap_index.specs.declared.key.Key.{Key}
 use Rattle.ap_index.specs.declared.key.Key.TheVariants.{Atom, Integer, Structure}
 use Rattle.ap_index.specs.declared.head.Ask.{Ask}
@@ -46,17 +45,17 @@ module _ (es : List Ask) (a : Ask) (s : Short) (h : IsShortOf es s) where
         enough = λ more x u v. all-joined (IsMet x) es a (h.enough more x (subst (λ o. HasAsked o (x 1)) (sym nothing) tt) v, subst (λ w. IsKeyOf a.key (x w)) (sym one) u);
       }
 
-  -- one of the second
-  pub short-second : a.argument ≡ 2 → s.second.kind ≡ 0 → IsShortOf (es ++ a ∷ []) (record s { second = word_of a.key })
-  short-second two none =
+  -- one of another argument
+  pub short-second : s.second.kind ≡ 0 → IsShortOf (es ++ a ∷ []) (record s { argument = a.argument; second = word_of a.key })
+  short-second none =
       let nothing : h.second ≡ None = none-asked h.second (ap (λ w. w.kind) (sym h.second_is) ∙ none) in
       record {
         first = h.first;
         second = Some a.key;
         first_is = h.first_is;
         second_is = refl;
-        needed = λ x met. let p = all-parted (IsMet x) es a met in ((h.needed x p.0).0, subst (λ w. IsKeyOf a.key (x w)) two p.1);
-        enough = λ more x u v. all-joined (IsMet x) es a (h.enough more x u (subst (λ o. HasAsked o (x 2)) (sym nothing) tt), subst (λ w. IsKeyOf a.key (x w)) (sym two) v);
+        needed = λ x met. let p = all-parted (IsMet x) es a met in ((h.needed x p.0).0, p.1);
+        enough = λ more x u v. all-joined (IsMet x) es a (h.enough more x u (subst (λ o. HasAsked o (x s.argument)) (sym nothing) tt), v);
       }
 
   -- more

@@ -26,11 +26,11 @@ abbrev pub HasAsked : Option Key → Tree → Type 0
 HasAsked None t = Unit {0}
 HasAsked (Some key) t = IsKeyOf key t
 
--- what is asked of the first two arguments, and perhaps more
+-- what is asked of the first argument and of another one, and perhaps more
 pub record IsShortOf (asks : List Ask) (s : Short) : Type 0 where
   pub first : Option Key
   pub second : Option Key
   pub first_is : s.first ≡ word_or_nothing first
   pub second_is : s.second ≡ word_or_nothing second
-  pub needed : (x : ℕ → Tree) → AllByRecursion (IsMet x) asks → HasAsked first (x 1) × HasAsked second (x 2)
-  pub enough : s.more ≡ false → (x : ℕ → Tree) → HasAsked first (x 1) → HasAsked second (x 2) → AllByRecursion (IsMet x) asks
+  pub needed : (x : ℕ → Tree) → AllByRecursion (IsMet x) asks → HasAsked first (x 1) × HasAsked second (x s.argument)
+  pub enough : s.more ≡ false → (x : ℕ → Tree) → HasAsked first (x 1) → HasAsked second (x s.argument) → AllByRecursion (IsMet x) asks

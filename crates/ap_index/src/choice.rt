@@ -36,7 +36,7 @@ pub enum Next {
 const AHEAD: u32 = 64;
 
 /// The choice at a place: what it names, what the head of its clause asks of the arguments of a call, what is known of the choices
-/// behind it, and whether the clauses from it on ask a key of the first argument, and of the second.
+/// behind it, whether a clause from it on asks a key of the first argument, and of which other one, 0 where of none.
 #[derive(Drop)]
 pub struct Choice {
     pub(crate) at: u32,
@@ -45,7 +45,7 @@ pub struct Choice {
     pub short: Short,
     pub next: Next,
     pub asks_first: bool,
-    pub asks_second: bool,
+    pub other: u32,
 }
 
 /// What a choice at a place names, if one stands there.
@@ -109,36 +109,35 @@ fn leads_on(instr: &Instr) -> bool {
     }
 }
 
-/// Whether the clause at a place asks a key of an argument.
-fn asks_at(code: &Code, clause: u32, argument: u32) -> bool {
+/// The first argument, or else the first other one, of which the clause at a place asks a key; 0 where it asks none of such.
+fn asked_at(code: &Code, clause: u32, is_first: bool) -> u32 {
     for at in clause..clause.saturating_add(AHEAD) {
         let Some(instr) = instruction_at(code, at as usize) else {
-            return false;
+            return 0;
         };
         match asked_by(&instr) {
-            Some(asked) if asked == argument => return true,
+            Some(asked) if (asked == 1) == is_first => return asked,
             Some(_) => {}
             None if leads_on(&instr) => {}
-            None => return false,
+            None => return 0,
         }
     }
-    false
+    0
 }
 
-/// Whether a clause of the choices from a place on asks a key of an argument, or they are more than are looked at.
-fn asks_from(code: &Code, at: u32, argument: u32) -> bool {
+/// The first argument, or else another one, of which a clause of the choices from a place on asks a key; 0 where none does, of those
+/// that are looked at.
+fn asked_from(code: &Code, at: u32, is_first: bool) -> u32 {
     for place in at..at.saturating_add(AHEAD) {
         let Some(named) = named_at(code, place) else {
-            return false;
+            return 0;
         };
-        if asks_at(code, named.place, argument) {
-            return true;
-        }
-        if named.behind.is_none() {
-            return false;
+        let asked = asked_at(code, named.place, is_first);
+        if asked != 0 || named.behind.is_none() {
+            return asked;
         }
     }
-    true
+    0
 }
 
 /// The choice at a place, if one stands there.
@@ -162,7 +161,7 @@ pub(crate) fn choice_at(
         head,
         short,
         next: next_of(rows, named.behind),
-        asks_first: asks_from(code, at, 1),
-        asks_second: asks_from(code, at, 2),
+        asks_first: asked_from(code, at, true) != 0,
+        other: asked_from(code, at, false),
     }))
 }

@@ -21,7 +21,9 @@ pub const NOTHING: u64 = 0;
 pub const UNBOUND: u64 = 1;
 
 const ATOM: u64 = 2;
+
 const INTEGER: u64 = 3;
+
 const STRUCTURE: u64 = 4;
 
 impl Word {
@@ -90,13 +92,13 @@ impl Word {
             Key::Structure(name, count) => Word::structure(name, count as u32),
         }
     }
-
 }
 
-/// What a head asks of the first two arguments, as words, and whether it asks for more than these say.
+/// What a head asks of the first argument and of another one, as words, and whether it asks for more than these say.
 #[derive(Clone, Copy)]
 pub struct Short {
     pub first: Word,
+    pub argument: u32,
     pub second: Word,
     pub more: bool,
 }
@@ -107,13 +109,15 @@ pub(crate) fn shorten(asks: &[Ask]) -> Short
 {
     let mut short = Short {
         first: Word::nothing(),
+        argument: 0,
         second: Word::nothing(),
         more: false,
     };
     for ask in asks {
         if ask.argument == 1 && short.first.kind == NOTHING {
             short.first = Word::of(ask.key);
-        } else if ask.argument == 2 && short.second.kind == NOTHING {
+        } else if short.second.kind == NOTHING {
+            short.argument = ask.argument;
             short.second = Word::of(ask.key);
         } else {
             short.more = true;
