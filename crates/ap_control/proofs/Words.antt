@@ -1,26 +1,25 @@
 -- Words that tell of arguments, and what is asked of those.
-use Rattle.std.proofs.Common.{◌≡◌, ℕ, ◌+◌, ◌⊎◌, inl, inr, Bool, true, false, Option, Some, None, List, ◌∷◌, refl, ap, sym, ◌∙◌, subst, arith}
+use Rattle.std.proofs.Common.{◌≡◌, ℕ, inl, inr, Bool, true, false, Some, None, List, refl, ap, sym, ◌∙◌, subst, arith}
 use Rattle.std.specs.List.{AllByRecursion}
-use Rattle.ap_term.specs.Tree.{Tree, var}
+use Rattle.ap_term.specs.Tree.{Tree}
 use Rattle.ap_cells.specs.declared.cells.Raw.{Raw}
 use Rattle.ap_cells.specs.Trees.{tree_at, trees}
 use Rattle.ap_instr.specs.Code.{Compiled}
 use Rattle.ap_index.specs.declared.key.Key.{Key}
 use Rattle.ap_index.specs.declared.key.Key.TheVariants.{Atom, Integer, Structure}
-use Rattle.ap_index.specs.declared.head.Ask.{Ask}
 use Rattle.ap_index.specs.declared.word.Word.{Word}
 use Rattle.ap_index.specs.declared.word.Short.{Short}
 use Rattle.ap_index.specs.declared.choice.Choice.{Choice}
 use Rattle.ap_index.specs.Index.{IsChoiceOf}
 use Rattle.ap_index.specs.Keys.{same_key, IsKeyOf}
 use Rattle.ap_index.specs.Heads.{IsMet}
-use Rattle.ap_index.specs.Words.{word_of, word_or_nothing, HasAsked, IsShortOf}
+use Rattle.ap_index.specs.Words.{word_of, word_or_nothing, HasAsked}
 use Rattle.ap_match.specs.Fits.{Fits}
 use Rattle.ap_match.proofs.Maps.{fits-own}
 use Rattle.ap_control.specs.declared.choosing.Fit.{Fit}
 use Rattle.ap_control.specs.declared.choosing.Fit.TheVariants.{Has, Takes, Lacks, Open}
 use Rattle.ap_control.specs.declared.choosing.Known.{Known}
-use Rattle.ap_control.specs.Choosing.{Under, both, Alike, AreFit, IsWordAt, IsKnown, IsWordFit, IsOtherFit, AreWordsFit, chance_by, IsChance}
+use Rattle.ap_control.specs.Choosing.{Under, both, Alike, IsWordAt, IsKnown, IsWordFit, IsOtherFit, AreWordsFit, chance_by, IsChance}
 use Rattle.ap_control.proofs.Keys.{clash}
 use Rattle.ap_index.proofs.Same.{true-same}
 use Rattle.ap_control.proofs.Fitting.{takes-key, both-under, under-same, chance-by}

@@ -728,7 +728,12 @@ fn alone(sound: &Sound, predicate: &Predicate) -> Option<u32>
     ensures { (cs : List Raw) (x : ℕ → ℕ) → IfSome result (IsOnly sound.now cs x (clause_places sound.now predicate.now)) }
 {
     match first(sound.code(), predicate) {
-        Some(Alternative { place, behind: None }) => Some(place),
+        Some(
+            Alternative {
+                place,
+                behind: None,
+            },
+        ) => Some(place),
         _ => None,
     }
 }

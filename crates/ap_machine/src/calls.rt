@@ -130,7 +130,12 @@ impl Search {
 
     /// Enters a predicate of the table that may have several clauses for the call.
     #[inline(never)]
-    fn enter_chosen(&mut self, sound: &Sound, number: u32, predicate: Predicate) -> Result<(), NoMemory>
+    fn enter_chosen(
+        &mut self,
+        sound: &Sound,
+        number: u32,
+        predicate: Predicate,
+    ) -> Result<(), NoMemory>
         requires due { self.old.machine.now ≡ calling number }
         requires is_for { IsFor sound.now self.old }
         requires known { slice_get sound.now.predicates number ≡ Some predicate }

@@ -1,4 +1,4 @@
-use Rattle.std.proofs.Common.{List, ℕ, ◌∷◌}
+use Rattle.std.proofs.Common.{◌∷◌}
 use Rattle.ap_steps.specs.Moves.{held}
 use Rattle.ap_standing.specs.Machine.{places_from}
 use Rattle.ap_control.specs.Choosing.{possible_places}

@@ -1,6 +1,6 @@
 use Rattle.std.proofs.Common.{◌≡◌, ℕ, Option, Some, None, refl, ap, sym, ◌∙◌, subst}
 use Rattle.std.specs.Prelude.{IfSome}
-use Rattle.ap_term.specs.Tree.{Tree, atom, node}
+use Rattle.ap_term.specs.Tree.{Tree, node}
 use Rattle.ap_cells.specs.declared.top.Top.TheVariants.{Node as NodeTop}
 use Rattle.ap_instr.specs.Runs.{spread}
 use Rattle.ap_instr.proofs.Registers.{count-spread}

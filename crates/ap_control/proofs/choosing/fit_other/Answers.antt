@@ -1,4 +1,3 @@
-use Rattle.std.proofs.Common.{sym}
 use Rattle.ap_control.proofs.Words.{other-none, other-told}
 use Rattle.ap_control.proofs.choosing.fit_other.Goals as goal
 

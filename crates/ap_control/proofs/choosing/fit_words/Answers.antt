@@ -1,6 +1,6 @@
-use Rattle.std.proofs.Common.{ap, sym, ◌∙◌, subst}
-use Rattle.ap_control.specs.declared.choosing.Fit.TheVariants.{Has, Takes, Lacks, Open}
-use Rattle.ap_control.specs.Choosing.{both, IsWordFit, AreWordsFit}
+use Rattle.std.proofs.Common.{sym, subst}
+use Rattle.ap_control.specs.declared.choosing.Fit.TheVariants.{Has}
+use Rattle.ap_control.specs.Choosing.{IsWordFit, AreWordsFit}
 use Rattle.ap_control.proofs.Words.{has-both, words-both, words-lack}
 use Rattle.ap_control.proofs.choosing.fit_words.Goals as goal
 

@@ -1,4 +1,4 @@
-use Rattle.std.proofs.Common.{◌≡◌, ℕ, Option, Some, None, sym, ◌∙◌, subst}
+use Rattle.std.proofs.Common.{◌≡◌, ℕ, Option, Some, None, sym}
 use Rattle.std.specs.Prelude.{IfSome}
 use Rattle.ap_instr.specs.StandsFor.{clause_places}
 use Rattle.ap_index.specs.Index.{only_for}
