@@ -18,7 +18,7 @@ returns-in-None-clause-turn c = λ p q known good stands.
     let code = c.args.sound.now in
     let m = c.args.self.now.machine in
     let found : Some c.args.predicate ≡ slice_get code.predicates c.args.number = sym c.requires.known in
-    subst (IsTurn code p m) (sym (ap (λ (s : Paused). s.machine) c.fail-in-None.ensures))
+    subst (IsTurn code p m) (sym (ap (λ (s : Paused). s.machine) c.fail.ensures))
     (turns-to-none code m c.args.number c.requires.due c.args.predicate found p q known good stands (c.chosen.ensures.none c.in-None.is))
 
 pub returns-in-Some-Only-clause-turn : goal.returns-in-Some-Only-clause-turn
