@@ -10,7 +10,7 @@ ghost use Rattle.ap_environments.specs.declared.environments.Entry.TheVariants.{
 ghost use Rattle.ap_environments.specs.declared.environments.Fork.{Fork as ForkOf};
 ghost use Rattle.ap_environments.specs.declared.environments.Point.{Point as PointOf};
 
-use crate::frames::{above, cut, fill_registers, push_frame, registers_of};
+use crate::frames::{above, cut, fill_x, fill_y, push_frame, registers_of};
 use ap_term::NoMemory;
 use std::alloc::Global;
 use std::marker::Model;
@@ -187,7 +187,7 @@ impl Environments {
             return None;
         }
         let frame = self.frames[self.top as usize - 1];
-        fill_registers(y, registers_of(&self.slots, &frame));
+        fill_y(y, registers_of(&self.slots, &frame));
         self.top = frame.up;
         self.trim();
         Some(frame.place)
@@ -259,7 +259,7 @@ impl Environments {
         }
         if let Some(point) = last_point(&self.points) {
             let frame = self.frames[point.frames as usize - 1];
-            fill_registers(x, registers_of(&self.slots, &frame));
+            fill_x(x, registers_of(&self.slots, &frame));
             self.top = frame.up;
             self.trim();
         }

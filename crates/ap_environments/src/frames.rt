@@ -5,7 +5,7 @@ ghost use Rattle.ap_steps.specs.Moves.{held};
 ghost use Rattle.ap_environments.specs.Frames.{LeadUp, AreFrames, chain, chains};
 
 use crate::environments::Frame;
-use crate::registers::{clear, copy};
+use crate::registers::{clear_x, clear_y, copy_few};
 use ap_term::NoMemory;
 
 /// The most that 32 bits count.
@@ -85,14 +85,26 @@ pub fn registers_of<'a>(slots: &'a [u32], frame: &Frame) -> &'a [u32]
     &slots[first..first + frame.count as usize]
 }
 
-/// Puts places into the first registers, as far as there are registers, and 0 into the others.
+/// Puts places into the first Y registers, as far as there are registers, and 0 into the others.
 #[inline(always)]
-pub fn fill_registers(registers: &mut [u32], places: &[u32])
+pub fn fill_y(registers: &mut [u32], places: &[u32])
     ensures held { (w : ℕ) → length places.now ≤ length registers.old → held registers.new w ≡ held places.now w }
     ensures len { length registers.new ≡ length registers.old }
 {
     let count = places.len().min(registers.len());
     let (first, others) = registers.split_at_mut(count);
-    copy(first, &places[..count]);
-    clear(others);
+    copy_few(first, &places[..count]);
+    clear_y(others);
+}
+
+/// Puts places into the first X registers, as far as there are registers, and 0 into the others.
+#[inline(always)]
+pub fn fill_x(registers: &mut [u32], places: &[u32])
+    ensures held { (w : ℕ) → length places.now ≤ length registers.old → held registers.new w ≡ held places.now w }
+    ensures len { length registers.new ≡ length registers.old }
+{
+    clear_x(registers);
+    let count = places.len().min(registers.len());
+    let (first, _) = registers.split_at_mut(count);
+    copy_few(first, &places[..count]);
 }

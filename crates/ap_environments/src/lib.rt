@@ -11,4 +11,4 @@ mod frames;
 mod registers;
 
 pub use environments::{Choice, Environments, Fork};
-pub use registers::{clear, copy};
+pub use registers::{clear_x, clear_y, copy_few, copy_x};

@@ -1,4 +1,5 @@
-//! Registers that are written all at once. Those of most code are few; up to twelve are written without a call.
+//! Registers that are written all at once. Those of most code are few: its X registers are as many as code has at least, and up to
+//! twelve Y registers are written without a call.
 
 ghost use Rattle.std.specs.Prelude.{◌≡◌, length, replicate};
 
@@ -9,9 +10,24 @@ fn clear_many(registers: &mut [u32])
     registers.fill(0);
 }
 
-/// Puts 0 into all registers.
+/// As many X registers as code has at least. Others are written in a loop.
+const FEW: usize = 16;
+
+/// Puts 0 into all X registers.
 #[inline(always)]
-pub fn clear(registers: &mut [u32])
+pub fn clear_x(registers: &mut [u32])
+    ensures { registers.new ≡ replicate (length registers.old) 0 }
+{
+    if registers.len() == FEW {
+        registers.fill(0);
+    } else {
+        clear_many(registers);
+    }
+}
+
+/// Puts 0 into all Y registers.
+#[inline(always)]
+pub fn clear_y(registers: &mut [u32])
     ensures { registers.new ≡ replicate (length registers.old) 0 }
 {
     match registers.len() {
@@ -40,9 +56,22 @@ fn copy_many(registers: &mut [u32], places: &[u32])
     registers.copy_from_slice(places);
 }
 
-/// Puts places into as many registers.
+/// Puts places into as many X registers.
 #[inline(always)]
-pub fn copy(registers: &mut [u32], places: &[u32])
+pub fn copy_x(registers: &mut [u32], places: &[u32])
+    requires { length registers.old ≡ length places.now }
+    ensures { registers.new ≡ places.now }
+{
+    if places.len() == FEW {
+        registers.copy_from_slice(places);
+    } else {
+        copy_many(registers, places);
+    }
+}
+
+/// Puts places into as many Y registers, or arguments into as many X registers.
+#[inline(always)]
+pub fn copy_few(registers: &mut [u32], places: &[u32])
     requires { length registers.old ≡ length places.now }
     ensures { registers.new ≡ places.now }
 {

@@ -25,7 +25,7 @@ use crate::state::{Now, Search};
 use ap_cells::{CellMark, Cells};
 use ap_codecheck::Sound;
 use ap_control::{Alternative, Chosen, Possible, can_take, choose, next_possible, only};
-use ap_environments::{Choice, Environments, clear};
+use ap_environments::{Choice, Environments, clear_y};
 use ap_instr::{Code, Predicate};
 use ap_needs::Room;
 use ap_term::NoMemory;
@@ -52,7 +52,7 @@ fn back_to_newest(cells: &mut Cells, environments: &mut Environments, x: &mut [u
             trail: choice.trail,
         });
         environments.go_back(x);
-        clear(y);
+        clear_y(y);
     }
 }
 

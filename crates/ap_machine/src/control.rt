@@ -25,45 +25,85 @@ use crate::goals::behind as next_place;
 use crate::state::{Now, Search};
 use ap_cells::Cells;
 use ap_control::{instruction_at, run_to_stop, used};
-use ap_environments::{clear, copy};
+use ap_environments::{clear_x, clear_y, copy_few, copy_x};
 use ap_instr::{Code, Instr};
 use ap_needs::Room;
 use ap_term::NoMemory;
 use ap_unify::Work;
 
-/// Puts 0 into all registers.
+/// Puts 0 into all X registers.
 #[inline(always)]
-fn clear_all(registers: &mut Vec<u32>)
+fn clear_all_x(registers: &mut Vec<u32>)
     ensures items { registers.new.items ≡ replicate (vec_len registers.old) 0 }
     ensures len { vec_len registers.new ≡ vec_len registers.old }
 {
-    clear(registers.as_mut_slice());
+    clear_x(registers.as_mut_slice());
 }
 
-/// Copies registers over as many.
+/// Puts 0 into all Y registers.
 #[inline(always)]
-fn copy_all(saved: &mut Vec<u32>, registers: &[u32])
+fn clear_all_y(registers: &mut Vec<u32>)
+    ensures items { registers.new.items ≡ replicate (vec_len registers.old) 0 }
+    ensures len { vec_len registers.new ≡ vec_len registers.old }
+{
+    clear_y(registers.as_mut_slice());
+}
+
+/// Copies X registers over as many.
+#[inline(always)]
+fn copy_all_x(saved: &mut Vec<u32>, registers: &[u32])
     requires { vec_len saved.old ≡ length registers.now }
     ensures { saved.new.items ≡ registers.now }
 {
-    copy(saved.as_mut_slice(), registers);
+    copy_x(saved.as_mut_slice(), registers);
 }
 
-/// Keeps what registers hold, if that may be needed, in a vector whose memory is used again.
+/// Copies Y registers over as many.
 #[inline(always)]
-pub(crate) fn save(needed: bool, saved: &mut Vec<u32>, registers: &[u32]) -> Result<(), NoMemory>
+fn copy_all_y(saved: &mut Vec<u32>, registers: &[u32])
+    requires { vec_len saved.old ≡ length registers.now }
+    ensures { saved.new.items ≡ registers.now }
+{
+    copy_few(saved.as_mut_slice(), registers);
+}
+
+/// Puts what registers hold in place of what was kept.
+fn keep_anew(saved: &mut Vec<u32>, registers: &[u32]) -> Result<(), NoMemory>
+    ensures { OnOk result (saved.new.items ≡ registers.now) }
+{
+    saved.clear();
+    saved.extend_from_slice(registers)?;
+    Ok(())
+}
+
+/// Keeps what X registers hold, if that may be needed, in a vector whose memory is used again.
+#[inline(always)]
+pub(crate) fn save_x(needed: bool, saved: &mut Vec<u32>, registers: &[u32]) -> Result<(), NoMemory>
     ensures { OnOk result (needed ≡ true → saved.new.items ≡ registers.now) }
 {
     if !needed {
         return Ok(());
     }
     if saved.len() == registers.len() {
-        copy_all(saved, registers);
+        copy_all_x(saved, registers);
         return Ok(());
     }
-    saved.clear();
-    saved.extend_from_slice(registers)?;
-    Ok(())
+    keep_anew(saved, registers)
+}
+
+/// Keeps what Y registers hold, if that may be needed, in a vector whose memory is used again.
+#[inline(always)]
+pub(crate) fn save_y(needed: bool, saved: &mut Vec<u32>, registers: &[u32]) -> Result<(), NoMemory>
+    ensures { OnOk result (needed ≡ true → saved.new.items ≡ registers.now) }
+{
+    if !needed {
+        return Ok(());
+    }
+    if saved.len() == registers.len() {
+        copy_all_y(saved, registers);
+        return Ok(());
+    }
+    keep_anew(saved, registers)
 }
 
 /// The place behind another one, where 32 bits hold it.
@@ -180,8 +220,8 @@ impl Search {
     {
         self.cells.reserve(room.cells)?;
         let may_want = room.may_want(at);
-        save(may_want, &mut self.before_x, &self.x)?;
-        save(may_want, &mut self.before_y, &self.y)?;
+        save_x(may_want, &mut self.before_x, &self.x)?;
+        save_y(may_want, &mut self.before_y, &self.y)?;
         match run_or_undo(
             &mut self.cells,
             &mut self.x,
@@ -196,8 +236,8 @@ impl Search {
                 Ok(Some(to))
             }
             Ok(None) => {
-                clear_all(&mut self.x);
-                clear_all(&mut self.y);
+                clear_all_x(&mut self.x);
+                clear_all_y(&mut self.y);
                 self.next = Now::Failed;
                 Ok(None)
             }
@@ -312,7 +352,7 @@ impl Search {
         match self.environments.pop(&mut self.y) {
             Some(place) => {
                 self.cells.is_store();
-                clear_all(&mut self.x);
+                clear_all_x(&mut self.x);
                 self.next = Now::Inside(place as usize);
                 true
             }

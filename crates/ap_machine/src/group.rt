@@ -15,7 +15,7 @@ ghost use Rattle.ap_machine.specs.Stands.{IsAtGroup};
 ghost use Rattle.ap_machine.specs.Ahead.{goals_ahead, goals_said};
 ghost use Rattle.ap_machine.specs.Forking.{frame_of, frames_on, with_fork, HasKept, ForksTo, HasForked, HasPlainWay, HasGoneOn};
 
-use crate::control::{behind, save};
+use crate::control::{behind, save_x, save_y};
 use crate::state::{Now, Search};
 use ap_cells::{Cells, Walk};
 use ap_codecheck::Sound;
@@ -230,8 +230,8 @@ impl Search {
         let Now::Inside(at) = self.now() else {
             unreachable!();
         };
-        save(true, &mut self.before_x, &self.x)?;
-        save(true, &mut self.before_y, &self.y)?;
+        save_x(true, &mut self.before_x, &self.x)?;
+        save_y(true, &mut self.before_y, &self.y)?;
         match fork_or_undo(
             &mut self.cells,
             &mut self.environments,

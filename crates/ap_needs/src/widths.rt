@@ -8,6 +8,9 @@ ghost use Rattle.ap_needs.specs.Needs.{HasRegister, HasTargets, AllHaveTargets, 
 
 use ap_instr::{Code, Instr, Slot};
 
+/// So many X registers there are at least, so that those of most code are as many, and are written all at once in no loop.
+const FEW: usize = 16;
+
 /// Numbers of registers, from 0 on.
 #[derive(Clone, Copy)]
 pub struct Widths {
@@ -72,7 +75,7 @@ fn of_instructions(code: &Code, from: usize) -> Widths
     ensures { (at : ℕ) (xs ys : ℕ) → from ≤ at → result.x ≤ xs → result.y ≤ ys → AllHaveTargets (drop at code.now.instructions) xs ys }
 {
     let instructions = code.instructions();
-    let mut most = Widths { x: 1, y: 1 };
+    let mut most = Widths { x: FEW, y: 1 };
     for place in from..instructions.len() {
         most = wider(most, of_instr(&instructions[place]));
     }

@@ -63,4 +63,4 @@ returns-in-Some-clause-arguments c = λ m ms e fits n.
     let places : c.registers_of.result.now ≡ m.arguments =
     c.registers_of.ensures ∙ ap (λ us. (return_of us c.index.result.now).y) c.deref-in-Some.ensures.value ∙ ap (λ k. k.arguments) (newest_is c m ms e).1
     in
-    subst (λ ps. length ps ≤ length c.args.x.now → held c.fill_registers.new.registers n ≡ held ps n) places (c.fill_registers.ensures.held n) fits
+    subst (λ ps. length ps ≤ length c.args.x.now → held c.fill_x.new.registers n ≡ held ps n) places (c.fill_x.ensures.held n) fits

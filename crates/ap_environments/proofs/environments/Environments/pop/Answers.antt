@@ -40,5 +40,5 @@ returns-clause-some c =
       ap (λ v. v.returns) (sym c.self.view_is) ∙ e,
       refl,
       c.trim.ensures ∙ ap (λ k. kept_of (chain ss fs f.up) (segments_in k)) c.self.view_is,
-      λ n fits. subst (λ ps. length ps ≤ length c.args.y.now → held c.fill_registers.new.registers n ≡ held ps n) places (c.fill_registers.ensures.held n) fits,
+      λ n fits. subst (λ ps. length ps ≤ length c.args.y.now → held c.fill_y.new.registers n ≡ held ps n) places (c.fill_y.ensures.held n) fits,
     )

@@ -20,7 +20,7 @@ returns-in-Some-clause-holds c = λ code ss h.
     let S : List Return → Type 0 = λ ws. AreShort (length a.y.items) ws in
     let short : length p.0.y ≤ length a.y.items = (subst S er c.self.invariant.short).0 in
     let L : List ℕ → Type 0 = λ us. length p.0.y ≤ length us in
-    came code a.cells a.environments c.pop.new.self a.x.items a.y.items c.clear_all.new.registers.items y a.roots.items c.in-Some.place p.0 p.1 c.is_store.ensures c.self.invariant er p.3 p.4
-    (λ n. ap (λ us. held us n) c.clear_all.ensures.items ∙ held-zeros (vec_len a.x) n)
+    came code a.cells a.environments c.pop.new.self a.x.items a.y.items c.clear_all_x.new.registers.items y a.roots.items c.in-Some.place p.0 p.1 c.is_store.ensures c.self.invariant er p.3 p.4
+    (λ n. ap (λ us. held us n) c.clear_all_x.ensures.items ∙ held-zeros (vec_len a.x) n)
     (λ n. ap (λ us. held us n) ey ∙ p.5 n (subst L (sym c.deref_mut.ensures.value) short)) ss
     (opened code ss c.args.self.now (machine_of a.cells a.environments a.x.items a.y.items a.roots.items a.next) returning (ap (λ s. s.machine) c.self.view_is) c.requires h)

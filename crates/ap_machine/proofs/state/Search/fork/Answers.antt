@@ -125,8 +125,8 @@ invariant_of-self-in-Err c =
     let code = c.args.sound.now in
     let at = c.in-Inside.at in
     let r = c.fork_or_undo.new in
-    let ex : c.copy_from_slice.new.self.items ≡ a.x.items = c.copy_from_slice.ensures.items ∙ c.deref-in-Err.ensures.value ∙ c.in_ok-save.ensures refl ∙ c.deref.ensures.value in
-    let ey : c.copy_from_slice-in-Err.new.self.items ≡ a.y.items = c.copy_from_slice-in-Err.ensures.items ∙ c.deref-in-Err-2.ensures.value ∙ c.in_ok-save-2.ensures refl ∙ c.deref-2.ensures.value in
+    let ex : c.copy_from_slice.new.self.items ≡ a.x.items = c.copy_from_slice.ensures.items ∙ c.deref-in-Err.ensures.value ∙ c.in_ok-save_x.ensures refl ∙ c.deref.ensures.value in
+    let ey : c.copy_from_slice-in-Err.new.self.items ≡ a.y.items = c.copy_from_slice-in-Err.ensures.items ∙ c.deref-in-Err-2.ensures.value ∙ c.in_ok-save_y.ensures refl ∙ c.deref-2.ensures.value in
     Sane-plain code a.cells r.cells a.environments r.environments a.x.items a.y.items c.copy_from_slice.new.self.items c.copy_from_slice-in-Err.new.self.items a.roots.items a.next a.spent a.budget at c.args.self.now c.self.view_is c.self.invariant c.fork_or_undo.ensures.keeps c.in-Err.ensures.none_kept c.in-Err.ensures.undone ex ey
 
 pub returns-in-Err-clause-err : goal.returns-in-Err-clause-err
@@ -135,8 +135,8 @@ returns-in-Err-clause-err c =
     let code = c.args.sound.now in
     let at = c.in-Inside.at in
     let r = c.fork_or_undo.new in
-    let ex : c.copy_from_slice.new.self.items ≡ a.x.items = c.copy_from_slice.ensures.items ∙ c.deref-in-Err.ensures.value ∙ c.in_ok-save.ensures refl ∙ c.deref.ensures.value in
-    let ey : c.copy_from_slice-in-Err.new.self.items ≡ a.y.items = c.copy_from_slice-in-Err.ensures.items ∙ c.deref-in-Err-2.ensures.value ∙ c.in_ok-save-2.ensures refl ∙ c.deref-2.ensures.value in
+    let ex : c.copy_from_slice.new.self.items ≡ a.x.items = c.copy_from_slice.ensures.items ∙ c.deref-in-Err.ensures.value ∙ c.in_ok-save_x.ensures refl ∙ c.deref.ensures.value in
+    let ey : c.copy_from_slice-in-Err.new.self.items ≡ a.y.items = c.copy_from_slice-in-Err.ensures.items ∙ c.deref-in-Err-2.ensures.value ∙ c.in_ok-save_y.ensures refl ∙ c.deref-2.ensures.value in
     as-before code a.cells r.cells a.environments r.environments a.x.items a.y.items c.copy_from_slice.new.self.items c.copy_from_slice-in-Err.new.self.items a.roots.items a.next a.spent a.budget at c.args.self.now c.self.view_is c.self.invariant c.fork_or_undo.ensures.keeps c.in-Err.ensures.none_kept c.in-Err.ensures.undone a.next ex ey ∙ c.self.view_is
 
 pub returns-in-Err-clause-is_for : goal.returns-in-Err-clause-is_for
@@ -145,6 +145,6 @@ returns-in-Err-clause-is_for c =
     let code = c.args.sound.now in
     let at = c.in-Inside.at in
     let r = c.fork_or_undo.new in
-    let ex : c.copy_from_slice.new.self.items ≡ a.x.items = c.copy_from_slice.ensures.items ∙ c.deref-in-Err.ensures.value ∙ c.in_ok-save.ensures refl ∙ c.deref.ensures.value in
-    let ey : c.copy_from_slice-in-Err.new.self.items ≡ a.y.items = c.copy_from_slice-in-Err.ensures.items ∙ c.deref-in-Err-2.ensures.value ∙ c.in_ok-save-2.ensures refl ∙ c.deref-2.ensures.value in
+    let ex : c.copy_from_slice.new.self.items ≡ a.x.items = c.copy_from_slice.ensures.items ∙ c.deref-in-Err.ensures.value ∙ c.in_ok-save_x.ensures refl ∙ c.deref.ensures.value in
+    let ey : c.copy_from_slice-in-Err.new.self.items ≡ a.y.items = c.copy_from_slice-in-Err.ensures.items ∙ c.deref-in-Err-2.ensures.value ∙ c.in_ok-save_y.ensures refl ∙ c.deref-2.ensures.value in
     subst (IsFor code) (sym (as-before code a.cells r.cells a.environments r.environments a.x.items a.y.items c.copy_from_slice.new.self.items c.copy_from_slice-in-Err.new.self.items a.roots.items a.next a.spent a.budget at c.args.self.now c.self.view_is c.self.invariant c.fork_or_undo.ensures.keeps c.in-Err.ensures.none_kept c.in-Err.ensures.undone a.next ex ey ∙ c.self.view_is)) c.requires.is_for

@@ -17,14 +17,14 @@ invariant_of-self c =
     let e = ap length c.reserve.ensures.cells in
     sane-kept a.cells c.reserve.new.self a.environments a.x.items a.y.items a.x.items a.y.items a.roots.items c.self.invariant (Keeps-same a.cells c.reserve.new.self c.reserve.ensures.cells c.reserve.ensures.trail) (omega (arith, e)) refl refl
 
-pub invariant_of-self-in_err-save : goal.invariant_of-self-in_err-save
-invariant_of-self-in_err-save c =
+pub invariant_of-self-in_err-save_x : goal.invariant_of-self-in_err-save_x
+invariant_of-self-in_err-save_x c =
     let a = c.self.inside in
     let e = ap length c.reserve.ensures.cells in
     sane-kept a.cells c.reserve.new.self a.environments a.x.items a.y.items a.x.items a.y.items a.roots.items c.self.invariant (Keeps-same a.cells c.reserve.new.self c.reserve.ensures.cells c.reserve.ensures.trail) (omega (arith, e)) refl refl
 
-pub invariant_of-self-in_err-save-2 : goal.invariant_of-self-in_err-save-2
-invariant_of-self-in_err-save-2 c =
+pub invariant_of-self-in_err-save_y : goal.invariant_of-self-in_err-save_y
+invariant_of-self-in_err-save_y c =
     let a = c.self.inside in
     let e = ap length c.reserve.ensures.cells in
     sane-kept a.cells c.reserve.new.self a.environments a.x.items a.y.items a.x.items a.y.items a.roots.items c.self.invariant (Keeps-same a.cells c.reserve.new.self c.reserve.ensures.cells c.reserve.ensures.trail) (omega (arith, e)) refl refl
@@ -68,7 +68,7 @@ invariant_of-self-in-Ok-None c =
     let keeps : Keeps a.cells w = Keeps-trans a.cells c.reserve.new.self w (Keeps-same a.cells c.reserve.new.self c.reserve.ensures.cells c.reserve.ensures.trail) c.run_or_undo.ensures.keeps in
     let e = ap length c.reserve.ensures.cells in
     let l = c.run_or_undo.ensures.longer in
-    sane-cleared a.cells w a.environments a.x.items a.y.items c.clear_all.new.registers.items c.clear_all-in-Ok-None.new.registers.items a.roots.items a.x.len a.y.len c.self.invariant keeps (omega (arith, e, l)) c.clear_all.ensures.items c.clear_all-in-Ok-None.ensures.items
+    sane-cleared a.cells w a.environments a.x.items a.y.items c.clear_all_x.new.registers.items c.clear_all_y.new.registers.items a.roots.items a.x.len a.y.len c.self.invariant keeps (omega (arith, e, l)) c.clear_all_x.ensures.items c.clear_all_y.ensures.items
     (sym c.deref_mut.ensures.len ∙ ap length c.deref_mut.ensures.value) (sym c.deref_mut-2.ensures.len ∙ ap length c.deref_mut-2.ensures.value)
 
 pub returns-in-Ok-None-clause-holds : goal.returns-in-Ok-None-clause-holds
@@ -80,7 +80,7 @@ returns-in-Ok-None-clause-holds c = λ ss h₀.
     let h = subst (λ o. RanOrStuck c.args.code.now c.args.at c.reserve.new.self.cells c.deref_mut.result.now c.deref_mut-2.result.now o w.cells r.x r.y) c.in-Ok-None.field-0-is c.in-Ok-None.ensures.ran in
     let stuck = moved-ran c.args.code.now c.args.at a.cells.cells c.reserve.new.self.cells w.cells a.x.items c.deref_mut.result.now a.y.items c.deref_mut-2.result.now r.x r.x r.y r.y None
     c.reserve.ensures.cells c.deref_mut.ensures.value c.deref_mut-2.ensures.value refl refl h in
-    stuck-holds c.args.code.now a.cells w a.environments a.x.items a.y.items c.clear_all.new.registers.items c.clear_all-in-Ok-None.new.registers.items a.roots.items c.args.at c.self.invariant keeps stuck ss
+    stuck-holds c.args.code.now a.cells w a.environments a.x.items a.y.items c.clear_all_x.new.registers.items c.clear_all_y.new.registers.items a.roots.items c.args.at c.self.invariant keeps stuck ss
     (opened c.args.code.now ss c.args.self.now (machine_of a.cells a.environments a.x.items a.y.items a.roots.items a.next) (inside c.args.at) (ap (λ s. s.machine) c.self.view_is) c.requires.here h₀)
 
 pub invariant_of-self-in-Err : goal.invariant_of-self-in-Err
@@ -91,8 +91,8 @@ invariant_of-self-in-Err c =
     let e = ap length c.reserve.ensures.cells in
     let l = c.run_or_undo.ensures.longer in
     let said : c.may_want-may_want.result ≡ true = c.may_want-may_want.ensures c.args.code.now c.requires.room ∙ c.in-Err.ensures.wants in
-    let ex : c.copy_from_slice.new.self.items ≡ a.x.items = c.copy_from_slice.ensures.items ∙ c.deref-in-Err.ensures.value ∙ c.in_ok-save.ensures said ∙ c.deref.ensures.value in
-    let ey : c.copy_from_slice-in-Err.new.self.items ≡ a.y.items = c.copy_from_slice-in-Err.ensures.items ∙ c.deref-in-Err-2.ensures.value ∙ c.in_ok-save-2.ensures said ∙ c.deref-2.ensures.value in
+    let ex : c.copy_from_slice.new.self.items ≡ a.x.items = c.copy_from_slice.ensures.items ∙ c.deref-in-Err.ensures.value ∙ c.in_ok-save_x.ensures said ∙ c.deref.ensures.value in
+    let ey : c.copy_from_slice-in-Err.new.self.items ≡ a.y.items = c.copy_from_slice-in-Err.ensures.items ∙ c.deref-in-Err-2.ensures.value ∙ c.in_ok-save_y.ensures said ∙ c.deref-2.ensures.value in
     sane-kept a.cells w a.environments a.x.items a.y.items c.copy_from_slice.new.self.items c.copy_from_slice-in-Err.new.self.items a.roots.items c.self.invariant keeps (omega (arith, e, l)) ex ey
 
 pub returns-in-Err-clause-kept : goal.returns-in-Err-clause-kept
@@ -101,8 +101,8 @@ returns-in-Err-clause-kept c =
     let w = c.run_or_undo.new.cells in
     let keeps : Keeps a.cells w = Keeps-trans a.cells c.reserve.new.self w (Keeps-same a.cells c.reserve.new.self c.reserve.ensures.cells c.reserve.ensures.trail) c.run_or_undo.ensures.keeps in
     let said : c.may_want-may_want.result ≡ true = c.may_want-may_want.ensures c.args.code.now c.requires.room ∙ c.in-Err.ensures.wants in
-    let ex : c.copy_from_slice.new.self.items ≡ a.x.items = c.copy_from_slice.ensures.items ∙ c.deref-in-Err.ensures.value ∙ c.in_ok-save.ensures said ∙ c.deref.ensures.value in
-    let ey : c.copy_from_slice-in-Err.new.self.items ≡ a.y.items = c.copy_from_slice-in-Err.ensures.items ∙ c.deref-in-Err-2.ensures.value ∙ c.in_ok-save-2.ensures said ∙ c.deref-2.ensures.value in
+    let ex : c.copy_from_slice.new.self.items ≡ a.x.items = c.copy_from_slice.ensures.items ∙ c.deref-in-Err.ensures.value ∙ c.in_ok-save_x.ensures said ∙ c.deref.ensures.value in
+    let ey : c.copy_from_slice-in-Err.new.self.items ≡ a.y.items = c.copy_from_slice-in-Err.ensures.items ∙ c.deref-in-Err-2.ensures.value ∙ c.in_ok-save_y.ensures said ∙ c.deref-2.ensures.value in
     paused-same a.cells w a.environments a.x.items a.y.items c.copy_from_slice.new.self.items c.copy_from_slice-in-Err.new.self.items a.roots.items a.next a.spent a.budget c.self.invariant keeps (c.in-Err.ensures.err ∙ c.reserve.ensures.cells) ex ey
     ∙ c.self.view_is
 
@@ -112,8 +112,8 @@ returns-in-Err-clause-holds c = λ ss h.
     let w = c.run_or_undo.new.cells in
     let keeps : Keeps a.cells w = Keeps-trans a.cells c.reserve.new.self w (Keeps-same a.cells c.reserve.new.self c.reserve.ensures.cells c.reserve.ensures.trail) c.run_or_undo.ensures.keeps in
     let said : c.may_want-may_want.result ≡ true = c.may_want-may_want.ensures c.args.code.now c.requires.room ∙ c.in-Err.ensures.wants in
-    let ex : c.copy_from_slice.new.self.items ≡ a.x.items = c.copy_from_slice.ensures.items ∙ c.deref-in-Err.ensures.value ∙ c.in_ok-save.ensures said ∙ c.deref.ensures.value in
-    let ey : c.copy_from_slice-in-Err.new.self.items ≡ a.y.items = c.copy_from_slice-in-Err.ensures.items ∙ c.deref-in-Err-2.ensures.value ∙ c.in_ok-save-2.ensures said ∙ c.deref-2.ensures.value in
+    let ex : c.copy_from_slice.new.self.items ≡ a.x.items = c.copy_from_slice.ensures.items ∙ c.deref-in-Err.ensures.value ∙ c.in_ok-save_x.ensures said ∙ c.deref.ensures.value in
+    let ey : c.copy_from_slice-in-Err.new.self.items ≡ a.y.items = c.copy_from_slice-in-Err.ensures.items ∙ c.deref-in-Err-2.ensures.value ∙ c.in_ok-save_y.ensures said ∙ c.deref-2.ensures.value in
     subst (λ q. Holds c.args.code.now q ss)
     (sym (machine-same a.cells w a.environments a.x.items a.y.items c.copy_from_slice.new.self.items c.copy_from_slice-in-Err.new.self.items a.roots.items a.next c.self.invariant keeps (c.in-Err.ensures.err ∙ c.reserve.ensures.cells) ex ey ∙ ap (λ s. s.machine) c.self.view_is)) h
 
@@ -143,15 +143,15 @@ pub returns-in-Ok-None-clause-stays : goal.returns-in-Ok-None-clause-stays
 returns-in-Ok-None-clause-stays c =
     let a = c.self.inside in
     let keeps : Keeps a.cells c.run_or_undo.new.cells = Keeps-trans a.cells c.reserve.new.self c.run_or_undo.new.cells (Keeps-same a.cells c.reserve.new.self c.reserve.ensures.cells c.reserve.ensures.trail) c.run_or_undo.ensures.keeps in
-    stays-ran a.cells c.run_or_undo.new.cells a.environments a.x.items a.y.items c.clear_all.new.registers.items c.clear_all-in-Ok-None.new.registers.items a.roots.items a.next Failed a.spent a.budget c.args.self.now c.self.view_is c.self.invariant keeps
-    (ap length c.clear_all.ensures.items ∙ length-replicate a.x.len 0 ∙ sym c.deref_mut.ensures.len ∙ ap length c.deref_mut.ensures.value)
-    (ap length c.clear_all-in-Ok-None.ensures.items ∙ length-replicate a.y.len 0 ∙ sym c.deref_mut-2.ensures.len ∙ ap length c.deref_mut-2.ensures.value)
+    stays-ran a.cells c.run_or_undo.new.cells a.environments a.x.items a.y.items c.clear_all_x.new.registers.items c.clear_all_y.new.registers.items a.roots.items a.next Failed a.spent a.budget c.args.self.now c.self.view_is c.self.invariant keeps
+    (ap length c.clear_all_x.ensures.items ∙ length-replicate a.x.len 0 ∙ sym c.deref_mut.ensures.len ∙ ap length c.deref_mut.ensures.value)
+    (ap length c.clear_all_y.ensures.items ∙ length-replicate a.y.len 0 ∙ sym c.deref_mut-2.ensures.len ∙ ap length c.deref_mut-2.ensures.value)
 
 pub returns-in-Err-clause-stays : goal.returns-in-Err-clause-stays
 returns-in-Err-clause-stays c =
     let a = c.self.inside in
     let keeps : Keeps a.cells c.run_or_undo.new.cells = Keeps-trans a.cells c.reserve.new.self c.run_or_undo.new.cells (Keeps-same a.cells c.reserve.new.self c.reserve.ensures.cells c.reserve.ensures.trail) c.run_or_undo.ensures.keeps in
     let said : c.may_want-may_want.result ≡ true = c.may_want-may_want.ensures c.args.code.now c.requires.room ∙ c.in-Err.ensures.wants in
-    let ex : c.copy_from_slice.new.self.items ≡ a.x.items = c.copy_from_slice.ensures.items ∙ c.deref-in-Err.ensures.value ∙ c.in_ok-save.ensures said ∙ c.deref.ensures.value in
-    let ey : c.copy_from_slice-in-Err.new.self.items ≡ a.y.items = c.copy_from_slice-in-Err.ensures.items ∙ c.deref-in-Err-2.ensures.value ∙ c.in_ok-save-2.ensures said ∙ c.deref-2.ensures.value in
+    let ex : c.copy_from_slice.new.self.items ≡ a.x.items = c.copy_from_slice.ensures.items ∙ c.deref-in-Err.ensures.value ∙ c.in_ok-save_x.ensures said ∙ c.deref.ensures.value in
+    let ey : c.copy_from_slice-in-Err.new.self.items ≡ a.y.items = c.copy_from_slice-in-Err.ensures.items ∙ c.deref-in-Err-2.ensures.value ∙ c.in_ok-save_y.ensures said ∙ c.deref-2.ensures.value in
     stays-ran a.cells c.run_or_undo.new.cells a.environments a.x.items a.y.items c.copy_from_slice.new.self.items c.copy_from_slice-in-Err.new.self.items a.roots.items a.next a.next a.spent a.budget c.args.self.now c.self.view_is c.self.invariant keeps (ap length ex) (ap length ey)
