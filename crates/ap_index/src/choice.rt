@@ -125,19 +125,27 @@ fn asked_at(code: &Code, clause: u32, is_first: bool) -> u32 {
     0
 }
 
-/// The first argument, or else another one, of which a clause of the choices from a place on asks a key; 0 where none does, of those
-/// that are looked at.
+/// The first argument, or else another one, of which a clause of the choices from a place on asks a key: the second, where one asks it.
+/// It is 0 where none does, of those that are looked at.
 fn asked_from(code: &Code, at: u32, is_first: bool) -> u32 {
+    let best = if is_first { 1 } else { 2 };
+    let mut found = 0;
     for place in at..at.saturating_add(AHEAD) {
         let Some(named) = named_at(code, place) else {
-            return 0;
+            return found;
         };
         let asked = asked_at(code, named.place, is_first);
-        if asked != 0 || named.behind.is_none() {
-            return asked;
+        if asked == best {
+            return best;
+        }
+        if found == 0 {
+            found = asked;
+        }
+        if named.behind.is_none() {
+            return found;
         }
     }
-    0
+    found
 }
 
 /// The choice at a place, if one stands there.
