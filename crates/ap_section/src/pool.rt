@@ -1,0 +1,45 @@
+//! Searches that are done with.
+
+use crate::held::Held;
+use std::alloc::Global;
+
+/// A pool keeps no more searches than that.
+const MOST_SEARCHES: usize = 64;
+
+/// It keeps none of more cells than that, so that what a large search took isn't held.
+const MOST_CELLS: usize = 1_024;
+
+/// It keeps none that made more calls, either, as its lists may have been long before.
+const MOST_CALLS: u64 = 1_024;
+
+/// Whether a search has surely taken little memory.
+fn is_small(search: &Held) -> bool {
+    search.cells() <= MOST_CELLS && search.spent() <= MOST_CALLS
+}
+
+/// Searches that are done with, whose memory the next ones take.
+#[derive(Drop)]
+pub struct Pool {
+    searches: Vec<Held>,
+}
+
+impl Pool {
+    /// Takes no memory.
+    pub fn new(alloc: Global) -> Pool {
+        Pool {
+            searches: Vec::new(alloc),
+        }
+    }
+
+    /// Keeps a search that is done with, if there is room for it.
+    pub(crate) fn put(&mut self, search: Held) {
+        if self.searches.len() < MOST_SEARCHES && is_small(&search) {
+            let _kept = self.searches.push(search);
+        }
+    }
+
+    /// Hands a search over.
+    pub(crate) fn take(&mut self) -> Option<Held> {
+        self.searches.pop()
+    }
+}
