@@ -1,7 +1,11 @@
 //! Searches that are done with.
 
+ghost use Rattle.std.specs.Prelude.{◌≡◌, []};
+
 use crate::held::Held;
+use ap_copy::Parcelled;
 use std::alloc::Global;
+use std::mem;
 
 /// A pool keeps no more searches than that.
 const MOST_SEARCHES: usize = 64;
@@ -17,10 +21,12 @@ fn is_small(search: &Held) -> bool {
     search.cells() <= MOST_CELLS && search.spent() <= MOST_CALLS
 }
 
-/// Searches that are done with, whose memory the next ones take.
+/// Searches that are done with, whose memory the next ones take, and a list for answers.
 #[derive(Drop)]
 pub struct Pool {
     searches: Vec<Held>,
+    answers: Vec<Parcelled>,
+    alloc: Global,
 }
 
 impl Pool {
@@ -28,6 +34,8 @@ impl Pool {
     pub fn new(alloc: Global) -> Pool {
         Pool {
             searches: Vec::new(alloc),
+            answers: Vec::new(alloc),
+            alloc,
         }
     }
 
@@ -41,5 +49,19 @@ impl Pool {
     /// Hands a search over.
     pub(crate) fn take(&mut self) -> Option<Held> {
         self.searches.pop()
+    }
+
+    /// Hands over a list for answers, which has none.
+    pub(crate) fn take_list(&mut self) -> Vec<Parcelled>
+        ensures { result.items ≡ [] }
+    {
+        let mut answers = mem::replace(&mut self.answers, Vec::new(self.alloc));
+        answers.clear();
+        answers
+    }
+
+    /// Takes a list back.
+    pub(crate) fn give_list(&mut self, answers: Vec<Parcelled>) {
+        self.answers = answers;
     }
 }
