@@ -1,5 +1,5 @@
 -- A search that has just begun.
-use Rattle.std.proofs.Common.{◌≡◌, ℕ, ◌+◌, ◌<◌, ◌≤◌, ◌⊎◌, inl, inr, List, [], ◌∷◌, length, drop, map, replicate, Some, slice_get, refl, ap, sym, ◌∙◌, subst, arith}
+use Rattle.std.proofs.Common.{◌≡◌, ℕ, ◌<◌, ◌≤◌, ◌⊎◌, inl, inr, List, [], ◌∷◌, length, drop, map, replicate, Some, slice_get, refl, ap, sym, ◌∙◌, subst, arith}
 use Rattle.std.proofs.lemmas.List.{length-replicate}
 use Rattle.std.specs.List.{AllZip, AllByRecursion}
 use Rattle.ap_term.specs.Tree.{Tree, Trees, count_trees}
@@ -13,7 +13,7 @@ use Rattle.ap_term.specs.Search.{variables}
 use Rattle.ap_tracked.specs.Tracked.{Tracked}
 use Rattle.ap_graft.specs.Starts.{tracked_start}
 use Rattle.ap_cells.specs.Store.{Store}
-use Rattle.ap_cells.specs.Trees.{trees, span}
+use Rattle.ap_cells.specs.Trees.{span}
 use Rattle.ap_cells.proofs.Walks.{count-span}
 use Rattle.ap_instr.specs.declared.compiled.Predicate.{Predicate}
 use Rattle.ap_instr.specs.Code.{Compiled}

@@ -1,8 +1,7 @@
-use Rattle.std.proofs.Common.{◌≡◌, ◌<◌, ◌≤◌, length, arith}
+use Rattle.std.proofs.Common.{◌<◌, length, arith}
 use Rattle.std.proofs.lemmas.Result.{on_ok_weaker}
 use Rattle.ap_cells.specs.Trees.{trees}
 use Rattle.ap_machine.specs.Sane.{HasBottom}
-use Rattle.ap_machine.specs.LaidOut.{IsLaidOut}
 use Rattle.ap_machine.proofs.Kept.{HasBottom-keeps}
 use Rattle.ap_machine.proofs.Places.{places-inside}
 use Rattle.ap_machine.proofs.Begun.{tuple-width, zeros-inside, none-inside, no-places}

@@ -1,9 +1,9 @@
-use Rattle.std.proofs.Common.{◌≡◌, ◌<◌, slice_get, ap, sym, ◌∙◌, subst, arith}
+use Rattle.std.proofs.Common.{slice_get, ap, sym, ◌∙◌, subst}
 use Rattle.ap_instr.specs.Code.{Compiled}
 use Rattle.ap_needs.specs.Needs.{AreWidthsOf}
 use Rattle.ap_machine.specs.View.{paused_of}
 use Rattle.ap_machine.specs.Started.{Started}
-use Rattle.ap_machine.proofs.Begun.{Sane-new, started-laid}
+use Rattle.ap_machine.proofs.Begun.{started-laid}
 use Rattle.ap_machine.proofs.state.Search.begin_anew.Goals as goal
 
 pub returns : goal.returns

@@ -1,4 +1,4 @@
-use Rattle.std.proofs.Common.{◌≡◌, ◌<◌, slice_get, ap, sym, ◌∙◌, subst, arith}
+use Rattle.std.proofs.Common.{◌<◌, slice_get, ap, sym, ◌∙◌, subst, arith}
 use Rattle.ap_instr.specs.Code.{Compiled}
 use Rattle.ap_needs.specs.Needs.{AreWidthsOf}
 use Rattle.ap_machine.specs.View.{paused_of}
