@@ -152,6 +152,16 @@ impl Environments {
         }
     }
 
+    /// Takes off all there is. The memory stays.
+    pub fn clear(&mut self)
+        ensures { self.new ≡ record { returns = []; moments = []; forks = [] } }
+    {
+        self.frames.clear();
+        self.slots.clear();
+        self.top = 0;
+        self.points.clear();
+    }
+
     /// Gives back the frames that no return, choice point or fork needs.
     fn trim(&mut self)
         ensures { self.new ≡ self.old }

@@ -1,5 +1,6 @@
 -- A search that has just begun.
-use Rattle.std.proofs.Common.{◌≡◌, ℕ, ◌+◌, ◌<◌, ◌≤◌, ◌⊎◌, inl, inr, List, [], ◌∷◌, length, map, replicate, Some, slice_get, refl, ap, sym, ◌∙◌, subst, arith}
+use Rattle.std.proofs.Common.{◌≡◌, ℕ, ◌<◌, ◌≤◌, ◌⊎◌, inl, inr, List, [], ◌∷◌, length, drop, map, replicate, Some, slice_get, refl, ap, sym, ◌∙◌, subst, arith}
+use Rattle.std.proofs.lemmas.List.{length-replicate}
 use Rattle.std.specs.List.{AllZip, AllByRecursion}
 use Rattle.ap_term.specs.Tree.{Tree, Trees, count_trees}
 use Rattle.ap_term.specs.Vars.{LocalAll}
@@ -12,10 +13,12 @@ use Rattle.ap_term.specs.Search.{variables}
 use Rattle.ap_tracked.specs.Tracked.{Tracked}
 use Rattle.ap_graft.specs.Starts.{tracked_start}
 use Rattle.ap_cells.specs.Store.{Store}
-use Rattle.ap_cells.specs.Trees.{trees, span}
+use Rattle.ap_cells.specs.Trees.{span}
 use Rattle.ap_cells.proofs.Walks.{count-span}
 use Rattle.ap_instr.specs.declared.compiled.Predicate.{Predicate}
 use Rattle.ap_instr.specs.Code.{Compiled}
+use Rattle.ap_needs.specs.declared.widths.Widths.{Widths}
+use Rattle.ap_needs.specs.Needs.{AllHaveTargets, AreWidthsOf}
 use Rattle.ap_environments.specs.Kept.{Kept}
 use Rattle.ap_steps.specs.Moves.{held, HoldPlaces}
 use Rattle.ap_standing.specs.Machine.{Now, calling, inside}
@@ -26,24 +29,35 @@ use Rattle.ap_standing.proofs.Turns.{of-clauses}
 use Rattle.ap_standing.specs.Laws.{machine}
 use Rattle.ap_machine.specs.declared.state.Now.{Now as Kind}
 use Rattle.ap_machine.specs.Sane.{HasBottom, Sane}
-use Rattle.ap_machine.specs.View.{now_of, point_of, segment_of, machine_of, IsFor, paused_of}
+use Rattle.ap_machine.specs.LaidOut.{HoldsTuple, IsLaidOut, AreInside}
+use Rattle.ap_machine.specs.View.{now_of, AreLiveAt, point_of, segment_of, machine_of, IsFor, paused_of}
 use Rattle.ap_machine.specs.Started.{called, IsAtCall, IsAsked, IsQuestion, IsFirst, Started}
 use Rattle.ap_machine.proofs.Sanity.{held-zeros}
+use Rattle.ap_machine.proofs.Living.{live-none}
 use Rattle.ap_machine.proofs.Beginnings.{holds-call, holds-goal, holds-question}
 use Rattle.ap_machine.proofs.Questions.{question, question-reads}
 
+-- registers that aren't set hold places
+pub zeros-inside : (v : Store) (n : ℕ) (y : List ℕ) → HasBottom v → y ≡ replicate n 0 → HoldPlaces (length v.cells) y
+zeros-inside v n y bottom zeros w = subst (λ ys. held ys w < length v.cells) (sym zeros) (let e = held-zeros n w in let l : 1 ≤ length v.cells = bottom.mark.fewer in omega arith)
+
+pub none-inside : (v : Store) (y : List ℕ) → HasBottom v → y ≡ [] → HoldPlaces (length v.cells) y
+none-inside v y bottom none = zeros-inside v 0 y bottom none
+
+pub no-places : (n : ℕ) (ps : List ℕ) → ps ≡ [] → AllByRecursion (λ r. r < n) ps
+no-places n ps none = subst (AllByRecursion (λ r. r < n)) (sym none) tt
+
 -- what always holds of a search holds of it
-pub Sane-new : (v : Store) (k : Kept) (x y roots : List ℕ) (n : ℕ) → k ≡ record { returns = []; moments = []; forks = [] } → HasBottom v → HoldPlaces (length v.cells) x → y ≡ replicate n 0
-    → AllByRecursion (λ r. r < length v.cells) roots → Sane v k x y roots
-Sane-new v k x y roots n new bottom hold zeros places =
+pub Sane-new : (v : Store) (k : Kept) (x y roots : List ℕ) → k ≡ record { returns = []; moments = []; forks = [] } → AreInside v x y roots → Sane v k x y roots
+Sane-new v k x y roots new places =
     subst (λ (u : Kept). Sane v u x y roots) (sym new)
     (record {
-      x = hold;
-      y = λ w. subst (λ ys. held ys w < length v.cells) (sym zeros) (let e = held-zeros n w in let l : 1 ≤ length v.cells = bottom.mark.fewer in omega arith);
+      x = places.registers;
+      y = places.permanent;
       returns = tt;
       short = tt;
-      inside = places;
-      bottom = bottom;
+      inside = places.places;
+      bottom = places.bottom;
       moments = tt;
       forks = tt;
     })
@@ -51,18 +65,6 @@ Sane-new v k x y roots n new bottom hold zeros places =
 -- so many places as the tuple has terms
 pub tuple-width : (us : List Tree) (base first count : ℕ) (ts : Trees) → span us first count ≡ instance_all (shift base) ts → count ≡ count_trees ts
 tuple-width us base first count ts e = sym (count-span us first count) ∙ ap count_trees e ∙ count_trees-instance_all (shift base) ts
-
--- a tuple's places in the argument registers, and in the list of its places
-pub record HoldsTuple (v : Store) (ts : Trees) (x roots : List ℕ) : Type 0 where
-  pub base : ℕ
-  pub first : ℕ
-  pub count : ℕ
-  pub within : first + count ≤ length v.cells
-  pub tuple : span (trees v.cells) first count ≡ instance_all (shift base) ts
-  pub width : count ≡ count_trees ts
-  pub args : (i : ℕ) → i < count → held x (i + 1) ≡ first + i
-  pub len : length roots ≡ count
-  pub each : (i : ℕ) → i < count → held roots i ≡ first + i
 
 -- a predicate of clauses isn't a built-in goal's: no program's clauses would read as its code
 no-goal : (code : Compiled) (q : Predicate) → IsOfBuiltin code q → IsApart q → ⊥
@@ -113,3 +115,18 @@ module _ (code : Compiled) (v : Store) (k : Kept) (x y roots : List ℕ) (next :
     calls = at-call;
     asks = asked;
   }
+
+-- a search whose tuple is laid out as widely as the code asks for has begun
+pub started-laid : (code : Compiled) (v : Store) (k : Kept) (x y roots : List ℕ) (next : Kind) (number : ℕ) (ts : Trees) (rest : ℕ) (w : Widths) → k ≡ record { returns = []; moments = []; forks = [] } → AreWidthsOf code w → IsLaidOut ts w v x y roots
+    → (q : Predicate) → slice_get code.predicates number ≡ Some q → q.arity ≡ count_trees ts → IsFirst code number (now_of next) → Started code ts number rest (paused_of v k x y roots next 0 rest)
+started-laid code v k x y roots next number ts rest w new needs laid q known arity step =
+    let y_len : length y ≡ w.y = ap length laid.unset ∙ length-replicate w.y 0 in
+    started code v k x y roots next number ts new laid.tuple q known arity step rest
+    (record {
+      targets = λ at.
+          subst (λ n. AllHaveTargets (drop at code.instructions) n (length y)) (sym laid.count)
+          (subst (λ n. AllHaveTargets (drop at code.instructions) w.x n) (sym y_len) (needs.targets at));
+      arities = λ n r is. subst (λ m. r.arity < m) (sym laid.count) (needs.arities n r is);
+      live = live-none code (machine_of v k x y roots next) (ap (λ (u : Kept). map (point_of v) u.moments) new);
+      older = subst (AllByRecursion (AreLiveAt code)) (sym (ap (λ (u : Kept). map (segment_of v) u.forks) new)) tt;
+    })

@@ -1,6 +1,7 @@
 pub mod Live
 pub mod View
 pub mod Sane
+pub mod LaidOut
 pub mod Choices
 pub mod Lasting
 pub mod Back

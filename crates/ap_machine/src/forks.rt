@@ -12,8 +12,9 @@ ghost use Rattle.ap_machine.specs.View.{Segment, IsFor};
 ghost use Rattle.ap_machine.specs.Forks.{newest_goals, IsAtFork, IsBehindFork};
 
 use crate::state::Search;
+use crate::tuple::copy_apart;
 use ap_cells::CellMark;
-use ap_copy::{Packing, Parcelled, copy_out};
+use ap_copy::Parcelled;
 use ap_term::NoMemory;
 use std::alloc::Global;
 
@@ -104,8 +105,7 @@ impl Search {
             unreachable!();
         };
         let places = places_of(self.alloc, arguments)?;
-        let mut packing = Packing::new(self.alloc);
-        copy_out(self.alloc, &self.cells, &places, &mut packing)
+        copy_apart(self.alloc, &self.cells, &places)
     }
 
     /// Counts so many calls, which were made elsewhere.

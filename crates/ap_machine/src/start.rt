@@ -1,6 +1,6 @@
 //! A search begins.
 
-ghost use Rattle.std.specs.Prelude.{◌≡◌, ℕ, ◌+◌, ◌<◌, ◌≤◌, [], ◌∷◌, length, replicate, slice_get, None, Some, true, false, IfOk, IfSome};
+ghost use Rattle.std.specs.Prelude.{◌≡◌, ℕ, ◌+◌, ◌<◌, ◌≤◌, [], ◌∷◌, length, replicate, slice_get, None, Some, true, false, IfOk, IfSome, OnOk, OnErr};
 ghost use Rattle.ap_term.specs.Tree.{count_trees};
 ghost use Rattle.ap_instr.specs.Builtin.{builtin_name, builtin_arity};
 ghost use Rattle.ap_instr.specs.StandsFor.{IsOfBuiltin};
@@ -9,12 +9,13 @@ ghost use Rattle.ap_steps.specs.Moves.{held, HoldPlaces};
 ghost use Rattle.ap_machine.specs.Sane.{HasBottom};
 ghost use Rattle.ap_machine.specs.View.{now_of};
 ghost use Rattle.ap_machine.specs.Started.{IsQuestion, IsFirst, Started};
+ghost use Rattle.ap_machine.specs.LaidOut.{AreInside, IsLaidOut};
 
 use crate::calls::predicate_at;
 use crate::goals::behind;
 use crate::state::{Now, Search};
 use ap_arith::Pending;
-use ap_cells::{Cell, Cells};
+use ap_cells::{Cell, CellMark, Cells};
 use ap_checks::Comparison;
 use ap_codecheck::Sound;
 use ap_control::{first, following, instruction_at};
@@ -22,6 +23,7 @@ use ap_copy::{Parcelled, Roots, copy_in};
 use ap_environments::Environments;
 use ap_group::Goals;
 use ap_instr::{Builtin, Code, Instr, Predicate};
+use ap_needs::Widths;
 use ap_term::{Atom, NoMemory};
 use ap_unify::Work;
 use std::alloc::Global;
@@ -29,40 +31,43 @@ use std::alloc::Global;
 /// A search has room for so many cells when it begins. So the first clauses that a small goal enters take no more memory.
 const FIRST_CELLS: usize = 64;
 
-/// Registers that hold place 0.
-fn registers(alloc: Global, count: usize) -> Result<Vec<u32>, NoMemory>
-    ensures { IfOk result (λ registers. registers.items ≡ replicate count 0) }
+/// Makes registers hold place 0.
+fn put_zeros(registers: &mut Vec<u32>, count: usize) -> Result<(), NoMemory>
+    ensures ok { OnOk result (registers.new.items ≡ replicate count 0) }
+    ensures err { OnErr result (registers.new.items ≡ []) }
 {
-    let registers = vec![in alloc; 0; count]?;
-    Ok(registers)
+    registers.clear();
+    registers.resize(count, 0)?;
+    Ok(())
 }
 
-/// The places of a tuple.
-fn places(alloc: Global, tuple: Roots) -> Result<Vec<usize>, NoMemory>
+/// Makes a list that of the places of a tuple.
+fn put_places(places: &mut Vec<usize>, tuple: Roots) -> Result<(), NoMemory>
     requires { tuple.first + tuple.count ≤ 4294967295 }
-    ensures len { IfOk result (λ places. length places.items ≡ tuple.count) }
-    ensures each { IfOk result (λ places. (i : ℕ) → i < tuple.count → held places.items i ≡ tuple.first + i) }
+    ensures len { OnOk result (length places.new.items ≡ tuple.count) }
+    ensures each { (i : ℕ) → i < length places.new.items → held places.new.items i ≡ tuple.first + i }
+    ensures few { length places.new.items ≤ tuple.count }
 {
-    let mut places = Vec::new(alloc);
+    places.clear();
     for i in 0..tuple.count {
         places.push(tuple.first + i)?;
     }
-    Ok(places)
+    Ok(())
 }
 
-/// Registers of which those of the arguments hold the places of a tuple.
-fn arguments(alloc: Global, count: usize, tuple: Roots) -> Result<Vec<u32>, NoMemory>
+/// Makes registers hold place 0, but those of the arguments the places of a tuple.
+fn put_arguments(x: &mut Vec<u32>, count: usize, tuple: Roots) -> Result<(), NoMemory>
     requires room { tuple.count < count }
     requires few { tuple.first + tuple.count ≤ 4294967295 }
-    ensures len { IfOk result (λ x. length x.items ≡ count) }
-    ensures each { IfOk result (λ x. (i : ℕ) → i < tuple.count → held x.items (i + 1) ≡ tuple.first + i) }
-    ensures inside { IfOk result (λ x. (n : ℕ) → 0 < n → tuple.first + tuple.count ≤ n → HoldPlaces n x.items) }
+    ensures len { OnOk result (length x.new.items ≡ count) }
+    ensures each { OnOk result ((i : ℕ) → i < tuple.count → held x.new.items (i + 1) ≡ tuple.first + i) }
+    ensures inside { (n : ℕ) → 0 < n → tuple.first + tuple.count ≤ n → HoldPlaces n x.new.items }
 {
-    let mut x = registers(alloc, count)?;
+    put_zeros(x, count)?;
     for i in 0..tuple.count {
         x[i + 1] = (tuple.first + i) as u32;
     }
-    Ok(x)
+    Ok(())
 }
 
 /// Cells of which the first is an atom.
@@ -73,6 +78,39 @@ fn with_bottom(alloc: Global) -> Result<Cells, NoMemory>
     cells.reserve(FIRST_CELLS)?;
     cells.push(Cell::Atom(Atom::at(0)));
     Ok(cells)
+}
+
+/// Takes back all cells but the first, an atom.
+fn back_to_bottom(cells: &mut Cells)
+    requires { HasBottom cells.old }
+    ensures { HasBottom cells.new }
+{
+    cells.undo_to(CellMark { cells: 1, trail: 0 });
+}
+
+/// Lays a tuple out for a search that begins: its terms in the cells, behind the first one, and their places in registers and in a list.
+fn lay_out(
+    cells: &mut Cells,
+    x: &mut Vec<u32>,
+    y: &mut Vec<u32>,
+    roots: &mut Vec<usize>,
+    widths: Widths,
+    tuple: &Parcelled,
+) -> Result<(), NoMemory>
+    requires bottom { HasBottom cells.old }
+    requires room { count_trees tuple.now < widths.x }
+    ensures laid { OnOk result (IsLaidOut tuple.now widths cells.new x.new.items y.new.items roots.new.items) }
+    ensures inside { AreInside cells.new x.new.items y.new.items roots.new.items }
+{
+    x.clear();
+    y.clear();
+    roots.clear();
+    back_to_bottom(cells);
+    let copied = copy_in(cells, tuple)?;
+    let _few = cells.len();
+    put_arguments(x, widths.x, copied)?;
+    put_zeros(y, widths.y)?;
+    put_places(roots, copied)
 }
 
 /// Where the question begins, if that is the predicate.
@@ -148,21 +186,25 @@ impl Search {
         requires { (q : PredicateOf) × (slice_get sound.now.predicates predicate ≡ Some q) × (q.arity ≡ count_trees tuple.now) }
         ensures { IfOk result (λ found. Started sound.now tuple.now predicate rest found) }
     {
-        let code = sound.code();
-        let widths = sound.widths();
         let mut cells = with_bottom(alloc)?;
-        let copied = copy_in(&mut cells, tuple)?;
-        let _few = cells.len();
-        let x = arguments(alloc, widths.x, copied)?;
-        let y = registers(alloc, widths.y)?;
-        let roots = places(alloc, copied)?;
+        let mut x = Vec::new(alloc);
+        let mut y = Vec::new(alloc);
+        let mut roots = Vec::new(alloc);
+        lay_out(
+            &mut cells,
+            &mut x,
+            &mut y,
+            &mut roots,
+            sound.widths(),
+            tuple,
+        )?;
         let found = Search {
             cells,
             environments: Environments::new(alloc),
             x,
             y,
             roots,
-            next: first_step(code, predicate),
+            next: first_step(sound.code(), predicate),
             spent: 0,
             budget: rest,
             before_x: Vec::new(alloc),
@@ -174,5 +216,31 @@ impl Search {
             alloc,
         };
         Ok(found)
+    }
+
+    /// Begins a search as `start` does, in the memory of one that is done with.
+    pub fn begin_anew(
+        &mut self,
+        sound: &Sound,
+        tuple: &Parcelled,
+        predicate: u32,
+        rest: u64,
+    ) -> Result<(), NoMemory>
+        requires { (q : PredicateOf) × (slice_get sound.now.predicates predicate ≡ Some q) × (q.arity ≡ count_trees tuple.now) }
+        ensures { OnOk result (Started sound.now tuple.now predicate rest self.new) }
+    {
+        self.environments.clear();
+        lay_out(
+            &mut self.cells,
+            &mut self.x,
+            &mut self.y,
+            &mut self.roots,
+            sound.widths(),
+            tuple,
+        )?;
+        self.next = first_step(sound.code(), predicate);
+        self.spent = 0;
+        self.budget = rest;
+        Ok(())
     }
 }

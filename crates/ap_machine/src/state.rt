@@ -12,11 +12,11 @@ ghost use Rattle.ap_machine.specs.View.{now_of, IsFor};
 ghost use Rattle.ap_machine.specs.Stands.{IsAtAnswer, tuple_of};
 ghost use Rattle.ap_machine.specs.Lent.{terms_of};
 
-use crate::tuple::Tuple;
+use crate::tuple::{Tuple, copy_apart};
 use ap_arith::Pending;
 use ap_cells::{CellMark, Cells};
 use ap_checks::Comparison;
-use ap_copy::{Packing, Parcelled, copy_out};
+use ap_copy::Parcelled;
 use ap_environments::Environments;
 use ap_group::Goals;
 use ap_term::NoMemory;
@@ -177,7 +177,6 @@ impl Search {
         ensures width { IfOk result (λ parcel. count_trees parcel ≡ length self.now.machine.roots) }
         ensures answered { IfOk result (λ parcel. IsAtAnswer self.now.machine → (code : Compiled) (s : Tracked) (ss : List Tracked) → Holds code self.now.machine (s ∷ ss) → SameUpToNames parcel s.tuple) }
     {
-        let mut packing = Packing::new(self.alloc);
-        copy_out(self.alloc, &self.cells, &self.roots, &mut packing)
+        copy_apart(self.alloc, &self.cells, &self.roots)
     }
 }

@@ -9,6 +9,8 @@
 
 mod advance;
 mod emptying;
+mod held;
+mod pool;
 mod release;
 mod section;
 mod settle;
@@ -16,5 +18,6 @@ mod slots;
 mod start;
 
 pub use advance::Turn;
+pub use pool::Pool;
 pub use section::Section;
 pub use settle::Settled;

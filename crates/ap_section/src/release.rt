@@ -1,5 +1,6 @@
 //! Sections that are done with.
 
+use crate::pool::Pool;
 use crate::section::Section;
 use ap_copy::Parcelled;
 use ap_frames::{Answer, Frame, Slot, Stand};
@@ -36,6 +37,17 @@ fn list_frames(section: Section, left: &mut Vec<Section>) {
 }
 
 impl Section {
+    /// Gives the section's search to the pool. What slots of its frames hold is dropped.
+    pub fn give_to(self, pool: &mut Pool) {
+        if !self.frames.is_empty() {
+            let alloc = self.alloc;
+            self.release(alloc);
+            return;
+        }
+        let Section { search, .. } = self;
+        pool.put(search);
+    }
+
     /// Drops the section, and those in its slots one after another: as long as memory for a list of them can be had, no depth of
     /// frames is one of the machine's stack.
     pub fn release(self, alloc: Global) {

@@ -13,9 +13,10 @@ ghost use Rattle.ap_section.specs.Views.{view_of, spent_in, budget_in};
 ghost use Rattle.ap_section.specs.Ready.{IsReady};
 ghost use Rattle.ap_section.specs.Ends.{HasNext, HasNothing, left_behind};
 
+use crate::held::Held;
 use ap_copy::Parcelled;
 use ap_frames::Frame;
-use ap_machine::{Search, Tuple};
+use ap_machine::Tuple;
 use ap_term::NoMemory;
 use std::alloc::Global;
 
@@ -23,7 +24,7 @@ use std::alloc::Global;
 #[cycle(sections)]
 #[derive(Drop)]
 pub struct Section {
-    pub(crate) search: Search,
+    pub(crate) search: Held,
     /// The last one is the newest; its fork is the search's newest one.
     pub(crate) frames: Vec<Frame<Section, Parcelled>>,
     pub(crate) alloc: Global,

@@ -1,6 +1,6 @@
 //! The frame at which a section stands is settled, or one of its slots redone.
 
-ghost use Rattle.std.specs.Prelude.{◌≡◌, ℕ, ◌+◌, ◌-◌, ◌<◌, ◌≤◌, ◌^◌, true, false, length, take, Some, IfOk, IfSome, IfNone, OnErr};
+ghost use Rattle.std.specs.Prelude.{◌≡◌, ℕ, ◌+◌, ◌-◌, ◌<◌, ◌≤◌, ◌^◌, [], true, false, length, take, Some, IfOk, IfSome, IfNone, OnErr};
 ghost use Rattle.std.specs.List.{list_any, list_all};
 ghost use Rattle.ap_instr.specs.Code.{Compiled};
 ghost use Rattle.ap_frames.specs.declared.frame.Round.TheVariants.{Closed as ClosedRound};
@@ -18,12 +18,12 @@ ghost use Rattle.ap_section.specs.Settles.{HasCharged, IsSettled, lacks_section}
 ghost use Rattle.ap_section.specs.Owed.{OwesNoMore};
 ghost use Rattle.ap_section.specs.Closes.{IsStandAnswer, AreSlotAnswers, HasFrame, IsAtFirst, closed_in, charged_in, IsForgotten, IsBack, IsRejoined, stays_by, stays_in, IsNearlyReady, MayBreak, CannotBreak, IsOutcome};
 
+use crate::pool::Pool;
 use crate::section::Section;
 use ap_copy::Parcelled;
 use ap_frames::{Round, Slot, Stand, Verdict};
 use ap_term::NoMemory;
 use ap_tied::settling_law;
-use std::alloc::Global;
 
 /// What became of a frame.
 #[derive(Debug, Clone, Copy, PartialEq, Eq)]
@@ -54,15 +54,15 @@ fn answer_of(slot: &Slot<Section, Parcelled>) -> Result<Option<Parcelled>, NoMem
     }
 }
 
-/// Copies out the answers of all slots; None where one holds none.
+/// Copies out the answers of all slots into a list; None where one holds none.
 fn answers_of(
-    alloc: Global,
+    mut answers: Vec<Parcelled>,
     slots: &[Slot<Section, Parcelled>],
 ) -> Result<Option<Vec<Parcelled>>, NoMemory>
+    requires { answers.items ≡ [] }
     ensures answers { IfOk result (λ found. IfSome found (λ answers. AreSlotAnswers slots.now answers.items)) }
     ensures none { IfOk result (λ found. IfNone found (list_any lacks_section slots.now ≡ true)) }
 {
-    let mut answers = Vec::new(alloc);
     for slot in slots {
         let Some(answer) = answer_of(slot)? else {
             return Ok(None);
@@ -148,14 +148,15 @@ impl Section {
         cost <= u64::MAX - self.spent()
     }
 
-    /// Copies out the answers of the newest frame's slots; None where a slot holds none.
-    fn answers(&self, alloc: Global) -> Result<Option<Vec<Parcelled>>, NoMemory>
-        requires { IsAtFrame (view_of self.now) }
+    /// Copies out the answers of the newest frame's slots into a list; None where a slot holds none.
+    fn answers(&self, list: Vec<Parcelled>) -> Result<Option<Vec<Parcelled>>, NoMemory>
+        requires at { IsAtFrame (view_of self.now) }
+        requires none { list.items ≡ [] }
         ensures answers { IfOk result (λ found. IfSome found (λ answers. AreAnswersOf (slots_in (view_of self.now)) answers.items)) }
         ensures none { IfOk result (λ found. IfNone found (list_any lacks_section (rows (slots_in (view_of self.now))) ≡ true)) }
     {
         let newest = self.frames.len() - 1;
-        answers_of(alloc, &self.frames[newest].slots)
+        answers_of(list, &self.frames[newest].slots)
     }
 
     /// Whether a slot of the newest frame runs.
@@ -207,7 +208,7 @@ impl Section {
     }
 
     /// Joins the newest frame, each of whose goals has an answer.
-    fn settle_joined(&mut self, alloc: Global, cost: u64) -> Result<Settled, NoMemory>
+    fn settle_joined(&mut self, pool: &mut Pool, cost: u64) -> Result<Settled, NoMemory>
         requires at { IsAtFrame (view_of self.old) }
         requires joined { verdict_in (view_of self.old) ≡ JoinedBy cost }
         ensures { IsOutcome self.old self.new result }
@@ -216,12 +217,13 @@ impl Section {
         if !self.has_room(cost) {
             return Err(NoMemory);
         }
-        let Some(answers) = self.answers(alloc)? else {
+        let Some(answers) = self.answers(pool.take_list())? else {
             return Ok(Settled::Open);
         };
         if !self.rejoin(&answers)? {
             return Ok(Settled::Open);
         }
+        pool.give_list(answers);
         self.charge(cost);
         self.close();
         Ok(Settled::Joined)
@@ -274,13 +276,13 @@ impl Section {
     }
 
     /// Settles the newest frame by the verdict on its round.
-    fn settle_by(&mut self, alloc: Global, verdict: Verdict) -> Result<Settled, NoMemory>
+    fn settle_by(&mut self, pool: &mut Pool, verdict: Verdict) -> Result<Settled, NoMemory>
         requires at { IsAtFrame (view_of self.old) }
         requires verdict { verdict ≡ verdict_in (view_of self.old) }
         ensures { IsOutcome self.old self.new result }
     {
         match verdict {
-            Verdict::Joined(cost) => self.settle_joined(alloc, cost),
+            Verdict::Joined(cost) => self.settle_joined(pool, cost),
             Verdict::Broken(cost) => self.settle_broken(cost),
             Verdict::Spent => Ok(Settled::Spent),
             Verdict::Wait => self.find_redo(),
@@ -290,7 +292,7 @@ impl Section {
 
     /// Settles the frame at which the section stands, and charges what its round cost. Without memory the section is still
     /// there.
-    pub fn settle(&mut self, alloc: Global) -> Result<Settled, NoMemory>
+    pub fn settle(&mut self, pool: &mut Pool) -> Result<Settled, NoMemory>
         requires { IsAtFrame (view_of self.old) }
         ensures goes { (code : Compiled) → IsReady code self.old → Goes code (view_of self.old) (view_of self.new) }
         ensures settled { IfOk result (λ settled. IsSettled (view_of self.old) (view_of self.new) settled) }
@@ -298,7 +300,7 @@ impl Section {
         ensures ready { (code : Compiled) → IsReady code self.old → IsReady code self.new }
         ensures owes { (code : Compiled) → IsReady code self.old → OwesNoMore (view_of self.old) (view_of self.new) }
     {
-        self.settle_by(alloc, self.verdict())
+        self.settle_by(pool, self.verdict())
     }
 
     /// Goes on behind the answer at which it stands, with so many calls to make.

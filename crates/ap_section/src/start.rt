@@ -7,10 +7,11 @@ ghost use Rattle.ap_section.specs.Views.{view_of};
 ghost use Rattle.ap_section.specs.Ready.{IsReady};
 ghost use Rattle.ap_section.specs.Ends.{Begins};
 
+use crate::held::Held;
+use crate::pool::Pool;
 use crate::section::Section;
 use ap_codecheck::Sound;
 use ap_copy::Parcelled;
-use ap_machine::Search;
 use ap_term::NoMemory;
 use std::alloc::Global;
 
@@ -27,7 +28,31 @@ impl Section {
         ensures begins { IfOk result (λ found. Begins sound.now tuple.now predicate rest (view_of found)) }
         ensures ready { IfOk result (λ found. IsReady sound.now found) }
     {
-        let search = Search::start(alloc, sound, tuple, predicate, rest)?;
+        let search = Held::start(alloc, sound, tuple, predicate, rest)?;
+        Ok(Section {
+            search,
+            frames: Vec::new(alloc),
+            alloc,
+        })
+    }
+
+    /// Begins a section as `start` does, in the memory of a search of the pool.
+    pub fn start_pooled(
+        pool: &mut Pool,
+        alloc: Global,
+        sound: &Sound,
+        tuple: &Parcelled,
+        predicate: u32,
+        rest: u64,
+    ) -> Result<Section, NoMemory>
+        requires { (q : Predicate) × (slice_get sound.now.predicates predicate ≡ Some q) × (q.arity ≡ count_trees tuple.now) }
+        ensures begins { IfOk result (λ found. Begins sound.now tuple.now predicate rest (view_of found)) }
+        ensures ready { IfOk result (λ found. IsReady sound.now found) }
+    {
+        let Some(mut search) = pool.take() else {
+            return Section::start(alloc, sound, tuple, predicate, rest);
+        };
+        search.begin_anew(sound, tuple, predicate, rest)?;
         Ok(Section {
             search,
             frames: Vec::new(alloc),

@@ -65,7 +65,7 @@ impl<'a> Stack<'a> {
     }
 
     /// Leaves the newest section, whose slot stops.
-    fn leave_newest(&mut self, alloc: Global, post: &Post<'a, '_>)
+    fn leave_newest(&mut self, post: &Post<'a, '_>)
         requires good { IsGood post.now self.old }
         ensures goes { Goes post.now self.old post.now self.new }
     {
@@ -75,18 +75,18 @@ impl<'a> Stack<'a> {
         };
         let cost = left.section.spent().saturating_sub(left.since);
         self.newest.put_stopped(left.place, cost, true);
-        left.section.release(alloc);
+        left.section.give_to(&mut self.pool);
     }
 
     /// Leaves the sections within the outer one at a place; goals of their frames that are out are taken back, or asked to stop.
-    fn leave_within(&mut self, alloc: Global, post: &mut Post<'a, '_>, k: usize)
+    fn leave_within(&mut self, post: &mut Post<'a, '_>, k: usize)
         requires good { IsGood post.old self.old }
         ensures goes { Goes post.old self.old post.new self.new }
         ensures none { (f : ℕ) → self.new.frame < f → f < 2 ^ 64 - 1 → posted_in post.new f ≡ [] }
     {
         sharing_law();
         for _section in k..self.outer.len() {
-            self.leave_newest(alloc, post);
+            self.leave_newest(post);
         }
         // All numbers are below that one.
         let _next = post.next();
@@ -131,7 +131,7 @@ impl<'a> Stack<'a> {
             return Some(Step::Went);
         }
         let place = self.outer[k].place;
-        self.leave_within(alloc, post, k);
+        self.leave_within(post, k);
         Some(Step::Finished(place))
     }
 }

@@ -53,7 +53,14 @@ impl<'a> Stack<'a> {
             return Err(NoMemory);
         }
         let rest = self.newest.rest();
-        let section = Section::start(alloc, self.sound, &tuple, predicate, rest)?;
+        let section = Section::start_pooled(
+            &mut self.pool,
+            alloc,
+            self.sound,
+            &tuple,
+            predicate,
+            rest,
+        )?;
         self.outer.reserve(1)?;
         let frame = post.number()?;
         self.newest.start_slot(i);
@@ -137,6 +144,7 @@ impl<'a> Stack<'a> {
         };
         let cost = done.section.spent().saturating_sub(done.since);
         self.newest.put_failed(done.place, cost);
+        done.section.give_to(&mut self.pool);
         post.bar().ended(cost);
         Step::Finished(done.place)
     }
@@ -156,6 +164,7 @@ impl<'a> Stack<'a> {
         };
         let rest = self.newest.rest();
         self.newest.put_spent(done.place, rest);
+        done.section.give_to(&mut self.pool);
         Step::Finished(done.place)
     }
 }

@@ -16,7 +16,7 @@ ghost use Rattle.ap_stack.specs.Stacks.{IsGood, section_in, spent_outside};
 use ap_codecheck::Sound;
 use ap_ledger::Share;
 use ap_machine::Tuple;
-use ap_section::Section;
+use ap_section::{Pool, Section};
 use std::alloc::Global;
 use std::mem;
 
@@ -81,6 +81,8 @@ pub struct Stack<'a> {
     pub(crate) oldest: usize,
     /// How many frames are open around the search's goal.
     pub(crate) around: usize,
+    /// Searches of sections that are done with, for those that begin.
+    pub(crate) pool: Pool,
 }
 
 impl<'a> Stack<'a> {
@@ -110,6 +112,7 @@ impl<'a> Stack<'a> {
             turns: 0,
             oldest: 0,
             around,
+            pool: Pool::new(alloc),
         }
     }
 

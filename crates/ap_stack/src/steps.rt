@@ -19,7 +19,7 @@ const CALLS: u64 = 64;
 
 impl<'a> Stack<'a> {
     /// Settles the newest frame, none of whose goals is out.
-    fn settle(&mut self, alloc: Global, post: &mut Post<'a, '_>) -> Result<Step, NoMemory>
+    fn settle(&mut self, post: &mut Post<'a, '_>) -> Result<Step, NoMemory>
         requires good { IsGood post.old self.old }
         requires tends { self.old.tends ≡ true }
         requires none { posted_in post.old self.old.frame ≡ [] }
@@ -28,7 +28,7 @@ impl<'a> Stack<'a> {
     {
         sharing_law();
         let before = self.newest.cells();
-        let settled = self.newest.settle(alloc)?;
+        let settled = self.newest.settle(&mut self.pool)?;
         post.bar()
             .joined(self.newest.cells().saturating_sub(before));
         match settled {
@@ -38,7 +38,7 @@ impl<'a> Stack<'a> {
                 Ok(Step::Went)
             }
             Settled::Joined | Settled::Broken => {
-                self.newest.drop_sections();
+                self.newest.drop_sections(&mut self.pool);
                 self.tends = false;
                 Ok(Step::Went)
             }
@@ -82,13 +82,13 @@ impl<'a> Stack<'a> {
             return Ok(Step::Went);
         }
         if post.is_clear(self.frame) {
-            return self.settle(alloc, post);
+            return self.settle(post);
         }
         Ok(Step::Waits)
     }
 
     /// Goes on with the newest frame where its round is over: once none of its goals is out it is settled.
-    fn finish(&mut self, alloc: Global, post: &mut Post<'a, '_>) -> Result<Step, NoMemory>
+    fn finish(&mut self, post: &mut Post<'a, '_>) -> Result<Step, NoMemory>
         requires good { IsGood post.old self.old }
         requires tends { self.old.tends ≡ true }
         ensures goes { Goes post.old self.old post.new self.new }
@@ -96,7 +96,7 @@ impl<'a> Stack<'a> {
     {
         sharing_law();
         if post.is_clear(self.frame) {
-            return self.settle(alloc, post);
+            return self.settle(post);
         }
         if self.bring_back(post) {
             return Ok(Step::Went);
@@ -114,7 +114,7 @@ impl<'a> Stack<'a> {
     {
         match self.newest.verdict() {
             Verdict::Wait => self.go_on(alloc, post),
-            _ => self.finish(alloc, post),
+            _ => self.finish(post),
         }
     }
 

@@ -18,9 +18,9 @@ use Rattle.ap_machine.proofs.state.Search.answer.Goals as goal
 pub returns-clause-tuple : goal.returns-clause-tuple
 returns-clause-tuple c =
     let a = c.self.inside in
-    let P : Trees → Type 0 = λ t. IfOk c.copy_out.result (λ parcel. SameUpToNames parcel t) in
+    let P : Trees → Type 0 = λ t. IfOk c.copy_apart.result (λ parcel. SameUpToNames parcel t) in
     let Q : Paused → Type 0 = λ s. P (tuple_of s.machine) in
-    subst Q c.self.view_is (subst P (ap (tuple_at (trees a.cells.cells)) c.deref.ensures.value ∙ tuple_at-under (trees a.cells.cells) a.roots.items) c.copy_out.ensures)
+    subst Q c.self.view_is (subst P (ap (tuple_at (trees a.cells.cells)) c.deref.ensures.value ∙ tuple_at-under (trees a.cells.cells) a.roots.items) c.copy_apart.ensures)
 
 pub returns-clause-width : goal.returns-clause-width
 returns-clause-width c =

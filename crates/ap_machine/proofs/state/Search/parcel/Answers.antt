@@ -25,8 +25,8 @@ unreachable-requires c =
     let i = c.self.inside in
     no-frame i.cells i.environments i.x.items i.y.items i.roots.items i.next i.spent i.budget c.args.self.now c.self.view_is c.self.invariant c.args.i c.requires.place (c.goal.ensures.none c.in_default.is)
 
-pub copy_out-requires : goal.copy_out-requires
-copy_out-requires c =
+pub copy_apart-requires : goal.copy_apart-requires
+copy_apart-requires c =
     let i = c.self.inside in
     let s = c.in-Some.ensures.some in
     subst (Each (λ r. r < length i.cells.cells)) (s.7 ∙ sym c.in_ok-places.ensures ∙ sym c.deref.ensures.value) (each-held (length i.cells.cells) s.2.y (goal-inside i.cells i.environments i.x.items i.y.items i.roots.items s.0 s.1 s.3 c.self.invariant c.args.i s.2 s.5))
@@ -36,10 +36,10 @@ returns c =
     let i = c.self.inside in
     let s = c.in-Some.ensures.some in
     let m = c.args.self.now.machine in
-    let P : Trees → Type 0 = λ t. IfOk c.copy_out.result (λ parcel. SameUpToNames parcel t) in
+    let P : Trees → Type 0 = λ t. IfOk c.copy_apart.result (λ parcel. SameUpToNames parcel t) in
     let Q : Paused → Type 0 = λ t. P (tuple_under (tree_at (trees t.machine.cells)) s.2.y) in
     let places : c.deref.result.now ≡ s.2.y = c.deref.ensures.value ∙ c.in_ok-places.ensures ∙ sym s.7 in
-    let copied = subst Q c.self.view_is (subst P (ap (tuple_at (trees i.cells.cells)) places ∙ tuple_at-under (trees i.cells.cells) s.2.y) c.copy_out.ensures) in
+    let copied = subst Q c.self.view_is (subst P (ap (tuple_at (trees i.cells.cells)) places ∙ tuple_at-under (trees i.cells.cells) s.2.y) c.copy_apart.ensures) in
     let found = goal-at i.cells i.environments i.x.items i.y.items i.roots.items s.0 s.1 s.3 c.self.invariant i.next i.spent i.budget c.args.self.now c.self.view_is c.args.i s.2 s.4 s.5 in
     let tuple : Trees = tuple_under (tree_at (trees m.cells)) s.2.y in
     IfOk-weaker _ (λ parcel. SameUpToNames parcel tuple)

@@ -16,22 +16,27 @@ use Rattle.ap_stack.proofs.Counts.{begun-counts}
 use Rattle.ap_stack.proofs.Moves.{no-less, one-more, fresh-above, fresh-below, kept, pushed, goes-posted, goes-then, out-stood, elsewhere-ready}
 use Rattle.ap_stack.proofs.stack.Stack.begin.Goals as goal
 
-pub start-requires : goal.start-requires
-start-requires c =
+pub start_pooled-requires : goal.start_pooled-requires
+start_pooled-requires c =
     let k = c.goal-predicate.ensures.known c.args.self.now.sound.now c.requires.good.ready in
     let p = c.in_ok-tuple.ensures in
     (k.0, k.1, sym (k.2 p.0 p.1) ∙ sym p.3)
 
+pub returns-in_err-section : goal.returns-in_err-section
+returns-in_err-section c =
+    let s = c.args.self.now in
+    record { goes = kept c.sharing_law.ensures c.args.post.now s (record s { pool = c.start_pooled.new.pool }) refl refl refl refl refl refl refl c.requires.good }
+
 pub returns-in_err-reserve : goal.returns-in_err-reserve
 returns-in_err-reserve c =
     let s = c.args.self.now in
-    record { goes = kept c.sharing_law.ensures c.args.post.now s (record s { outer = c.reserve.new.self }) c.in_err-reserve.ensures.items refl refl refl refl refl refl c.requires.good }
+    record { goes = kept c.sharing_law.ensures c.args.post.now s (record s { outer = c.reserve.new.self; pool = c.start_pooled.new.pool }) c.in_err-reserve.ensures.items refl refl refl refl refl refl c.requires.good }
 
 pub returns-in_err-frame : goal.returns-in_err-frame
 returns-in_err-frame c =
     let p = c.args.post.now in
     let s = c.args.self.now in
-    let t : Stack = record s { outer = c.reserve.new.self } in
+    let t : Stack = record s { outer = c.reserve.new.self; pool = c.start_pooled.new.pool } in
     let law = c.sharing_law.ensures in
     let first = kept law p s t c.in_ok-reserve.ensures.items refl refl refl refl refl refl c.requires.good in
     let number = c.in_err-frame.ensures in

@@ -25,7 +25,7 @@ returns-clause-goes c =
     let is = c.in-Some.ensures.outer in
     let waits = (popped-open p s b.outer.items e is c.requires.good).1 in
     let cost = cost-is (section_in s) _ _ d.since (c.spent.ensures ∙ ap (λ a. spent_in (view_of a)) c.in-Some.ensures.section.0) c.saturating_sub-cost.ensures in
-    let t : Stack = record b { newest = c.put_failed.new.self } in
+    let t : Stack = record b { newest = c.put_failed.new.self; pool = c.give_to.new.pool } in
     let put = c.put_failed.ensures in
     let stands = put.stands ∙ ap (λ n. stood d.place (Ended Failed n) nothing (view_of b.newest)) cost in
     ended p s b.outer.items e is _ nothing t refl c.in-Some.ensures.same.0 c.in-Some.ensures.same.1 refl c.in-Some.ensures.section.1 c.requires.good c.requires.none (put.ready code waits.ready) put.at_frame stands

@@ -22,7 +22,7 @@ returns c =
     let is = c.in-Some.ensures.outer in
     let waits = (popped-open p s b.outer.items e is c.requires.good).1 in
     let cost = cost-is (section_in s) _ _ d.since (c.spent.ensures ∙ ap (λ a. spent_in (view_of a)) c.in-Some.ensures.section.0) c.saturating_sub-cost.ensures in
-    let t : Stack = record b { newest = c.put_stopped.new.self } in
+    let t : Stack = record b { newest = c.put_stopped.new.self; pool = c.give_to.new.pool } in
     let put = c.put_stopped.ensures in
     let stands = put.stands ∙ ap (λ n. stood d.place (stopped (Unit {0}) true n) nothing (view_of b.newest)) cost in
     record { goes = left-goes c.sharing_law.ensures p s b.outer.items e is t refl c.in-Some.ensures.same.0 c.in-Some.ensures.same.1 refl c.in-Some.ensures.section.1 c.in-Some.ensures.share c.requires.good (put.ready code waits.ready) put.at_frame stands }

@@ -15,7 +15,7 @@ returns-in_err-settled-clause-goes c =
     let s = c.args.self.now in
     let code = code_in s in
     let good = c.requires.good in
-    let t : Stack = record s { newest = c.settle.new.self } in
+    let t : Stack = record s { newest = c.settle.new.self; pool = c.settle.new.pool } in
     moved-alone p s t refl refl refl refl c.sharing_law.ensures good c.requires.none (c.settle.ensures.ready code good.ready) (λ h. c.in_err-settled.ensures.err.0) (c.settle.ensures.goes code good.ready) (stays-pays p s t refl refl (c.settle.ensures.owes code good.ready))
 
 pub spent_all-requires-clause-good : goal.spent_all-requires-clause-good
@@ -25,7 +25,7 @@ spent_all-requires-clause-good c =
     let code = code_in s in
     let good = c.requires.good in
     let x = view_of c.settle.new.self in
-    let t : Stack = record s { newest = c.settle.new.self } in
+    let t : Stack = record s { newest = c.settle.new.self; pool = c.settle.new.pool } in
     let settled = subst (IsSettled (section_in s) x) c.in-Spent.is c.in_ok-settled.ensures.settled in
     let at : IsAtFrame x = subst IsAtFrame (sym settled.1) (good.at_frame c.requires.tends) in
     (moved-alone p s t refl refl refl refl c.sharing_law.ensures good c.requires.none (c.settle.ensures.ready code good.ready) (λ h. at) (c.settle.ensures.goes code good.ready) (stays-pays p s t refl refl (c.settle.ensures.owes code good.ready))).good
@@ -37,7 +37,7 @@ redo_slot-requires-clause-good c =
     let code = code_in s in
     let good = c.requires.good in
     let x = view_of c.settle.new.self in
-    let t : Stack = record s { newest = c.settle.new.self } in
+    let t : Stack = record s { newest = c.settle.new.self; pool = c.settle.new.pool } in
     let settled = subst (IsSettled (section_in s) x) c.in-Redo.is c.in_ok-settled.ensures.settled in
     let at : IsAtFrame x = subst IsAtFrame (sym settled.0) (good.at_frame c.requires.tends) in
     (moved-alone p s t refl refl refl refl c.sharing_law.ensures good c.requires.none (c.settle.ensures.ready code good.ready) (λ h. at) (c.settle.ensures.goes code good.ready) (stays-pays p s t refl refl (c.settle.ensures.owes code good.ready))).good
@@ -48,7 +48,7 @@ returns-in-Open-clause-goes c =
     let s = c.args.self.now in
     let code = code_in s in
     let good = c.requires.good in
-    let t : Stack = record s { newest = c.settle.new.self; tends = false } in
+    let t : Stack = record s { newest = c.settle.new.self; tends = false; pool = c.settle.new.pool } in
     moved-alone p s t refl refl refl refl c.sharing_law.ensures good c.requires.none (c.settle.ensures.ready code good.ready) (λ h. absurd (false≢true h)) (c.settle.ensures.goes code good.ready) (stays-pays p s t refl refl (c.settle.ensures.owes code good.ready))
 
 pub returns-in-Joined-clause-goes : goal.returns-in-Joined-clause-goes
@@ -57,8 +57,8 @@ returns-in-Joined-clause-goes c =
     let s = c.args.self.now in
     let code = code_in s in
     let good = c.requires.good in
-    let t : Stack = record s { newest = c.settle.new.self; tends = false } in
-    let u : Stack = record s { newest = c.drop_sections.new.self; tends = false } in
+    let t : Stack = record s { newest = c.settle.new.self; tends = false; pool = c.settle.new.pool } in
+    let u : Stack = record s { newest = c.drop_sections.new.self; tends = false; pool = c.drop_sections.new.pool } in
     let ready = c.settle.ensures.ready code good.ready in
     let first = moved-alone p s t refl refl refl refl c.sharing_law.ensures good c.requires.none ready (λ h. absurd (false≢true h)) (c.settle.ensures.goes code good.ready) (stays-pays p s t refl refl (c.settle.ensures.owes code good.ready)) in
     let second = moved-alone p t u refl refl refl refl c.sharing_law.ensures first.good c.requires.none (c.drop_sections.ensures.ready code ready) (λ h. absurd (false≢true h)) (c.drop_sections.ensures.goes code) (stays-pays p t u refl refl c.drop_sections.ensures.owes) in
@@ -71,7 +71,7 @@ returns-in-Spent-clause-goes c =
     let code = code_in s in
     let good = c.requires.good in
     let x = view_of c.settle.new.self in
-    let t : Stack = record s { newest = c.settle.new.self } in
+    let t : Stack = record s { newest = c.settle.new.self; pool = c.settle.new.pool } in
     let settled = subst (IsSettled (section_in s) x) c.in-Spent.is c.in_ok-settled.ensures.settled in
     let at : IsAtFrame x = subst IsAtFrame (sym settled.1) (good.at_frame c.requires.tends) in
     let first = moved-alone p s t refl refl refl refl c.sharing_law.ensures good c.requires.none (c.settle.ensures.ready code good.ready) (λ h. at) (c.settle.ensures.goes code good.ready) (stays-pays p s t refl refl (c.settle.ensures.owes code good.ready)) in
@@ -84,7 +84,7 @@ returns-in_err-redo_slot-in-Redo-clause-goes c =
     let code = code_in s in
     let good = c.requires.good in
     let x = view_of c.settle.new.self in
-    let t : Stack = record s { newest = c.settle.new.self } in
+    let t : Stack = record s { newest = c.settle.new.self; pool = c.settle.new.pool } in
     let settled = subst (IsSettled (section_in s) x) c.in-Redo.is c.in_ok-settled.ensures.settled in
     let at : IsAtFrame x = subst IsAtFrame (sym settled.0) (good.at_frame c.requires.tends) in
     let first = moved-alone p s t refl refl refl refl c.sharing_law.ensures good c.requires.none (c.settle.ensures.ready code good.ready) (λ h. at) (c.settle.ensures.goes code good.ready) (stays-pays p s t refl refl (c.settle.ensures.owes code good.ready)) in
@@ -97,7 +97,7 @@ returns-in_ok-redo_slot-in-Redo-clause-goes c =
     let code = code_in s in
     let good = c.requires.good in
     let x = view_of c.settle.new.self in
-    let t : Stack = record s { newest = c.settle.new.self } in
+    let t : Stack = record s { newest = c.settle.new.self; pool = c.settle.new.pool } in
     let settled = subst (IsSettled (section_in s) x) c.in-Redo.is c.in_ok-settled.ensures.settled in
     let at : IsAtFrame x = subst IsAtFrame (sym settled.0) (good.at_frame c.requires.tends) in
     let first = moved-alone p s t refl refl refl refl c.sharing_law.ensures good c.requires.none (c.settle.ensures.ready code good.ready) (λ h. at) (c.settle.ensures.goes code good.ready) (stays-pays p s t refl refl (c.settle.ensures.owes code good.ready)) in

@@ -26,7 +26,7 @@ returns-clause-goes c =
     let e : Open = record { section = b.newest; place = d.place; since = d.since; frame = b.frame; turn = d.turn } in
     let is = c.in-Some.ensures.outer in
     let waits = (popped-open p s b.outer.items e is c.requires.good).1 in
-    let t : Stack = record b { newest = c.put_spent.new.self } in
+    let t : Stack = record b { newest = c.put_spent.new.self; pool = c.give_to.new.pool } in
     let put = c.put_spent.ensures in
     let stands = put.stands ∙ ap (λ n. stood d.place (Ended Spent n) nothing (view_of b.newest)) (c.rest-rest.ensures ∙ rest-is (view_of b.newest)) in
     ended p s b.outer.items e is _ nothing t refl c.in-Some.ensures.same.0 c.in-Some.ensures.same.1 refl c.in-Some.ensures.section.1 c.requires.good c.requires.none (put.ready code waits.ready) put.at_frame stands

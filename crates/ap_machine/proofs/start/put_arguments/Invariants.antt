@@ -1,6 +1,6 @@
 use Rattle.std.proofs.Common.{◌≡◌, ℕ, ◌+◌, ◌<◌, ◌≤◌, length}
 use Rattle.ap_steps.specs.Moves.{held, HoldPlaces}
-use Rattle.ap_machine.proofs.start.arguments.Given as goal
+use Rattle.ap_machine.proofs.start.put_arguments.Given as goal
 
 abbrev pub invariant-loop-i : goal.invariant-loop-i
 invariant-loop-i l = record {
