@@ -17,7 +17,7 @@ use ap_copy::new_variables;
 use ap_frames::Verdict;
 use ap_ledger::Share;
 use ap_machine::Hook;
-use ap_section::{Section, Settled, Turn};
+use ap_section::{Pool, Section, Settled, Turn};
 use ap_term::NoMemory;
 use std::alloc::Global;
 use std::test::Fail;
@@ -51,7 +51,13 @@ fn go_on(sound: &Sound, section: &mut Section) -> Result<Turn, NoMemory>
 }
 
 /// Begins the goal of a slot, by a section of its own.
-fn begun(alloc: Global, sound: &Sound, section: &mut Section, i: usize) -> Result<Next, NoMemory>
+fn begun(
+    alloc: Global,
+    pool: &mut Pool,
+    sound: &Sound,
+    section: &mut Section,
+    i: usize,
+) -> Result<Next, NoMemory>
     requires ready { IsReady sound.now section.old }
     requires at { IsAtFrame (view_of section.old) }
     requires first { IsFirstReady i (view_of section.old) }
@@ -61,32 +67,40 @@ fn begun(alloc: Global, sound: &Sound, section: &mut Section, i: usize) -> Resul
     let tuple = section.parcel(i)?;
     let predicate = section.goal(i);
     let rest = section.rest();
-    let inner = Section::start(alloc, sound, &tuple, predicate, rest)?;
+    let inner = Section::start_pooled(pool, alloc, sound, &tuple, predicate, rest)?;
     section.start_slot(i);
     Ok(Next::Run(i, inner))
 }
 
 /// Settles the frame, and goes on with the section of a slot that is redone.
-fn settled(alloc: Global, sound: &Sound, section: &mut Section) -> Result<Next, NoMemory>
+fn settled(pool: &mut Pool, sound: &Sound, section: &mut Section) -> Result<Next, NoMemory>
     requires ready { IsReady sound.now section.old }
     requires at { IsAtFrame (view_of section.old) }
     ensures ready { IsReady sound.now section.new }
     ensures next { IfOk result (λ next. IsNext sound.now (view_of section.new) next) }
 {
-    let settled = section.settle(alloc)?;
+    let settled = section.settle(pool)?;
     match settled {
         Settled::Redo(i) => {
             let inner = section.take_section(i);
             Ok(Next::Run(i, inner))
         }
         Settled::Spent => Ok(Next::Spent),
-        Settled::Joined | Settled::Broken => Ok(Next::Went),
+        Settled::Joined | Settled::Broken => {
+            section.drop_sections(pool);
+            Ok(Next::Went)
+        }
         Settled::Open => Err(NoMemory),
     }
 }
 
 /// Begins the leftmost goal of the frame that is ready; where none is, settles the frame.
-fn next_of(alloc: Global, sound: &Sound, section: &mut Section) -> Result<Next, NoMemory>
+fn next_of(
+    alloc: Global,
+    pool: &mut Pool,
+    sound: &Sound,
+    section: &mut Section,
+) -> Result<Next, NoMemory>
     requires ready { IsReady sound.now section.old }
     requires at { IsAtFrame (view_of section.old) }
     ensures ready { IsReady sound.now section.new }
@@ -94,10 +108,10 @@ fn next_of(alloc: Global, sound: &Sound, section: &mut Section) -> Result<Next, 
 {
     if section.verdict() == Verdict::Wait {
         if let Some(i) = section.first_ready() {
-            return begun(alloc, sound, section, i);
+            return begun(alloc, pool, sound, section, i);
         }
     }
-    settled(alloc, sound, section)
+    settled(pool, sound, section)
 }
 
 /// Puts a section at its answer into its slot; behind a redone one the others begin anew.
@@ -118,7 +132,15 @@ fn put_answer(sound: &Sound, section: &mut Section, i: usize, inner: Section, co
 }
 
 /// Puts what a section came to into its slot.
-fn put(sound: &Sound, section: &mut Section, i: usize, inner: Section, since: u64, end: Turn)
+fn put(
+    pool: &mut Pool,
+    sound: &Sound,
+    section: &mut Section,
+    i: usize,
+    inner: Section,
+    since: u64,
+    end: Turn,
+)
     requires ready { IsReady sound.now section.old }
     requires inner { IsReady sound.now inner }
     requires at { IsAtFrame (view_of section.old) }
@@ -130,16 +152,26 @@ fn put(sound: &Sound, section: &mut Section, i: usize, inner: Section, since: u6
     let cost = inner.spent().saturating_sub(since);
     match end {
         Turn::Answer => put_answer(sound, section, i, inner, cost),
-        Turn::Failed => section.put_failed(i, cost),
+        Turn::Failed => {
+            section.put_failed(i, cost);
+            inner.give_to(pool);
+        }
         _ => {
             let rest = section.rest();
             section.put_spent(i, rest);
+            inner.give_to(pool);
         }
     }
 }
 
 /// Goes on to the next answer, or to where the search ends. Frames may be nested so deep.
-fn driven(alloc: Global, sound: &Sound, section: &mut Section, depth: u32) -> Result<Turn, NoMemory>
+fn driven(
+    alloc: Global,
+    pool: &mut Pool,
+    sound: &Sound,
+    section: &mut Section,
+    depth: u32,
+) -> Result<Turn, NoMemory>
     requires { IsReady sound.now section.old }
     ensures ready { IsReady sound.now section.new }
     ensures answer { result ≡ Ok Turn.Answer → AreClosed (stack_in (view_of section.new)) }
@@ -149,14 +181,14 @@ fn driven(alloc: Global, sound: &Sound, section: &mut Section, depth: u32) -> Re
         if turn != Turn::Fork {
             return Ok(turn);
         }
-        match next_of(alloc, sound, section)? {
+        match next_of(alloc, pool, sound, section)? {
             Next::Run(i, mut inner) => {
                 if depth == 0 {
                     return Err(NoMemory);
                 }
                 let since = inner.spent();
-                let end = driven(alloc, sound, &mut inner, depth - 1)?;
-                put(sound, section, i, inner, since, end);
+                let end = driven(alloc, pool, sound, &mut inner, depth - 1)?;
+                put(pool, sound, section, i, inner, since, end);
             }
             Next::Went => {}
             Next::Spent => return Ok(Turn::Spent),
@@ -189,8 +221,9 @@ fn answers_of(
     requires { IsReady sound.now section }
 {
     let mut lines = Vec::new(alloc);
+    let mut pool = Pool::new(alloc);
     'answers: for _answer in 0..50 {
-        let end = driven(alloc, sound, &mut section, 40)?;
+        let end = driven(alloc, &mut pool, sound, &mut section, 40)?;
         if end != Turn::Answer {
             return Ok((end, section.spent(), lines));
         }

@@ -1,8 +1,8 @@
 use Rattle.std.proofs.Common.{sym, ◌∙◌}
 use Rattle.ap_engine_tests.proofs.sections.begun.Goals as goal
 
-pub start-requires : goal.start-requires
-start-requires c =
+pub start_pooled-requires : goal.start_pooled-requires
+start_pooled-requires c =
     let k = c.goal-predicate.ensures.known c.args.sound.now c.requires.ready in
     let p = c.in_ok-tuple.ensures in
     (k.0, k.1, sym (k.2 p.0 p.1) ∙ sym p.3)

@@ -32,7 +32,7 @@ pub returns-in-Spent-clause-ready : goal.returns-in-Spent-clause-ready
 returns-in-Spent-clause-ready c = c.settle.ensures.ready c.args.sound.now c.requires.ready
 
 pub returns-in-Joined-clause-ready : goal.returns-in-Joined-clause-ready
-returns-in-Joined-clause-ready c = c.settle.ensures.ready c.args.sound.now c.requires.ready
+returns-in-Joined-clause-ready c = c.drop_sections.ensures.ready c.args.sound.now (c.settle.ensures.ready c.args.sound.now c.requires.ready)
 
 pub returns-in-Open-clause-ready : goal.returns-in-Open-clause-ready
 returns-in-Open-clause-ready c = c.settle.ensures.ready c.args.sound.now c.requires.ready
