@@ -28,6 +28,7 @@ fn recovered(text: &[u8]) -> (bool, usize)
     (false, at)
 }
 
+#[inline(never)]
 fn bad(text: &[u8]) -> Lexeme
     requires { 0 < length text.now }
     ensures value { result ≡ spec.bad text.now }
@@ -44,6 +45,7 @@ fn fits(digits: &[u8]) -> bool
     number(digits).is_some()
 }
 
+#[inline(always)]
 fn integer(text: &[u8]) -> Lexeme
     requires { 0 < length text.now }
     ensures value { result ≡ spec.integer text.now }
@@ -57,6 +59,7 @@ fn integer(text: &[u8]) -> Lexeme
     }
 }
 
+#[inline(always)]
 fn symbols(text: &[u8]) -> Lexeme
     requires { 0 < length text.now }
     ensures value { result ≡ spec.symbols text.now }
@@ -71,6 +74,7 @@ fn symbols(text: &[u8]) -> Lexeme
 }
 
 /// A comment of a known length, if it ends.
+#[inline(never)]
 fn comment(ahead: &mut Ahead, text: &[u8], at: usize, len: Option<usize>) -> Lexeme
     requires here { at < length text.now }
     requires ascii { slice_index text.now at < 128 }
@@ -90,6 +94,7 @@ fn comment(ahead: &mut Ahead, text: &[u8], at: usize, len: Option<usize>) -> Lex
 }
 
 /// A quoted token of a known length, if it is closed.
+#[inline(never)]
 fn quoted(ahead: &mut Ahead, text: &[u8], at: usize, len: Option<usize>) -> Lexeme
     requires here { at < length text.now }
     requires ascii { slice_index text.now at < 128 }
@@ -109,6 +114,7 @@ fn quoted(ahead: &mut Ahead, text: &[u8], at: usize, len: Option<usize>) -> Lexe
 
 /// Layout, or a token that can be told from its own bytes and the next. Most tokens are one byte, and most layout
 /// is gone over before.
+#[inline(always)]
 fn plain(text: &[u8]) -> Lexeme
     requires { 0 < length text.now }
     ensures value { result ≡ spec.plain text.now }
@@ -148,6 +154,7 @@ pub(crate) fn is_gap_at(text: &[u8], at: usize) -> bool
 }
 
 /// What stands at a place of a text.
+#[inline(always)]
 #[tactic(auto, unfolding(crate::specs::Lexeme::lexeme))]
 pub(crate) fn lexeme(ahead: &mut Ahead, text: &[u8], at: usize) -> Lexeme
     requires here { at < length text.now }
