@@ -153,10 +153,10 @@ pub(crate) fn is_gap_at(text: &[u8], at: usize) -> bool
     is_layout(text[at])
 }
 
-/// What stands at a place of a text.
-#[inline(always)]
+/// What stands at a place of a text, where it may be a comment or a quoted token.
+#[inline(never)]
 #[tactic(auto, unfolding(crate::specs::Lexeme::lexeme))]
-pub(crate) fn lexeme(ahead: &mut Ahead, text: &[u8], at: usize) -> Lexeme
+fn marked(ahead: &mut Ahead, text: &[u8], at: usize) -> Lexeme
     requires here { at < length text.now }
     requires sound { IsSound text.now ahead.old }
     ensures value { result ≡ spec.lexeme (drop at text.now) }
@@ -173,6 +173,24 @@ pub(crate) fn lexeme(ahead: &mut Ahead, text: &[u8], at: usize) -> Lexeme
     } else if rest[0] == b'\'' {
         let len = quoted_len(&mut ahead.quoted, text, at);
         quoted(ahead, text, at, len)
+    } else {
+        plain(rest)
+    }
+}
+
+/// What stands at a place of a text.
+#[inline(always)]
+#[tactic(auto, unfolding(crate::specs::Lexeme::lexeme))]
+pub(crate) fn lexeme(ahead: &mut Ahead, text: &[u8], at: usize) -> Lexeme
+    requires here { at < length text.now }
+    requires sound { IsSound text.now ahead.old }
+    ensures value { result ≡ spec.lexeme (drop at text.now) }
+    ensures within { (0 < result.1) × (at + result.1 ≤ length text.now) }
+    ensures sound { IsSound text.now ahead.new }
+{
+    let (_, rest) = text.split_at(at);
+    if rest[0] == b'%' || rest[0] == b'/' || rest[0] == b'\'' {
+        marked(ahead, text, at)
     } else {
         plain(rest)
     }

@@ -267,6 +267,7 @@ fn add(
     match step {
         Step::Begin => stack.begin(),
         Step::Item | Step::Group => Ok(()),
+        Step::Integer(value) => stack.put(Term::Int(value)),
         Step::Operand(at) => match leaf(alloc, leaves, recent, atoms, at) {
             Ok(term) => stack.put(term),
             Err(e) => Err(e),
