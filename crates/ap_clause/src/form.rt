@@ -10,6 +10,7 @@ ghost use Rattle.ap_clause.specs.Form as spec;
 ghost use Rattle.ap_clause.specs.Shape as shape;
 ghost use Rattle.ap_clause.specs.Shape.{form_of, shape_of};
 
+use ap_lexer::push;
 use ap_reader::{Leaf, Step};
 use ap_term::NoMemory;
 use std::alloc::Global;
@@ -334,6 +335,9 @@ fn is_plain(leaves: &[Leaf], steps: &[Step]) -> bool
     }
 }
 
+/// How many shapes room is made for at once, at most.
+const FIRST_ROOM: usize = 64;
+
 /// The form of a term, by its steps.
 pub(crate) fn form_by(alloc: Global, leaves: &[Leaf], steps: &[Step]) -> Result<Form, NoMemory>
     ensures { IfOk result (λ f. (t : Tree) → steps.now ≡ postfix t → f ≡ form_of (meaning (map leaf_of leaves.now) t)) }
@@ -341,11 +345,11 @@ pub(crate) fn form_by(alloc: Global, leaves: &[Leaf], steps: &[Step]) -> Result<
     if is_plain(leaves, steps) {
         return Ok(plain());
     }
-    let mut stack = Vec::new(alloc);
+    let mut stack = Vec::with_capacity(alloc, FIRST_ROOM.min(steps.len()))?;
     let mut rest = steps;
     while let [step, after @ ..] = rest {
         let shape = shape_after(&mut stack, leaves, *step);
-        stack.push(shape)?;
+        push(&mut stack, shape)?;
         rest = after;
     }
     Ok(pop_term(&mut stack))

@@ -56,8 +56,10 @@ fn are_narrow(terms: &[Term]) -> bool
     ensures { result ≡ spec.are_narrow (trees_of terms.now) }
 {
     for t in terms {
-        if !is_narrow(t) {
-            return false;
+        if let Term::Node(_, _) = t {
+            if !is_narrow(t) {
+                return false;
+            }
         }
     }
     true

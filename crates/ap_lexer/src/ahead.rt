@@ -125,6 +125,7 @@ pub(crate) fn characters_len(
 }
 
 /// How many bytes the line goes on.
+#[inline(never)]
 pub(crate) fn line_len(known: &mut Option<Line>, text: &[u8], at: usize) -> usize
     requires here { at ≤ length text.now }
     requires knows { KnowsLine text.now known.old }
@@ -202,6 +203,7 @@ fn comment_end(known: &mut Option<Comment>, text: &[u8], from: usize) -> Option<
 }
 
 /// The length of a comment that begins with `/*`, if it ends.
+#[inline(never)]
 pub(crate) fn comment_len(known: &mut Option<Comment>, text: &[u8], at: usize) -> Option<usize>
     requires here { at + 2 ≤ length text.now }
     requires knows { KnowsComment text.now known.old }
@@ -301,6 +303,7 @@ fn quoted_end(known: &mut Option<Quoted>, text: &[u8], from: usize) -> Option<us
 }
 
 /// The length of a quoted token, if it is closed.
+#[inline(never)]
 pub(crate) fn quoted_len(known: &mut Option<Quoted>, text: &[u8], at: usize) -> Option<usize>
     requires here { at < length text.now }
     requires knows { KnowsQuoted text.now known.old }

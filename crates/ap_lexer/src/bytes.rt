@@ -12,12 +12,14 @@ pub(crate) enum Class {
     Line,
 }
 
+#[inline(always)]
 pub(crate) fn is_layout(b: u8) -> bool
     ensures { result ≡ spec.is_layout b }
 {
     matches!(b, b' ' | b'\t' | b'\n' | b'\r')
 }
 
+#[inline(always)]
 pub(crate) fn is_symbol(b: u8) -> bool
     ensures { result ≡ spec.is_symbol b }
 {
@@ -42,6 +44,7 @@ pub(crate) fn is_symbol(b: u8) -> bool
     )
 }
 
+#[inline(always)]
 fn is_in(class: Class, b: u8) -> bool
     ensures { result ≡ spec.is_in class b }
 {
@@ -54,6 +57,7 @@ fn is_in(class: Class, b: u8) -> bool
 }
 
 /// The first place from `at` on whose byte isn't of the class.
+#[inline(always)]
 pub(crate) fn past(class: Class, text: &[u8], at: usize) -> usize
     requires { at ≤ length text.now }
     ensures value { result ≡ spec.past class text.now at }
@@ -67,6 +71,7 @@ pub(crate) fn past(class: Class, text: &[u8], at: usize) -> usize
 }
 
 /// Whether layout or the end of the text stands at `at`.
+#[inline(always)]
 pub(crate) fn ends(text: &[u8], at: usize) -> bool
     ensures { result ≡ spec.ends text.now at }
 {
@@ -74,12 +79,14 @@ pub(crate) fn ends(text: &[u8], at: usize) -> bool
 }
 
 /// The byte at a place; 0 behind the end.
+#[inline(always)]
 pub(crate) fn byte(text: &[u8], at: usize) -> u8
     ensures { result ≡ slice_index text.now at }
 {
     if at < text.len() { text[at] } else { 0 }
 }
 
+#[inline(always)]
 pub(crate) fn solo(b: u8) -> Option<TokenKind>
     ensures { result ≡ spec.solo b }
 {

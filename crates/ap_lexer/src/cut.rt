@@ -24,6 +24,7 @@ pub struct Piece {
 }
 
 /// The bytes of a text from a place on.
+#[inline(always)]
 pub(crate) fn span(text: &[u8], from: usize, len: usize) -> &[u8]
     requires { from + len ≤ length text.now }
     ensures { result.now ≡ take len (drop from text.now) }
@@ -39,6 +40,7 @@ pub(crate) fn feeds(text: &[u8]) -> usize
 }
 
 /// How many line feeds a lexeme has: a token has none.
+#[inline(always)]
 pub(crate) fn feeds_in(kind: LexemeKind, text: &[u8], at: usize, len: usize) -> usize
     requires within { at + len ≤ length text.now }
     requires is { (kind, len) ≡ lexeme (drop at text.now) }
@@ -54,6 +56,7 @@ pub(crate) fn feeds_in(kind: LexemeKind, text: &[u8], at: usize, len: usize) -> 
 pub(crate) type Begun = Option<(usize, u64)>;
 
 /// The piece that a lexeme on a line ends.
+#[inline(always)]
 pub(crate) fn ended(
     kind: LexemeKind,
     from: usize,
@@ -82,6 +85,7 @@ pub(crate) fn ended(
     }
 }
 
+#[inline(always)]
 pub(crate) fn start(begun: Begun, at: usize, line: u64) -> (usize, u64)
     ensures { (text : Text) (b : Option ℕ) → spec.Begins text begun b → line ≡ spec.line_at text at → (result.0 ≡ spec.start b at) × (result.1 ≡ spec.line_at text result.0) }
 {
@@ -92,6 +96,7 @@ pub(crate) fn start(begun: Begun, at: usize, line: u64) -> (usize, u64)
 }
 
 /// Where the piece began that goes on behind a lexeme.
+#[inline(always)]
 pub(crate) fn begun_after(kind: LexemeKind, begun: Begun, from: usize, first: u64) -> Begun
     ensures { (text : Text) (b : Option ℕ) (at : ℕ) → spec.Begins text begun b → from ≡ spec.start b at → first ≡ spec.line_at text from → spec.Begins text result (spec.begun_after (spec.role kind) b at) }
 {

@@ -2,18 +2,25 @@ ghost use Rattle.std.specs.Prelude.{◌≡◌, ◌≤◌, ◌^◌, nat_le, Match
 ghost use Rattle.ap_lexer.specs.Lexeme as spec;
 
 /// 2 ^ 63, the magnitude of the least integer.
-const GREATEST: u128 = 1 << 63;
+const GREATEST: u64 = 1 << 63;
+
+/// What may stand before a last digit.
+const TENTH: u64 = GREATEST / 10;
 
 /// The number that an integer token's digits stand for, or None above 2 ^ 63.
+#[inline(always)]
 pub fn number(digits: &[u8]) -> Option<u64>
     ensures { MatchOption result (nat_le (spec.number digits.now) (2 ^ 63) ≡ false) (λ n. (n ≡ spec.number digits.now) × (n ≤ 2 ^ 63)) }
 {
-    let mut number: u128 = 0;
+    let mut number: u64 = 0;
     for b in digits {
-        number = number * 10 + u128::from(b.saturating_sub(b'0'));
+        if number > TENTH {
+            return None;
+        }
+        number = number * 10 + u64::from(b.saturating_sub(b'0'));
         if number > GREATEST {
             return None;
         }
     }
-    Some(number as u64)
+    Some(number)
 }

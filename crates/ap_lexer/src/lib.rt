@@ -25,4 +25,4 @@ pub use digits::number;
 pub use error::{LexErr, NoMemory};
 pub use kind::{LexemeKind, TokenKind};
 pub use law::{lexemes_are_rows, one_cutting, tokens_without_places};
-pub use split::{Token, tokens};
+pub use split::{Token, push, tokens};

@@ -28,6 +28,7 @@ fn recovered(text: &[u8]) -> (bool, usize)
     (false, at)
 }
 
+#[inline(never)]
 fn bad(text: &[u8]) -> Lexeme
     requires { 0 < length text.now }
     ensures value { result ≡ spec.bad text.now }
@@ -44,6 +45,7 @@ fn fits(digits: &[u8]) -> bool
     number(digits).is_some()
 }
 
+#[inline(always)]
 fn integer(text: &[u8]) -> Lexeme
     requires { 0 < length text.now }
     ensures value { result ≡ spec.integer text.now }
@@ -57,6 +59,7 @@ fn integer(text: &[u8]) -> Lexeme
     }
 }
 
+#[inline(always)]
 fn symbols(text: &[u8]) -> Lexeme
     requires { 0 < length text.now }
     ensures value { result ≡ spec.symbols text.now }
@@ -71,6 +74,7 @@ fn symbols(text: &[u8]) -> Lexeme
 }
 
 /// A comment of a known length, if it ends.
+#[inline(never)]
 fn comment(ahead: &mut Ahead, text: &[u8], at: usize, len: Option<usize>) -> Lexeme
     requires here { at < length text.now }
     requires ascii { slice_index text.now at < 128 }
@@ -90,6 +94,7 @@ fn comment(ahead: &mut Ahead, text: &[u8], at: usize, len: Option<usize>) -> Lex
 }
 
 /// A quoted token of a known length, if it is closed.
+#[inline(never)]
 fn quoted(ahead: &mut Ahead, text: &[u8], at: usize, len: Option<usize>) -> Lexeme
     requires here { at < length text.now }
     requires ascii { slice_index text.now at < 128 }
@@ -109,6 +114,7 @@ fn quoted(ahead: &mut Ahead, text: &[u8], at: usize, len: Option<usize>) -> Lexe
 
 /// Layout, or a token that can be told from its own bytes and the next. Most tokens are one byte, and most layout
 /// is gone over before.
+#[inline(always)]
 fn plain(text: &[u8]) -> Lexeme
     requires { 0 < length text.now }
     ensures value { result ≡ spec.plain text.now }
@@ -147,9 +153,10 @@ pub(crate) fn is_gap_at(text: &[u8], at: usize) -> bool
     is_layout(text[at])
 }
 
-/// What stands at a place of a text.
+/// What stands at a place of a text, where it may be a comment or a quoted token.
+#[inline(never)]
 #[tactic(auto, unfolding(crate::specs::Lexeme::lexeme))]
-pub(crate) fn lexeme(ahead: &mut Ahead, text: &[u8], at: usize) -> Lexeme
+fn marked(ahead: &mut Ahead, text: &[u8], at: usize) -> Lexeme
     requires here { at < length text.now }
     requires sound { IsSound text.now ahead.old }
     ensures value { result ≡ spec.lexeme (drop at text.now) }
@@ -166,6 +173,24 @@ pub(crate) fn lexeme(ahead: &mut Ahead, text: &[u8], at: usize) -> Lexeme
     } else if rest[0] == b'\'' {
         let len = quoted_len(&mut ahead.quoted, text, at);
         quoted(ahead, text, at, len)
+    } else {
+        plain(rest)
+    }
+}
+
+/// What stands at a place of a text.
+#[inline(always)]
+#[tactic(auto, unfolding(crate::specs::Lexeme::lexeme))]
+pub(crate) fn lexeme(ahead: &mut Ahead, text: &[u8], at: usize) -> Lexeme
+    requires here { at < length text.now }
+    requires sound { IsSound text.now ahead.old }
+    ensures value { result ≡ spec.lexeme (drop at text.now) }
+    ensures within { (0 < result.1) × (at + result.1 ≤ length text.now) }
+    ensures sound { IsSound text.now ahead.new }
+{
+    let (_, rest) = text.split_at(at);
+    if rest[0] == b'%' || rest[0] == b'/' || rest[0] == b'\'' {
+        marked(ahead, text, at)
     } else {
         plain(rest)
     }

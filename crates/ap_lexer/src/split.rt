@@ -1,4 +1,4 @@
-ghost use Rattle.std.specs.Prelude.{◌≡◌, ◌++◌, ◌+◌, ◌<◌, ◌^◌, ℕ, map, take, drop, length, option_to_list, Contains, IfOk, IfErr, OnOk};
+ghost use Rattle.std.specs.Prelude.{◌≡◌, ◌++◌, ◌+◌, ◌<◌, ◌^◌, ℕ, map, take, drop, length, option_to_list, Contains, IfOk, IfErr, OnOk, is_ok, if◌then◌else◌, ◌∷◌, []};
 ghost use Rattle.ap_lexer.specs.Lexeme.{Text};
 ghost use Rattle.ap_lexer.specs.Piece.{line_at};
 ghost use Rattle.ap_lexer.specs.Piece as piece_spec;
@@ -9,7 +9,7 @@ use crate::ahead::Ahead;
 use crate::cut::{feeds, span};
 use crate::recognize::lexeme;
 use crate::{LexErr, LexemeKind, NoMemory, Piece, TokenKind};
-use std::alloc::Global;
+use std::alloc::{AllocFailed, Global};
 
 /// A token of a piece.
 #[derive(Clone, Copy, Debug)]
@@ -25,7 +25,20 @@ pub struct Token<'a> {
     pub line: u64,
 }
 
+/// Adds an element to a list; most have room for it.
+#[inline(always)]
+pub fn push<T: Drop>(list: &mut Vec<T>, value: T) -> Result<(), AllocFailed<T>>
+    ensures items { list.new.items ≡ (if is_ok result then list.old.items ++ value ∷ [] else list.old.items) }
+{
+    if list.len() < list.capacity() {
+        list.push_reserved(value);
+        return Ok(());
+    }
+    list.push(value)
+}
+
 /// Adds the token that a lexeme is, if it is one.
+#[inline(always)]
 pub(crate) fn add_token<'a>(
     out: &mut Vec<Token<'a>>,
     kind: LexemeKind,
@@ -37,13 +50,16 @@ pub(crate) fn add_token<'a>(
     ensures { OnOk result ((whole : Text) → text.now ≡ take (length text.now) (drop at whole) → line ≡ line_at whole at → map spec.view out.new.items ≡ map spec.view out.old.items ++ spec.token_of kind whole at (length text.now)) }
 {
     if let LexemeKind::Token(kind) = kind {
-        out.push(Token {
-            kind,
-            text,
-            from: at,
-            to: at + text.len(),
-            line,
-        })?;
+        push(
+            out,
+            Token {
+                kind,
+                text,
+                from: at,
+                to: at + text.len(),
+                line,
+            },
+        )?;
     }
     Ok(())
 }

@@ -109,6 +109,10 @@ predicates b = (measured b).predicates
 abbrev pub nothing : Measure
 nothing = record { predicates = 0; clauses = 0; goals = 0; group = 0; lifted_goals = 0; lifted_group = 0 }
 
+-- so many goals, called one after another
+abbrev pub row : ℕ → Measure
+row goals = record { predicates = 0; clauses = 0; goals = goals; group = 0; lifted_goals = 0; lifted_group = 0 }
+
 -- a fact has no body
 abbrev pub measured_if : Option Body → Measure
 measured_if None = nothing

@@ -105,6 +105,7 @@ fn list(alloc: Global, dot: Atom, items: Vec<Term>, tail: Term) -> Result<Term, 
 }
 
 /// What a token is as an operand.
+#[inline(always)]
 fn leaf(
     alloc: Global,
     leaves: &[Leaf],
@@ -213,6 +214,7 @@ fn listed(
 
 /// The term that a step makes of those on top, which are taken. Parentheses leave theirs as it is, and items are taken
 /// when all are there.
+#[inline(never)]
 fn term_after(
     alloc: Global,
     stack: &mut Stack,
@@ -249,7 +251,8 @@ fn term_after(
     }
 }
 
-/// Does a step, whose names go into the table.
+/// Does a step, whose names go into the table. Most make a leaf.
+#[inline(always)]
 fn add(
     alloc: Global,
     stack: &mut Stack,
@@ -264,6 +267,11 @@ fn add(
     match step {
         Step::Begin => stack.begin(),
         Step::Item | Step::Group => Ok(()),
+        Step::Integer(value) => stack.put(Term::Int(value)),
+        Step::Operand(at) => match leaf(alloc, leaves, recent, atoms, at) {
+            Ok(term) => stack.put(term),
+            Err(e) => Err(e),
+        },
         _ => match term_after(alloc, stack, leaves, recent, atoms, step) {
             Ok(term) => stack.put(term),
             Err(e) => Err(e),

@@ -9,7 +9,7 @@ ghost use Rattle.ap_reader.specs.Written as spec;
 ghost use Rattle.ap_reader.specs.Leaves.{Numbers, NameFor, LeafFor, LeavesFor, both_items, texts};
 
 use crate::room::Room;
-use ap_lexer::{Token, TokenKind};
+use ap_lexer::{Token, TokenKind, push};
 use ap_term::NoMemory;
 use std::alloc::{AllocError, Global};
 use std::collections::HashMap;
@@ -104,6 +104,7 @@ pub(crate) struct Variables<'a> {
 }
 
 /// Whether two names are the same. Most variables have one letter.
+#[inline(always)]
 fn is_same(left: &str, right: &str) -> bool
     ensures { result ≡ bytes_eq left.now right.now }
 {
@@ -249,7 +250,7 @@ pub(crate) fn leaves<'a>(
     while let [token, rest @ ..] = left {
         match variables.leaf(alloc, token) {
             Ok(leaf) => {
-                let Ok(()) = out.push(leaf) else {
+                let Ok(()) = push(&mut out, leaf) else {
                     return Err(LeafErr::NoMemory);
                 };
             }

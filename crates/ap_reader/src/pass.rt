@@ -6,8 +6,8 @@ ghost use Rattle.ap_reader.specs.Machine.{Frame, State, Has, room, reduced, pref
 
 use crate::operators::{infix_of, left_max, right_max};
 use crate::room::Room;
-use crate::word::{Word, word_of};
-use ap_lexer::Token;
+use crate::word::{Word, comma_word, number_word, word_of};
+use ap_lexer::{Token, TokenKind, push};
 use std::alloc::{AllocFailed, Global};
 
 /// What is found, each step after those of its operands. A number is the place of a token.
@@ -100,7 +100,7 @@ fn prefix_rank(word: Word) -> u16
 }
 
 ghost use Rattle.ap_lexer.specs.Token.{view};
-ghost use Rattle.ap_reader.specs.Word.{words};
+ghost use Rattle.ap_reader.specs.Word.{words, word_by, seen};
 ghost use Rattle.ap_reader.specs.Step.{place, innermost, opens, Holds, Awaits, Shows, Follows, Finds, items_of, due, Takes};
 
 fn place(word: Word) -> usize
@@ -179,6 +179,7 @@ struct Pass {
 
 impl Pass {
     /// Lets the operator that is open last take its operand, where its priority is at most `most`.
+    #[inline(always)]
     fn take_top(&mut self, most: u16) -> Result<bool, ParseErr>
         ensures taken { Takes most self.old.stack.items self.old.out.items result self.new.stack.items self.new.out.items }
         ensures shorter { result ≡ Ok true → vec_len self.new.stack + 1 ≡ vec_len self.old.stack }
@@ -187,11 +188,12 @@ impl Pass {
             return Ok(false);
         };
         let _taken = self.stack.pop();
-        self.out.push(step)?;
+        push(&mut self.out, step)?;
         Ok(true)
     }
 
     /// Lets each open operator of priority at most `most` take its operand.
+    #[inline(always)]
     fn reduce(&mut self, most: u16) -> Result<(), ParseErr>
         ensures done { OnOk result ((t : Tree) (s : List Frame) → Holds t s self.old.stack.items self.old.out.items → Shows (reduced most t s) Mode.Has self.new.stack.items self.new.out.items) }
         ensures fault { OnErr result (result ≡ Err NoMemory) }
@@ -206,7 +208,7 @@ impl Pass {
     {
         let rank = infix_rank(word);
         if 0 < rank && rank <= room(&self.stack) {
-            self.stack.push(Open::Infix(word))?;
+            push(&mut self.stack, Open::Infix(word))?;
             Ok(Mode::Wants)
         } else {
             Err(ParseErr::NotATerm)
@@ -218,7 +220,7 @@ impl Pass {
     {
         let rank = prefix_rank(word);
         if 0 < rank && rank <= room(&self.stack) {
-            self.stack.push(Open::Prefix(word))?;
+            push(&mut self.stack, Open::Prefix(word))?;
             Ok(Mode::Wants)
         } else {
             Err(ParseErr::NotATerm)
@@ -226,32 +228,34 @@ impl Pass {
     }
 
     /// A closing parenthesis behind the term.
+    #[inline(always)]
     fn close(&mut self) -> Result<Mode, ParseErr>
         ensures { (t : Tree) (s : List Frame) → Holds t s self.old.stack.items self.old.out.items → Follows (closed (Has t s)) result self.new.stack.items self.new.out.items }
     {
         match self.stack.pop() {
             Some(Open::Group) => {
-                self.out.push(Step::Group)?;
+                push(&mut self.out, Step::Group)?;
                 Ok(Mode::Has)
             }
             Some(Open::Call(at)) => {
-                self.out.push(Step::Compound(at))?;
+                push(&mut self.out, Step::Compound(at))?;
                 Ok(Mode::Has)
             }
             _ => Err(ParseErr::NotATerm),
         }
     }
 
+    #[inline(always)]
     fn close_list(&mut self) -> Result<Mode, ParseErr>
         ensures { (t : Tree) (s : List Frame) → Holds t s self.old.stack.items self.old.out.items → Follows (list_closed (Has t s)) result self.new.stack.items self.new.out.items }
     {
         match self.stack.pop() {
             Some(Open::List(_)) => {
-                self.out.push(Step::List)?;
+                push(&mut self.out, Step::List)?;
                 Ok(Mode::Has)
             }
             Some(Open::Tail) => {
-                self.out.push(Step::Tailed)?;
+                push(&mut self.out, Step::Tailed)?;
                 Ok(Mode::Has)
             }
             _ => Err(ParseErr::NotATerm),
@@ -263,25 +267,26 @@ impl Pass {
     {
         match self.stack.pop() {
             Some(Open::List(_)) => {
-                self.stack.push(Open::Tail)?;
+                push(&mut self.stack, Open::Tail)?;
                 Ok(Mode::Wants)
             }
             _ => Err(ParseErr::NotATerm),
         }
     }
 
+    #[inline(always)]
     fn comma(&mut self, at: usize) -> Result<Mode, ParseErr>
         ensures { (t : Tree) (s : List Frame) → Holds t s self.old.stack.items self.old.out.items → Follows (parted at (Has t s)) result self.new.stack.items self.new.out.items }
     {
         match innermost(&self.stack) {
             Around::Call => {
-                self.out.push(Step::Item)?;
+                push(&mut self.out, Step::Item)?;
                 Ok(Mode::Wants)
             }
             Around::List => {
                 let _open = self.stack.pop();
-                self.stack.push(Open::List(true))?;
-                self.out.push(Step::Item)?;
+                push(&mut self.stack, Open::List(true))?;
+                push(&mut self.out, Step::Item)?;
                 Ok(Mode::Wants)
             }
             Around::Operand => self.shift(Word::Comma(at)),
@@ -293,35 +298,36 @@ impl Pass {
     {
         match self.stack.pop() {
             Some(Open::List(false)) => {
-                self.out.push(Step::Empty)?;
+                push(&mut self.out, Step::Empty)?;
                 Ok(Mode::Has)
             }
             _ => Err(ParseErr::NotATerm),
         }
     }
 
+    #[inline(always)]
     fn on_want(&mut self, word: Word) -> Result<Mode, ParseErr>
         ensures { (s : List Frame) → Awaits s self.old.stack.items self.old.out.items → Follows (on_want s word) result self.new.stack.items self.new.out.items }
     {
         match word {
             Word::Operand(at) => {
-                self.out.push(Step::Operand(at))?;
+                push(&mut self.out, Step::Operand(at))?;
                 Ok(Mode::Has)
             }
             Word::Number(n) if n < 1 << 63 => {
-                self.out.push(Step::Integer(n as i64))?;
+                push(&mut self.out, Step::Integer(n as i64))?;
                 Ok(Mode::Has)
             }
             Word::Sign(_, _) => Ok(Mode::Signed),
             Word::Operator(_, _, _) => self.prefix(word),
             Word::Functor(at, _) => Ok(Mode::Called(at)),
             Word::Open => {
-                self.stack.push(Open::Group)?;
+                push(&mut self.stack, Open::Group)?;
                 Ok(Mode::Wants)
             }
             Word::OpenList => {
-                self.stack.push(Open::List(false))?;
-                self.out.push(Step::Begin)?;
+                push(&mut self.stack, Open::List(false))?;
+                push(&mut self.out, Step::Begin)?;
                 Ok(Mode::Wants)
             }
             Word::CloseList => self.close_empty(),
@@ -331,6 +337,7 @@ impl Pass {
         }
     }
 
+    #[inline(always)]
     fn on_has(&mut self, word: Word) -> Result<Mode, ParseErr>
         ensures { (t : Tree) (s : List Frame) → Holds t s self.old.stack.items self.old.out.items → Follows (on_has t s word) result self.new.stack.items self.new.out.items }
     {
@@ -361,6 +368,7 @@ impl Pass {
         }
     }
 
+    #[inline(always)]
     fn next(&mut self, mode: Mode, word: Word) -> Result<Mode, ParseErr>
         ensures { (x : State) → Shows x mode self.old.stack.items self.old.out.items → Follows (next x word) result self.new.stack.items self.new.out.items }
     {
@@ -369,19 +377,47 @@ impl Pass {
             Mode::Has => self.on_has(word),
             Mode::Signed => match word {
                 Word::Number(n) if n <= 1 << 63 => {
-                    self.out.push(Step::Integer(negative(n)))?;
+                    push(&mut self.out, Step::Integer(negative(n)))?;
                     Ok(Mode::Has)
                 }
                 _ => Err(ParseErr::NotATerm),
             },
             Mode::Called(at) => match word {
                 Word::Open => {
-                    self.stack.push(Open::Call(at))?;
-                    self.out.push(Step::Begin)?;
+                    push(&mut self.stack, Open::Call(at))?;
+                    push(&mut self.out, Step::Begin)?;
                     Ok(Mode::Wants)
                 }
                 _ => Err(ParseErr::NotATerm),
             },
+        }
+    }
+
+    /// The next token, by the kind of the one before it and the one behind it. The word of most is known by its kind.
+    #[inline(always)]
+    fn take(
+        &mut self,
+        mode: Mode,
+        at: usize,
+        before: Option<TokenKind>,
+        token: &Token,
+        after: Option<&Token>,
+    ) -> Result<Mode, ParseErr>
+        ensures { (x : State) → Shows x mode self.old.stack.items self.old.out.items → Follows (next x (word_by token.now.kind at before (view token.now) (seen after.entry))) result self.new.stack.items self.new.out.items }
+    {
+        match token.kind {
+            TokenKind::Variable => self.next(mode, Word::Operand(at)),
+            TokenKind::Integer => self.next(mode, number_word(token.text)),
+            TokenKind::Open => self.next(mode, Word::Open),
+            TokenKind::Close => self.next(mode, Word::Close),
+            TokenKind::OpenList => self.next(mode, Word::OpenList),
+            TokenKind::CloseList => self.next(mode, Word::CloseList),
+            TokenKind::Bar => self.next(mode, Word::Bar),
+            TokenKind::Comma => match comma_word(at, before, after) {
+                Word::Operand(at) => self.next(mode, Word::Operand(at)),
+                word => self.next(mode, word),
+            },
+            _ => self.next(mode, word_of(at, before, token, after)),
         }
     }
 }
@@ -406,7 +442,7 @@ pub(crate) fn steps(
     let mut at = 0;
     let mut rest = tokens;
     while let [token, after @ ..] = rest {
-        match pass.next(mode, word_of(at, before, token, after.first())) {
+        match pass.take(mode, at, before, token, after.first()) {
             Ok(next) => mode = next,
             Err(fault) => return Err(fault),
         }

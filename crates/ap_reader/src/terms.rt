@@ -9,6 +9,7 @@ ghost use Rattle.ap_reader.specs.Evaluated.{Value, ATerm, Gathered};
 ghost use Rattle.ap_reader.specs.Build.{term_in};
 ghost use Rattle.ap_reader.specs.Held.{Held, row, begins};
 
+use ap_lexer::push;
 use ap_term::{InternErr, Term};
 use std::alloc::Global;
 
@@ -43,12 +44,13 @@ impl Stack {
     }
 
     /// Puts a term on top.
+    #[inline(always)]
     #[tactic(auto, using(crate::proofs::Held::put_held))]
     pub(crate) fn put(&mut self, term: Term) -> Result<(), InternErr>
         ensures value { OnOk result ((ns : List Text) (vs : List Value) (x : Written) → Held ns vs self.old → tree_of term ≡ term_in ns x → Held ns (ATerm x ∷ vs) self.new) }
         ensures err { OnErr result (result ≡ Err NoMemory) }
     {
-        match self.terms.push(term) {
+        match push(&mut self.terms, term) {
             Ok(()) => Ok(()),
             Err(_) => Err(InternErr::NoMemory),
         }
@@ -60,7 +62,7 @@ impl Stack {
         ensures value { OnOk result ((ns : List Text) (vs : List Value) → Held ns vs self.old → Held ns (Gathered [] ∷ vs) self.new) }
         ensures err { OnErr result (result ≡ Err NoMemory) }
     {
-        match self.begun.push(self.terms.len()) {
+        match push(&mut self.begun, self.terms.len()) {
             Ok(()) => Ok(()),
             Err(_) => Err(InternErr::NoMemory),
         }

@@ -97,12 +97,25 @@ fn bare_word(at: usize, before: Option<TokenKind>, token: &Token, after: Option<
     }
 }
 
-fn number_word(digits: &[u8]) -> Word
+#[inline(always)]
+pub(crate) fn number_word(digits: &[u8]) -> Word
     ensures { result ≡ spec.number_word (number digits.now) }
 {
     match ap_lexer::number(digits) {
         Some(n) => Word::Number(n),
         None => Word::Other,
+    }
+}
+
+/// A comma, by the kind of the token before it and the one behind it.
+#[inline(always)]
+pub(crate) fn comma_word(at: usize, before: Option<TokenKind>, after: Option<&Token>) -> Word
+    ensures { result ≡ spec.comma_word at before (spec.seen after.entry) }
+{
+    if starts(before) && stops_after(after) {
+        Word::Operand(at)
+    } else {
+        Word::Comma(at)
     }
 }
 
@@ -130,13 +143,7 @@ pub(crate) fn word_of(
                 Word::Operand(at)
             }
         }
-        TokenKind::Comma => {
-            if starts(before) && stops_after(after) {
-                Word::Operand(at)
-            } else {
-                Word::Comma(at)
-            }
-        }
+        TokenKind::Comma => comma_word(at, before, after),
         TokenKind::Semicolon => bare_word(at, before, token, after),
         TokenKind::Cut | TokenKind::Variable => Word::Operand(at),
         TokenKind::Integer => number_word(token.text),

@@ -11,3 +11,11 @@ returns-then-number-gt-GREATEST c =
     let same = sym c.loop-b.invariant.0 ∙ ap (number_from c.loop-b.number) (drop-cons digits i 0 c.loop-b-test.true) in
     let above : 2 ^ 63 < 10 * c.loop-b.number + (get_or digits i 0 - 48) = omega (arith, c.from.ensures, c.saturating_sub.ensures) in
     ap (λ n. leb n (2 ^ 63)) same ∙ too_large (2 ^ 63) (10 * c.loop-b.number + (get_or digits i 0 - 48)) (drop (suc i) digits) above
+
+pub returns-then-number-gt-TENTH : goal.returns-then-number-gt-TENTH
+returns-then-number-gt-TENTH c =
+    let digits = c.args.digits.now in
+    let i = c.loop-b.b-index in
+    let same = sym c.loop-b.invariant.0 ∙ ap (number_from c.loop-b.number) (drop-cons digits i 0 c.loop-b-test.true) in
+    let above : 2 ^ 63 < 10 * c.loop-b.number + (get_or digits i 0 - 48) = omega (arith, c.if-number-gt-TENTH.true) in
+    ap (λ n. leb n (2 ^ 63)) same ∙ too_large (2 ^ 63) (10 * c.loop-b.number + (get_or digits i 0 - 48)) (drop (suc i) digits) above

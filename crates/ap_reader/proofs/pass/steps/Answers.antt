@@ -43,8 +43,9 @@ loop-rest-init c = (Wants [], record { stack_is = c.open.ensures; out_is = c.in-
 pub returns-in-Err : goal.returns-in-Err
 returns-in-Err c =
     let inv = c.loop-rest.invariant in
-    let words_are = head_word c.loop-rest.rest.now _ c.loop-rest.before c.loop-rest.at c.first.result c.word_of.result c.in-len1-up.len_at_least c.word_of.ensures c.first.ensures.value in
-    fault_at (words (map view c.args.tokens.now)) words_are.0 inv.0 c.word_of.result c.in-Err.fault c.next.new.self.stack.items c.next.new.self.out.items (inv.2 ∙ ap (over inv.0) words_are.1) (c.in-Err.ensures inv.0 inv.1)
+    let ts = c.loop-rest.rest.now in
+    let words_are = head_word ts _ c.loop-rest.before c.loop-rest.at c.first.result _ c.in-len1-up.len_at_least refl c.first.ensures.value in
+    fault_at (words (map view c.args.tokens.now)) words_are.0 inv.0 _ c.in-Err.fault c.take.new.self.stack.items c.take.new.self.out.items (inv.2 ∙ ap (over inv.0) words_are.1) (c.in-Err.ensures inv.0 inv.1)
 
 pub returns-in_default-mode : goal.returns-in_default-mode
 returns-in_default-mode c =
