@@ -30,6 +30,7 @@ use ap_term::{Atoms, NameKey, Program};
 use ap_words::{Asked as What, HELP, Reading, Run, VERSION_LINE, read};
 use ap_worker::Crew;
 use std::alloc::Global;
+use std::mem::ManuallyDrop;
 use std::random::RandomSource;
 use std::sync::Wait;
 use std::thread::Threads;
@@ -109,7 +110,11 @@ fn run_text<R: Threads + Wait + Sync, G: Gate, S: Source, K: Sink>(
         return Err(Halt::NoMemory);
     };
     match program_of(alloc, text, &mut atoms) {
-        Ok(program) => run_source(alloc, crew, &program, command, &mut atoms, queries, out),
+        Ok(program) => {
+            // The process ends behind the last query, and gives a program's memory back at once.
+            let program = ManuallyDrop::new(program);
+            run_source(alloc, crew, &program, command, &mut atoms, queries, out)
+        }
         Err(Refusal::NoMemory) => Err(Halt::NoMemory),
         Err(refusal) => {
             print_refusal(alloc, &refusal, &atoms, out)?;

@@ -1,4 +1,4 @@
-use Rattle.std.proofs.Common.{◌≡◌, [], ◌∷◌, length, Err, refl, subst, ◌∙◌, arith, rules}
+use Rattle.std.proofs.Common.{◌≡◌, [], ◌∷◌, length, Err, refl, sym, subst, ◌∙◌, arith, rules}
 use Rattle.ap_outside.specs.Faults.{Rises}
 use Rattle.ap_outside.proofs.Puts.{puts_map}
 use Rattle.ap_outside.proofs.Halts.{finishes_map, passes_halt}
@@ -8,6 +8,7 @@ use Rattle.ap_clause.specs.declared.refusal.Refusal.TheVariants as refusal
 use Rattle.ap_words.specs.Asked.{run_of}
 use Rattle.ap_top.specs.Counted.{SourceCounted, TextCounted}
 use Rattle.ap_top.specs.Refusals.{refusal_line}
+use Rattle.ap_top.specs.Unasked.{LeavesQuery}
 use Rattle.ap_top.specs.Ends.{SourceEnds, TextEnds, FailsBehind}
 use Rattle.ap_top.specs.declared.status.Status.TheVariants as status
 use Rattle.ap_top.proofs.Counting.{counts_map}
@@ -23,7 +24,8 @@ run_source-requires-clause-query g c κs within =
     let program = c.in-Ok-program_of.program in
     let table = c.program_of.new.atoms in
     let count : length fixed_names ≡ 84 = refl in
-    program-leaves text fixed_names program table (omega arith) (subst (λ t. AcceptsProgram text t program table) c.in-Ok.ensures c.in-Ok-program_of.ensures.accepts)
+    let same : c.deref.result.now ≡ c.in-Ok-program_of.program = search rules in
+    subst (λ p. LeavesQuery p table) (sym same) (program-leaves text fixed_names program table (omega arith) (subst (λ t. AcceptsProgram text t program table) c.in-Ok.ensures c.in-Ok-program_of.ensures.accepts))
 
 pub returns-in-Ok-program_of-clause-lines : goal.returns-in-Ok-program_of-clause-lines
 returns-in-Ok-program_of-clause-lines g c =
@@ -31,9 +33,10 @@ returns-in-Ok-program_of-clause-lines g c =
     let text = c.args.text.items in
     let left = g.S.Source.left c.args.queries.now in
     let Rose = FailsBehind (g.S.Source.left c.args.queries.now) (g.S.Source.left c.run_source.new.queries) (Rises (g.S.Source.faults c.args.queries.now) (g.S.Source.faults c.run_source.new.queries)) in
-    let program = c.in-Ok-program_of.program in
+    let program = c.deref.result.now in
     let table = c.program_of.new.atoms in
-    let accepts : AcceptsProgram text fixed_names program table = subst (λ t. AcceptsProgram text t program table) c.in-Ok.ensures c.in-Ok-program_of.ensures.accepts in
+    let same : c.deref.result.now ≡ c.in-Ok-program_of.program = search rules in
+    let accepts : AcceptsProgram text fixed_names program table = subst (λ p. AcceptsProgram text fixed_names p table) (sym same) (subst (λ t. AcceptsProgram text t c.in-Ok-program_of.program table) c.in-Ok.ensures c.in-Ok-program_of.ensures.accepts) in
     finishes_map _ _ (SourceEnds what program table left Rose) (TextEnds what text left Rose) _ (λ s ls ends. TextEnds.accepted program table s ls accepts ends) c.run_source.ensures.lines
 
 pub returns-in_err-print_refusal-in-Err : goal.returns-in_err-print_refusal-in-Err
@@ -81,9 +84,10 @@ returns-in-Ok-program_of-clause-counted g c =
     let what = run_of c.args.command.now in
     let text = c.args.text.items in
     let left = g.S.Source.left c.args.queries.now in
-    let program = c.in-Ok-program_of.program in
+    let program = c.deref.result.now in
     let table = c.program_of.new.atoms in
-    let accepts : AcceptsProgram text fixed_names program table = subst (λ t. AcceptsProgram text t program table) c.in-Ok.ensures c.in-Ok-program_of.ensures.accepts in
+    let same : c.deref.result.now ≡ c.in-Ok-program_of.program = search rules in
+    let accepts : AcceptsProgram text fixed_names program table = subst (λ p. AcceptsProgram text fixed_names p table) (sym same) (subst (λ t. AcceptsProgram text t c.in-Ok-program_of.program table) c.in-Ok.ensures c.in-Ok-program_of.ensures.accepts) in
     counts_map _ _ (SourceCounted what program table left) (TextCounted what text left) (λ s ls h. (program, table, accepts, h)) c.run_source.result c.run_source.ensures.counted
 
 pub returns-in-Ok-program_of-clause-unread : goal.returns-in-Ok-program_of-clause-unread
@@ -91,6 +95,6 @@ returns-in-Ok-program_of-clause-unread g c =
     let what = run_of c.args.command.now in
     let left = g.S.Source.left c.args.queries.now in
     let Rose = FailsBehind (g.S.Source.left c.args.queries.now) (g.S.Source.left c.run_source.new.queries) (Rises (g.S.Source.faults c.args.queries.now) (g.S.Source.faults c.run_source.new.queries)) in
-    let program = c.in-Ok-program_of.program in
+    let program = c.deref.result.now in
     let table = c.program_of.new.atoms in
     program_found _ _ (SourceEnds what program table left Rose) _ (source_found what program table left Rose) c.run_source.result c.run_source.ensures.lines
