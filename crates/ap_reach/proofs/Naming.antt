@@ -1,5 +1,5 @@
 -- Predicates that are put behind others.
-use Rattle.std.proofs.Common.{◌≡◌, ℕ, zero, suc, ◌+◌, ◌<◌, ◌≤◌, ℤ, Bool, true, false, ◌||◌, ◌&&◌, ◌==◌, if◌then◌else◌, ◌⊎◌, inl, inr, List, [], ◌∷◌, ◌++◌, map, length, take, slice_get, get_or, nat_le, nat_lt, Option, Some, None, refl, ap, ap₂, sym, ◌∙◌, subst, arith, append_assoc, append-nil, IsTrue}
+use Rattle.std.proofs.Common.{◌≡◌, ℕ, zero, suc, ◌+◌, ◌<◌, ◌≤◌, ℤ, Bool, true, false, ◌||◌, ◌&&◌, ◌==◌, if◌then◌else◌, ◌⊎◌, inl, inr, List, [], ◌∷◌, ◌++◌, map, length, take, slice_get, get_or, nat_le, nat_lt, min, Option, Some, None, refl, ap, ap₂, sym, ◌∙◌, subst, arith, append_assoc, append-nil, IsTrue}
 use Rattle.std.proofs.Common.{cond}
 use Rattle.std.specs.Prelude.{unwrap_or}
 use Rattle.std.specs.Map.{lookup}
@@ -23,7 +23,8 @@ use Rattle.ap_term.specs.WellFormed.{callable, all_callable, numbered, numbered_
 use Rattle.ap_term.proofs.Lists.{filter-push, own_key}
 use Rattle.ap_reach.specs.declared.called.Called.{Called}
 use Rattle.ap_reach.specs.declared.called.Called.TheVariants.{All as Whole, Atom, Integer}
-use Rattle.ap_reach.specs.Reached.{is_key, Place, is_place, is_called, has_call, place_of, is_beside, Extends, heads, argument, is_variable, fits, heads_open, is_open, is_open_before, is_before, leads, leads_before, is_for, answers, clauses_for, all_called, contribution, gathered, is_among, IsAmong, AreAmong, BodyIsAmong, CallsAmong, IsNamed, AreNamed, IsPartNamed}
+use Rattle.ap_reach.specs.declared.called.TheConstants.{PLACES}
+use Rattle.ap_reach.specs.Reached.{is_key, Place, is_place, is_called, has_call, place_of, is_near, is_beside, Extends, heads, argument, is_variable, fits, heads_open, is_open, is_open_before, is_before, leads, leads_before, is_for, answers, clauses_for, all_called, contribution, gathered, is_among, IsAmong, AreAmong, BodyIsAmong, CallsAmong, IsNamed, AreNamed, IsPartNamed}
 use Rattle.ap_reach.proofs.Same.{own_call}
 use Rattle.ap_reach.specs.Hashed.{same_call, called_eq}
 
@@ -341,8 +342,29 @@ before_none (Some j) = go (nat_lt j 0) refl
 pub place_first : (k : Called) (t : Tree) (old : Program) (c : Clause) → old ≡ (if leads_before 0 k t then old ++ c ∷ [] else old)
 place_first k t old c = ap (λ b. if b && leads k t then old ++ c ∷ [] else old) (sym (before_none (place_of k)))
 
-pub place_end : (k : Called) (i n : ℕ) (t : Tree) (old new : Program) (c : Clause) → i ≡ n → new ≡ (if leads_before i k t then old ++ c ∷ [] else old) → new ≡ (if leads_before n k t then old ++ c ∷ [] else old)
-place_end k i n t old new c e h = h ∙ ap (λ j. if leads_before j k t then old ++ c ∷ [] else old) e
+-- a constant at one of the first places is before a place that is behind those
+near_lt : (j i n : ℕ) → nat_lt j PLACES ≡ true → i ≤ n → (n ≤ i) ⊎ (PLACES ≤ i) → nat_lt j i ≡ nat_lt j n
+near_lt j i n near l (inl e) = let s : i ≡ n = omega arith in ap (nat_lt j) s
+near_lt j i n near l (inr e) = let p = (Decides-ltb j PLACES).0 near in (Decides-ltb j i).1 (omega arith) ∙ sym ((Decides-ltb j n).1 (omega arith))
+
+near_before : (k : Called) (i n : ℕ) → is_near k ≡ true → i ≤ n → (n ≤ i) ⊎ (PLACES ≤ i) → is_before i (place_of k) ≡ is_before n (place_of k)
+near_before (Whole f m) i n near l h = refl
+near_before (Atom f m j a) i n near l h = near_lt j i n near l h
+near_before (Integer f m j z) i n near l h = near_lt j i n near l h
+
+-- what the lesser of two numbers doesn't pass, one of them doesn't
+pub min_met : (n i : ℕ) → min n PLACES ≤ i → (n ≤ i) ⊎ (PLACES ≤ i)
+min_met n i h = go (nat_lt n PLACES) refl
+  where
+    go : (b : Bool) → nat_lt n PLACES ≡ b → (n ≤ i) ⊎ (PLACES ≤ i)
+    go true e = let l = (Decides-ltb n PLACES).0 e in inl (omega (arith, h))
+    go false e =
+        let l : (n < PLACES → ⊥) = λ m. false≢true (sym e ∙ (Decides-ltb n PLACES).1 m) in
+        inr (omega (arith, h))
+
+pub near_end : (k : Called) (i n : ℕ) (t : Tree) (old new : Program) (c : Clause) → is_near k ≡ true → i ≤ n → (n ≤ i) ⊎ (PLACES ≤ i) → new ≡ (if leads_before i k t then old ++ c ∷ [] else old)
+    → new ≡ (if leads_before n k t then old ++ c ∷ [] else old)
+near_end k i n t old new c near l e h = h ∙ ap (λ b. if b && leads k t then old ++ c ∷ [] else old) (near_before k i n near l e)
 
 -- all places are before the end
 fits-before : (k : Called) (j n : ℕ) (ts : Trees) (l : Bool) (old : Program) (c : Clause) → n ≡ count_trees ts → ((x : Bool) → fits k None ≡ x → x ≡ false)

@@ -1,5 +1,5 @@
 -- What is written of a call to find its place in a table, and that it is the same of equal calls.
-use Rattle.std.specs.Prelude.{◌≡◌, ◌+◌, ◌*◌, ◌==◌, true, false, ◌&&◌, ◌++◌, min, IsTrue}
+use Rattle.std.specs.Prelude.{◌≡◌, ◌+◌, ◌*◌, ◌==◌, true, ◌&&◌, ◌++◌, min, IsTrue}
 use Rattle.std.specs.Hash.{HashWrites, u32, u64, usize, i64}
 use Rattle.std.specs.Ordering.{int_eq}
 use Rattle.std.proofs.Common.{refl, ap, ap₂, sym, ◌∙◌}

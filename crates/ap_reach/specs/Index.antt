@@ -7,7 +7,7 @@ use Rattle.ap_term.specs.Goals.{Program}
 use Rattle.ap_reach.specs.declared.called.Called.{Called}
 use Rattle.ap_reach.specs.declared.predicates.Own.{Own}
 use Rattle.ap_reach.specs.declared.predicates.Own.TheVariants as own
-use Rattle.ap_reach.specs.Reached.{Key, is_key, Place, is_place, is_called, has_call, key_of, place_of, is_open, clauses_for}
+use Rattle.ap_reach.specs.Reached.{Key, is_key, Place, is_place, is_called, has_call, key_of, place_of, is_near, is_open, clauses_for}
 
 -- the clauses that are called together
 abbrev pub clauses_of : Own → Program
@@ -23,9 +23,9 @@ found (Some o) = clauses_of o
 abbrev pub clauses_at : {S : Type 0} → IndexMap Called Own S → Called → Program
 clauses_at m k = found (get is_called m k)
 
--- the index has the clauses of the program
+-- the index has the clauses of the program, those for a constant where that is at one of the first places
 abbrev pub Indexes : {S : Type 0} → IndexMap Called Own S → Program → Type 0
-Indexes m p = (k : Called) → clauses_at m k ≡ clauses_for k p
+Indexes m p = (k : Called) → is_near k ≡ true → clauses_at m k ≡ clauses_for k p
 
 -- the set has the places at which a clause of a predicate has a variable
 abbrev pub AreOpen : {S : Type 0} → IndexSet Place S → Program → Type 0

@@ -7,6 +7,7 @@ use Rattle.ap_term.specs.Tree.{Tree, Trees, var, int, atom, node, none, more, co
 use Rattle.ap_term.specs.Goals.{Part, call, group, Clause, Program, Query, joined, plain_goals}
 use Rattle.ap_term.specs.WellFormed.{callable}
 use Rattle.ap_reach.specs.declared.called.Called.{Called}
+use Rattle.ap_reach.specs.declared.called.TheConstants.{PLACES}
 use Rattle.ap_reach.specs.declared.called.Called.TheVariants.{All as Whole, Atom, Integer}
 
 -- the predicate of an argument, and its place, counted from 0
@@ -34,8 +35,18 @@ place_of (Whole f n) = None
 place_of (Atom f n i a) = Some i
 place_of (Integer f n i z) = Some i
 
+-- whether it is among the first places, at which constants tell clauses apart
+abbrev pub is_near : Called → Bool
+is_near (Whole f n) = true
+is_near (Atom f n i a) = nat_lt i PLACES
+is_near (Integer f n i z) = nat_lt i PLACES
+
 abbrev pub has_call : List Called → Called → Bool
 has_call ks k = list_any (is_called k) ks
+
+-- those that are called for a constant have one at such a place
+abbrev pub AreNear : List Called → Type 0
+AreNear ks = (k : Called) → has_call ks k ≡ true → is_near k ≡ true
 
 -- whether clauses for a constant are called beside all of their predicate
 abbrev pub is_beside : List Called → Called → Bool

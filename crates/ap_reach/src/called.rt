@@ -1,11 +1,11 @@
 //! What goals call, each once, in the order in which it came up.
 
-ghost use Rattle.std.specs.Prelude.{◌≡◌, ℕ, true, [], Some, slice_get, IfOk, OnOk};
+ghost use Rattle.std.specs.Prelude.{◌≡◌, ℕ, true, [], Some, slice_get, IfOk, IfSome, OnOk};
 ghost use Rattle.std.specs.List.{IsDistinct};
 ghost use Rattle.indexmap.specs.IndexMap.{get};
 ghost use Rattle.ap_term.specs.Tree.{Tree};
 ghost use Rattle.ap_term.specs.Goals.{Program as Clauses};
-ghost use Rattle.ap_reach.specs.Reached.{Key, is_key, is_called, is_beside, key_of, place_of, answers, is_among, Extends, ArePlaced};
+ghost use Rattle.ap_reach.specs.Reached.{Key, is_key, is_called, is_beside, is_near, AreNear, key_of, place_of, answers, is_among, Extends, ArePlaced};
 ghost use Rattle.ap_reach.specs.Index.{IsPlacedIn};
 
 use ap_term::NoMemory;
@@ -13,6 +13,10 @@ use indexmap::{IndexMap, IndexSet};
 use std::alloc::Global;
 use std::hash::{Hash, Hasher};
 use std::marker::Model;
+
+/// Constants at so many places, from the first on, tell a predicate's clauses apart. At more places they would take more memory than a
+/// program of long facts itself.
+pub(crate) const PLACES: usize = 4;
 
 /// The clauses that a goal can call: by the name and arity of a predicate, all of them, or those with a constant as the argument at a
 /// place, which is counted from 0.
@@ -76,6 +80,7 @@ fn place_constant(
     ensures kept { (k : Key) (i : ℕ) → get is_key places.old k ≡ Some i → get is_key places.new k ≡ Some i }
     ensures placed { IfOk result (λ r. IsPlacedIn places.new r) }
     ensures answers { IfOk result (λ r. (p : Clauses) (t : Tree) → answers p call t ≡ true → answers p r t ≡ true) }
+    ensures near { IfOk result (λ r. is_near call ≡ true → is_near r ≡ true) }
 {
     match places.get(&(name, arity)) {
         Some(held) => {
@@ -97,6 +102,7 @@ fn place_call(places: &mut Places, call: Called) -> Result<Called, NoMemory>
     ensures kept { (k : Key) (i : ℕ) → get is_key places.old k ≡ Some i → get is_key places.new k ≡ Some i }
     ensures placed { IfOk result (λ r. IsPlacedIn places.new r) }
     ensures answers { IfOk result (λ r. (p : Clauses) (t : Tree) → answers p call t ≡ true → answers p r t ≡ true) }
+    ensures near { IfOk result (λ r. is_near call ≡ true → is_near r ≡ true) }
 {
     match call {
         Called::All(_, _) => Ok(call),
@@ -131,12 +137,13 @@ impl Model for Calls {
     ghost use Rattle.std.specs.Prelude.{List};
     ghost use Rattle.ap_reach.specs.declared.called.Called.{Called};
     ghost use Rattle.ap_reach.specs.Index.{ArePlacedIn};
+    ghost use Rattle.ap_reach.specs.Reached.{AreNear};
 
     ghost Value = { List Called };
 
     ghost view = { λ a. a.calls.keys };
 
-    ghost invariant = { λ a. ArePlacedIn a.places a.calls.keys };
+    ghost invariant = { λ a. ArePlacedIn a.places a.calls.keys × AreNear a.calls.keys };
 }
 
 impl Calls {
@@ -151,6 +158,7 @@ impl Calls {
 
     /// Adds what a goal calls, or all clauses of its predicate, where it isn't there yet.
     pub fn add(&mut self, call: Called) -> Result<(), NoMemory>
+        requires near { is_near call ≡ true }
         ensures extends { OnOk result (Extends self.old self.new) }
         ensures among { OnOk result ((p : Clauses) (t : Tree) → answers p call t ≡ true → is_among p self.new t ≡ true) }
     {
@@ -161,7 +169,8 @@ impl Calls {
 
     /// The one at a number.
     pub fn at(&self, number: usize) -> Option<Called>
-        ensures { result ≡ slice_get self.now number }
+        ensures at { result ≡ slice_get self.now number }
+        ensures near { IfSome result (λ call. is_near call ≡ true) }
     {
         self.calls.as_slice().get(number).copied()
     }
@@ -171,6 +180,7 @@ impl Calls {
         ensures same { result.now ≡ self.now }
         ensures once { IsDistinct is_called self.now }
         ensures placed { ArePlaced self.now }
+        ensures near { AreNear self.now }
     {
         self.calls.as_slice()
     }

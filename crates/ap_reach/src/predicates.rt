@@ -1,14 +1,14 @@
 //! A program's clauses, found by the name and arity of their heads, and by constants that are arguments.
 
-ghost use Rattle.std.specs.Prelude.{◌≡◌, ◌||◌, ◌&&◌, Some, [], ◌∷◌, ◌++◌, length, if◌then◌else◌, map, IfOk, OnOk};
+ghost use Rattle.std.specs.Prelude.{◌≡◌, ◌<◌, true, ◌||◌, ◌&&◌, Some, [], ◌∷◌, ◌++◌, length, if◌then◌else◌, map, IfOk, OnOk};
 ghost use Rattle.std.specs.List.{list_any};
 ghost use Rattle.ap_term.specs.Tree.{node};
 ghost use Rattle.ap_term.specs.TermView.{tree_of, trees_of};
 ghost use Rattle.ap_reach.specs.declared.called.Called.{Called as Call};
-ghost use Rattle.ap_reach.specs.Reached.{Place, is_place, is_variable, is_called, is_for, leads, leads_before, heads_open, is_open_before, Extends, CallsAmong};
+ghost use Rattle.ap_reach.specs.Reached.{Place, is_place, is_variable, is_called, is_near, is_for, leads, leads_before, heads_open, is_open_before, Extends, CallsAmong};
 ghost use Rattle.ap_reach.specs.Index.{clauses_of, clauses_at, Indexes, AreOpen};
 
-use crate::called::{Called, Calls};
+use crate::called::{Called, Calls, PLACES};
 use crate::calls::{add_all_calls, add_body, add_copies};
 use ap_term::{Clause, NoMemory, Program, Term, copy_clause};
 use indexmap::{IndexMap, IndexSet};
@@ -90,7 +90,7 @@ fn add_by_argument<'a>(
     }
 }
 
-/// One more clause, for each of its arguments that is a constant.
+/// One more clause, for each of its first arguments that is a constant.
 fn add_by_arguments<'a>(
     alloc: Global,
     index: &mut Index<'a>,
@@ -98,10 +98,10 @@ fn add_by_arguments<'a>(
     args: &[Term],
     clause: &'a Clause,
 ) -> Result<(), NoMemory>
-    ensures { OnOk result ((k : Call) → clauses_at index.new k ≡ (if leads_before (length args.now) k (node name (trees_of args.now)) then clauses_at index.old k ++ clause.now ∷ [] else clauses_at index.old k)) }
+    ensures { OnOk result ((k : Call) → is_near k ≡ true → clauses_at index.new k ≡ (if leads_before (length args.now) k (node name (trees_of args.now)) then clauses_at index.old k ++ clause.now ∷ [] else clauses_at index.old k)) }
 {
     let arity = args.len();
-    for place in 0..arity {
+    for place in 0..arity.min(PLACES) {
         add_by_argument(alloc, index, name, arity, place, &args[place], clause)?;
     }
     Ok(())
@@ -109,7 +109,7 @@ fn add_by_arguments<'a>(
 
 /// One more clause.
 fn add_by_head<'a>(alloc: Global, index: &mut Index<'a>, clause: &'a Clause) -> Result<(), NoMemory>
-    ensures { OnOk result ((k : Call) → clauses_at index.new k ≡ (if leads k clause.now.head then clauses_at index.old k ++ clause.now ∷ [] else clauses_at index.old k)) }
+    ensures { OnOk result ((k : Call) → is_near k ≡ true → clauses_at index.new k ≡ (if leads k clause.now.head then clauses_at index.old k ++ clause.now ∷ [] else clauses_at index.old k)) }
 {
     match clause.head() {
         Term::Var(_) | Term::Int(_) => Ok(()),
@@ -230,10 +230,10 @@ fn add_own_copies(alloc: Global, own: &Own, part: &mut Program) -> Result<(), No
 }
 
 impl<'a> Predicates<'a> {
-    ghost use Rattle.std.specs.Prelude.{◌≡◌, true, ◌++◌, Some, OnOk, IfOk, IfSome};
+    ghost use Rattle.std.specs.Prelude.{◌≡◌, ◌<◌, true, ◌++◌, Some, OnOk, IfOk, IfSome};
     ghost use Rattle.ap_term.specs.Tree.{Tree, node};
     ghost use Rattle.ap_term.specs.TermView.{tree_of, trees_of};
-    ghost use Rattle.ap_reach.specs.Reached.{Extends, CallsAmong, clauses_for, heads, argument_of, answers};
+    ghost use Rattle.ap_reach.specs.Reached.{Extends, CallsAmong, is_near, clauses_for, heads, argument_of, answers};
 
     /// Puts a program's clauses in order by predicate and constant.
     pub fn of(alloc: Global, program: &'a Program) -> Result<Predicates<'a>, NoMemory>
@@ -263,7 +263,9 @@ impl<'a> Predicates<'a> {
         place: usize,
         arg: &Term,
     ) -> Option<Called>
-        ensures { IfSome result (λ k. (t : Tree) → heads (name, arity) t ≡ true → argument_of t place ≡ Some (tree_of arg.now) → answers self.now k t ≡ true) }
+        requires near { place < PLACES }
+        ensures answers { IfSome result (λ k. (t : Tree) → heads (name, arity) t ≡ true → argument_of t place ≡ Some (tree_of arg.now) → answers self.now k t ≡ true) }
+        ensures near { IfSome result (λ k. is_near k ≡ true) }
     {
         if self.with_variable.contains(&((name, arity), place)) {
             return None;
@@ -275,12 +277,13 @@ impl<'a> Predicates<'a> {
         }
     }
 
-    /// What a goal of this name and these arguments calls. The first constant that may leave clauses out does so.
+    /// What a goal of this name and these arguments calls. The first constant at one of the first places that may leave clauses out does so.
     pub fn called(&self, name: u32, args: &[Term]) -> Called
-        ensures { answers self.now result (node name (trees_of args.now)) ≡ true }
+        ensures answers { answers self.now result (node name (trees_of args.now)) ≡ true }
+        ensures near { is_near result ≡ true }
     {
         let arity = args.len();
-        for place in 0..arity {
+        for place in 0..arity.min(PLACES) {
             if let Some(call) = self.called_by_argument(name, arity, place, &args[place]) {
                 return call;
             }
@@ -290,6 +293,7 @@ impl<'a> Predicates<'a> {
 
     /// Adds what the goals of the clauses that are called call.
     pub fn add_calls(&self, call: Called, calls: &mut Calls) -> Result<(), NoMemory>
+        requires near { is_near call ≡ true }
         ensures extends { OnOk result (Extends calls.old calls.new) }
         ensures among { OnOk result (CallsAmong self.now calls.new (clauses_for call self.now)) }
     {
@@ -306,6 +310,7 @@ impl<'a> Predicates<'a> {
         call: Called,
         part: &mut Program,
     ) -> Result<(), NoMemory>
+        requires near { is_near call ≡ true }
         ensures { OnOk result (part.new ≡ part.old ++ clauses_for call self.now) }
     {
         match self.index.get(&call) {

@@ -1,8 +1,8 @@
 //! The clauses that the search of a query can come to, found from goal to goal.
 
-ghost use Rattle.std.specs.Prelude.{◌≡◌, ◌++◌, if◌then◌else◌, [], IfOk, OnOk};
+ghost use Rattle.std.specs.Prelude.{◌≡◌, true, ◌++◌, if◌then◌else◌, [], IfOk, OnOk};
 ghost use Rattle.std.specs.List.{IsDistinct};
-ghost use Rattle.ap_reach.specs.Reached.{Extends, is_called, CallsAmong, clauses_for, all_called, contribution, gathered, is_beside, ArePlaced, Reaches, IsReached};
+ghost use Rattle.ap_reach.specs.Reached.{Extends, is_called, CallsAmong, clauses_for, all_called, contribution, gathered, is_beside, is_near, ArePlaced, Reaches, IsReached};
 ghost use Rattle.ap_term.specs.Goals.{Query as Asked};
 
 use crate::called::{Called, Calls};
@@ -33,6 +33,7 @@ fn add_called(
     call: Called,
     part: &mut Program,
 ) -> Result<(), NoMemory>
+    requires near { is_near call ≡ true }
     ensures { OnOk result (part.new ≡ part.old ++ contribution calls.now program.now call) }
 {
     if calls.is_beside(call) {

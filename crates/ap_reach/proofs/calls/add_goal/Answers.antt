@@ -20,5 +20,5 @@ returns-in-Node-clause-named c =
     on_ok_weaker c.add-in-Node.result
     (λ h u.
     h p (tree_of c.args.goal.now)
-    (ap (λ (t : Tree). answers p c.called.result t) (ap tree_of c.in-Node.is ∙ ap (node c.in-Node.a) (sym c.as_slice.ensures) ∙ ap (λ a. node a (trees_of c.as_slice.result.now)) (sym c.number-in-Node.ensures)) ∙ c.called.ensures))
+    (ap (λ (t : Tree). answers p c.called.result t) (ap tree_of c.in-Node.is ∙ ap (node c.in-Node.a) (sym c.as_slice.ensures) ∙ ap (λ a. node a (trees_of c.as_slice.result.now)) (sym c.number-in-Node.ensures)) ∙ c.called.ensures.answers))
     c.add-in-Node.ensures.among

@@ -1,9 +1,10 @@
-use Rattle.std.proofs.Common.{length, sym, ◌∙◌, arith}
+use Rattle.std.proofs.Common.{length, ◌≤◌, ◌⊎◌, sym, ◌∙◌, subst, arith}
+use Rattle.ap_reach.specs.declared.called.TheConstants.{PLACES}
 use Rattle.ap_term.specs.Tree.{node}
 use Rattle.ap_term.specs.TermView.{tree_of, trees_of}
 use Rattle.ap_term.proofs.TermLists.{count-trees_of}
 use Rattle.ap_reach.specs.Index.{clauses_at}
-use Rattle.ap_reach.proofs.Naming.{argument-trees_of, place_first, place_turn, place_end}
+use Rattle.ap_reach.proofs.Naming.{argument-trees_of, place_first, place_turn, near_end, min_met}
 use Rattle.ap_reach.proofs.predicates.add_by_arguments.Goals as goal
 
 pub loop-place-init : goal.loop-place-init
@@ -19,6 +20,7 @@ loop-place-preserved c = (
 )
 
 pub returns : goal.returns
-returns c k =
+returns c k near =
     let most = c.loop-place.invariant.1 in
-    place_end k c.loop-place.place (length c.args.args.now) (node c.args.name (trees_of c.args.args.now)) (clauses_at c.args.index.now k) (clauses_at c.loop-place.index k) c.args.clause.now (omega arith) (c.loop-place.invariant.2 k)
+    let all : (length c.args.args.now ≤ c.loop-place.place) ⊎ (PLACES ≤ c.loop-place.place) = min_met (length c.args.args.now) c.loop-place.place (subst (λ m. m ≤ c.loop-place.place) c.min-place-end.ensures c.loop-place-test.false) in
+    near_end k c.loop-place.place (length c.args.args.now) (node c.args.name (trees_of c.args.args.now)) (clauses_at c.args.index.now k) (clauses_at c.loop-place.index k) c.args.clause.now near most all (c.loop-place.invariant.2 k)

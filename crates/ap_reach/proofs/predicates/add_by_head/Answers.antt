@@ -15,8 +15,8 @@ returns-in_ok-add_clause-in-Node c =
     let count : length c.as_slice.result.now ≡ c.len.result = sym (count-trees_of c.as_slice.result.now) ∙ ap count_trees c.as_slice.ensures ∙ sym c.len.ensures in
     let same : node c.number-in-Node-2.result (trees_of c.as_slice.result.now) ≡ node c.in-Node.a c.in-Node.args = ap (λ a. node a (trees_of c.as_slice.result.now)) c.number-in-Node-2.ensures ∙ ap (node c.in-Node.a) c.as_slice.ensures in
     on_ok_weaker c.add_by_arguments.result
-    (λ h k.
+    (λ h k near.
     head_turn k c.in-Node.a c.len.result c.in-Node.args (clauses_at c.args.index.now k) (clauses_at c.add_clause-in-Node.new.index k) (clauses_at c.add_by_arguments.new.index k) c.args.clause.now c.len.ensures
     (c.in_ok-add_clause-in-Node.ensures k ∙ ap (λ a. if is_called (Whole a c.len.result) k then clauses_at c.args.index.now k ++ c.args.clause.now ∷ [] else clauses_at c.args.index.now k) c.number-in-Node.ensures)
-    (h k ∙ ap₂ (λ n (t : Tree). if leads_before n k t then clauses_at c.add_clause-in-Node.new.index k ++ c.args.clause.now ∷ [] else clauses_at c.add_clause-in-Node.new.index k) count same)
+    (h k near ∙ ap₂ (λ n (t : Tree). if leads_before n k t then clauses_at c.add_clause-in-Node.new.index k ++ c.args.clause.now ∷ [] else clauses_at c.add_clause-in-Node.new.index k) count same)
     ∙ ap (λ (t : Tree). if leads k t then clauses_at c.args.index.now k ++ c.args.clause.now ∷ [] else clauses_at c.args.index.now k) (sym head)) c.add_by_arguments.ensures

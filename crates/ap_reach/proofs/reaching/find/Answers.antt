@@ -11,12 +11,12 @@ pub loop-number-preserved : goal.loop-number-preserved
 loop-number-preserved c =
     let ks = c.loop-number.calls in
     let ls = c.add_calls.new.calls in
-    let at : slice_get ks c.loop-number.number ≡ Some c.in-Some.call = sym c.at.ensures ∙ c.in-Some.is in (
+    let at : slice_get ks c.loop-number.number ≡ Some c.in-Some.call = sym c.at.ensures.at ∙ c.in-Some.is in (
       extends_on c.args.calls.now ks ls c.loop-number.invariant.0 c.in_ok-add_calls.ensures.extends,
       find_turn ks ls c.loop-number.number c.in-Some.call c.args.program.now c.in_ok-add_calls.ensures.extends at c.in_ok-add_calls.ensures.among c.loop-number.invariant.1,
     )
 
 pub returns-in_default-clause-among : goal.returns-in_default-clause-among
 returns-in_default-clause-among c =
-    let at : slice_get c.loop-number.calls c.loop-number.number ≡ None = sym c.at.ensures ∙ search rules in
+    let at : slice_get c.loop-number.calls c.loop-number.number ≡ None = sym c.at.ensures.at ∙ search rules in
     find_done c.loop-number.calls c.loop-number.number c.args.program.now at c.loop-number.invariant.1
