@@ -16,7 +16,7 @@ use std::marker::Model;
 
 /// Constants at so many places, from the first on, tell a predicate's clauses apart. At more places they would take more memory than a
 /// program of long facts itself.
-pub(crate) const PLACES: usize = 4;
+pub(crate) const PLACES: usize = 8;
 
 /// The clauses that a goal can call: by the name and arity of a predicate, all of them, or those with a constant as the argument at a
 /// place, which is counted from 0.
