@@ -135,6 +135,11 @@ beside program table = record { table = table; counts = record { lifted = 0; cla
 
 -- The lifted program of a text, and the names behind those of a table: those of the text, then those of the lifted
 -- predicates.
+-- a program of clauses that were read up to a position, with predicates lifted from them whose names are the next ones
+abbrev pub LiftsAll : Position → List Rule → Program → List Text → Type 0
+LiftsAll p rules program new =
+    (ks : List ℕ) × AreNext p.table 1 ks × (length ks ≡ p.counts.lifted) × (program ≡ lifted_program (names_by p.table ks) rules) × (new ≡ with_lifted p.table ks)
+
 abbrev pub AcceptsProgram : Text → List Text → Program → List Text → Type 0
 AcceptsProgram text table program new =
     (rules : List Rule) × (p : Position) × (ks : List ℕ)

@@ -22,6 +22,6 @@ mod take;
 
 pub use law::{limits_law, one_program, one_query, text_meaning_law};
 pub use limit::{MAX_ARITY, MAX_CLAUSES, MAX_GOALS, MAX_GROUP, MAX_VARIABLES};
-pub use read::{program, query};
+pub use read::{program, program_of, query};
 pub use refusal::{Refusal, What};
 pub use source::Source;

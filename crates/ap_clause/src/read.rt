@@ -10,7 +10,7 @@ ghost use Rattle.ap_reader.specs.Build.{Extends};
 ghost use Rattle.ap_clause.specs.declared.refusal.Refusal.TheVariants as refusal;
 ghost use Rattle.ap_clause.specs.Reads as spec;
 ghost use Rattle.ap_clause.specs.Reads.{AcceptsProgram, RefusesProgram, AcceptsQuery, RefusesQuery};
-ghost use Rattle.ap_clause.specs.Verdict.{ReadsOn, GivesAll, IsCounted, AreCounted};
+ghost use Rattle.ap_clause.specs.Verdict.{ReadsOn, GivesAll, IsCounted, AreCounted, position};
 
 use crate::fresh::fresh_names;
 use crate::judge::{Counts, Read, variables_of};
@@ -81,21 +81,49 @@ fn take_all(alloc: Global, text: &[u8], atoms: &mut Atoms) -> Result<(Vec<Rule>,
     }
 }
 
-fn read_program(alloc: Global, text: &[u8], atoms: &mut Atoms) -> Result<Program, Refusal>
-    ensures accepts { IfOk result (λ p. AcceptsProgram text.now atoms.old p atoms.new) }
-    ensures refuses { IfErr result (λ r. (r ≡ refusal.NoMemory) ⊎ RefusesProgram text.now atoms.old r) }
+/// The program of clauses that were read, with what is lifted from them.
+fn lift_all(
+    alloc: Global,
+    rules: Vec<Rule>,
+    counts: Counts,
+    atoms: &mut Atoms,
+) -> Result<Program, Refusal>
+    requires counted { AreCounted rules.items counts atoms.old }
+    ensures lifts { IfOk result (λ p. spec.LiftsAll (position atoms.old counts) rules.items p atoms.new) }
+    ensures err { IfErr result (λ r. r ≡ refusal.NoMemory) }
     ensures grows { Extends atoms.old atoms.new }
 {
-    let (rules, counts) = match take_all(alloc, text, atoms) {
-        Ok(all) => all,
-        Err(refusal) => return Err(refusal),
-    };
     let Ok(names) = fresh_names(alloc, counts.lifted, atoms) else {
         return Err(Refusal::NoMemory);
     };
     match lift_program(alloc, rules, &names) {
         Ok(program) => Ok(program),
         Err(_) => Err(Refusal::NoMemory),
+    }
+}
+
+fn read_program(alloc: Global, text: &[u8], atoms: &mut Atoms) -> Result<Program, Refusal>
+    ensures accepts { IfOk result (λ p. AcceptsProgram text.now atoms.old p atoms.new) }
+    ensures refuses { IfErr result (λ r. (r ≡ refusal.NoMemory) ⊎ RefusesProgram text.now atoms.old r) }
+    ensures grows { Extends atoms.old atoms.new }
+{
+    match take_all(alloc, text, atoms) {
+        Ok((rules, counts)) => lift_all(alloc, rules, counts, atoms),
+        Err(refusal) => Err(refusal),
+    }
+}
+
+/// The same of a text that is let go before anything is lifted.
+fn read_owned(alloc: Global, text: Vec<u8>, atoms: &mut Atoms) -> Result<Program, Refusal>
+    ensures accepts { IfOk result (λ p. AcceptsProgram text.items atoms.old p atoms.new) }
+    ensures refuses { IfErr result (λ r. (r ≡ refusal.NoMemory) ⊎ RefusesProgram text.items atoms.old r) }
+    ensures grows { Extends atoms.old atoms.new }
+{
+    let all = take_all(alloc, text.as_slice(), atoms);
+    drop(text);
+    match all {
+        Ok((rules, counts)) => lift_all(alloc, rules, counts, atoms),
+        Err(refusal) => Err(refusal),
     }
 }
 
@@ -163,6 +191,26 @@ pub fn program(alloc: Global, text: &[u8], atoms: &mut Atoms) -> Result<Program,
 {
     let mark = atoms.mark();
     match read_program(alloc, text, atoms) {
+        Ok(program) => Ok(program),
+        Err(refusal) => {
+            atoms.cut_to(mark);
+            Err(refusal)
+        }
+    }
+}
+
+/// The program of a text, as `program` reads it. The text is let go once its clauses are read, so that what is lifted from them takes its
+/// room.
+///
+/// # Errors
+/// As of `program`.
+pub fn program_of(alloc: Global, text: Vec<u8>, atoms: &mut Atoms) -> Result<Program, Refusal>
+    ensures accepts { IfOk result (λ p. AcceptsProgram text.items atoms.old p atoms.new) }
+    ensures refuses { IfErr result (λ r. (r ≡ refusal.NoMemory) ⊎ RefusesProgram text.items atoms.old r) }
+    ensures table { OnErr result (atoms.new ≡ atoms.old) }
+{
+    let mark = atoms.mark();
+    match read_owned(alloc, text, atoms) {
         Ok(program) => Ok(program),
         Err(refusal) => {
             atoms.cut_to(mark);

@@ -1,8 +1,6 @@
 //! The run, layer by layer: command line, file, program, source, queries.
 
 ghost use Rattle.std.specs.Prelude.{◌≡◌, ◌≤◌, ◌^◌, [], ◌∷◌, map, IfErr, IfOk, OnErr, ◌⊎◌};
-ghost use Rattle.ap_clause.specs.declared.refusal.Refusal.TheVariants as refusal;
-ghost use Rattle.ap_clause.specs.Reads.{AcceptsProgram, RefusesProgram};
 ghost use Rattle.ap_outside.specs.Faults.{Rises};
 ghost use Rattle.ap_outside.specs.Pieces.{Puts, CutOf};
 ghost use Rattle.ap_outside.specs.Halting.{Finishes, SinkCount};
@@ -24,7 +22,7 @@ use crate::show::{kind_of, show_file};
 use crate::source::{DrainErr, LIMIT, drain};
 use crate::status::Status;
 use crate::texts::print_text;
-use ap_clause::{Refusal, program};
+use ap_clause::{Refusal, program_of};
 use ap_outside::{FileErr, Files, Gate, Got, Halt, PutErr, Sink, Source};
 use ap_term::{Atoms, NameKey, Program};
 use ap_words::{Asked as What, HELP, Reading, Run, VERSION_LINE, read};
@@ -76,15 +74,6 @@ fn run_source<R: Threads + Wait + Sync, G: Gate, S: Source, K: Sink>(
             Ok(tally.status())
         }
     }
-}
-
-// The program of a text, which is let go: the program, its code and the queries take its room.
-fn program_of(alloc: Global, text: Vec<u8>, atoms: &mut Atoms) -> Result<Program, Refusal>
-    ensures accepts { IfOk result (λ p. AcceptsProgram text.items atoms.old p atoms.new) }
-    ensures refuses { IfErr result (λ r. (r ≡ refusal.NoMemory) ⊎ RefusesProgram text.items atoms.old r) }
-    ensures table { OnErr result (atoms.new ≡ atoms.old) }
-{
-    program(alloc, &text, atoms)
 }
 
 // The bytes of a file.
