@@ -31,6 +31,8 @@ use Rattle.ap_instr.proofs.compiled.Code.TheSendSync as code
 use Rattle.ap_ledger.proofs.share.Share.TheSendSync as share
 use Rattle.ap_machine.proofs.state.Search.TheSendSync as machine
 use Rattle.ap_section.proofs.section.Section.TheLaws.TheKnot as knot
+use Rattle.ap_section.specs.contracts.held.Held as Held
+use Rattle.ap_section.specs.contracts.pool.Pool as Pool
 use Rattle.ap_section.specs.contracts.section.Section as Section
 use Rattle.ap_post.proofs.bar.Bar.TheSendSync as bar
 use Rattle.ap_post.proofs.common.Common.TheSendSync as common
@@ -70,8 +72,14 @@ outcome-send = search (sendable, crosses, section-send) depth 20
 pub open-send : IsSend (Open.the_field).row
 open-send = search (sendable, crosses, section-send) depth 20
 
+held-send : IsSend (Held.the_field).row
+held-send = search (sendable, crosses, machine.the_send) depth 20
+
+pool-send : IsSend (Pool.the_field).row
+pool-send = search (sendable, crosses, heap.the_field_send, held-send, parcel.the_send) depth 20
+
 pub stack-send : (a : NamedLft) → IsSend (Stack.the_field a).row
-stack-send a = search (sendable, crosses, sound-sync, share.the_send, section-send, open-send) depth 24
+stack-send a = search (sendable, crosses, sound-sync, share.the_send, section-send, open-send, pool-send) depth 24
 
 pub taken-send : (a : NamedLft) → IsSend (Taken.the_field a).row
 taken-send a = search (sendable, crosses, stack-send) depth 20
