@@ -21,7 +21,7 @@ const SAVED: i64 = 8;
 const INSIDE: i64 = 8;
 
 /// Groups are forked within so many frames more than it takes for each worker to have a goal: then there are some for those that
-/// come to an end early. An answer is copied once for each open frame, so that more of them don't pay.
+/// come to an end early. An answer is copied once for each open frame, so that a fork is dearer with each frame that is deeper.
 const DEEPER: usize = 1;
 
 /// How often one doubles to come to more than that.
@@ -79,10 +79,17 @@ impl Bar {
         self.saved.set(self.saved.get().saturating_sub(calls));
     }
 
+    /// How many times its price a group costs within so many open frames.
+    fn times_within(&self, depth: usize) -> i64 {
+        let deeper = depth.saturating_sub(self.deepest).saturating_add(1);
+        i64::try_from(deeper).unwrap_or(i64::MAX)
+    }
+
     /// Tells whether the next group, within so many open frames, is worth a fork. Within many it is where another worker looks for
     /// a goal.
     pub(crate) fn allows(&self, depth: usize, looks: bool) -> bool {
-        (depth < self.deepest || looks) && self.saved.get() >= self.cost()
+        let cost = self.cost().saturating_mul(self.times_within(depth));
+        (depth < self.deepest || looks) && self.saved.get() >= cost
     }
 
     /// Notes that so many calls were made, and whether a group was passed that wasn't forked.
