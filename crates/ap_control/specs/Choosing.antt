@@ -5,6 +5,8 @@ use Rattle.ap_term.specs.Tree.{Tree, var}
 use Rattle.ap_cells.specs.declared.cells.Raw.{Raw}
 use Rattle.ap_cells.specs.Trees.{tree_at, trees}
 use Rattle.ap_instr.specs.Code.{Compiled}
+use Rattle.ap_instr.specs.declared.compiled.Predicate.{Predicate}
+use Rattle.ap_instr.specs.StandsFor.{clause_places}
 use Rattle.ap_index.specs.declared.key.Key.{Key}
 use Rattle.ap_index.specs.declared.hashing.Hashed.{Hashed}
 use Rattle.ap_index.specs.declared.head.Ask.{Ask}
@@ -13,6 +15,7 @@ use Rattle.ap_index.specs.declared.word.Short.{Short}
 use Rattle.ap_index.specs.Words.{word_of, word_or_nothing, HasAsked}
 use Rattle.ap_index.specs.Keys.{same_key, IsKeyOf}
 use Rattle.ap_index.specs.Heads.{IsMet}
+use Rattle.ap_index.specs.Index.{named_from}
 use Rattle.ap_match.specs.Fits.{Fits}
 use Rattle.ap_standing.specs.Machine.{places_from}
 use Rattle.ap_control.specs.declared.choosing.Fit.{Fit}
@@ -26,6 +29,8 @@ use Rattle.ap_control.specs.declared.choosing.Possible.{Possible}
 use Rattle.ap_control.specs.declared.choosing.Left.{Left}
 use Rattle.ap_control.specs.declared.choosing.Chosen.{Chosen}
 use Rattle.ap_control.specs.declared.choosing.Chosen.TheVariants.{Only, First}
+use Rattle.ap_control.specs.declared.choosing.Told.{Told}
+use Rattle.ap_control.specs.declared.choosing.Told.TheVariants.{Never as NoneTold, Only as OnlyTold, From}
 use Rattle.ap_control.specs.Heads.{IsShut, PassesOver}
 use Rattle.ap_control.specs.Taking.{CanTake}
 
@@ -134,6 +139,16 @@ pub record IsOnly (code : Compiled) (cs : List Raw) (x : ℕ → ℕ) (ls : List
   pub behind : List ℕ
   pub first : PassesOver code cs x ls (one ∷ behind)
   pub next : PassesOver code cs x behind []
+
+-- of a predicate's clauses those from a choice on are left, where that isn't the predicate's first one
+abbrev pub AreLeftFrom : Compiled → List Raw → (ℕ → ℕ) → Predicate → ℕ → Type 0
+AreLeftFrom code cs x q at = (at ≡ q.start) ⊎ PassesOver code cs x (clause_places code q) (named_from code (Some at))
+
+-- what is told at once of a predicate's clauses
+abbrev pub IsTold : Compiled → List Raw → (ℕ → ℕ) → Predicate → Told → Type 0
+IsTold code cs x q NoneTold = PassesOver code cs x (clause_places code q) []
+IsTold code cs x q (OnlyTold one) = IsOnly code cs x (clause_places code q) one
+IsTold code cs x q (From at) = AreLeftFrom code cs x q at
 
 -- of some clauses' places the first one that is left, and the next one behind it
 pub record AreNext (code : Compiled) (cs : List Raw) (x : ℕ → ℕ) (n : ℕ) (ls : List ℕ) (a : Alternative) (p : Possible) : Type 0 where

@@ -4,17 +4,18 @@
 ghost use Rattle.std.specs.Prelude.{◌≡◌, ℕ, ◌+◌, ◌<◌, List, [], ◌∷◌, length, true, None, Some, IfSome};
 ghost use Rattle.ap_term.specs.Tree.{Tree};
 ghost use Rattle.ap_cells.specs.declared.cells.Raw.{Raw};
+ghost use Rattle.ap_instr.specs.declared.compiled.Predicate.{Predicate as PredicateOf};
 ghost use Rattle.ap_instr.specs.StandsFor.{clause_places};
 ghost use Rattle.ap_index.specs.Keys.{same_key, IsKeyOf};
 ghost use Rattle.ap_instr.specs.Code.{Compiled};
 ghost use Rattle.ap_index.specs.declared.key.Key.TheVariants.{Structure};
-ghost use Rattle.ap_index.specs.Index.{IsChoiceOf, IsRowOf};
+ghost use Rattle.ap_index.specs.Index.{named_from, IsChoiceOf, IsRowOf};
 ghost use Rattle.ap_match.specs.Fits.{Fits};
 ghost use Rattle.ap_steps.specs.Moves.{held, HoldPlaces};
 ghost use Rattle.ap_standing.specs.Machine.{places_from};
 ghost use Rattle.ap_control.specs.Heads.{PassesOver};
 ghost use Rattle.ap_control.specs.Taking.{CanTake};
-ghost use Rattle.ap_control.specs.Choosing.{both, chance_by, fit_known, IsFit, IsAskFit, AreFit, IsChance, HasKey, Alike, IsWordAt, IsArgument, IsFirst, IsKnown, IsWordFit, IsOtherFit, AreWordsFit, IsSure, IsOnly, IsChosen, IsLeft, possible_places, left_places};
+ghost use Rattle.ap_control.specs.Choosing.{both, chance_by, fit_known, IsFit, IsAskFit, AreFit, IsChance, HasKey, Alike, IsWordAt, IsArgument, IsFirst, IsKnown, IsWordFit, IsOtherFit, AreWordsFit, IsSure, IsOnly, AreLeftFrom, IsTold, IsChosen, IsLeft, possible_places, left_places};
 
 use crate::alternatives::{Alternative, first, following};
 use ap_cells::{Cells, Top};
@@ -654,28 +655,23 @@ fn chosen_plainly(sound: &Sound, predicate: &Predicate) -> Option<Chosen>
     }
 }
 
-/// A predicate's clauses for the first argument, by the row of its choices.
+/// A predicate's clauses from a choice on, where those before it can't be entered.
 #[inline(always)]
-fn chosen_by_row(
+fn chosen_behind(
     cells: &Cells,
     x: &[u32],
     sound: &Sound,
     predicate: &Predicate,
-    row: &Row,
+    from: usize,
     first: First,
-    own: Hashed,
 ) -> Option<Chosen>
     requires holds { HoldPlaces (length cells.now.cells) x.now }
-    requires row { IsRowOf sound.now predicate.now.start row.now }
+    requires from { PassesOver sound.now cells.now.cells (held x.now) (clause_places sound.now predicate.now) (named_from sound.now (Some from)) }
     requires first { IsFirst cells.now.cells (held x.now) predicate.now.arity first }
-    requires own { first.key ≡ Some own }
     ensures none { result ≡ None → PassesOver sound.now cells.now.cells (held x.now) (clause_places sound.now predicate.now) [] }
     ensures some { IfSome result (IsChosen sound.now cells.now.cells (held x.now) predicate.now.arity (clause_places sound.now predicate.now)) }
 {
-    let Some(at) = row.first(own) else {
-        return None;
-    };
-    let Some(found) = sound.choice(at) else {
+    let Some(found) = sound.choice(from) else {
         return chosen_plainly(sound, predicate);
     };
     let known = Known {
@@ -707,16 +703,23 @@ fn chosen_in_turn(cells: &Cells, x: &[u32], sound: &Sound, predicate: &Predicate
     chosen_from(cells, x, predicate.arity, &known, sound, begin)
 }
 
-/// The clauses of a predicate that a call on its argument registers may enter.
-pub fn choose(cells: &Cells, x: &[u32], sound: &Sound, predicate: &Predicate) -> Option<Chosen>
-    requires { HoldPlaces (length cells.now.cells) x.now }
+/// The clauses of a predicate that a call on its argument registers may enter, where those from a choice on are left.
+pub fn choose(
+    cells: &Cells,
+    x: &[u32],
+    sound: &Sound,
+    predicate: &Predicate,
+    from: usize,
+) -> Option<Chosen>
+    requires holds { HoldPlaces (length cells.now.cells) x.now }
+    requires from { AreLeftFrom sound.now cells.now.cells (held x.now) predicate.now from }
     ensures none { result ≡ None → PassesOver sound.now cells.now.cells (held x.now) (clause_places sound.now predicate.now) [] }
     ensures some { IfSome result (IsChosen sound.now cells.now.cells (held x.now) predicate.now.arity (clause_places sound.now predicate.now)) }
 {
-    if let Some(row) = sound.row(predicate.start as usize) {
+    if from != predicate.start as usize {
         let first = First::of(cells, x, predicate.arity);
-        if let Some(own) = first.key {
-            return chosen_by_row(cells, x, sound, predicate, row, first, own);
+        if first.key.is_some() {
+            return chosen_behind(cells, x, sound, predicate, from, first);
         }
     }
     chosen_in_turn(cells, x, sound, predicate)
@@ -738,18 +741,45 @@ fn alone(sound: &Sound, predicate: &Predicate) -> Option<u32>
     }
 }
 
-/// The clause that alone a call may enter, where that is told at once: the predicate has no other, or its row has none for the
-/// first argument.
+/// The clauses that are left for a call, as far as that is told at once.
+#[derive(Clone, Copy)]
+pub enum Told {
+    /// None.
+    Never,
+    /// The one at a place, and no other.
+    Only(u32),
+    /// Those from a choice on.
+    From(usize),
+}
+
+/// By a predicate's row, for a key of the first argument.
 #[inline(always)]
-pub fn only(cells: &Cells, x: &[u32], sound: &Sound, predicate: &Predicate) -> Option<u32>
+fn told_by(row: &Row, own: Hashed) -> Told
+    ensures { (code : Compiled) (cs : List Raw) (x : ℕ → ℕ) (q : PredicateOf) → IsRowOf code q.start row.now → HasKey cs x (Some own) → IsTold code cs x q result }
+{
+    if let Some(place) = row.only(own) {
+        return Told::Only(place);
+    }
+    match row.first(own) {
+        Some(at) => Told::From(at),
+        None => Told::Never,
+    }
+}
+
+/// The clauses of a predicate that are left for a call: told by its row, or the predicate has one alone, or all.
+#[inline(always)]
+pub fn only(cells: &Cells, x: &[u32], sound: &Sound, predicate: &Predicate) -> Told
     requires { HoldPlaces (length cells.now.cells) x.now }
-    ensures { IfSome result (IsOnly sound.now cells.now.cells (held x.now) (clause_places sound.now predicate.now)) }
+    ensures { IsTold sound.now cells.now.cells (held x.now) predicate.now result }
 {
     let Some(row) = sound.row(predicate.start as usize) else {
-        return alone(sound, predicate);
+        return match alone(sound, predicate) {
+            Some(place) => Told::Only(place),
+            None => Told::From(predicate.start as usize),
+        };
     };
     match own_of(cells, place_in(x, 1)) {
-        Some(own) => row.only(own),
-        None => None,
+        Some(own) => told_by(row, own),
+        None => Told::From(predicate.start as usize),
     }
 }

@@ -14,7 +14,7 @@ ghost use Rattle.ap_standing.specs.Machine.{Point, calling, inside, failed, plac
 ghost use Rattle.ap_standing.specs.Laws.{IsTurn, KeepsStanding};
 ghost use Rattle.ap_control.specs.Heads.{PassesOver};
 ghost use Rattle.ap_control.specs.Taking.{CanTake};
-ghost use Rattle.ap_control.specs.Choosing.{IsOnly, IsChosen, possible_places};
+ghost use Rattle.ap_control.specs.Choosing.{AreLeftFrom, IsTold, IsChosen, possible_places};
 ghost use Rattle.ap_machine.specs.View.{IsFor};
 ghost use Rattle.ap_machine.specs.Live.{UnifiesAtNewest, KeepsLive};
 ghost use Rattle.ap_machine.specs.Choices.{Stays, AtNewest, Returned, LeavesOut, places_of, called_point, points_left};
@@ -24,7 +24,7 @@ ghost use Rattle.ap_machine.specs.Back.{CanGoBack, WentBack};
 use crate::state::{Now, Search};
 use ap_cells::{CellMark, Cells};
 use ap_codecheck::Sound;
-use ap_control::{Alternative, Chosen, Possible, can_take, choose, next_possible, only};
+use ap_control::{Alternative, Chosen, Possible, Told, can_take, choose, next_possible, only};
 use ap_environments::{Choice, Environments, clear_y};
 use ap_instr::{Code, Predicate};
 use ap_needs::Room;
@@ -84,12 +84,13 @@ fn run_and_go_back(
 }
 
 impl Search {
-    /// The clauses of a predicate that a call on the argument registers may enter.
-    fn chosen(&self, sound: &Sound, predicate: &Predicate) -> Option<Chosen>
+    /// The clauses of a predicate that a call on the argument registers may enter, where those from a choice on are left.
+    fn chosen(&self, sound: &Sound, predicate: &Predicate, from: usize) -> Option<Chosen>
+        requires { AreLeftFrom sound.now self.now.machine.cells (held self.now.machine.x) predicate.now from }
         ensures none { result ≡ None → PassesOver sound.now self.now.machine.cells (held self.now.machine.x) (clause_places sound.now predicate.now) [] }
         ensures some { IfSome result (IsChosen sound.now self.now.machine.cells (held self.now.machine.x) predicate.now.arity (clause_places sound.now predicate.now)) }
     {
-        choose(&self.cells, &self.x, sound, predicate)
+        choose(&self.cells, &self.x, sound, predicate, from)
     }
 
     /// The next clause behind a choice that isn't passed over on the argument registers.
@@ -120,31 +121,33 @@ impl Search {
         Ok(())
     }
 
-    /// The clause of a predicate that alone a call on the argument registers may enter, where that is told at once.
+    /// The clauses of a predicate that are left for a call on the argument registers, as far as that is told at once.
     #[inline(always)]
-    fn only(&self, sound: &Sound, predicate: &Predicate) -> Option<u32>
-        ensures { IfSome result (IsOnly sound.now self.now.machine.cells (held self.now.machine.x) (clause_places sound.now predicate.now)) }
+    fn only(&self, sound: &Sound, predicate: &Predicate) -> Told
+        ensures { IsTold sound.now self.now.machine.cells (held self.now.machine.x) predicate.now result }
     {
         only(&self.cells, &self.x, sound, predicate)
     }
 
-    /// Enters a predicate of the table that may have several clauses for the call.
+    /// Enters a predicate of the table of which several clauses may be left for the call, from a choice on.
     #[inline(never)]
     fn enter_chosen(
         &mut self,
         sound: &Sound,
         number: u32,
         predicate: Predicate,
+        from: usize,
     ) -> Result<(), NoMemory>
         requires due { self.old.machine.now ≡ calling number }
         requires is_for { IsFor sound.now self.old }
         requires known { slice_get sound.now.predicates number ≡ Some predicate }
+        requires from { AreLeftFrom sound.now self.old.machine.cells (held self.old.machine.x) predicate from }
         ensures turn { OnOk result ((p : Program) (q : PredicateOf) → slice_get sound.now.predicates number ≡ Some q → IsProgram p → StandsFor sound.now p → IsTurn sound.now p self.old.machine self.new.machine) }
         ensures kept { OnErr result (self.new ≡ self.old) }
         ensures stays { Stays self.old self.new }
         ensures live { KeepsLive sound.now self.old.machine self.new.machine }
     {
-        match self.chosen(sound, &predicate) {
+        match self.chosen(sound, &predicate, from) {
             None => self.fail(),
             Some(Chosen::Only(place)) => self.resume(place as usize),
             Some(Chosen::First(first, second)) => {
@@ -178,11 +181,15 @@ impl Search {
             return Ok(());
         };
         match self.only(sound, &predicate) {
-            Some(place) => {
+            Told::Only(place) => {
                 self.resume(place as usize);
                 Ok(())
             }
-            None => self.enter_chosen(sound, number, predicate),
+            Told::From(from) => self.enter_chosen(sound, number, predicate, from),
+            Told::Never => {
+                self.fail();
+                Ok(())
+            }
         }
     }
 
