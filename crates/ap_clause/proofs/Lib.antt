@@ -3,6 +3,7 @@ pub mod Forms
 pub mod PlainNames
 pub mod Arities
 pub mod Bodies
+mod GoalRows
 pub mod Names
 pub mod Limits
 pub mod Proper

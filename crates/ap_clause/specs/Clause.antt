@@ -1,7 +1,8 @@
 -- The clause that a term is.
-use Rattle.std.specs.Prelude.{ℕ, ◌==◌, if◌then◌else◌, List, [], ◌∷◌, ◌++◌, Option, Some, None}
+use Rattle.std.specs.Prelude.{ℕ, Bool, true, false, ◌&&◌, ◌==◌, if◌then◌else◌, List, [], ◌∷◌, ◌++◌, Option, Some, None}
 use Rattle.ap_term.specs.declared.fixed.TheConstants.{NECK, QUERY, COMMA, SEMICOLON, PARALLEL, CONDITION}
 use Rattle.ap_term.specs.Tree.{Tree, var, int, atom, node, none, more}
+use Rattle.ap_term.specs.Goals.{Part, call}
 use Rattle.ap_lifting.specs.declared.bodies.Condition.{Condition}
 use Rattle.ap_lifting.specs.declared.bodies.Condition.TheVariants.{True, Ground, Indep}
 use Rattle.ap_lifting.specs.Body.{Body, goal, conjunction, disjunction, parallel, conditional}
@@ -44,6 +45,23 @@ body_in (node f none) = goal (node f none)
 body_in (node f (more a none)) = goal (node f (more a none))
 body_in (node f (more a (more b none))) = joined_by (connective_at f) (node f (more a (more b none))) (conditions_in a) (body_in a) (body_in b)
 body_in (node f (more a (more b (more c ts)))) = goal (node f (more a (more b (more c ts))))
+
+-- a body that is one goal
+abbrev pub is_goal : Body → Bool
+is_goal (goal t) = true
+is_goal _ = false
+
+-- goals that are called one after another, nested to the right
+abbrev pub is_row : Body → Bool
+is_row (goal t) = true
+is_row (conjunction a b) = is_goal a && is_row b
+is_row _ = false
+
+-- the goals of such a body
+abbrev pub goals_in : Body → List Part
+goals_in (goal t) = call t ∷ []
+goals_in (conjunction a b) = goals_in a ++ goals_in b
+goals_in _ = []
 
 -- a head and a body; a fact has no body
 abbrev pub Halves : Type 0

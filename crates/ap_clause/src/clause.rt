@@ -1,6 +1,6 @@
 //! The head and the body that a term is.
 
-ghost use Rattle.std.specs.Prelude.{◌≡◌, ◌+◌, ◌<◌, [], ◌∷◌, ◌++◌, vec_len, IfOk, OnOk, MatchOption, MatchResult, None, Some, false};
+ghost use Rattle.std.specs.Prelude.{◌≡◌, ◌+◌, ◌<◌, [], ◌∷◌, ◌++◌, vec_len, IfOk, OnOk, MatchOption, MatchResult, None, Some, true, false};
 ghost use Rattle.ap_term.specs.Tree.{none, more};
 ghost use Rattle.ap_term.specs.TermView.{tree_of};
 ghost use Rattle.ap_lifting.specs.Body as body;
@@ -10,7 +10,7 @@ ghost use Rattle.ap_clause.specs.Clause as spec;
 
 use crate::form::Connective;
 use crate::source::Source;
-use ap_lifting::{Body, Condition};
+use ap_lifting::{Body, Condition, Row, RuleBody};
 use ap_term::{Args, Atom, NoMemory, Term, copy_term, fixed};
 use std::alloc::Global;
 
@@ -164,31 +164,108 @@ fn body_in(alloc: Global, t: Term) -> Result<Body, NoMemory>
     }
 }
 
+/// Whether there are two arguments.
+fn is_pair(args: &Args) -> bool
+    ensures { result ≡ is_pair args.now }
+{
+    matches!(args.as_slice(), [_, _])
+}
+
+/// Whether a term is a goal and no body of others.
+fn is_goal(t: &Term) -> bool
+    ensures { result ≡ spec.is_goal (spec.body_in (tree_of t.now)) }
+{
+    let Term::Node(name, args) = t else {
+        return true;
+    };
+    match connective_at(*name) {
+        Connective::Other => true,
+        _ => !is_pair(args),
+    }
+}
+
+/// Whether a body is goals that are called one after another, nested to the right.
+fn is_row(t: &Term) -> bool
+    ensures { result ≡ spec.is_row (spec.body_in (tree_of t.now)) }
+{
+    let Term::Node(name, args) = t else {
+        return true;
+    };
+    match connective_at(*name) {
+        Connective::Other => true,
+        Connective::And => match args.as_slice() {
+            [first, rest] => is_goal(first) && is_row(rest),
+            _ => true,
+        },
+        _ => !is_pair(args),
+    }
+}
+
+/// Adds the goals of a row.
+fn add_goals(t: Term, row: &mut Row) -> Result<(), NoMemory>
+    requires { spec.is_row (spec.body_in (tree_of t)) ≡ true }
+    ensures { OnOk result (row.new ≡ row.old ++ spec.goals_in (spec.body_in (tree_of t))) }
+{
+    let Term::Node(name, args) = t else {
+        return row.push(t);
+    };
+    let Connective::And = connective_at(name) else {
+        return row.push(Term::Node(name, args));
+    };
+    match pair(args) {
+        Ok((first, rest)) => {
+            row.push(first)?;
+            add_goals(rest, row)
+        }
+        Err(args) => row.push(Term::Node(name, args)),
+    }
+}
+
+/// The body of a clause that a term is.
+fn rule_body(alloc: Global, t: Term) -> Result<RuleBody, NoMemory>
+    ensures { IfOk result (λ b. body_if b ≡ Some (spec.body_in (tree_of t))) }
+{
+    if is_row(&t) {
+        let mut row = Row::new(alloc);
+        add_goals(t, &mut row)?;
+        return Ok(RuleBody::Row(row));
+    }
+    let body = body_in(alloc, t)?;
+    Ok(RuleBody::Nested(Box::new(alloc, body)?))
+}
+
+/// The body of a fact.
+fn no_body(alloc: Global) -> RuleBody
+    ensures { body_if result ≡ None }
+{
+    RuleBody::Row(Row::new(alloc))
+}
+
 /// The head and the body of a rule; a fact is its head.
 #[tactic(auto, using(crate::proofs::Bodies::bodies))]
-fn clause_halves(alloc: Global, t: Term) -> Result<(Term, Option<Body>), NoMemory>
+fn clause_halves(alloc: Global, t: Term) -> Result<(Term, RuleBody), NoMemory>
     ensures { IfOk result (λ h. (tree_of h.0, body_if h.1) ≡ spec.clause_halves (tree_of t)) }
 {
     let Term::Node(name, args) = t else {
-        return Ok((t, None));
+        return Ok((t, no_body(alloc)));
     };
     if name.number() != fixed::NECK {
-        return Ok((Term::Node(name, args), None));
+        return Ok((Term::Node(name, args), no_body(alloc)));
     }
     match pair(args) {
-        Ok((head, rest)) => Ok((head, Some(body_in(alloc, rest)?))),
-        Err(args) => Ok((Term::Node(name, args), None)),
+        Ok((head, rest)) => Ok((head, rule_body(alloc, rest)?)),
+        Err(args) => Ok((Term::Node(name, args), no_body(alloc))),
     }
 }
 
-fn question(alloc: Global, t: &Term) -> Result<(Term, Option<Body>), NoMemory>
+fn question(alloc: Global, t: &Term) -> Result<(Term, RuleBody), NoMemory>
     ensures { IfOk result (λ h. (tree_of h.0, body_if h.1) ≡ spec.question (tree_of t.now)) }
 {
-    let body = body_in(alloc, copy_term(alloc, t)?)?;
-    Ok((Term::Atom(Atom::at(fixed::QUERY)), Some(body)))
+    let body = rule_body(alloc, copy_term(alloc, t)?)?;
+    Ok((Term::Atom(Atom::at(fixed::QUERY)), body))
 }
 
-fn query_halves(alloc: Global, t: &Term) -> Result<(Term, Option<Body>), NoMemory>
+fn query_halves(alloc: Global, t: &Term) -> Result<(Term, RuleBody), NoMemory>
     ensures { IfOk result (λ h. (tree_of h.0, body_if h.1) ≡ spec.query_halves (tree_of t.now)) }
 {
     let Term::Node(name, args) = t else {
@@ -206,11 +283,7 @@ fn query_halves(alloc: Global, t: &Term) -> Result<(Term, Option<Body>), NoMemor
 }
 
 /// The head and the body that a term is.
-pub(crate) fn halves(
-    alloc: Global,
-    source: Source,
-    t: Term,
-) -> Result<(Term, Option<Body>), NoMemory>
+pub(crate) fn halves(alloc: Global, source: Source, t: Term) -> Result<(Term, RuleBody), NoMemory>
     ensures { IfOk result (λ h. (tree_of h.0, body_if h.1) ≡ spec.halves source (tree_of t)) }
 {
     match source {

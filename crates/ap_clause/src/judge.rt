@@ -18,7 +18,7 @@ use crate::limit::{MAX_CLAUSES, MAX_GOALS, MAX_GROUP, MAX_VARIABLES, is_narrow};
 use crate::outside::first_outside;
 use crate::refusal::{Refusal, What};
 use crate::source::Source;
-use ap_lifting::{Body, Rule, Sizes, predicates_of, sizes_of};
+use ap_lifting::{Rule, RuleBody, Sizes, predicates_of, sizes_of};
 use ap_reader::own_names;
 use ap_term::{Atom, Atoms, MAX_ATOMS, Name, NoMemory, Term, fixed};
 use std::alloc::Global;
@@ -78,7 +78,7 @@ fn passed_lifted(sizes: Sizes, clauses: u64) -> Option<What>
 fn limited(
     source: Source,
     narrow: bool,
-    halves: (Term, Option<Body>),
+    halves: (Term, RuleBody),
     vars: usize,
     line: u64,
     before: u64,

@@ -1,13 +1,15 @@
 //! Names that no goal and no head may have.
 
-ghost use Rattle.std.specs.Prelude.{◌≡◌};
+ghost use Rattle.std.specs.Prelude.{◌≡◌, map};
 ghost use Rattle.ap_term.specs.TermView.{tree_of};
+ghost use Rattle.ap_term.specs.GoalView.{part_of};
+ghost use Rattle.ap_lifting.specs.Row.{called, row_if};
 ghost use Rattle.ap_lifting.specs.BodyView.{body_of, body_if};
 ghost use Rattle.ap_clause.specs.Outside as spec;
 
 use crate::source::Source;
-use ap_lifting::Body;
-use ap_term::{Atom, Relation, Term, fixed};
+use ap_lifting::{Body, RuleBody};
+use ap_term::{Atom, Part, Relation, Term, fixed};
 
 fn is_refused(name: Atom) -> bool
     ensures { result ≡ spec.is_refused name }
@@ -60,17 +62,40 @@ fn outside_body(body: &Body) -> Option<Atom>
     }
 }
 
-fn outside_rest(body: &Option<Body>) -> Option<Atom>
+fn outside_part(part: &Part) -> Option<Atom>
+    ensures { result ≡ spec.outside_goal (called (part_of part.now)) }
+{
+    match part {
+        Part::Call(t) => outside_goal(t),
+        Part::Group { .. } => None,
+    }
+}
+
+#[tactic(auto, using(crate::proofs::GoalRows::outside_rows))]
+fn outside_row(goals: &[Part]) -> Option<Atom>
+    ensures { result ≡ spec.outside_rest (row_if (map part_of goals.now)) }
+{
+    let mut left = goals;
+    while let [goal, rest @ ..] = left {
+        if let Some(name) = outside_part(goal) {
+            return Some(name);
+        }
+        left = rest;
+    }
+    None
+}
+
+fn outside_rest(body: &RuleBody) -> Option<Atom>
     ensures { result ≡ spec.outside_rest (body_if body.now) }
 {
     match body {
-        Some(body) => outside_body(body),
-        None => None,
+        RuleBody::Row(row) => outside_row(row.goals().as_slice()),
+        RuleBody::Nested(body) => outside_body(body),
     }
 }
 
 /// The first such name, head first; the head of a query isn't its own.
-pub(crate) fn first_outside(source: Source, head: &Term, body: &Option<Body>) -> Option<Atom>
+pub(crate) fn first_outside(source: Source, head: &Term, body: &RuleBody) -> Option<Atom>
     ensures { result ≡ spec.first_outside source (tree_of head.now, body_if body.now) }
 {
     match source {

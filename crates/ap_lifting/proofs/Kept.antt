@@ -154,11 +154,11 @@ if_kept names vars line few None n h = refl
 if_kept names vars line few (Some b) n h = parts_kept names vars line few b [] n h refl
 
 -- a clause that was well formed is so with its body lifted
-pub rule_kept : (names : ℕ → ℕ) (r : Rule) (n : ℕ) (head : Tree) (before ps : List Part) (vars line : ℕ) (b : Option Body) → IsRule r → head ≡ r.head → vars ≡ r.vars → line ≡ r.line
-    → b ≡ r.body → before ≡ [] → ps ≡ before ++ (lifted_if names vars line b n).parts → IsClause (record { head = head; body = ps; vars = vars; line = line })
-rule_kept names r n head before ps vars line b ok p e f q l is =
+pub rule_kept : (names : ℕ → ℕ) (r : Rule) (n : ℕ) (head : Tree) (ps : List Part) (vars line : ℕ) (b : Option Body) → IsRule r → head ≡ r.head → vars ≡ r.vars → line ≡ r.line
+    → b ≡ r.body → ps ≡ (lifted_if names vars line b n).parts → IsClause (record { head = head; body = ps; vars = vars; line = line })
+rule_kept names r n head ps vars line b ok p e f q is =
     let body : ps ≡ (lifted_if names r.vars r.line r.body n).parts
-    = is ∙ ap (λ xs. xs ++ (lifted_if names vars line b n).parts) l ∙ ap (λ v. (lifted_if names v line b n).parts) e ∙ ap (λ v. (lifted_if names r.vars v b n).parts) f
+    = is ∙ ap (λ v. (lifted_if names v line b n).parts) e ∙ ap (λ v. (lifted_if names r.vars v b n).parts) f
     ∙ ap (λ v. (lifted_if names r.vars r.line v n).parts) q
     in
     let kept = if_kept names r.vars r.line ok.few r.body n ok.body in

@@ -12,3 +12,4 @@ pub mod Filled
 pub mod Weights
 pub mod Places
 mod Rows
+mod GoalRows

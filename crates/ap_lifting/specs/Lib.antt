@@ -1,4 +1,5 @@
 pub mod Body
+pub mod Row
 pub mod BodyView
 pub mod Rule
 pub mod BodyCode

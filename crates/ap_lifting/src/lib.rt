@@ -8,11 +8,13 @@ mod bodies;
 mod laws;
 mod lifter;
 mod lifting;
+mod row;
 mod rules;
 mod sizes;
 
 pub use bodies::{Body, Condition};
 pub use laws::{lifted_call_law, meaning_law};
 pub use lifting::{Lifted, lift_program, lift_question};
+pub use row::{Row, RuleBody};
 pub use rules::{Rule, is_rule};
 pub use sizes::{Sizes, predicates_of, sizes_of};

@@ -7,8 +7,8 @@ ghost use Rattle.ap_lifting.specs.Lifted.{clause_of, lifted_if, lifted_rule, lif
 ghost use Rattle.ap_lifting.specs.Lifts.{Lifts, values};
 ghost use Rattle.ap_lifting.specs.Sizes.{predicates_if, predicates_in};
 
-use crate::bodies::Body;
 use crate::lifter::{Origin, Raised, add_parts};
+use crate::row::RuleBody;
 use crate::rules::Rule;
 use ap_term::{Atom, Body as Parts, Checks, Clause, NoMemory, Program};
 use std::alloc::Global;
@@ -20,23 +20,23 @@ pub struct Lifted {
     pub lifted: Program,
 }
 
-/// Adds the parts of a body; a fact has none.
-fn add_body(
-    origin: &Origin,
-    body: Option<Body>,
-    out: &mut Raised,
-    parts: &mut Parts,
-) -> Result<(), NoMemory>
+/// The parts of a body. Those of a row are its goals.
+fn parts_of(origin: &Origin, body: RuleBody, out: &mut Raised) -> Result<Parts, NoMemory>
     requires few { origin.now.vars ≤ 255 }
     requires body { IsTrue (well_formed_if origin.now.vars (body_if body)) }
     requires named { out.old.next + predicates_if (body_if body) ≤ length origin.now.names.now }
-    ensures parts { OnOk result (parts.new ≡ parts.old ++ (lifted_if (slice_index origin.now.names.now) origin.now.vars origin.now.line (body_if body) out.old.next).parts) }
+    ensures parts { IfOk result (λ ps. ps ≡ (lifted_if (slice_index origin.now.names.now) origin.now.vars origin.now.line (body_if body) out.old.next).parts) }
     ensures lifts { OnOk result (Lifts (lifted_if (slice_index origin.now.names.now) origin.now.vars origin.now.line (body_if body) out.old.next) out.old out.new) }
     ensures next { OnOk result (out.new.next ≡ out.old.next + predicates_if (body_if body)) }
 {
     match body {
-        Some(body) => add_parts(origin, body, Checks::new(origin.alloc), out, parts),
-        None => Ok(()),
+        RuleBody::Row(row) => Ok(row.into_parts()),
+        RuleBody::Nested(body) => {
+            let mut parts = Parts::new(origin.alloc);
+            let checks = Checks::new(origin.alloc);
+            add_parts(origin, Box::into_inner(body), checks, out, &mut parts)?;
+            Ok(parts)
+        }
     }
 }
 
@@ -59,8 +59,7 @@ fn lift_rule(
         line: rule.line(),
     };
     let (head, body) = rule.into_parts();
-    let mut parts = Parts::new(alloc);
-    add_body(&origin, body, out, &mut parts)?;
+    let parts = parts_of(&origin, body, out)?;
     Ok(Clause::new(head, parts, origin.vars, origin.line))
 }
 

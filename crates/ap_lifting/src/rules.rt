@@ -9,6 +9,7 @@ ghost use Rattle.ap_lifting.specs.BodyView.{body_of, body_if};
 ghost use Rattle.ap_lifting.specs.Rule.{IsRule, well_formed_if};
 
 use crate::bodies::{Body, Condition};
+use crate::row::RuleBody;
 use ap_term::{Body as Parts, Term, is_clause};
 use std::alloc::Global;
 use std::marker::Model;
@@ -18,8 +19,7 @@ use std::marker::Model;
 #[derive(Drop)]
 pub struct Rule {
     head: Term,
-    /// A fact has none.
-    body: Option<Body>,
+    body: RuleBody,
     vars: u64,
     line: u64,
 }
@@ -47,7 +47,7 @@ impl Rule {
     ghost use Rattle.ap_lifting.specs.Rule.{IsRule};
 
     /// A clause whose first token stands in that line of the text, from 1.
-    pub fn new(head: Term, body: Option<Body>, vars: u64, line: u64) -> Rule
+    pub fn new(head: Term, body: RuleBody, vars: u64, line: u64) -> Rule
         requires { IsRule (record { head = tree_of head; body = body_if body; vars = vars; line = line }) }
         ensures { result ≡ record { head = tree_of head; body = body_if body; vars = vars; line = line } }
     {
@@ -66,7 +66,7 @@ impl Rule {
         &self.head
     }
 
-    pub fn body(&self) -> &Option<Body>
+    pub fn body(&self) -> &RuleBody
         ensures body { body_if result.now ≡ self.now.body }
         ensures kept { IsRule self.now }
     {
@@ -88,7 +88,7 @@ impl Rule {
     }
 
     /// The head and the body.
-    pub fn into_parts(self) -> (Term, Option<Body>)
+    pub fn into_parts(self) -> (Term, RuleBody)
         ensures head { tree_of result.0 ≡ self.head }
         ensures body { body_if result.1 ≡ self.body }
         ensures kept { IsRule self }
@@ -139,26 +139,19 @@ fn is_body_well_formed(body: &Body, n: u64, no_parts: &Parts) -> bool
     }
 }
 
-fn is_well_formed(body: &Option<Body>, n: u64, no_parts: &Parts) -> bool
-    requires few { n ≤ 255 }
-    requires none { no_parts.now ≡ [] }
-    ensures { result ≡ well_formed_if n (body_if body.now) }
-{
-    match body {
-        Some(body) => is_body_well_formed(body, n, no_parts),
-        None => true,
-    }
-}
-
 /// Whether `Rule::new` takes these: at most 255 variables, each numbered from 1 to `vars`, a head and goals that can
 /// be called.
-pub fn is_rule(alloc: Global, head: &Term, body: &Option<Body>, vars: u64, line: u64) -> bool
+pub fn is_rule(alloc: Global, head: &Term, body: &RuleBody, vars: u64, line: u64) -> bool
     ensures { IsTrue result ↔ IsRule (record { head = tree_of head.now; body = body_if body.now; vars = vars; line = line }) }
 {
-    let _any = line;
     if vars > 255 {
         return false;
     }
-    let no_parts = Parts::new(alloc);
-    is_goal(head, vars, &no_parts) && is_well_formed(body, vars, &no_parts)
+    match body {
+        RuleBody::Row(row) => is_clause(head, row.goals(), vars, line),
+        RuleBody::Nested(body) => {
+            let no_parts = Parts::new(alloc);
+            is_goal(head, vars, &no_parts) && is_body_well_formed(body, vars, &no_parts)
+        }
+    }
 }

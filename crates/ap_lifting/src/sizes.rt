@@ -1,11 +1,12 @@
 //! How large a clause is with what is lifted from it, before anything is lifted.
 
-ghost use Rattle.std.specs.Prelude.{◌≡◌, ℕ, IfSome};
+ghost use Rattle.std.specs.Prelude.{◌≡◌, ℕ};
 ghost use Rattle.ap_lifting.specs.BodyView.{body_of, body_if};
 ghost use Rattle.ap_lifting.specs.Lifted.{lifted_rule};
-ghost use Rattle.ap_lifting.specs.Sizes.{held, AreSizesOf, predicates_if, measured, measured_if, measured_operand, row, held_measure};
+ghost use Rattle.ap_lifting.specs.Sizes.{held, AreSizesOf, predicates_if, measured, measured_if, measured_operand, held_measure};
 
 use crate::bodies::Body;
+use crate::row::RuleBody;
 use crate::rules::Rule;
 
 /// Of a clause with what is lifted from it. Each number that 64 bits don't hold is their greatest.
@@ -33,7 +34,7 @@ struct Measure {
 }
 
 impl Measure {
-    ghost use Rattle.ap_lifting.specs.Sizes.{held_measure, row, nothing, one_goal, one_after_other, measured_either, measured_raised, measured_group};
+    ghost use Rattle.ap_lifting.specs.Sizes.{held_measure, row, one_goal, one_after_other, measured_either, measured_raised, measured_group};
 
     /// Of two bodies, one after the other.
     fn then(self, next: Measure) -> Measure
@@ -46,20 +47,6 @@ impl Measure {
             group: self.group.max(next.group),
             lifted_goals: self.lifted_goals.max(next.lifted_goals),
             lifted_group: self.lifted_group.max(next.lifted_group),
-        }
-    }
-
-    /// Of no body.
-    fn nothing() -> Measure
-        ensures { result ≡ held_measure nothing }
-    {
-        Measure {
-            predicates: 0,
-            clauses: 0,
-            goals: 0,
-            group: 0,
-            lifted_goals: 0,
-            lifted_group: 0,
         }
     }
 
@@ -79,7 +66,7 @@ impl Measure {
 
     /// Of a body of so many goals, called one after another.
     fn row(goals: u64) -> Measure
-        ensures { result ≡ row goals }
+        ensures { result ≡ held_measure (row goals) }
     {
         Measure {
             predicates: 0,
@@ -160,37 +147,17 @@ fn measure_body(body: &Body) -> Measure
     }
 }
 
-/// How many goals a body has, where it calls them one after another and has nothing else; most bodies do.
-fn goals_in_row(body: &Body) -> Option<u64>
-    ensures { IfSome result (λ n. row n ≡ held_measure (measured (body_of body.now))) }
-{
-    match body {
-        Body::Goal(_) => Some(1),
-        Body::Conjunction(first, second) => match goals_in_row(first) {
-            Some(before) => match goals_in_row(second) {
-                Some(behind) => Some(before.saturating_add(behind)),
-                None => None,
-            },
-            None => None,
-        },
-        _ => None,
-    }
-}
-
-fn measure_if(body: &Option<Body>) -> Measure
+fn measure_if(body: &RuleBody) -> Measure
     ensures { result ≡ held_measure (measured_if (body_if body.now)) }
 {
     match body {
-        Some(body) => match goals_in_row(body) {
-            Some(goals) => Measure::row(goals),
-            None => measure_body(body),
-        },
-        None => Measure::nothing(),
+        RuleBody::Row(row) => Measure::row(row.goals().as_slice().len() as u64),
+        RuleBody::Nested(body) => measure_body(body),
     }
 }
 
 /// How many predicates are lifted from a body.
-pub fn predicates_of(body: &Option<Body>) -> u64
+pub fn predicates_of(body: &RuleBody) -> u64
     ensures { result ≡ held (predicates_if (body_if body.now)) }
 {
     measure_if(body).predicates

@@ -6,6 +6,6 @@ use Rattle.ap_lifting.proofs.lifting.lift_rule.Goals as goal
 
 pub new-requires : goal.new-requires
 new-requires c =
-    let parts = c.into_parts-head in
-    rule_kept (slice_index c.args.names.now) c.args.rule c.args.out.now.next (tree_of parts.result.0) c.new-parts.result c.add_body.new.parts c.vars.result c.line.result (body_if parts.result.1)
-    parts.ensures.kept parts.ensures.head c.vars.ensures.vars c.line.ensures parts.ensures.body c.new-parts.ensures c.in_ok-add_body.ensures.parts
+    let halves = c.into_parts-head in
+    rule_kept (slice_index c.args.names.now) c.args.rule c.args.out.now.next (tree_of halves.result.0) c.in_ok-parts.parts c.vars.result c.line.result (body_if halves.result.1)
+    halves.ensures.kept halves.ensures.head c.vars.ensures.vars c.line.ensures halves.ensures.body c.in_ok-parts.ensures.parts
