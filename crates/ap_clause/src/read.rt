@@ -119,10 +119,7 @@ fn read_owned(alloc: Global, text: Vec<u8>, atoms: &mut Atoms) -> Result<Program
     ensures refuses { IfErr result (λ r. (r ≡ refusal.NoMemory) ⊎ RefusesProgram text.items atoms.old r) }
     ensures grows { Extends atoms.old atoms.new }
 {
-    let mut text = text;
     let all = take_all(alloc, text.as_slice(), atoms);
-    text.clear();
-    text.shrink_to(1);
     drop(text);
     match all {
         Ok((rules, counts)) => lift_all(alloc, rules, counts, atoms),

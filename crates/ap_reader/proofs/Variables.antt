@@ -1,13 +1,13 @@
 -- The numbers of variables after one more.
-use Rattle.std.proofs.Common.{◌≡◌, ◌≤◌, ◌<◌, ℕ, suc, zero, ◌+◌, min, take, drop, Bool, true, false, List, [], ◌∷◌, ◌++◌, length, Option, Some, None, if◌then◌else◌, cond, refl, ap, sym, subst, ◌∙◌, arith, codes}
+use Rattle.std.proofs.Common.{◌≡◌, ◌≤◌, ◌<◌, ℕ, suc, zero, ◌+◌, min, take, drop, Bool, true, false, List, [], ◌∷◌, ◌++◌, length, Option, Some, None, slice_get, ◌⊎◌, inl, inr, get_or, if◌then◌else◌, cond, refl, ap, sym, subst, ◌∙◌, arith, codes}
 use Rattle.std.specs.Prelude.{bytes_eq}
 use Rattle.std.proofs.lemmas.Bool.{false≢true}
 use Rattle.std.proofs.lemmas.Slice.Eq.{bytes_eq-Decides}
 use Rattle.ap_lexer.specs.Lexeme.{Text}
 use Rattle.std.specs.Borrow.{Bor}
 use Rattle.std.specs.HashMap.{HashMap, get_by}
-use Rattle.ap_reader.specs.Written.{place_in, known}
-use Rattle.ap_reader.specs.Leaves.{Numbers, texts}
+use Rattle.ap_reader.specs.Written.{Variable, place_in, known, number_after, seen_after}
+use Rattle.ap_reader.specs.Leaves.{AreOnce, Numbers, texts}
 use Rattle.ap_reader.proofs.Trees.{map-push}
 use Rattle.ap_reader.specs.declared.leaf.TheConstants.{NEAR}
 use Rattle.std.proofs.lemmas.List.{drop-append-le, length-drop, length-append, length-map, take_min, take-map}
@@ -117,3 +117,52 @@ module _ {S : Type 0} (m : HashMap (Bor (List ℕ)) ℕ S) (items part : List (B
 
   pub known-far : place_in 1 (texts part) name ≡ None → Numbers m (texts items) → get_by (λ k. bytes_eq name k.now) m ≡ known (texts items) name
   known-far e numbers = numbers name named ∙ sym (found None e)
+
+-- ---- each name is found where it stands
+
+get-push : {A : Type 0} (xs : List A) (x y : A) (at : ℕ) → slice_get (xs ++ x ∷ []) at ≡ Some y → (slice_get xs at ≡ Some y) ⊎ ((at ≡ length xs) × (x ≡ y))
+get-push [] x y zero e = inr (refl, cc)
+get-push [] x y (suc at) e = inl e
+get-push (z ∷ xs) x y zero e = inl e
+get-push (z ∷ xs) x y (suc at) e = of (get-push xs x y at e)
+  where
+    of : (slice_get xs at ≡ Some y) ⊎ ((at ≡ length xs) × (x ≡ y)) → (slice_get (z ∷ xs) (suc at) ≡ Some y) ⊎ ((suc at ≡ length (z ∷ xs)) × (x ≡ y))
+    of (inl h) = inl h
+    of (inr h) = inr (ap suc h.0, h.1)
+
+pub once-none : AreOnce []
+once-none zero s e named = absurd (cc)
+once-none (suc at) s e named = absurd (cc)
+
+module _ (before : List (Bor (List ℕ))) (slice : Bor (List ℕ)) (once : AreOnce before) (new : known (texts before) slice.now ≡ None) where
+  once_in : (at : ℕ) (s : Bor (List ℕ)) → bytes_eq s.now (codes "_") ≡ false → (slice_get before at ≡ Some s) ⊎ ((at ≡ length before) × (slice ≡ s)) → place_in 1 (texts before ++ slice.now ∷ []) s.now ≡ Some (at + 1)
+  once_in at s named (inl h) =
+      place_in-push 1 (texts before) slice.now s.now ∙ ap (λ o. or_else o (cond (bytes_eq slice.now s.now) (Some (1 + length (texts before))) None)) (once at s h named)
+  once_in at s named (inr h) =
+      let same : slice.now ≡ s.now = ap (λ b. b.now) h.1 in
+      let absent : place_in 1 (texts before) s.now ≡ None =
+      sym (ap (λ b. cond b None (place_in 1 (texts before) s.now)) named) ∙ ap (known (texts before)) (sym same) ∙ new in
+      place_in-push 1 (texts before) slice.now s.now
+      ∙ ap (λ o. or_else o (cond (bytes_eq slice.now s.now) (Some (1 + length (texts before))) None)) absent
+      ∙ ap (λ b. cond b (Some (1 + length (texts before))) None) ((bytes_eq-Decides slice.now s.now).1 same)
+      ∙ ap Some (omega (arith, h.0, length-map before (λ b. b.now)))
+
+  pub once-push : (after : List (Bor (List ℕ))) → after ≡ before ++ slice ∷ [] → AreOnce after
+  once-push after grown = subst AreOnce (sym grown) (λ at s h named. ap (λ xs. place_in 1 xs s.now) (map-push (λ b. b.now) before slice) ∙ once_in at s named (get-push before slice s at h))
+
+pub get-held : {A : Type 0} (xs : List A) (at : ℕ) (d : A) → at < length xs → slice_get xs at ≡ Some (get_or xs at d)
+get-held [] at d h = absurd (omega (arith, h))
+get-held (x ∷ xs) zero d h = refl
+get-held (x ∷ xs) (suc at) d h = get-held xs at d (omega (arith, h))
+
+-- a name that stands at a place is known by it
+pub known-at : (names : List (Bor (List ℕ))) (at : ℕ) (s : Bor (List ℕ)) (name : Text) → AreOnce names → slice_get names at ≡ Some s → bytes_eq s.now name ≡ true → bytes_eq name (codes "_") ≡ false
+    → known (texts names) name ≡ Some (at + 1)
+known-at names at s name once got same named =
+    let is : s.now ≡ name = (bytes_eq-Decides s.now name).0 same in
+    ap (λ b. cond b None (place_in 1 (texts names) name)) named
+    ∙ subst (λ q. place_in 1 (texts names) q ≡ Some (at + 1)) is (once at s got (ap (λ q. bytes_eq q (codes "_")) is ∙ named))
+
+-- the leaf of a variable that is known, behind which no more are seen
+pub leaf-known : (seen : List Text) (text : Text) (n : ℕ) → known seen text ≡ Some n → (Variable n ≡ Variable (number_after seen (known seen text))) × (seen ≡ seen_after seen text (known seen text))
+leaf-known seen text n e = (ap (λ o. Variable (number_after seen o)) (sym e), ap (seen_after seen text) (sym e))

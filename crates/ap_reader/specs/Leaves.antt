@@ -1,5 +1,5 @@
 -- What the code finds of the tokens as operands and functors.
-use Rattle.std.specs.Prelude.{◌≡◌, ℕ, ◌+◌, false, List, [], map, Result, Ok, Err, codes, bytes_eq, drop, string_bytes}
+use Rattle.std.specs.Prelude.{◌≡◌, ℕ, ◌+◌, false, List, [], map, Some, slice_get, Result, Ok, Err, codes, bytes_eq, drop, string_bytes}
 use Rattle.std.specs.Str.{IsUtf8}
 use Rattle.std.specs.declared.string.String.{String}
 use Rattle.std.specs.declared.alloc.Global.{Global}
@@ -22,6 +22,10 @@ texts = map (λ s. s.now)
 -- the map has the numbers of the variables behind the first NEAR so far, but for `_`
 abbrev pub Numbers : {S : Type 0} → HashMap (Bor (List ℕ)) ℕ S → List Text → Type 0
 Numbers m seen = (q : Text) → bytes_eq q (codes "_") ≡ false → get_by (λ k. bytes_eq q k.now) m ≡ place_in (NEAR + 1) (drop NEAR seen) q
+
+-- each name but `_` is found where it stands
+abbrev pub AreOnce : List (Bor (List ℕ)) → Type 0
+AreOnce names = (at : ℕ) (s : Bor (List ℕ)) → slice_get names at ≡ Some s → bytes_eq s.now (codes "_") ≡ false → place_in 1 (texts names) s.now ≡ Some (at + 1)
 
 -- the name that a quoted token's bytes are
 abbrev pub NameFor : Text → Result (String Global) LeafErr → Type 0

@@ -1,12 +1,12 @@
 //! What each token is as an operand or a functor: a variable's number or a name.
 
-ghost use Rattle.std.specs.Prelude.{◌≡◌, ℕ, ◌+◌, ◌<◌, ◌^◌, List, IfOk, OnOk, MatchOption, map, drop, length, bytes_eq};
+ghost use Rattle.std.specs.Prelude.{◌≡◌, ℕ, ◌+◌, ◌<◌, ◌^◌, List, IfOk, IfSome, OnOk, Some, MatchOption, map, drop, length, bytes_eq};
 ghost use Rattle.std.specs.Borrow.{Bor};
 ghost use Rattle.std.specs.Str.{IsUtf8};
 ghost use Rattle.ap_lexer.specs.Lexeme.{Text};
 ghost use Rattle.ap_lexer.specs.Token.{Placed, view};
 ghost use Rattle.ap_reader.specs.Written as spec;
-ghost use Rattle.ap_reader.specs.Leaves.{Numbers, NameFor, LeafFor, LeavesFor, both_items, texts};
+ghost use Rattle.ap_reader.specs.Leaves.{AreOnce, Numbers, NameFor, LeafFor, LeavesFor, both_items, texts};
 
 use crate::room::Room;
 use ap_lexer::{Token, TokenKind, push};
@@ -101,6 +101,17 @@ pub(crate) const NEAR: usize = 16;
 pub(crate) struct Variables<'a> {
     numbers: HashMap<&'a str, u64>,
     pub(crate) names: Vec<&'a str>,
+    /// By first bytes the place of the name that was looked for last, or of another; each is a guess.
+    lately: [u8; SLOTS],
+}
+
+const SLOTS: usize = 32;
+
+/// The slot of a name's first byte.
+fn slot_of(first: u8) -> usize
+    ensures { result < 32 }
+{
+    usize::from(first) % SLOTS
 }
 
 /// Whether two names are the same. Most variables have one letter.
@@ -108,10 +119,7 @@ pub(crate) struct Variables<'a> {
 fn is_same(left: &str, right: &str) -> bool
     ensures { result ≡ bytes_eq left.now right.now }
 {
-    match (left.as_bytes(), right.as_bytes()) {
-        ([a], [b]) => a == b,
-        _ => left == right,
-    }
+    are_same(left.as_bytes(), right.as_bytes())
 }
 
 /// The place of a name, from 1.
@@ -131,7 +139,47 @@ fn place_in(names: &[&str], name: &str) -> Option<u64>
     None
 }
 
+/// Whether bytes are the same. Most names have one.
+#[inline(always)]
+fn are_same(left: &[u8], right: &[u8]) -> bool
+    ensures { result ≡ bytes_eq left.now right.now }
+{
+    match (left, right) {
+        ([a], [b]) => a == b,
+        _ => left == right,
+    }
+}
+
 impl<'a> Variables<'a> {
+    /// The number of a variable that stood before, if its name is the last one with this first byte.
+    #[inline(always)]
+    fn guessed(&self, name: &[u8]) -> Option<u64>
+        requires { AreOnce self.now.names.items }
+        ensures { IfSome result (λ n. (spec.known (texts self.now.names.items) name.now ≡ Some n) × IsUtf8 name.now) }
+    {
+        let [first, ..] = name else {
+            return None;
+        };
+        let at = self.lately[slot_of(*first)];
+        let Some(held) = self.names.get(usize::from(at)) else {
+            return None;
+        };
+        if are_same(held.as_bytes(), name) && !are_same(name, b"_") {
+            return Some(u64::from(at) + 1);
+        }
+        None
+    }
+
+    /// Keeps the place of a name as the guess for its first byte.
+    fn keep(&mut self, name: &str, number: u64)
+        ensures names { self.new.names ≡ self.old.names }
+        ensures numbers { self.new.numbers ≡ self.old.numbers }
+    {
+        if let [first, ..] = name.as_bytes() {
+            self.lately[slot_of(*first)] = number.saturating_sub(1).min(255) as u8;
+        }
+    }
+
     /// The number of a variable that stood before; `_` never did.
     fn known(&self, name: &str) -> Option<u64>
         requires { Numbers self.now.numbers (texts self.now.names.items) }
@@ -150,9 +198,11 @@ impl<'a> Variables<'a> {
     /// The number of the next variable.
     fn number(&mut self, name: &'a str) -> Result<u64, NoMemory>
         requires numbers { Numbers self.old.numbers (texts self.old.names.items) }
+        requires once { AreOnce self.old.names.items }
         ensures number { IfOk result (λ n. n ≡ spec.number_after (texts self.old.names.items) (spec.known (texts self.old.names.items) name.now)) }
         ensures seen { OnOk result (texts self.new.names.items ≡ spec.seen_after (texts self.old.names.items) name.now (spec.known (texts self.old.names.items) name.now)) }
         ensures numbers { OnOk result (Numbers self.new.numbers (texts self.new.names.items)) }
+        ensures once { OnOk result (AreOnce self.new.names.items) }
     {
         if let Some(number) = self.known(name) {
             return Ok(number);
@@ -171,17 +221,25 @@ impl<'a> Variables<'a> {
 
     /// What the next token is.
     fn leaf(&mut self, alloc: Global, token: &Token<'a>) -> Result<Leaf<'a>, LeafErr>
-        requires { Numbers self.old.numbers (texts self.old.names.items) }
+        requires numbers { Numbers self.old.numbers (texts self.old.names.items) }
+        requires once { AreOnce self.old.names.items }
         ensures leaf { LeafFor (view token.now) (texts self.old.names.items) (texts self.new.names.items) result }
         ensures numbers { OnOk result (Numbers self.new.numbers (texts self.new.names.items)) }
+        ensures once { OnOk result (AreOnce self.new.names.items) }
     {
         match token.kind {
             TokenKind::Variable => {
+                if let Some(number) = self.guessed(token.text) {
+                    return Ok(Leaf::Variable(number));
+                }
                 let Ok(name) = std::str::from_utf8(token.text) else {
                     return Err(LeafErr::NotText);
                 };
                 match self.number(name) {
-                    Ok(number) => Ok(Leaf::Variable(number)),
+                    Ok(number) => {
+                        self.keep(name, number);
+                        Ok(Leaf::Variable(number))
+                    }
                     Err(_) => Err(LeafErr::NoMemory),
                 }
             }
@@ -242,6 +300,7 @@ pub(crate) fn leaves<'a>(
     let mut variables = Variables {
         numbers: HashMap::new(alloc),
         names: room.names(alloc),
+        lately: [0; SLOTS],
     };
     let Ok(mut out) = room.leaves(alloc, tokens.len()) else {
         return Err(LeafErr::NoMemory);
