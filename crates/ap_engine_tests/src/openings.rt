@@ -77,7 +77,7 @@ fn keep(frame: &mut Pair, alloc: Global, i: usize, number: u32) -> Option<Kept> 
 
 #[test]
 fn opens_and_keeps(rt: HostRuntime) -> Result<(), Fail> {
-    let mut frame: Pair = Frame::open(rt.alloc(), 2, 10, &[false, true])?;
+    let mut frame: Pair = Frame::open(Vec::new(rt.alloc()), 2, 10, &[false, true])?;
     assert!(rt; start(&mut frame, 2));
     assert!(rt; start(&mut frame, 1));
     assert!(rt; !start(&mut frame, 1));

@@ -41,13 +41,13 @@ impl Hook for Never {
 }
 
 /// Goes on up to where it comes to rest.
-fn go_on(sound: &Sound, section: &mut Section) -> Result<Turn, NoMemory>
+fn go_on(pool: &mut Pool, sound: &Sound, section: &mut Section) -> Result<Turn, NoMemory>
     requires { IsReady sound.now section.old }
     ensures ready { IsReady sound.now section.new }
     ensures answer { result ≡ Ok Turn.Answer → AreClosed (stack_in (view_of section.new)) }
     ensures fork { result ≡ Ok Turn.Fork → IsAtFrame (view_of section.new) }
 {
-    section.advance(sound, 1000, &mut Never(true), &mut Share::new())
+    section.advance(sound, 1000, &mut Never(true), &mut Share::new(), pool)
 }
 
 /// Begins the goal of a slot, by a section of its own.
@@ -177,7 +177,7 @@ fn driven(
     ensures answer { result ≡ Ok Turn.Answer → AreClosed (stack_in (view_of section.new)) }
 {
     'moves: for _move in 0..1000 {
-        let turn = go_on(sound, section)?;
+        let turn = go_on(pool, sound, section)?;
         if turn != Turn::Fork {
             return Ok(turn);
         }

@@ -13,7 +13,6 @@ use crate::rounds::next_redo;
 use crate::slots::{Answer, Ending, Recording, Run, Slot, Stand};
 use crate::verdict::{Verdict, judge};
 use ap_term::{Fault, NoMemory};
-use std::alloc::Global;
 use std::mem;
 
 /// How a frame's round stands.
@@ -54,13 +53,19 @@ fn fresh<S, T>(is_loud: bool) -> Slot<S, T>
 }
 
 impl<S: Drop, T: Drop> Frame<S, T> {
-    /// A first round of n ready slots with that rest; the list says of each goal whether it may meet a fault.
+    /// A first round of n ready slots with that rest, in the memory of a list whose slots are dropped; the other list says of each
+    /// goal whether it may meet a fault.
     #[tactic(auto, using(crate::proofs::Numbered::fresh_rules))]
-    pub fn open(alloc: Global, n: usize, rest: u64, loud: &[bool]) -> Result<Frame<S, T>, NoMemory>
+    pub fn open(
+        mut slots: Vec<Slot<S, T>>,
+        n: usize,
+        rest: u64,
+        loud: &[bool],
+    ) -> Result<Frame<S, T>, NoMemory>
         requires { length loud.now ≡ n }
         ensures { IfOk result (λ f. row f ≡ opened S T rest loud.now) }
     {
-        let mut slots = Vec::new(alloc);
+        slots.clear();
         for i in 0..n {
             slots.push(fresh(loud[i]))?;
         }

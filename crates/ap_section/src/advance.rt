@@ -18,6 +18,7 @@ ghost use Rattle.ap_section.specs.Moving.{HasMoved, IsOpened, IsEndedBy, IsReste
 ghost use Rattle.ap_section.specs.Ends.{Ends};
 ghost use Rattle.ap_section.specs.Owed.{owed};
 
+use crate::pool::Pool;
 use crate::section::Section;
 use ap_codecheck::Sound;
 use ap_copy::Parcelled;
@@ -70,8 +71,12 @@ impl Section {
         }
     }
 
-    /// Makes a frame for the group at which the search stands.
-    fn open_frame(&self, sound: &Sound) -> Result<Frame<Section, Parcelled>, NoMemory>
+    /// Makes a frame for the group at which the search stands, in memory of the pool.
+    fn open_frame(
+        &self,
+        sound: &Sound,
+        pool: &mut Pool,
+    ) -> Result<Frame<Section, Parcelled>, NoMemory>
         requires here { IsAtGroup sound.now (out-Section self.now).search.machine }
         ensures { IfOk result (λ frame. (t : Paused) → (forked : HasForked sound.now (out-Section self.now).search t) → IsOpened (length forked.forked.goals) ((out-Section self.now).search.budget - (out-Section self.now).search.spent) frame) }
     {
@@ -81,11 +86,16 @@ impl Section {
         }
         // None of them meets a fault.
         let quiet = [false; MOST_GOALS];
-        Frame::open(self.alloc, goals, self.search.rest(), &quiet[..goals])
+        Frame::open(
+            pool.take_slots(),
+            goals,
+            self.search.rest(),
+            &quiet[..goals],
+        )
     }
 
     /// Forks the group at which the search stands, or goes past it. The frame comes first, so that no fork is without one.
-    fn fork(&mut self, sound: &Sound) -> Result<bool, NoMemory>
+    fn fork(&mut self, sound: &Sound, pool: &mut Pool) -> Result<bool, NoMemory>
         requires shut { IsShut sound.now self.old }
         requires here { IsAtGroup sound.now (machine_in (view_of self.old)) }
         ensures moved { HasMoved sound.now (view_of self.old) (view_of self.new) }
@@ -96,18 +106,20 @@ impl Section {
         ensures frames { result ≡ Ok false → frames_in self.new ≡ frames_in self.old }
     {
         reaching_law();
-        let frame = self.open_frame(sound)?;
+        let frame = self.open_frame(sound, pool)?;
         self.frames.reserve(1)?;
         let forked = self.search.fork(sound)?;
         if forked {
             self.frames.push_reserved(frame);
+        } else {
+            pool.put_frame(Some(frame));
         }
         Ok(forked)
     }
 
     /// Takes the group at which the search stands: forks it, as its checks say, where its goals are wanted, and else calls them one
     /// after another.
-    fn take_group(&mut self, sound: &Sound, wanted: bool) -> Result<bool, NoMemory>
+    fn take_group(&mut self, sound: &Sound, pool: &mut Pool, wanted: bool) -> Result<bool, NoMemory>
         requires shut { IsShut sound.now self.old }
         requires here { IsAtGroup sound.now (machine_in (view_of self.old)) }
         ensures moved { HasMoved sound.now (view_of self.old) (view_of self.new) }
@@ -119,7 +131,7 @@ impl Section {
         ensures frames { result ≡ Ok false → frames_in self.new ≡ frames_in self.old }
     {
         if wanted {
-            return self.fork(sound);
+            return self.fork(sound, pool);
         }
         reaching_law();
         let to = self.search.plain_way(sound)?;
@@ -128,7 +140,7 @@ impl Section {
     }
 
     /// Comes back to the newest frame, where nothing newer is left to do. One that has no slot to redo is dropped.
-    fn come_back(&mut self) -> Option<Turn>
+    fn come_back(&mut self, pool: &mut Pool) -> Option<Turn>
         requires end { IsAtEnd (machine_in (view_of self.old)) }
         ensures moved { (code : Compiled) → IsShut code self.old → HasMoved code (view_of self.old) (view_of self.new) }
         ensures spent { (code : Compiled) → IsShut code self.old → spent_in (view_of self.new) ≡ spent_in (view_of self.old) }
@@ -147,7 +159,7 @@ impl Section {
             return Some(Turn::Fork);
         }
         self.search.forget_fork();
-        let _dropped = self.frames.pop();
+        pool.put_frame(self.frames.pop());
         None
     }
 
@@ -180,6 +192,7 @@ impl Section {
         sound: &Sound,
         left: u64,
         hook: &mut H,
+        pool: &mut Pool,
     ) -> Result<Option<Turn>, NoMemory>
         requires { IsReady sound.now self.old }
         ensures moved { HasMoved sound.now (view_of self.old) (view_of self.new) }
@@ -200,12 +213,12 @@ impl Section {
         }
         match self.search_on(sound, left, hook)? {
             SearchTurn::Answer => Ok(Some(Turn::Answer)),
-            SearchTurn::Failed => Ok(self.come_back()),
+            SearchTurn::Failed => Ok(self.come_back(pool)),
             SearchTurn::Spent => Ok(Some(Turn::Spent)),
             SearchTurn::More => Ok(Some(Turn::More)),
             SearchTurn::Stopped => Ok(Some(Turn::Stopped)),
             SearchTurn::Group => {
-                if self.take_group(sound, hook.wants())? {
+                if self.take_group(sound, pool, hook.wants())? {
                     return Ok(Some(Turn::Fork));
                 }
                 Ok(None)
@@ -219,6 +232,7 @@ impl Section {
         sound: &Sound,
         inferences: u64,
         hook: &mut H,
+        pool: &mut Pool,
     ) -> Result<Turn, NoMemory>
         requires { IsReady sound.now self.old }
         ensures moved { HasMoved sound.now (view_of self.old) (view_of self.new) }
@@ -236,7 +250,7 @@ impl Section {
         // More moves than that are never made.
         'moves: for _ in 0..u64::MAX {
             let left = inferences - (self.spent() - before);
-            if let Some(turn) = self.move_on(sound, left, hook)? {
+            if let Some(turn) = self.move_on(sound, left, hook, pool)? {
                 return Ok(turn);
             }
         }
@@ -244,13 +258,14 @@ impl Section {
     }
 
     /// Goes on. It makes at most so many calls, before each of which it asks the hook, and adds their number to the share.
-    /// Without memory it stands where its last move was made.
+    /// Frames lie in memory of the pool, which is given back. Without memory it stands where its last move was made.
     pub fn advance<H: Hook>(
         &mut self,
         sound: &Sound,
         inferences: u64,
         hook: &mut H,
         share: &mut Share,
+        pool: &mut Pool,
     ) -> Result<Turn, NoMemory>
         requires { IsReady sound.now self.old }
         ensures ready { IsReady sound.now self.new }
@@ -269,7 +284,7 @@ impl Section {
         ensures unwanted { H.is_wanted hook.old ≡ false → IfOk result (λ _. IsPrefix (frames_in self.new) (frames_in self.old)) }
     {
         let before = self.spent();
-        let turn = self.advance_by(sound, inferences, hook);
+        let turn = self.advance_by(sound, inferences, hook, pool);
         share.add(self.spent() - before);
         turn
     }

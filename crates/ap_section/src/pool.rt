@@ -1,14 +1,15 @@
-//! Searches that are done with.
+//! What sections and frames that are done with leave: their memory.
 
 ghost use Rattle.std.specs.Prelude.{◌≡◌, []};
 
-use crate::held::Held;
+use crate::section::Section;
 use ap_copy::Parcelled;
+use ap_frames::{Frame, Slot};
 use std::alloc::Global;
 use std::mem;
 
-/// A pool keeps no more searches than that.
-const MOST_SEARCHES: usize = 64;
+/// A pool keeps no more sections than that.
+const MOST_SECTIONS: usize = 64;
 
 /// It keeps none of more cells than that, so that what a large search took isn't held.
 const MOST_CELLS: usize = 1_024;
@@ -16,15 +17,24 @@ const MOST_CELLS: usize = 1_024;
 /// It keeps none that made more calls, either, as its lists may have been long before.
 const MOST_CALLS: u64 = 1_024;
 
-/// Whether a search has surely taken little memory.
-fn is_small(search: &Held) -> bool {
-    search.cells() <= MOST_CELLS && search.spent() <= MOST_CALLS
+/// It keeps no more lists of slots than that.
+const MOST_LISTS: usize = 64;
+
+/// It keeps no list with room for more slots than that.
+const MOST_SLOTS: usize = 16;
+
+/// Whether a section's search has surely taken little memory.
+fn is_small(section: &Section) -> bool {
+    section.cells() <= MOST_CELLS && section.spent() <= MOST_CALLS
 }
 
-/// Searches that are done with, whose memory the next ones take, and a list for answers.
+/// Sections and lists of slots that are done with, whose memory the next ones take, and a list for answers.
 #[derive(Drop)]
 pub struct Pool {
-    searches: Vec<Held>,
+    /// Without frames.
+    sections: Vec<Section>,
+    /// Without slots.
+    slots: Vec<Vec<Slot<Section, Parcelled>>>,
     answers: Vec<Parcelled>,
     alloc: Global,
 }
@@ -33,22 +43,42 @@ impl Pool {
     /// Takes no memory.
     pub fn new(alloc: Global) -> Pool {
         Pool {
-            searches: Vec::new(alloc),
+            sections: Vec::new(alloc),
+            slots: Vec::new(alloc),
             answers: Vec::new(alloc),
             alloc,
         }
     }
 
-    /// Keeps a search that is done with, if there is room for it.
-    pub(crate) fn put(&mut self, search: Held) {
-        if self.searches.len() < MOST_SEARCHES && is_small(&search) {
-            let _kept = self.searches.push(search);
+    /// Keeps a section that is done with and has no frame, if there is room for it.
+    pub(crate) fn put(&mut self, section: Section) {
+        if self.sections.len() < MOST_SECTIONS && is_small(&section) {
+            let _kept = self.sections.push(section);
         }
     }
 
-    /// Hands a search over.
-    pub(crate) fn take(&mut self) -> Option<Held> {
-        self.searches.pop()
+    /// Hands a section over.
+    pub(crate) fn take(&mut self) -> Option<Section> {
+        self.sections.pop()
+    }
+
+    /// Drops the slots of a frame, if there is one, and keeps their list, if there is room for it.
+    pub(crate) fn put_frame(&mut self, frame: Option<Frame<Section, Parcelled>>) {
+        let Some(Frame { mut slots, .. }) = frame else {
+            return;
+        };
+        slots.clear();
+        if self.slots.len() < MOST_LISTS && slots.capacity() <= MOST_SLOTS {
+            let _kept = self.slots.push(slots);
+        }
+    }
+
+    /// Hands over a list for slots.
+    pub(crate) fn take_slots(&mut self) -> Vec<Slot<Section, Parcelled>> {
+        match self.slots.pop() {
+            Some(slots) => slots,
+            None => Vec::new(self.alloc),
+        }
     }
 
     /// Hands over a list for answers, which has none.

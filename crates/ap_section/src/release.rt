@@ -37,15 +37,14 @@ fn list_frames(section: Section, left: &mut Vec<Section>) {
 }
 
 impl Section {
-    /// Gives the section's search to the pool. What slots of its frames hold is dropped.
+    /// Gives the section to the pool. One with frames is dropped, with what their slots hold.
     pub fn give_to(self, pool: &mut Pool) {
         if !self.frames.is_empty() {
             let alloc = self.alloc;
             self.release(alloc);
             return;
         }
-        let Section { search, .. } = self;
-        pool.put(search);
+        pool.put(self);
     }
 
     /// Drops the section, and those in its slots one after another: as long as memory for a list of them can be had, no depth of

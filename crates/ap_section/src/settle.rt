@@ -122,13 +122,13 @@ impl Section {
     }
 
     /// Forgets the newest frame with its fork.
-    fn forget(&mut self)
+    fn forget(&mut self, pool: &mut Pool)
         requires { IsAtFirst (view_of self.old) }
         ensures forgotten { IsForgotten (view_of self.old) (view_of self.new) }
         ensures ready { (code : Compiled) → IsNearlyReady code self.old → IsReady code self.new }
     {
         self.search.forget_fork();
-        let _frame = self.frames.pop();
+        pool.put_frame(self.frames.pop());
     }
 
     /// Copies answers of the newest frame's goals in. Where they can't be met, and without memory, the search is at the fork.
@@ -230,7 +230,7 @@ impl Section {
     }
 
     /// Breaks the newest frame, where no slot runs: it is forgotten, or closed where a slot is redone again.
-    fn settle_broken(&mut self, cost: u64) -> Result<Settled, NoMemory>
+    fn settle_broken(&mut self, pool: &mut Pool, cost: u64) -> Result<Settled, NoMemory>
         requires at { IsAtFrame (view_of self.old) }
         requires broken { verdict_in (view_of self.old) ≡ BrokenBy cost }
         ensures { IsOutcome self.old self.new result }
@@ -248,7 +248,7 @@ impl Section {
             self.close();
             return Ok(Settled::Broken);
         }
-        self.forget();
+        self.forget(pool);
         Ok(Settled::Broken)
     }
 
@@ -283,7 +283,7 @@ impl Section {
     {
         match verdict {
             Verdict::Joined(cost) => self.settle_joined(pool, cost),
-            Verdict::Broken(cost) => self.settle_broken(cost),
+            Verdict::Broken(cost) => self.settle_broken(pool, cost),
             Verdict::Spent => Ok(Settled::Spent),
             Verdict::Wait => self.find_redo(),
             _ => Ok(Settled::Open),

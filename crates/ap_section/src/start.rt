@@ -36,7 +36,7 @@ impl Section {
         })
     }
 
-    /// Begins a section as `start` does, in the memory of a search of the pool.
+    /// Begins a section as `start` does, in the memory of one of the pool.
     pub fn start_pooled(
         pool: &mut Pool,
         alloc: Global,
@@ -49,13 +49,19 @@ impl Section {
         ensures begins { IfOk result (λ found. Begins sound.now tuple.now predicate rest (view_of found)) }
         ensures ready { IfOk result (λ found. IsReady sound.now found) }
     {
-        let Some(mut search) = pool.take() else {
+        let Some(section) = pool.take() else {
             return Section::start(alloc, sound, tuple, predicate, rest);
         };
+        let Section {
+            mut search,
+            mut frames,
+            ..
+        } = section;
         search.begin_anew(sound, tuple, predicate, rest)?;
+        frames.clear();
         Ok(Section {
             search,
-            frames: Vec::new(alloc),
+            frames,
             alloc,
         })
     }

@@ -81,7 +81,7 @@ pub struct Stack<'a> {
     pub(crate) oldest: usize,
     /// How many frames are open around the search's goal.
     pub(crate) around: usize,
-    /// Searches of sections that are done with, for those that begin.
+    /// What is done with, for sections and frames that begin.
     pub(crate) pool: Pool,
 }
 

@@ -129,9 +129,13 @@ impl<'a> Stack<'a> {
         sharing_law();
         let mut wish = Wish::new(post.may_fork(self.depth()));
         let before = self.newest.spent();
-        let turn = self
-            .newest
-            .advance(self.sound, CALLS, &mut wish, &mut self.share)?;
+        let turn = self.newest.advance(
+            self.sound,
+            CALLS,
+            &mut wish,
+            &mut self.share,
+            &mut self.pool,
+        )?;
         let calls = self.newest.spent().saturating_sub(before);
         post.bar().went(calls, wish.has_passed());
         match turn {

@@ -22,6 +22,7 @@ use Rattle.ap_direct.specs.contracts.goal.Goal as Goal
 use Rattle.ap_direct.specs.contracts.goal.Part as Part
 use Rattle.ap_direct.specs.contracts.table.Directs as Directs
 use Rattle.ap_frames.proofs.frame.Frame.TheSendSync as frame
+use Rattle.ap_frames.proofs.slots.Slot.TheSendSync as slot
 use Rattle.ap_goalstack.proofs.ends.GoalStack.TheSendSync as goals
 use Rattle.ap_goalstack.proofs.ends.Thief.TheSendSync as thief
 use Rattle.ap_goalstack.specs.contracts.ends.GoalStack as GoalStack
@@ -31,7 +32,6 @@ use Rattle.ap_instr.proofs.compiled.Code.TheSendSync as code
 use Rattle.ap_ledger.proofs.share.Share.TheSendSync as share
 use Rattle.ap_machine.proofs.state.Search.TheSendSync as machine
 use Rattle.ap_section.proofs.section.Section.TheLaws.TheKnot as knot
-use Rattle.ap_section.specs.contracts.held.Held as Held
 use Rattle.ap_section.specs.contracts.pool.Pool as Pool
 use Rattle.ap_section.specs.contracts.section.Section as Section
 use Rattle.ap_post.proofs.bar.Bar.TheSendSync as bar
@@ -72,11 +72,8 @@ outcome-send = search (sendable, crosses, section-send) depth 20
 pub open-send : IsSend (Open.the_field).row
 open-send = search (sendable, crosses, section-send) depth 20
 
-held-send : IsSend (Held.the_field).row
-held-send = search (sendable, crosses, machine.the_send) depth 20
-
 pool-send : IsSend (Pool.the_field).row
-pool-send = search (sendable, crosses, heap.the_field_send, held-send, parcel.the_send) depth 20
+pool-send = search (sendable, crosses, heap.the_field_send, section-send, slot.the_send, parcel.the_send) depth 20
 
 pub stack-send : (a : NamedLft) → IsSend (Stack.the_field a).row
 stack-send a = search (sendable, crosses, sound-sync, share.the_send, section-send, open-send, pool-send) depth 24

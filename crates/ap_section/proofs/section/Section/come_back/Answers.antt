@@ -28,22 +28,22 @@ returns-then-is_some-clause-end c = λ code shut n u. back-due c.reaching_law.en
 
 pub returns-clause-moved : goal.returns-clause-moved
 returns-clause-moved c = λ code shut. (fewer-came c.reaching_law.ensures code c.args.self.now c.forget_fork.new.self shut c.requires.end (c.forget_fork.ensures.is_for code) c.in-Some.frame.now (top-last c.args.self.now c.in-Some.frame.now c.deref.result.now c.deref.ensures.value c.in-Some.ensures.value)
-    c.pop-dropped.new.self c.pop-dropped.ensures.rest (sym c.next_redo.ensures ∙ not-some c.next_redo.result (sym c.is_some.ensures ∙ c.if-is_some.false)) c.forget_fork.ensures.some).moved
+    c.pop.new.self c.pop.ensures.rest (sym c.next_redo.ensures ∙ not-some c.next_redo.result (sym c.is_some.ensures ∙ c.if-is_some.false)) c.forget_fork.ensures.some).moved
 
 pub returns-clause-spent : goal.returns-clause-spent
 returns-clause-spent c = λ code shut. (fewer-came c.reaching_law.ensures code c.args.self.now c.forget_fork.new.self shut c.requires.end (c.forget_fork.ensures.is_for code) c.in-Some.frame.now (top-last c.args.self.now c.in-Some.frame.now c.deref.result.now c.deref.ensures.value c.in-Some.ensures.value)
-    c.pop-dropped.new.self c.pop-dropped.ensures.rest (sym c.next_redo.ensures ∙ not-some c.next_redo.result (sym c.is_some.ensures ∙ c.if-is_some.false)) c.forget_fork.ensures.some).spent
+    c.pop.new.self c.pop.ensures.rest (sym c.next_redo.ensures ∙ not-some c.next_redo.result (sym c.is_some.ensures ∙ c.if-is_some.false)) c.forget_fork.ensures.some).spent
 
 pub returns-clause-ready : goal.returns-clause-ready
 returns-clause-ready c = λ code shut. (fewer-came c.reaching_law.ensures code c.args.self.now c.forget_fork.new.self shut c.requires.end (c.forget_fork.ensures.is_for code) c.in-Some.frame.now (top-last c.args.self.now c.in-Some.frame.now c.deref.result.now c.deref.ensures.value c.in-Some.ensures.value)
-    c.pop-dropped.new.self c.pop-dropped.ensures.rest (sym c.next_redo.ensures ∙ not-some c.next_redo.result (sym c.is_some.ensures ∙ c.if-is_some.false)) c.forget_fork.ensures.some).ready
+    c.pop.new.self c.pop.ensures.rest (sym c.next_redo.ensures ∙ not-some c.next_redo.result (sym c.is_some.ensures ∙ c.if-is_some.false)) c.forget_fork.ensures.some).ready
 
 pub returns-then-is_some-clause-frames : goal.returns-then-is_some-clause-frames
 returns-then-is_some-clause-frames c = frames-same c.args.self.now (searching c.args.self.now c.come_to_fork.new.self) (frames-searching c.args.self.now c.come_to_fork.new.self)
 
 pub returns-clause-frames : goal.returns-clause-frames
 returns-clause-frames c =
-    frames-fewer c.args.self.now c.forget_fork.new.self c.pop-dropped.new.self c.in-Some.frame.now (top-last c.args.self.now c.in-Some.frame.now c.deref.result.now c.deref.ensures.value c.in-Some.ensures.value) c.pop-dropped.ensures.rest
+    frames-fewer c.args.self.now c.forget_fork.new.self c.pop.new.self c.in-Some.frame.now (top-last c.args.self.now c.in-Some.frame.now c.deref.result.now c.deref.ensures.value c.in-Some.ensures.value) c.pop.ensures.rest
 
 pub returns-clause-dropped : goal.returns-clause-dropped
-returns-clause-dropped c = λ e. count-fewer c.args.self.now c.forget_fork.new.self c.pop-dropped.new.self c.in-Some.frame.now c.pop-dropped.result (top-last c.args.self.now c.in-Some.frame.now c.deref.result.now c.deref.ensures.value c.in-Some.ensures.value) c.pop-dropped.ensures.cases
+returns-clause-dropped c = λ e. count-fewer c.args.self.now c.forget_fork.new.self c.pop.new.self c.in-Some.frame.now c.pop.result (top-last c.args.self.now c.in-Some.frame.now c.deref.result.now c.deref.ensures.value c.in-Some.ensures.value) c.pop.ensures.cases

@@ -8,7 +8,7 @@ pub forget_fork-requires-clause-newest : goal.forget_fork-requires-clause-newest
 forget_fork-requires-clause-newest c = (first-out c.args.self.now c.requires).points
 
 pub returns-clause-forgotten : goal.returns-clause-forgotten
-returns-clause-forgotten c = forgot-view c.args.self.now c.forget_fork.new.self c.pop-frame.new.self c.requires c.forget_fork.ensures.some c.pop-frame.ensures.rest
+returns-clause-forgotten c = forgot-view c.args.self.now c.forget_fork.new.self c.pop.new.self c.requires c.forget_fork.ensures.some c.pop.ensures.rest
 
 pub returns-clause-ready : goal.returns-clause-ready
-returns-clause-ready c = λ code. forgot-ready code c.args.self.now c.forget_fork.new.self c.pop-frame.new.self c.requires c.forget_fork.ensures.some c.pop-frame.ensures.rest (c.forget_fork.ensures.is_for code)
+returns-clause-ready c = λ code. forgot-ready code c.args.self.now c.forget_fork.new.self c.pop.new.self c.requires c.forget_fork.ensures.some c.pop.ensures.rest (c.forget_fork.ensures.is_for code)

@@ -9,10 +9,10 @@ use Rattle.ap_section.proofs.section.Section.start_pooled.Goals as goal
 pub returns-clause-begins : goal.returns-clause-begins
 returns-clause-begins c =
     let p = c.begin_anew.new.self in
-    let x : Section-F Section = record { search = p; frames = c.new.result; alloc = c.args.alloc } in
-    (p, c.in_ok-begin_anew.ensures, c.in_ok-begin_anew.ensures.older, view_of-roll x ∙ fresh-seen p (reverse c.new.result.items) c.args.rest c.in_ok-begin_anew.ensures.spent c.in_ok-begin_anew.ensures.budget c.in_ok-begin_anew.ensures.older)
+    let x : Section-F Section = record { search = p; frames = c.clear.new.self; alloc = c.args.alloc } in
+    (p, c.in_ok-begin_anew.ensures, c.in_ok-begin_anew.ensures.older, view_of-roll x ∙ fresh-seen p (reverse c.clear.new.self.items) c.args.rest c.in_ok-begin_anew.ensures.spent c.in_ok-begin_anew.ensures.budget c.in_ok-begin_anew.ensures.older)
 
 pub returns-clause-ready : goal.returns-clause-ready
 returns-clause-ready c =
-    let x : Section-F Section = record { search = c.begin_anew.new.self; frames = c.new.result; alloc = c.args.alloc } in
-    ready-roll c.args.sound.now x (fresh-ready c.args.sound.now x c.new.ensures.items c.in_ok-begin_anew.ensures.older c.in_ok-begin_anew.ensures.is_for)
+    let x : Section-F Section = record { search = c.begin_anew.new.self; frames = c.clear.new.self; alloc = c.args.alloc } in
+    ready-roll c.args.sound.now x (fresh-ready c.args.sound.now x c.clear.ensures.items c.in_ok-begin_anew.ensures.older c.in_ok-begin_anew.ensures.is_for)

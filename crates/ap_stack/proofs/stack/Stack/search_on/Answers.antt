@@ -14,7 +14,7 @@ returns-in_err-turn-clause-goes c =
     let p = c.args.post.now in
     let s = c.args.self.now in
     let good = c.requires.good in
-    let t : Stack = record s { newest = c.advance.new.self; share = c.advance.new.share } in
+    let t : Stack = record s { newest = c.advance.new.self; share = c.advance.new.share; pool = c.advance.new.pool } in
     moved-alone p s t refl refl refl refl c.sharing_law.ensures good (good.none_out c.requires.runs) c.advance.ensures.ready (λ h. absurd (false≢true (sym c.requires.runs ∙ h))) c.advance.ensures.goes
     (went-pays p s t refl c.advance.ensures.budget c.advance.ensures.owes c.advance.ensures.share)
 
@@ -23,7 +23,7 @@ returns-in-Answer-clause-goes c =
     let p = c.args.post.now in
     let s = c.args.self.now in
     let good = c.requires.good in
-    let t : Stack = record s { newest = c.advance.new.self; share = c.advance.new.share } in
+    let t : Stack = record s { newest = c.advance.new.self; share = c.advance.new.share; pool = c.advance.new.pool } in
     let first = moved-alone p s t refl refl refl refl c.sharing_law.ensures good (good.none_out c.requires.runs) c.advance.ensures.ready (λ h. absurd (false≢true (sym c.requires.runs ∙ h))) c.advance.ensures.goes
     (went-pays p s t refl c.advance.ensures.budget c.advance.ensures.owes c.advance.ensures.share) in
     goes-then p p p s t c.answered.new.self first c.answered.ensures.goes
@@ -33,7 +33,7 @@ returns-in-Failed-clause-goes c =
     let p = c.args.post.now in
     let s = c.args.self.now in
     let good = c.requires.good in
-    let t : Stack = record s { newest = c.advance.new.self; share = c.advance.new.share } in
+    let t : Stack = record s { newest = c.advance.new.self; share = c.advance.new.share; pool = c.advance.new.pool } in
     let first = moved-alone p s t refl refl refl refl c.sharing_law.ensures good (good.none_out c.requires.runs) c.advance.ensures.ready (λ h. absurd (false≢true (sym c.requires.runs ∙ h))) c.advance.ensures.goes
     (went-pays p s t refl c.advance.ensures.budget c.advance.ensures.owes c.advance.ensures.share) in
     goes-then p p p s t c.failed.new.self first c.failed.ensures.goes
@@ -43,7 +43,7 @@ returns-in-Spent-clause-goes c =
     let p = c.args.post.now in
     let s = c.args.self.now in
     let good = c.requires.good in
-    let t : Stack = record s { newest = c.advance.new.self; share = c.advance.new.share } in
+    let t : Stack = record s { newest = c.advance.new.self; share = c.advance.new.share; pool = c.advance.new.pool } in
     let first = moved-alone p s t refl refl refl refl c.sharing_law.ensures good (good.none_out c.requires.runs) c.advance.ensures.ready (λ h. absurd (false≢true (sym c.requires.runs ∙ h))) c.advance.ensures.goes
     (went-pays p s t refl c.advance.ensures.budget c.advance.ensures.owes c.advance.ensures.share) in
     goes-then p p p s t c.spent_all.new.self first c.spent_all.ensures.goes
@@ -53,7 +53,7 @@ returns-in-More-clause-goes c =
     let p = c.args.post.now in
     let s = c.args.self.now in
     let good = c.requires.good in
-    let t : Stack = record s { newest = c.advance.new.self; share = c.advance.new.share } in
+    let t : Stack = record s { newest = c.advance.new.self; share = c.advance.new.share; pool = c.advance.new.pool } in
     moved-alone p s t refl refl refl refl c.sharing_law.ensures good (good.none_out c.requires.runs) c.advance.ensures.ready (λ h. absurd (false≢true (sym c.requires.runs ∙ h))) c.advance.ensures.goes
     (went-pays p s t refl c.advance.ensures.budget c.advance.ensures.owes c.advance.ensures.share)
 
@@ -63,7 +63,7 @@ returns-in-Fork-clause-goes c =
     let s = c.args.self.now in
     let good = c.requires.good in
     let x = view_of c.advance.new.self in
-    let t : Stack = record s { newest = c.advance.new.self; share = c.advance.new.share; tends = true } in
+    let t : Stack = record s { newest = c.advance.new.self; share = c.advance.new.share; pool = c.advance.new.pool; tends = true } in
     let at = at-frame (code_in s) 0 (section_in s) x (subst (Ends (code_in s) _ (section_in s) x) c.in-Fork.is c.in_ok-turn.ensures.end) in
     moved-alone p s t refl refl refl refl c.sharing_law.ensures good (good.none_out c.requires.runs) c.advance.ensures.ready (λ h. at) c.advance.ensures.goes
     (went-pays p s t refl c.advance.ensures.budget c.advance.ensures.owes c.advance.ensures.share)
