@@ -24,6 +24,10 @@ const INSIDE: i64 = 8;
 /// come to an end early. An answer is copied once for each open frame, so that a fork is dearer with each frame that is deeper.
 const DEEPER: usize = 1;
 
+/// The calls as which the copy of a cell counts: a copy takes the time of about one, but what is copied only to be forked again
+/// deeper down is copied once more there.
+const COPY: i64 = 8;
+
 /// How often one doubles to come to more than that.
 fn doublings(count: usize) -> usize {
     if count == 0 {
@@ -109,10 +113,9 @@ impl Bar {
         self.was_narrow.set(false);
     }
 
-    // To copy a cell takes as long as a call.
     fn pay_copy(&self, cells: usize) {
-        let count = i64::try_from(cells).unwrap_or(i64::MAX);
-        self.pay(count.saturating_mul(self.price.get() / PRICE));
+        let calls = i64::try_from(cells).unwrap_or(i64::MAX).saturating_mul(COPY);
+        self.pay(calls.saturating_mul(self.price.get() / PRICE));
     }
 
     /// Notes that a section begins a goal, whose terms are so many cells. It is taken to be
