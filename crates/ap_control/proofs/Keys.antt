@@ -18,6 +18,7 @@ use Rattle.ap_index.specs.declared.key.Key.{Key}
 use Rattle.ap_index.specs.declared.key.Key.TheVariants.{Atom, Integer, Structure}
 use Rattle.ap_index.specs.declared.choice.Choice.{Choice}
 use Rattle.ap_index.specs.declared.hashing.Hashed.{Hashed}
+use Rattle.ap_index.specs.declared.row.Pair.{Pair}
 use Rattle.ap_index.specs.declared.row.Row.{Row}
 use Rattle.ap_index.specs.Index.{AsksOther, LeavesOthers, named, tried_from, named_from, first_for, only_for, IsRowOf, IsChoiceAt}
 use Rattle.ap_match.specs.Fits.{Fits}
@@ -25,7 +26,7 @@ use Rattle.ap_steps.specs.Moves.{Asked}
 use Rattle.ap_standing.specs.Machine.{places_from}
 use Rattle.ap_index.specs.Keys.{same_key, integer_key, first_key, IsKeyOf}
 use Rattle.ap_control.specs.Heads.{IsShut, PassesOver}
-use Rattle.ap_control.specs.Choosing.{HasKey, IsOnly}
+use Rattle.ap_control.specs.Choosing.{HasKey, IsOnly, IsPairTold}
 
 -- a tree has one key
 pub clash : (a b : Key) (t : Tree) → same_key a b ≡ false → IsKeyOf a t → IsKeyOf b t → ⊥
@@ -123,6 +124,10 @@ module _ (code : Compiled) (cs : List Raw) (x : ℕ → ℕ) (q : Predicate) (r 
             (passes-others code cs x own.key key (named_from code (Some q.start)) (one ∷ it.behind) it.leads);
         next = passes-others code cs x own.key key it.behind [] it.others;
       }
+
+-- what is told of the choices of a row is told of the predicate's clauses
+pub row-told : (code : Compiled) (cs : List Raw) (x : ℕ → ℕ) (q : Predicate) (r : Row) (p : Pair) → IsRowOf code q.start r → IsPairTold code cs x (named_from code (Some q.start)) p → IsPairTold code cs x (clause_places code q) p
+row-told code cs x q r p h told = subst (λ ls. IsPairTold code cs x ls p) (sym (begun-places code q h.clause h.begins)) told
 
 -- the clauses of a predicate that begins with a choice are those that the choice names
 pub begin-places : (code : Compiled) (q : Predicate) (c : Choice) → IsChoiceAt code q.start c → c.named.is_first ≡ true → clause_places code q ≡ c.named.place ∷ places_from code c.named.behind

@@ -4,6 +4,7 @@ pub mod Fitting
 pub mod Keys
 pub mod Marks
 pub mod Openness
+pub mod Pairs
 pub mod Passed
 pub mod Ran
 pub mod Unifying

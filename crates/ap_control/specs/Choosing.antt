@@ -12,6 +12,8 @@ use Rattle.ap_index.specs.declared.hashing.Hashed.{Hashed}
 use Rattle.ap_index.specs.declared.head.Ask.{Ask}
 use Rattle.ap_index.specs.declared.word.Word.{Word}
 use Rattle.ap_index.specs.declared.word.Short.{Short}
+use Rattle.ap_index.specs.declared.row.Pair.{Pair}
+use Rattle.ap_index.specs.declared.row.Pair.TheVariants.{Never as NonePair, Only as OnlyPair, Open as OpenPair}
 use Rattle.ap_index.specs.Words.{word_of, word_or_nothing, HasAsked}
 use Rattle.ap_index.specs.Keys.{same_key, IsKeyOf}
 use Rattle.ap_index.specs.Heads.{IsMet}
@@ -29,8 +31,8 @@ use Rattle.ap_control.specs.declared.choosing.Possible.{Possible}
 use Rattle.ap_control.specs.declared.choosing.Left.{Left}
 use Rattle.ap_control.specs.declared.choosing.Chosen.{Chosen}
 use Rattle.ap_control.specs.declared.choosing.Chosen.TheVariants.{Only, First}
-use Rattle.ap_control.specs.declared.choosing.Told.{Told}
-use Rattle.ap_control.specs.declared.choosing.Told.TheVariants.{Never as NoneTold, Only as OnlyTold, From}
+use Rattle.ap_control.specs.declared.telling.Told.{Told}
+use Rattle.ap_control.specs.declared.telling.Told.TheVariants.{Never as NoneTold, Only as OnlyTold, From}
 use Rattle.ap_control.specs.Heads.{IsShut, PassesOver}
 use Rattle.ap_control.specs.Taking.{CanTake}
 
@@ -143,6 +145,12 @@ pub record IsOnly (code : Compiled) (cs : List Raw) (x : ℕ → ℕ) (ls : List
 -- of a predicate's clauses those from a choice on are left, where that isn't the predicate's first one
 abbrev pub AreLeftFrom : Compiled → List Raw → (ℕ → ℕ) → Predicate → ℕ → Type 0
 AreLeftFrom code cs x q at = (at ≡ q.start) ⊎ PassesOver code cs x (clause_places code q) (named_from code (Some at))
+
+-- what is told of some clauses' places by two keys
+abbrev pub IsPairTold : Compiled → List Raw → (ℕ → ℕ) → List ℕ → Pair → Type 0
+IsPairTold code cs x ls NonePair = PassesOver code cs x ls []
+IsPairTold code cs x ls (OnlyPair one) = IsOnly code cs x ls one
+IsPairTold code cs x ls OpenPair = Unit {0}
 
 -- what is told at once of a predicate's clauses
 abbrev pub IsTold : Compiled → List Raw → (ℕ → ℕ) → Predicate → Told → Type 0

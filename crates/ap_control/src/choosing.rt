@@ -9,51 +9,20 @@ ghost use Rattle.ap_instr.specs.StandsFor.{clause_places};
 ghost use Rattle.ap_index.specs.Keys.{same_key, IsKeyOf};
 ghost use Rattle.ap_instr.specs.Code.{Compiled};
 ghost use Rattle.ap_index.specs.declared.key.Key.TheVariants.{Structure};
-ghost use Rattle.ap_index.specs.Index.{named_from, IsChoiceOf, IsRowOf};
+ghost use Rattle.ap_index.specs.Index.{named_from, IsChoiceOf};
 ghost use Rattle.ap_match.specs.Fits.{Fits};
 ghost use Rattle.ap_steps.specs.Moves.{held, HoldPlaces};
 ghost use Rattle.ap_standing.specs.Machine.{places_from};
 ghost use Rattle.ap_control.specs.Heads.{PassesOver};
 ghost use Rattle.ap_control.specs.Taking.{CanTake};
-ghost use Rattle.ap_control.specs.Choosing.{both, chance_by, fit_known, IsFit, IsAskFit, AreFit, IsChance, HasKey, Alike, IsWordAt, IsArgument, IsFirst, IsKnown, IsWordFit, IsOtherFit, AreWordsFit, IsSure, IsOnly, AreLeftFrom, IsTold, IsChosen, IsLeft, possible_places, left_places};
+ghost use Rattle.ap_control.specs.Choosing.{both, chance_by, fit_known, IsFit, IsAskFit, AreFit, IsChance, HasKey, Alike, IsWordAt, IsArgument, IsFirst, IsKnown, IsWordFit, IsOtherFit, AreWordsFit, IsSure, AreLeftFrom, IsChosen, IsLeft, possible_places, left_places};
 
 use crate::alternatives::{Alternative, first, following};
 use ap_cells::{Cells, Top};
 use ap_codecheck::Sound;
-use ap_index::{Ask, Choice, Hashed, Head, Key, NOTHING, Next, Row, Short, UNBOUND, Word};
+use ap_index::{Ask, Choice, Hashed, Head, Key, NOTHING, Next, Short, UNBOUND, Word};
 use ap_instr::Predicate;
 use ap_steps::registers::place_in;
-
-/// What is looked up of an atom, an integer or a structure at a place; none of an unbound variable.
-#[inline(always)]
-fn key_of(cells: &Cells, place: usize) -> Option<Key>
-    requires { place < length cells.now.cells }
-    ensures { IfSome result (λ key. (k : ℕ → Tree) → Fits cells.now.cells k → IsKeyOf key (k place)) }
-{
-    match cells.top(place) {
-        Top::Free(_) => None,
-        Top::Atom(name) => Some(Key::Atom(name.number())),
-        Top::Int(value) => Some(Key::Integer(value)),
-        Top::Node(name, _, count) => {
-            if count > 255 {
-                return None;
-            }
-            Some(Key::Structure(name.number(), count as u8))
-        }
-    }
-}
-
-/// What is looked up at a place, with its hash.
-#[inline(always)]
-fn own_of(cells: &Cells, place: usize) -> Option<Hashed>
-    requires { place < length cells.now.cells }
-    ensures { IfSome result (λ own. (k : ℕ → Tree) → Fits cells.now.cells k → IsKeyOf own.key (k place)) }
-{
-    match key_of(cells, place) {
-        Some(key) => Some(Hashed::new(key)),
-        None => None,
-    }
-}
 
 /// How what there is stands to what is asked.
 #[derive(Clone, Copy)]
@@ -723,63 +692,4 @@ pub fn choose(
         }
     }
     chosen_in_turn(cells, x, sound, predicate)
-}
-
-/// A predicate's clause, where it has no other.
-#[inline(always)]
-fn alone(sound: &Sound, predicate: &Predicate) -> Option<u32>
-    ensures { (cs : List Raw) (x : ℕ → ℕ) → IfSome result (IsOnly sound.now cs x (clause_places sound.now predicate.now)) }
-{
-    match first(sound.code(), predicate) {
-        Some(
-            Alternative {
-                place,
-                behind: None,
-            },
-        ) => Some(place),
-        _ => None,
-    }
-}
-
-/// The clauses that are left for a call, as far as that is told at once.
-#[derive(Clone, Copy)]
-pub enum Told {
-    /// None.
-    Never,
-    /// The one at a place, and no other.
-    Only(u32),
-    /// Those from a choice on.
-    From(usize),
-}
-
-/// By a predicate's row, for a key of the first argument.
-#[inline(always)]
-fn told_by(row: &Row, own: Hashed) -> Told
-    ensures { (code : Compiled) (cs : List Raw) (x : ℕ → ℕ) (q : PredicateOf) → IsRowOf code q.start row.now → HasKey cs x (Some own) → IsTold code cs x q result }
-{
-    if let Some(place) = row.only(own) {
-        return Told::Only(place);
-    }
-    match row.first(own) {
-        Some(at) => Told::From(at),
-        None => Told::Never,
-    }
-}
-
-/// The clauses of a predicate that are left for a call: told by its row, or the predicate has one alone, or all.
-#[inline(always)]
-pub fn only(cells: &Cells, x: &[u32], sound: &Sound, predicate: &Predicate) -> Told
-    requires { HoldPlaces (length cells.now.cells) x.now }
-    ensures { IsTold sound.now cells.now.cells (held x.now) predicate.now result }
-{
-    let Some(row) = sound.row(predicate.start as usize) else {
-        return match alone(sound, predicate) {
-            Some(place) => Told::Only(place),
-            None => Told::From(predicate.start as usize),
-        };
-    };
-    match own_of(cells, place_in(x, 1)) {
-        Some(own) => told_by(row, own),
-        None => Told::From(predicate.start as usize),
-    }
 }

@@ -13,11 +13,13 @@ mod choosing;
 mod relations;
 mod runs;
 mod taking;
+mod telling;
 
 pub use alternatives::{Alternative, first, following, instruction_at};
 pub use ap_codecheck::Sound;
 pub use checks::{are_apart, is_ground};
-pub use choosing::{Chosen, Possible, Told, choose, next_possible, only};
+pub use choosing::{Chosen, Possible, choose, next_possible};
 pub use relations::solve;
 pub use runs::{run_to_stop, run_to_transfer, used};
 pub use taking::can_take;
+pub use telling::{Told, only};

@@ -11,7 +11,7 @@ use Rattle.ap_instr.specs.declared.instruction.Instr.TheVariants.{GetConstant, G
 use Rattle.ap_instr.specs.Code.{Compiled}
 use Rattle.ap_instr.specs.StandsFor.{tried}
 use Rattle.ap_needs.specs.Behind.{Begins, is_ended, NamesOwn, StandsAlone}
-use Rattle.ap_needs.proofs.Behind.{all-got, begun-get, begun-drop, drop-some, ended-drop}
+use Rattle.ap_needs.proofs.Behind.{all-got, begun-get, begun-same, begun-drop, drop-some, ended-drop}
 use Rattle.ap_needs.proofs.Asking.{drop-first, same-from}
 use Rattle.ap_index.specs.declared.key.Key.{Key}
 use Rattle.ap_index.specs.declared.head.Head.{Head}
@@ -27,7 +27,12 @@ use Rattle.ap_index.specs.declared.choice.Next.TheVariants.{Any, Row as RowNext,
 use Rattle.ap_index.specs.declared.choice.Choice.{Choice}
 use Rattle.ap_index.specs.declared.index.Index.{Index}
 use Rattle.ap_index.specs.Keys.{leaves_first, integer_key, asked_key, first_key, key_at}
-use Rattle.ap_index.specs.Heads.{IsHeadOf}
+use Rattle.ap_index.specs.declared.head.Ask.{Ask}
+use Rattle.ap_index.specs.declared.row.Pair.{Pair}
+use Rattle.ap_index.specs.declared.row.Pair.TheVariants.{Never, Only, Open}
+use Rattle.ap_index.specs.declared.row.Pairs.{Pairs}
+use Rattle.ap_index.specs.Heads.{AreNeeded, IsHeadOf}
+use Rattle.ap_index.specs.Pairs.{AsksOtherOf, AsksOtherPair, IsPairOf, pair_for, ArePairsOf}
 use Rattle.ap_index.specs.Index.{AsksOther, LeavesOthers, tried_from, named, named_from, in_slot, first_for, IsRowOf, IsRestOf, IsLinkOf, IsEntryOf, AreRowsOf, IsNamedBy, IsNextOf, IsChoiceOf, IsIndexOf}
 use Rattle.ap_index.specs.Within.{is_within, is_slot_within, is_row_within, is_link_within, is_next_within, is_choice_within, are_rows_within, is_index_within}
 
@@ -136,6 +141,42 @@ module _ (base code : Compiled) (begins : Begins base code) (alone : StandsAlone
     others = others-still key h.passed h.others;
   }
 
+  needed-still : (at : ℕ) (asks : List Ask) → at < length base.instructions → AreNeeded base at asks → AreNeeded code at asks
+  needed-still at asks l h = λ x y bs run. h x y bs ((same-from base code begins alone at l).back _ x y bs run)
+
+  other-still : (argument : ℕ) (key : Key) (at : ℕ) → AsksOtherOf base argument key at → AsksOtherOf code argument key at
+  other-still argument key at h =
+      let stands = begun-same base.instructions code.instructions at begins.instructions h.own in
+      let here = slice_get-get_or base.instructions at Proceed h.own in
+      record {
+        own = slice_get_within code.instructions at _ (sym stands ∙ here);
+        asked = h.asked;
+        needed = needed-still at (record { argument = argument; key = h.asked } ∷ []) h.own h.needed;
+        other = h.other;
+      }
+
+  all-pairs-still : (argument : ℕ) (one two : Key) (ps : List ℕ) → AllByRecursion (AsksOtherPair base argument one two) ps → AllByRecursion (AsksOtherPair code argument one two) ps
+  all-pairs-still argument one two [] h = tt
+  all-pairs-still argument one two (p ∷ ps) h = (go h.0, all-pairs-still argument one two ps h.1)
+    where
+      go : AsksOtherPair base argument one two p → AsksOtherPair code argument one two p
+      go (inl a) = inl (other-still 1 one p a)
+      go (inr a) = inr (other-still argument two p a)
+
+  pair-still : (argument : ℕ) (one two : Key) (ls : List ℕ) (p : Pair) → IsPairOf base argument one two ls p → IsPairOf code argument one two ls p
+  pair-still argument one two ls Never h = all-pairs-still argument one two ls h
+  pair-still argument one two ls (Only at) h = record {
+    before = h.before;
+    behind = h.behind;
+    are = h.are;
+    others_before = all-pairs-still argument one two h.before h.others_before;
+    others_behind = all-pairs-still argument one two h.behind h.others_behind;
+  }
+  pair-still argument one two ls Open h = tt
+
+  pairs-still : (ls ks : List ℕ) (p : Pairs) → ks ≡ ls → ArePairsOf base ls p → ArePairsOf code ks p
+  pairs-still ls ks p e h = λ one two. subst (λ qs. IsPairOf code p.argument one two qs (pair_for p one two)) (sym e) (pair-still p.argument one two ls (pair_for p one two) (h one two))
+
   row-still : (start : ℕ) (r : Row) → is_row_within (length base.instructions) r ≡ true → IsRowOf base start r → IsRowOf code start r
   row-still start r w h =
       let l : start < length base.instructions = slice_get_within base.instructions start _ h.begins in
@@ -151,6 +192,7 @@ module _ (base code : Compiled) (begins : Begins base code) (alone : StandsAlone
               leads = leaves-still key _ _ _ _ (named-same (Some start) (lt-ltb _ _ l)) refl it.leads;
               others = leaves-still key it.behind [] it.behind [] refl refl it.others;
             };
+        pairs = pairs-still _ _ r.pairs (named-same (Some start) (lt-ltb _ _ l)) h.pairs;
       }
 
   rest-still : (from : ℕ) (r : Row) → from < length base.instructions → is_row_within (length base.instructions) r ≡ true → IsRestOf base from r → IsRestOf code from r

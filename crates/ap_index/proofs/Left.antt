@@ -15,6 +15,7 @@ use Rattle.ap_index.specs.declared.rows.Entry.{Entry}
 use Rattle.ap_index.specs.declared.rows.Entry.TheVariants.{Nothing, Begins, Rest, Behind}
 use Rattle.ap_index.specs.declared.row.TheConstants.{NONE}
 use Rattle.ap_index.specs.Index.{LeavesOthers, LeavesOne, named, tried_from, named_from, place_or_none, in_slot, first_for, only_for, only_before, IsFilled, IsRowOf, IsLinkOf, IsEntryOf, IsNamedBy}
+use Rattle.ap_index.specs.Pairs.{ArePairsOf}
 use Rattle.ap_index.proofs.Same.{true-same}
 use Rattle.ap_term.proofs.Lists.{slice_get-push, drop-here}
 
@@ -162,14 +163,16 @@ filled-last code at k is old new empty none put only =
     }
 
 -- the `try`
-pub filled-first : (code : Compiled) (at : ℕ) (k : Keyed) → IsKeyed code at (λ clause. Try clause) k → (old new : Row) → IsFilled code (at + 1) old → PutsFirst k.key at old new → PutsOnly k old new → IsRowOf code at new
-filled-first code at k is old new h put only = record {
+pub filled-first : (code : Compiled) (at : ℕ) (k : Keyed) → IsKeyed code at (λ clause. Try clause) k → (old new : Row) → IsFilled code (at + 1) old → PutsFirst k.key at old new → PutsOnly k old new
+    → ArePairsOf code (named_from code (Some at)) new.pairs → IsRowOf code at new
+filled-first code at k is old new h put only pairs = record {
   clause = k.clause;
   begins = is.names;
   leads = λ key.
       put-leaves code key k.key old new k.clause at (tried_from code (Some (at + 1))) (named_from code) is.asks (try-more code at k.clause is.names)
       (subst (LeavesOthers code key (tried_from code (Some (at + 1)))) (sym (h.behind_try key)) (h.leads key)) put;
   alone = λ key one e. put-alone code key k old new _ (tried_from code (Some (at + 1))) one is.asks (try-more code at k.clause is.names) (h.leads key) (h.alone key) only e;
+  pairs = pairs;
 }
 
 -- what a list has at a place it has there with more behind it

@@ -4,6 +4,7 @@ pub mod Building
 pub mod Keyed
 pub mod Left
 pub mod Openness
+pub mod Paired
 pub mod Same
 pub mod Slots
 pub mod Words

@@ -17,3 +17,7 @@ hash_of key = number_of key * 11400714819323198485 % 2 ^ 64 / 2 ^ 32
 -- the slot of a key, among so many: the part of them that its hash is of 2 to the power of 32
 unfoldable pub slot_of : Key → ℕ → ℕ
 slot_of key slots = hash_of key * slots / 2 ^ 32
+
+-- the slot of two keys, among so many
+unfoldable pub pair_slot : Key → Key → ℕ → ℕ
+pair_slot one two slots = (hash_of one * 2246822507 % 2 ^ 32 + hash_of two) % 2 ^ 32 * slots / 2 ^ 32

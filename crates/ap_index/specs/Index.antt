@@ -20,6 +20,7 @@ use Rattle.ap_index.specs.declared.index.Index.{Index}
 use Rattle.ap_index.specs.Keys.{same_key, key_at}
 use Rattle.ap_index.specs.Hashing.{slot_of}
 use Rattle.ap_index.specs.Heads.{IsHeadOf}
+use Rattle.ap_index.specs.Pairs.{ArePairsOf}
 use Rattle.ap_index.specs.Words.{IsShortOf}
 
 -- the clause at a place asks for another first argument
@@ -88,6 +89,7 @@ pub record IsRowOf (code : Compiled) (start : ℕ) (r : Row) : Type 0 where
   pub begins : slice_get code.instructions start ≡ Some (Try clause)
   pub leads : (key : Key) → LeavesOthers code key (named_from code (Some start)) (named_from code (first_for r key))
   pub alone : (key : Key) (one : ℕ) → only_for r key ≡ Some one → LeavesOne code key (named_from code (Some start)) one
+  pub pairs : ArePairsOf code (named_from code (Some start)) r.pairs
 
 -- they go on at a place with a row
 abbrev pub IsRestOf : Compiled → ℕ → Row → Type 0

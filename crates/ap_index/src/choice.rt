@@ -49,7 +49,7 @@ pub struct Choice {
 }
 
 /// What a choice at a place names, if one stands there.
-fn named_at(code: &Code, at: u32) -> Option<Named>
+pub(crate) fn named_at(code: &Code, at: u32) -> Option<Named>
     ensures { IfSome result (λ named. IsNamedBy code.now at named) }
 {
     let behind = Some(at as usize + 1);
@@ -127,7 +127,7 @@ fn asked_at(code: &Code, clause: u32, is_first: bool) -> u32 {
 
 /// The first argument, or else another one, of which a clause of the choices from a place on asks a key: the second, where one asks it.
 /// It is 0 where none does, of those that are looked at.
-fn asked_from(code: &Code, at: u32, is_first: bool) -> u32 {
+pub(crate) fn asked_from(code: &Code, at: u32, is_first: bool) -> u32 {
     let best = if is_first { 1 } else { 2 };
     let mut found = 0;
     for place in at..at.saturating_add(AHEAD) {

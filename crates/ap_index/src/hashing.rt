@@ -2,7 +2,7 @@
 //! volume 3, 6.4), where the upper bits of the product choose among the slots, which each bit of the key can change.
 
 ghost use Rattle.std.specs.Prelude.{◌≡◌, ℕ, ◌<◌, ◌^◌};
-ghost use Rattle.ap_index.specs.Hashing.{number_of, hash_of, slot_of};
+ghost use Rattle.ap_index.specs.Hashing.{number_of, hash_of, slot_of, pair_slot};
 
 use crate::key::Key;
 
@@ -55,4 +55,16 @@ impl Hashed {
     {
         (self.hash as u64 * slots as u64 >> 32) as usize
     }
+}
+
+/// An odd number by which the hash of the first of two keys is spread again.
+const SPREAD: u32 = 0x85eb_ca6b;
+
+/// The slot of two keys, among so many.
+#[inline(always)]
+pub(crate) fn pair_slot(one: Hashed, two: Hashed, slots: u32) -> usize
+    ensures { result ≡ pair_slot one.key two.key slots }
+{
+    let hash = one.hash.wrapping_mul(SPREAD).wrapping_add(two.hash);
+    (hash as u64 * slots as u64 >> 32) as usize
 }

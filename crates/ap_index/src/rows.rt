@@ -7,11 +7,13 @@ ghost use Rattle.ap_index.specs.declared.key.Key.{Key};
 ghost use Rattle.ap_index.specs.declared.rows.Entry.TheVariants.{Nothing};
 ghost use Rattle.ap_index.specs.Hashing.{slot_of};
 ghost use Rattle.ap_index.specs.Index.{LeavesOthers, tried_from, first_for, only_for, only_before, place_or_none, in_slot, named_from, IsFilled, IsRowOf, IsRestOf, IsLinkOf, IsEntryOf, AreRowsOf};
+ghost use Rattle.ap_index.specs.Pairs.{ArePairsOf};
 ghost use Rattle.ap_index.specs.Within.{are_rows_within};
 
 use crate::hashing::Hashed;
 use crate::key::{Key, Keyed, instruction_at, keyed_by_retry, keyed_by_trust, keyed_by_try};
-use crate::row::{Link, NONE, Row};
+use crate::pairs::pairs_of;
+use crate::row::{Link, NONE, Pairs, Row};
 use crate::within::{are_links_within, are_rows_within};
 use ap_instr::{Code, Instr};
 use ap_term::NoMemory;
@@ -56,7 +58,16 @@ impl Row {
             slots: Vec::from_elem(alloc, behind.unwrap_or(NONE), count as usize)?,
             onlys: Vec::from_elem(alloc, only, count as usize)?,
             count,
+            pairs: Pairs::none(alloc),
         })
+    }
+
+    /// What is told of two arguments.
+    #[inline(always)]
+    pub fn pairs(&self) -> &Pairs
+        ensures { result.now ≡ self.now.pairs }
+    {
+        &self.pairs
     }
 
     /// What stands in a slot.
@@ -108,6 +119,7 @@ impl Row {
         requires { place < NONE }
         ensures first { (k : Key) → first_for self.new k ≡ (if slot_of k self.old.count == slot_of keyed.key self.old.count then Some place else first_for self.old k) }
         ensures only { (k : Key) → only_for self.new k ≡ (if slot_of k self.old.count == slot_of keyed.key self.old.count then only_before (first_for self.old k) keyed.clause else only_for self.old k) }
+        ensures pairs { self.new.pairs ≡ self.old.pairs }
     {
         let slot = Hashed::new(keyed.key).slot(self.count);
         self.onlys[slot] = match self.at(slot) {
@@ -235,6 +247,7 @@ impl Rows {
             self.put_link(at + 1, row.link(keyed.key))?;
             row.put(keyed, at);
         }
+        row.pairs = pairs_of(alloc, code, start, end)?;
         self.add_first(code, start, row)
     }
 
@@ -242,6 +255,7 @@ impl Rows {
     fn add_first(&mut self, code: &Code, start: u32, mut row: Row) -> Result<(), NoMemory>
         requires below { start < NONE }
         requires filled { IsFilled code.now (start + 1) row }
+        requires pairs { ArePairsOf code.now (named_from code.now (Some start)) row.pairs }
         requires are_rows { AreRowsOf code.now self.old }
         ensures { OnOk result (AreRowsOf code.now self.new) }
     {
@@ -302,7 +316,7 @@ impl Rows {
 }
 
 /// Whether a choice other than a `try` stands at a place.
-fn is_behind_try(code: &Code, at: u32) -> bool
+pub(crate) fn is_behind_try(code: &Code, at: u32) -> bool
     ensures { result ≡ true → named_from code.now (Some at) ≡ tried_from code.now (Some at) }
 {
     match instruction_at(code, at as usize) {

@@ -1,6 +1,7 @@
-use Rattle.std.proofs.Common.{◌+◌}
+use Rattle.std.proofs.Common.{◌+◌, Some, sym, subst}
 use Rattle.std.proofs.lemmas.Result.{on_ok_weaker}
-use Rattle.ap_index.specs.Index.{IsFilled}
+use Rattle.ap_index.specs.Index.{named_from, IsFilled}
+use Rattle.ap_index.specs.Pairs.{ArePairsOf}
 use Rattle.ap_index.proofs.Left.{filled-first, filled-more, row-link}
 use Rattle.ap_index.proofs.rows.Rows.add_first.Goals as goal
 
@@ -11,7 +12,8 @@ returns-in-Some c =
     on_ok_weaker c.put_first.result
     (λ put. put code
     (c.in_ok-put_link.ensures code c.requires.are_rows (row-link code (c.args.start + 1) c.args.row c.in-Some.first.key c.link.result c.link.ensures.count c.link.ensures.slot c.link.ensures.next filled))
-    (filled-first code c.args.start c.in-Some.first c.in-Some.ensures c.args.row c.put.new.self filled c.put.ensures.first c.put.ensures.only))
+    (filled-first code c.args.start c.in-Some.first c.in-Some.ensures c.args.row c.put.new.self filled c.put.ensures.first c.put.ensures.only
+    (subst (ArePairsOf code (named_from code (Some c.args.start))) (sym c.put.ensures.pairs) c.requires.pairs)))
     c.put_first.ensures
 
 pub returns-in-Some-keyed_by_retry : goal.returns-in-Some-keyed_by_retry

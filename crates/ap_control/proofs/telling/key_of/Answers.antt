@@ -4,7 +4,7 @@ use Rattle.ap_cells.specs.declared.top.Top.TheVariants.{Node}
 use Rattle.ap_instr.specs.Runs.{spread}
 use Rattle.ap_instr.proofs.Registers.{count-spread}
 use Rattle.ap_match.proofs.Maps.{fits-top}
-use Rattle.ap_control.proofs.choosing.key_of.Goals as goal
+use Rattle.ap_control.proofs.telling.key_of.Goals as goal
 
 pub returns-else-count-gt255 : goal.returns-else-count-gt255
 returns-else-count-gt255 c = λ k f. (
