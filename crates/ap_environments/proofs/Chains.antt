@@ -114,40 +114,66 @@ LeadUp-at n (f ∷ fs) (suc i) d h l = let e = LeadUp-at (n + 1) fs i d h.1 (ome
 
 -- ---- a frame is put on
 
-pub pushed : (ss : List ℕ) (fs : List Frame) (f : Frame) (ys : List ℕ) → AreFrames ss fs → f.first ≡ length ss → f.count ≡ length ys
-    → chains (ss ++ ys) (fs ++ f ∷ []) ≡ chains ss fs ++ (record { place = f.place; y = ys } ∷ chain ss fs f.up) ∷ []
-pushed ss fs f ys h first count =
-    chains_from-push (ss ++ ys) ([] ∷ []) fs f
-    ∙ ap₂ (λ cs r. cs ++ (r ∷ get_or cs f.up []) ∷ []) (chains_from-append ss ys ([] ∷ []) fs (Laid-within 0 fs (length ss) h.laid))
-    (ap (λ y. record { place = f.place; y = y }) (ap₂ (λ n m. take n (drop m (ss ++ ys))) count first ∙ ap (take (length ys)) (drop_at ss ys (length ss) refl) ∙ take_all (length ys) ys (omega arith)))
+Laid-last : (n : ℕ) (fs : List Frame) (f : Frame) (end : ℕ) → Laid n (fs ++ f ∷ []) end → f.first + f.count ≡ end
+Laid-last n [] f end h = ap (λ m. m + f.count) h.0 ∙ h.1
+Laid-last n (g ∷ fs) f end h = Laid-last (n + g.count) fs f end h.1
 
-pub frames-pushed : (ss : List ℕ) (fs : List Frame) (f : Frame) (ys : List ℕ) → AreFrames ss fs → f.first ≡ length ss → f.count ≡ length ys → f.up ≤ length fs → AreFrames (ss ++ ys) (fs ++ f ∷ [])
-frames-pushed ss fs f ys h first count up = record {
-  laid = subst (Laid 0 (fs ++ f ∷ [])) (ap (λ n. length ss + n) count ∙ sym (length-append ss ys)) (Laid-push 0 fs (length ss) f h.laid first);
-  up = LeadUp-push 0 fs f h.up (omega arith);
-}
+-- where the registers of the last frame end
+pub end-last : (fs gs : List Frame) (f : Frame) (end : ℕ) → fs ≡ gs ++ f ∷ [] → Laid 0 fs end → f.first + f.count ≡ end
+end-last fs gs f end e h = Laid-last 0 gs f end (subst (λ hs. Laid 0 hs end) e h)
+
+pub end-none : (fs : List Frame) (end : ℕ) → fs ≡ [] → Laid 0 fs end → 0 ≡ end
+end-none fs end e h = subst (λ hs. Laid 0 hs end) e h
+
+-- slots that were put on behind others leave these
+pub take-resized : (ss zs : List ℕ) (n e : ℕ) → e ≤ length ss → length ss ≤ n → take e (take n ss ++ zs) ≡ take e ss
+take-resized ss zs n e few l = ap (λ ts. take e (ts ++ zs)) (take_all n ss l) ∙ take-append-le e ss zs few
+
+-- what lies behind the frames may be anything
+module _ (ss us ys more : List ℕ) (fs : List Frame) (f : Frame) (h : AreFrames ss fs) (first : f.first ≡ h.end) (count : f.count ≡ length ys) (written : us ≡ take h.end ss ++ (ys ++ more)) where
+  len : length (take h.end ss) ≡ h.end
+  len = length-take-le h.end ss h.within
+
+  within : AllByRecursion (IsWithin (length (take h.end ss))) fs
+  within = subst (λ n. AllByRecursion (IsWithin n) fs) (sym len) (Laid-within 0 fs h.end h.laid)
+
+  same : chains us fs ≡ chains ss fs
+  same =
+      ap (λ ts. chains ts fs) written
+      ∙ chains_from-append (take h.end ss) (ys ++ more) ([] ∷ []) fs within
+      ∙ sym (chains_from-append (take h.end ss) (drop h.end ss) ([] ∷ []) fs within)
+      ∙ ap (λ ts. chains ts fs) (take-append-drop h.end ss)
+
+  registers : take f.count (drop f.first us) ≡ ys
+  registers =
+      ap₂ (λ n m. take n (drop m us)) count first
+      ∙ ap (λ ts. take (length ys) (drop h.end ts)) written
+      ∙ ap (take (length ys)) (drop_at (take h.end ss) (ys ++ more) h.end len)
+      ∙ take_at ys more (length ys) refl
+
+  pub pushed : chains us (fs ++ f ∷ []) ≡ chains ss fs ++ (record { place = f.place; y = ys } ∷ chain ss fs f.up) ∷ []
+  pushed = chains_from-push us ([] ∷ []) fs f ∙ ap₂ (λ cs r. cs ++ (r ∷ get_or cs f.up []) ∷ []) same (ap (λ y. record { place = f.place; y = y }) registers)
+
+  pub frames-pushed : f.up ≤ length fs → AreFrames us (fs ++ f ∷ [])
+  frames-pushed up = record {
+    end = h.end + f.count;
+    laid = Laid-push 0 fs h.end f h.laid first;
+    within = omega (arith, count, len, ap length written, length-append (take h.end ss) (ys ++ more), length-append ys more);
+    up = LeadUp-push 0 fs f h.up (omega arith);
+  }
 
 -- ---- frames are taken off
 
-module _ (ss : List ℕ) (fs : List Frame) (n : ℕ) (d : Frame) (h : AreFrames ss fs) (below : n < length fs) where
-  abbrev first : ℕ
-  first = (get_or fs n d).first
+pub cut-chains : (ss : List ℕ) (fs : List Frame) (n : ℕ) → chains ss (take n fs) ≡ take (n + 1) (chains ss fs)
+cut-chains ss fs n = sym (chains_from-take ss ([] ∷ []) n fs) ∙ ap (λ m. take m (chains ss fs)) (let e : 1 + n ≡ n + 1 = omega arith in e)
 
-  few : first ≤ length ss
-  few = let e = Laid-first 0 fs (length ss) n d h.laid below in omega arith
-
-  laid : Laid 0 (take n fs) (length (take first ss))
-  laid = subst (Laid 0 (take n fs)) (sym (length-take-le first ss few)) (Laid-take 0 fs (length ss) n d h.laid below)
-
-  pub cut-chains : chains (take first ss) (take n fs) ≡ take (n + 1) (chains ss fs)
-  cut-chains =
-      sym (chains_from-append (take first ss) (drop first ss) ([] ∷ []) (take n fs) (Laid-within 0 (take n fs) (length (take first ss)) laid))
-      ∙ ap (λ us. chains us (take n fs)) (take-append-drop first ss)
-      ∙ sym (chains_from-take ss ([] ∷ []) n fs)
-      ∙ ap (λ m. take m (chains ss fs)) (let e : 1 + n ≡ n + 1 = omega arith in e)
-
-  pub cut-frames : AreFrames (take first ss) (take n fs)
-  cut-frames = record { laid = laid; up = LeadUp-take 0 n fs h.up }
+pub cut-frames : (ss : List ℕ) (fs : List Frame) (n : ℕ) (d : Frame) → AreFrames ss fs → n < length fs → AreFrames ss (take n fs)
+cut-frames ss fs n d h below = record {
+  end = (get_or fs n d).first;
+  laid = Laid-take 0 fs h.end n d h.laid below;
+  within = let e = Laid-first 0 fs h.end n d h.laid below in let l = h.within in omega arith;
+  up = LeadUp-take 0 n fs h.up;
+}
 
 -- ---- choice points and forks
 
@@ -239,7 +265,7 @@ pub chain-none : (ss : List ℕ) (fs : List Frame) → chain ss fs 0 ≡ []
 chain-none ss fs = early ss ([] ∷ []) fs 0 (omega arith)
 
 pub frame-within : (ss : List ℕ) (fs : List Frame) (n : ℕ) (d : Frame) → AreFrames ss fs → n < length fs → (get_or fs n d).first + (get_or fs n d).count ≤ length ss
-frame-within ss fs n d h l = Laid-first 0 fs (length ss) n d h.laid l
+frame-within ss fs n d h l = let e = Laid-first 0 fs h.end n d h.laid l in let w = h.within in omega arith
 
 -- ---- the whole
 

@@ -68,7 +68,7 @@ with_place at behind (Forking f) = Forking f
 
 -- ---- how they lie
 
--- the registers lie one frame's behind another's, from a place to the end
+-- the registers lie one frame's behind another's, from a place to an end
 abbrev pub Laid : ℕ → List Frame → ℕ → Type 0
 Laid n [] end = n ≡ end
 Laid n (f ∷ fs) end = (f.first ≡ n) × Laid (n + f.count) fs end
@@ -84,5 +84,7 @@ Rising n [] all = n ≤ all
 Rising n (q ∷ qs) all = (n ≤ q.frames) × (0 < q.frames) × Rising q.frames qs all
 
 pub record AreFrames (ss : List ℕ) (fs : List Frame) : Type 0 where
-  pub laid : Laid 0 fs (length ss)
+  pub end : ℕ
+  pub laid : Laid 0 fs end
+  pub within : end ≤ length ss
   pub up : LeadUp 0 fs

@@ -157,7 +157,6 @@ impl Environments {
         ensures { self.new ≡ record { returns = []; moments = []; forks = [] } }
     {
         self.frames.clear();
-        self.slots.clear();
         self.top = 0;
         self.points.clear();
     }
@@ -167,11 +166,7 @@ impl Environments {
         ensures { self.new ≡ self.old }
     {
         let kept = kept_frames(&self.points);
-        cut(
-            &mut self.frames,
-            &mut self.slots,
-            self.top.max(kept) as usize,
-        );
+        cut(&mut self.frames, self.top.max(kept) as usize);
     }
 
     /// Puts on a return to a place, with the registers of its environment.

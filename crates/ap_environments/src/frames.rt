@@ -1,8 +1,8 @@
 //! Frames: registers that were saved, with a place and the frame above which they were put on.
 
-ghost use Rattle.std.specs.Prelude.{◌≡◌, ℕ, ◌+◌, ◌≤◌, List, ◌∷◌, [], ◌++◌, length, take, drop, IfOk, OnOk, OnErr};
+ghost use Rattle.std.specs.Prelude.{◌≡◌, ℕ, ◌+◌, ◌≤◌, List, ◌∷◌, [], ◌++◌, length, vec_len, take, drop, IfOk, OnOk, OnErr};
 ghost use Rattle.ap_steps.specs.Moves.{held};
-ghost use Rattle.ap_environments.specs.Frames.{LeadUp, AreFrames, chain, chains};
+ghost use Rattle.ap_environments.specs.Frames.{Laid, LeadUp, AreFrames, chain, chains};
 
 use crate::environments::Frame;
 use crate::registers::{clear_x, clear_y, copy_few};
@@ -11,7 +11,41 @@ use ap_term::NoMemory;
 /// The most that 32 bits count.
 const MOST: usize = u32::MAX as usize;
 
-/// Puts a frame behind the others, and answers its number, counted from 1.
+/// So many slots are put on beyond those that are needed.
+const MORE: usize = 256;
+
+/// Where the registers of the last frame end.
+#[inline(always)]
+fn end_of(frames: &[Frame]) -> usize
+    ensures { (end : ℕ) → Laid 0 frames.now end → result ≡ end }
+{
+    match frames.last().copied() {
+        Some(frame) => frame.first as usize + frame.count as usize,
+        None => 0,
+    }
+}
+
+/// Puts registers into slots from one on.
+#[inline(always)]
+fn write_from(slots: &mut [u32], first: usize, registers: &[u32])
+    requires { first + length registers.now ≤ length slots.old }
+    ensures { slots.new ≡ take first slots.old ++ (registers.now ++ drop (first + length registers.now) slots.old) }
+{
+    let (_, behind) = slots.split_at_mut(first);
+    let (place, _) = behind.split_at_mut(registers.len());
+    copy_few(place, registers);
+}
+
+/// Puts registers into all slots from one on.
+#[inline(always)]
+fn write(slots: &mut Vec<u32>, first: usize, registers: &[u32])
+    requires { first + length registers.now ≤ vec_len slots.old }
+    ensures { slots.new.items ≡ take first slots.old.items ++ (registers.now ++ drop (first + length registers.now) slots.old.items) }
+{
+    write_from(slots.as_mut_slice(), first, registers);
+}
+
+/// Puts a frame behind the others, and answers its number, counted from 1. Slots behind the last frame's are written over.
 #[inline(always)]
 pub fn push_frame(
     frames: &mut Vec<Frame>,
@@ -29,32 +63,35 @@ pub fn push_frame(
     ensures frames_kept { OnErr result (frames.new.items ≡ frames.old.items) }
     ensures slots_kept { OnErr result (slots.new.items ≡ slots.old.items) }
 {
-    if frames.len() >= MOST || slots.len() > MOST || registers.len() > MOST {
+    let first = end_of(frames);
+    if frames.len() >= MOST || first > MOST || registers.len() > MOST - first {
         return Err(NoMemory);
     }
     let number = frames.len() as u32 + 1;
     let frame = Frame {
         place,
         up,
-        first: slots.len() as u32,
+        first: first as u32,
         count: registers.len() as u32,
     };
     frames.reserve(1)?;
-    slots.extend_from_slice(registers)?;
+    let end = first + registers.len();
+    if end > slots.len() {
+        slots.resize(end + MORE, 0)?;
+    }
+    write(slots, first, registers);
     frames.push_reserved(frame);
     Ok(number)
 }
 
-/// Takes off the frames behind the first n.
-pub fn cut(frames: &mut Vec<Frame>, slots: &mut Vec<u32>, n: usize)
-    requires { AreFrames slots.old.items frames.old.items }
-    ensures chains { chains slots.new.items frames.new.items ≡ take (n + 1) (chains slots.old.items frames.old.items) }
+/// Takes off the frames behind the first n. Their slots stay, and will be written over.
+#[inline(always)]
+pub fn cut(frames: &mut Vec<Frame>, n: usize)
+    ensures chains { (ss : List ℕ) → chains ss frames.new.items ≡ take (n + 1) (chains ss frames.old.items) }
     ensures frames { frames.new.items ≡ take n frames.old.items }
-    ensures are_frames { AreFrames slots.new.items frames.new.items }
+    ensures are_frames { (ss : List ℕ) → AreFrames ss frames.old.items → AreFrames ss frames.new.items }
 {
     if n < frames.len() {
-        let first = frames[n].first;
-        slots.truncate(first as usize);
         frames.truncate(n);
     }
 }

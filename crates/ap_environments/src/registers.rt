@@ -69,6 +69,16 @@ pub fn copy_x(registers: &mut [u32], places: &[u32])
     }
 }
 
+/// Puts places into as many registers, of which there are so many.
+#[inline(always)]
+fn copy_count(registers: &mut [u32], places: &[u32], count: usize)
+    requires registers { length registers.old ≡ count }
+    requires places { length places.now ≡ count }
+    ensures { registers.new ≡ places.now }
+{
+    registers[..count].copy_from_slice(&places[..count]);
+}
+
 /// Puts places into as many Y registers, or arguments into as many X registers.
 #[inline(always)]
 pub fn copy_few(registers: &mut [u32], places: &[u32])
@@ -77,18 +87,18 @@ pub fn copy_few(registers: &mut [u32], places: &[u32])
 {
     match places.len() {
         0 => {}
-        1 => registers.copy_from_slice(places),
-        2 => registers.copy_from_slice(places),
-        3 => registers.copy_from_slice(places),
-        4 => registers.copy_from_slice(places),
-        5 => registers.copy_from_slice(places),
-        6 => registers.copy_from_slice(places),
-        7 => registers.copy_from_slice(places),
-        8 => registers.copy_from_slice(places),
-        9 => registers.copy_from_slice(places),
-        10 => registers.copy_from_slice(places),
-        11 => registers.copy_from_slice(places),
-        12 => registers.copy_from_slice(places),
+        1 => copy_count(registers, places, 1),
+        2 => copy_count(registers, places, 2),
+        3 => copy_count(registers, places, 3),
+        4 => copy_count(registers, places, 4),
+        5 => copy_count(registers, places, 5),
+        6 => copy_count(registers, places, 6),
+        7 => copy_count(registers, places, 7),
+        8 => copy_count(registers, places, 8),
+        9 => copy_count(registers, places, 9),
+        10 => copy_count(registers, places, 10),
+        11 => copy_count(registers, places, 11),
+        12 => copy_count(registers, places, 12),
         _ => copy_many(registers, places),
     }
 }

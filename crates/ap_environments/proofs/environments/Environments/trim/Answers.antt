@@ -20,10 +20,10 @@ pub invariant_of-self : goal.invariant_of-self
 invariant_of-self c =
     let a = c.self.inside in
     let l : length c.cut.new.frames.items ≡ c.max.result = ap length c.cut.ensures.frames ∙ length-take-le c.max.result a.frames.items (few c) in
-    record { frames = c.cut.ensures.are_frames; top = omega (arith, c.max.ensures); points = subst (Rising 0 a.points.items) (sym l) (rising c) }
+    record { frames = c.cut.ensures.are_frames a.slots.items c.self.invariant.frames; top = omega (arith, c.max.ensures); points = subst (Rising 0 a.points.items) (sym l) (rising c) }
 
 pub returns : goal.returns
 returns c =
     let a = c.self.inside in
-    let v = same-view a.slots.items c.cut.new.slots.items a.frames.items c.cut.new.frames.items a.points.items a.top c.max.result c.cut.ensures.chains (omega (arith, c.max.ensures)) (rising c) in
+    let v = same-view a.slots.items a.slots.items a.frames.items c.cut.new.frames.items a.points.items a.top c.max.result (c.cut.ensures.chains a.slots.items) (omega (arith, c.max.ensures)) (rising c) in
     ap₂ kept_of v.0 v.1 ∙ c.self.view_is
