@@ -29,6 +29,7 @@ use Rattle.ap_section.proofs.Levels.{slots_now, stack_now, view_of-roll, view_of
 use Rattle.ap_section.proofs.Parts.{FramesReady, IsShutNow, part_now, shut-out}
 use Rattle.ap_section.proofs.Newest.{Top, searching, frames-front, length-rows, length-before, slots-at}
 use Rattle.ap_section.proofs.Shown.{redo-shown}
+use Rattle.ap_section.proofs.Redoes.{redo-count}
 use Rattle.ap_section.proofs.Owed.{owes-closed}
 use Rattle.ap_section.proofs.Shut.{seen_now, shut-now-ready, shut-closed, same-most}
 use Rattle.ap_section.proofs.Forked.{Leads, Came, came}
@@ -61,7 +62,7 @@ module _ (law : ReachingLaw) (code : Compiled) (s : Section-F Section) (p : Paus
   closed = subst (λ fs. AreShut (map shape_of fs)) reversed shut.0.2
 
   -- at the fork
-  module _ (come : (g : Segment) (gs : List Segment) → s.search.older ≡ g ∷ gs → IsAtFork g (g ∷ gs) s.search p) where
+  module _ (more : is_some (next_redo f.slots.items) ≡ true) (come : (g : Segment) (gs : List Segment) → s.search.older ≡ g ∷ gs → IsAtFork g (g ∷ gs) s.search p) where
     abbrev back : Section-F Section
     back = record s { search = p }
 
@@ -77,7 +78,7 @@ module _ (law : ReachingLaw) (code : Compiled) (s : Section-F Section) (p : Paus
         same ∙ ap (λ gs. section p.machine q.spent q.budget (stack_now gs (reverse s.frames.items))) e ∙ ap (λ fs. section p.machine q.spent q.budget (stack_now (g ∷ hs) fs)) reversed in
         let goes = law.comes code q.machine p.machine q.spent q.budget st end.0 end.1 (record { now = k.now; returns = k.returns; roots_stay = k.roots; points = k.points }) in
         let still : IsShutNow code back = ((is_for, subst (λ gs. AreMatched code gs (part_now s).frames) (sym older) shut.0.1, shut.0.2), shut.1) in
-        let count : length f.slots.items ≡ length g.forked.goals = (subst (λ gs. AreMatched code gs (shape_of f ∷ map shape_of (reverse before))) e matched).0 in (
+        let count : length f.slots.items ≡ length g.forked.goals = redo-count f.round _ f.slots.items more (subst (λ gs. AreMatched code gs (shape_of f ∷ map shape_of (reverse before))) e matched).0 in (
           record {
             moved = record {
               goes = subst (Goes code (seen_now s)) (sym same) goes;
@@ -179,9 +180,9 @@ module _ (law : ReachingLaw) (code : Compiled) (s : Section) (p : Paused) (shut 
   shut-now : IsShutNow code (out-Section s)
   shut-now = shut-out code s shut
 
-  module _ (come : (g : Segment) (gs : List Segment) → (out-Section s).search.older ≡ g ∷ gs → IsAtFork g (g ∷ gs) (out-Section s).search p) where
+  module _ (more : is_some (next_redo f.slots.items) ≡ true) (come : (g : Segment) (gs : List Segment) → (out-Section s).search.older ≡ g ∷ gs → IsAtFork g (g ∷ gs) (out-Section s).search p) where
     both-back : Leads code (out-Section s) (record (out-Section s) { search = p }) × IsAtFrame (seen_now (record (out-Section s) { search = p }))
-    both-back = back-leads law code (out-Section s) p shut-now (at-end s end) (is_for shut-now.0.0) f t.before t.items come
+    both-back = back-leads law code (out-Section s) p shut-now (at-end s end) (is_for shut-now.0.0) f t.before t.items more come
 
     pub back-came : Came code s (searching s p)
     back-came = came code s (record (out-Section s) { search = p }) both-back.0
@@ -190,8 +191,8 @@ module _ (law : ReachingLaw) (code : Compiled) (s : Section) (p : Paused) (shut 
     back-framed = subst IsAtFrame (sym (view_of-roll (record (out-Section s) { search = p }))) both-back.1
 
     -- a slot of the frame can be redone still
-    pub back-due : is_some (next_redo f.slots.items) ≡ true → IsAtDueFrame (view_of (searching s p))
-    back-due more =
+    pub back-due : IsAtDueFrame (view_of (searching s p))
+    back-due =
         let top : Top (searching s p) f = record { before = t.before; items = ap (λ z. z.frames.items) (out-roll-Section (record (out-Section s) { search = p })) ∙ t.items } in
         (back-framed, λ closed. ap (λ w. is_some (next_redo (rows w))) (slots-at (searching s p) f top back-framed) ∙ ap is_some (redo-shown f.slots.items) ∙ more)
 

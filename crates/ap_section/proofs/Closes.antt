@@ -17,7 +17,8 @@ use Rattle.ap_machine.specs.Forks.{IsAtFork, IsBehindFork, Rejoined}
 use Rattle.ap_tie.specs.Sections.{section, Stack, parcall}
 use Rattle.ap_tie.specs.Settled.{HasFailed}
 use Rattle.ap_tie.specs.Tied.{IsRest}
-use Rattle.ap_tied.specs.Ties.{stack_in}
+use Rattle.ap_tied.specs.Ties.{IsCount, stack_in}
+use Rattle.ap_tied.proofs.Common.{closed-count}
 use Rattle.ap_section.specs.declared.section.Section.{Section, roll-Section, out-Section}
 use Rattle.ap_section.specs.declared.section.Section.TheViews.{out-roll-Section}
 use Rattle.ap_section.specs.declared.section.Section.TheOpen.{Section-F}
@@ -121,21 +122,21 @@ search-nearly code s p e f h =
     let k = nearly-out code s h in
     nearly-roll code (record (out-Section s) { search = p }) (f k.0, subst (λ gs. AreMatched code gs (map shape_of (reverse (out-Section s).frames.items))) (sym e) k.1, k.2, k.3)
 
-matched-as : (code : Compiled) (gs : List Segment) (a c : Shape) (bs : List Shape) → c.count ≡ a.count → AreMatched code gs (a ∷ bs) → AreMatched code gs (c ∷ bs)
-matched-as code [] a c bs e h = h
-matched-as code (g ∷ gs) a c bs e h = (e ∙ h.0, h.1, h.2)
+matched-as : (code : Compiled) (gs : List Segment) (a c : Shape) (bs : List Shape) → ((n : ℕ) → IsCount a.round a.count n → IsCount c.round c.count n) → AreMatched code gs (a ∷ bs) → AreMatched code gs (c ∷ bs)
+matched-as code [] a c bs counts h = h
+matched-as code (g ∷ gs) a c bs counts h = (counts (length g.forked.goals) h.0, h.1, h.2)
 
--- its newest frame has other slots, as many
-pub nearly-newest : (code : Compiled) (s : Section) (f h : Frame Section Trees) (t : Top s f) → length h.slots.items ≡ length f.slots.items → (SlotsReady code f.slots.items → SlotsReady code h.slots.items)
+-- its newest frame has other slots, of which there may be so many
+pub nearly-newest : (code : Compiled) (s : Section) (f h : Frame Section Trees) (t : Top s f) → ((n : ℕ) → IsCount f.round (length f.slots.items) n → IsCount h.round (length h.slots.items) n) → (SlotsReady code f.slots.items → SlotsReady code h.slots.items)
     → IsNearlyReady code s → IsNearlyReady code (with_newest s h)
-nearly-newest code s f h t e slots r =
+nearly-newest code s f h t counts slots r =
     let k = nearly-out code s r in
     let items = set-last (out-Section s).frames t.before f h t.items in
     let old : map shape_of (reverse (out-Section s).frames.items) ≡ shape_of f ∷ map shape_of (reverse t.before) = ap (λ fs. map shape_of (reverse fs)) t.items ∙ ap (map shape_of) (reverse-append t.before (f ∷ [])) in
     let new : map shape_of (reverse (with_item (out-Section s).frames (vec_len (out-Section s).frames - 1) h).items) ≡ shape_of h ∷ map shape_of (reverse t.before) =
     ap (λ fs. map shape_of (reverse fs)) items ∙ ap (map shape_of) (reverse-append t.before (h ∷ [])) in
     let frames = subst (FramesReady code) t.items k.3 in
-    let matched = matched-as code (out-Section s).search.older (shape_of f) (shape_of h) (map shape_of (reverse t.before)) e (subst (AreMatched code (out-Section s).search.older) old k.1) in
+    let matched = matched-as code (out-Section s).search.older (shape_of f) (shape_of h) (map shape_of (reverse t.before)) counts (subst (AreMatched code (out-Section s).search.older) old k.1) in
     nearly-roll code (record (out-Section s) { frames = with_item (out-Section s).frames (vec_len (out-Section s).frames - 1) h }) (
       k.0,
       subst (AreMatched code (out-Section s).search.older) (sym new) matched,
@@ -150,21 +151,29 @@ stack-closed : (gs : List Segment) (fs : List (Frame Section Trees)) (f h : Fram
 stack-closed [] fs f h e = refl
 stack-closed (g ∷ gs) fs f h e = ap (λ r. parcall g.forked r.rest r.round (slots_now r.slots) g.points (stack_now gs fs)) e
 
-closed-newest : (code : Compiled) (s : Section) (f h : Frame Section Trees) (t : Top s f) → row h ≡ with_round Closed (row f) → IsNearlyReady code s → IsReady code (with_newest s h)
-closed-newest code s f h t e r =
+closed-row : (f h : Frame Section Trees) → row h ≡ with_round Closed (row f) → (n : ℕ) → IsCount f.round (length f.slots.items) n → IsCount h.round (length h.slots.items) n
+closed-row f h e n k = subst (λ r. IsCount r.round (length r.slots) n) (sym e) (closed-count f.round (length f.slots.items) n k)
+
+-- its newest frame is closed, whatever slots it has
+pub shut-newest : (code : Compiled) (s : Section) (f h : Frame Section Trees) (t : Top s f) → h.round ≡ Closed → ((n : ℕ) → IsCount f.round (length f.slots.items) n → IsCount h.round (length h.slots.items) n)
+    → (SlotsReady code f.slots.items → SlotsReady code h.slots.items) → IsNearlyReady code s → IsReady code (with_newest s h)
+shut-newest code s f h t closed counts slots r =
     let k = nearly-out code s r in
     let items = set-last (out-Section s).frames t.before f h t.items in
     let old : map shape_of (reverse (out-Section s).frames.items) ≡ shape_of f ∷ map shape_of (reverse t.before) = ap (λ fs. map shape_of (reverse fs)) t.items ∙ ap (map shape_of) (reverse-append t.before (f ∷ [])) in
     let new : map shape_of (reverse (with_item (out-Section s).frames (vec_len (out-Section s).frames - 1) h).items) ≡ shape_of h ∷ map shape_of (reverse t.before) =
     ap (λ fs. map shape_of (reverse fs)) items ∙ ap (map shape_of) (reverse-append t.before (h ∷ [])) in
     let frames = subst (FramesReady code) t.items k.3 in
-    let matched = matched-as code (out-Section s).search.older (shape_of f) (shape_of h) (map shape_of (reverse t.before)) (ap (λ r. length r.slots) e) (subst (AreMatched code (out-Section s).search.older) old k.1) in
-    let order : AreInOrder (out-Section s).search (shape_of h ∷ map shape_of (reverse t.before)) = (inl (ap (λ r. r.round) e), subst AreShutBehind old k.2) in
+    let matched = matched-as code (out-Section s).search.older (shape_of f) (shape_of h) (map shape_of (reverse t.before)) counts (subst (AreMatched code (out-Section s).search.older) old k.1) in
+    let order : AreInOrder (out-Section s).search (shape_of h ∷ map shape_of (reverse t.before)) = (inl closed, subst AreShutBehind old k.2) in
     ready-roll code (record (out-Section s) { frames = with_item (out-Section s).frames (vec_len (out-Section s).frames - 1) h }) (
       (k.0, subst (AreMatched code (out-Section s).search.older) (sym new) matched, subst (AreInOrder (out-Section s).search) (sym new) order),
       subst (FramesReady code) (sym items)
-          (frames-join code t.before (h ∷ []) (frames-front code t.before (f ∷ []) frames) (subst (λ r. SlotsReady code r.slots) (sym e) (frames-back code t.before (f ∷ []) frames).0, tt)),
+          (frames-join code t.before (h ∷ []) (frames-front code t.before (f ∷ []) frames) (slots (frames-back code t.before (f ∷ []) frames).0, tt)),
     )
+
+closed-newest : (code : Compiled) (s : Section) (f h : Frame Section Trees) (t : Top s f) → row h ≡ with_round Closed (row f) → IsNearlyReady code s → IsReady code (with_newest s h)
+closed-newest code s f h t e r = shut-newest code s f h t (ap (λ r. r.round) e) (closed-row f h e) (subst (λ r. SlotsReady code r.slots) (sym e)) r
 
 pub closed-ready : (code : Compiled) (s : Section) (n : ℕ) (f h : Frame Section Trees) → n ≡ count_in s → HasFrame (stack_in (view_of s)) → f ≡ get_or (out-Section s).frames.items (n - 1) f → row h ≡ with_round Closed (row f)
     → IsNearlyReady code s → IsReady code (put_at s n h)

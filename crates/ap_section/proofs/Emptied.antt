@@ -1,12 +1,12 @@
 -- A section whose newest frame's slots drop what they hold.
-use Rattle.std.proofs.Common.{◌≡◌, ◌∙◌, ℕ, zero, suc, ◌+◌, ◌-◌, ◌<◌, Bool, true, false, if◌then◌else◌, nat_lt, List, [], ◌∷◌, ◌++◌, length, reverse, Option, ap, ap₂, sym, subst, refl, get_or, arith}
+use Rattle.std.proofs.Common.{◌≡◌, ◌∙◌, ℕ, zero, suc, ◌+◌, ◌-◌, ◌<◌, Bool, true, false, if◌then◌else◌, nat_lt, List, [], ◌∷◌, ◌++◌, length, reverse, Option, Some, None, inr, ap, ap₂, sym, subst, refl, get_or, arith}
 use Rattle.std.proofs.lemmas.Bool.{lt-ltb, le-ltb}
 use Rattle.std.proofs.lemmas.List.{get_or_at}
 use Rattle.std.proofs.lemmas.Option.{slice_get-get_or, same_Some}
 use Rattle.ap_term.specs.Tree.{Trees}
 use Rattle.ap_instr.specs.Code.{Compiled}
 use Rattle.ap_tie.specs.Sections as seen
-use Rattle.ap_tie.specs.Sections.{section, Slots, slot, Stack, parcall}
+use Rattle.ap_tie.specs.Sections.{section, Slots, no_slot, slot, Stack, bottom, parcall}
 use Rattle.ap_tied.specs.Emptied.{left_of, emptied_stand, emptied, hold_of, hold_by, emptied_behind, emptied_stack, emptied_in}
 use Rattle.ap_tied.specs.Settling.{SettlingLaw}
 use Rattle.ap_tied.specs.Ties.{Goes}
@@ -17,6 +17,7 @@ use Rattle.ap_frames.specs.declared.slots.Slot.{Slot}
 use Rattle.ap_frames.specs.declared.slots.Stand.{Stand}
 use Rattle.ap_frames.specs.declared.slots.Stand.TheVariants.{Ready, Waiting, Running, Answered, Replayed, Ended, GivenBack}
 use Rattle.ap_frames.specs.Rows.{row, with_slots}
+use Rattle.ap_frames.specs.Verdicts.{next_redo}
 use Rattle.ap_frames.specs.Rounds.{numbered, behind}
 use Rattle.ap_frames.proofs.Numbered.{changed_more, changed_all, length-numbered}
 use Rattle.ap_machine.specs.View.{Segment, Paused}
@@ -24,9 +25,12 @@ use Rattle.ap_section.specs.declared.section.Section.{Section, out-Section}
 use Rattle.ap_section.specs.Views.{view_of, row_of, bare, bare_section}
 use Rattle.ap_section.specs.Ready.{shape_of, IsReady}
 use Rattle.ap_section.specs.Lending.{count_in, with_newest}
+use Rattle.ap_section.specs.Closes.{kept_by, kept_of}
 use Rattle.ap_section.specs.Owed.{OwesNoMore}
 use Rattle.ap_section.proofs.Levels.{held_own, held_now, slots_now, stack_now, seen_as}
 use Rattle.ap_section.proofs.Parts.{HeldReady, StandReady, SlotsReady}
+use Rattle.ap_section.proofs.Closes.{ready-nearly, shut-newest}
+use Rattle.ap_section.proofs.Redoes.{next-now}
 use Rattle.ap_section.proofs.Newest.{Top, last-of, length-before, view-top, view-newest, ready-newest, put_at}
 
 pub ruleset numbered_rules = (changed_more, changed_all)
@@ -163,7 +167,7 @@ owes-emptied p (g ∷ gs) f fs i e =
     subst (λ (rd : Round). OwesNoMore (section p.machine p.spent p.budget (parcall g.forked f.rest rd w g.points (stack_now gs fs))) (section p.machine p.spent p.budget (parcall g.forked f.rest rd (emptied_behind i w) g.points (stack_now gs fs)))) (sym e)
     (record { budget = refl; owes = omega arith })
 
--- the slots behind its i-th one hold less in the new one
+-- of the newest frame's slots less is left in the new one
 pub record Empties (s new : Section) : Type 0 where
   pub goes : (code : Compiled) → Goes code (view_of s) (view_of new)
   pub ready : (code : Compiled) → IsReady code s → IsReady code new
@@ -181,8 +185,59 @@ empties-newest law s f h i t closed e =
       owes = subst (λ v. OwesNoMore v (view_of (with_newest s h))) (sym old) (subst (OwesNoMore (seen_as p (f ∷ fs))) (sym new) (owes-emptied p p.older f fs i closed));
     }
 
-pub empties : (law : SettlingLaw) (s : Section) (n : ℕ) (f d h : Frame Section Trees) (i : ℕ) → n ≡ count_in s → 0 < n → f ≡ get_or (out-Section s).frames.items (n - 1) f
-    → d ≡ get_or (out-Section s).frames.items (n - 1) d → d.round ≡ Closed → HasEmptied f h i → Empties s (put_at s n h)
-empties law s n f d h i e some v w closed r =
+-- ---- a frame that is cleared
+
+abbrev HasCleared : Frame Section Trees → Frame Section Trees → Type 0
+HasCleared f h = row h ≡ with_slots [] (row f)
+
+abbrev cleared_stack : Stack → Stack
+cleared_stack bottom = bottom
+cleared_stack (parcall f q rd w qs st) = parcall f q rd no_slot qs st
+
+stack-cleared : (gs : List Segment) (fs : List (Frame Section Trees)) (f h : Frame Section Trees) → HasCleared f h → stack_now gs (h ∷ fs) ≡ cleared_stack (stack_now gs (f ∷ fs))
+stack-cleared [] fs f h e = refl
+stack-cleared (g ∷ gs) fs f h e = ap (λ r. parcall g.forked r.rest r.round (slots_now r.slots) g.points (stack_now gs fs)) e
+
+goes-cleared : (law : SettlingLaw) (code : Compiled) (p : Paused) (gs : List Segment) (f : Frame Section Trees) (fs : List (Frame Section Trees)) → f.round ≡ Closed → next_redo f.slots.items ≡ None
+    → Goes code (section p.machine p.spent p.budget (stack_now gs (f ∷ fs))) (section p.machine p.spent p.budget (cleared_stack (stack_now gs (f ∷ fs))))
+goes-cleared law code p [] f fs e none = goes-same code _
+goes-cleared law code p (g ∷ gs) f fs e none =
+    let w = slots_now f.slots.items in
+    subst (λ (rd : Round). Goes code (section p.machine p.spent p.budget (parcall g.forked f.rest rd w g.points (stack_now gs fs))) (section p.machine p.spent p.budget (parcall g.forked f.rest rd no_slot g.points (stack_now gs fs)))) (sym e)
+    (law.clears code p.machine p.spent p.budget g.forked f.rest w g.points (stack_now gs fs) (next-now f.slots.items ∙ none))
+
+owes-cleared : (p : Paused) (gs : List Segment) (f : Frame Section Trees) (fs : List (Frame Section Trees)) → f.round ≡ Closed
+    → OwesNoMore (section p.machine p.spent p.budget (stack_now gs (f ∷ fs))) (section p.machine p.spent p.budget (cleared_stack (stack_now gs (f ∷ fs))))
+owes-cleared p [] f fs e = owes-none _
+owes-cleared p (g ∷ gs) f fs e =
+    let w = slots_now f.slots.items in
+    subst (λ (rd : Round). OwesNoMore (section p.machine p.spent p.budget (parcall g.forked f.rest rd w g.points (stack_now gs fs))) (section p.machine p.spent p.budget (parcall g.forked f.rest rd no_slot g.points (stack_now gs fs)))) (sym e)
+    (record { budget = refl; owes = omega arith })
+
+clears-newest : (law : SettlingLaw) (s : Section) (f h : Frame Section Trees) (t : Top s f) → f.round ≡ Closed → next_redo f.slots.items ≡ None → HasCleared f h → Empties s (with_newest s h)
+clears-newest law s f h t closed none e =
+    let p = (out-Section s).search in
+    let fs = reverse t.before in
+    let old = view-top s f t in
+    let over : h.round ≡ Closed = ap (λ r. r.round) e ∙ closed in
+    let new : view_of (with_newest s h) ≡ section p.machine p.spent p.budget (cleared_stack (stack_now p.older (f ∷ fs))) = view-newest s f h t ∙ ap (section p.machine p.spent p.budget) (stack-cleared p.older fs f h e) in
+    record {
+      goes = λ code. subst (λ v. Goes code v (view_of (with_newest s h))) (sym old) (subst (Goes code (seen_as p (f ∷ fs))) (sym new) (goes-cleared law code p p.older f fs closed none));
+      ready = λ code r. shut-newest code s f h t over (λ n k. inr (over, ap (λ r. length r.slots) e)) (λ xs. subst (λ r. SlotsReady code r.slots) (sym e) tt) (ready-nearly code s r);
+      owes = subst (λ v. OwesNoMore v (view_of (with_newest s h))) (sym old) (subst (OwesNoMore (seen_as p (f ∷ fs))) (sym new) (owes-cleared p p.older f fs closed));
+    }
+
+-- ---- either
+
+kept-newest : (law : SettlingLaw) (s : Section) (f h : Frame Section Trees) (t : Top s f) → f.round ≡ Closed → row h ≡ with_slots (kept_of f.slots.items) (row f) → Empties s (with_newest s h)
+kept-newest law s f h t closed e = go (next_redo f.slots.items) refl e
+  where
+    go : (o : Option ℕ) → next_redo f.slots.items ≡ o → row h ≡ with_slots (kept_by o f.slots.items) (row f) → Empties s (with_newest s h)
+    go (Some i) n d = empties-newest law s f h i t closed d
+    go None n d = clears-newest law s f h t closed n d
+
+pub empties : (law : SettlingLaw) (s : Section) (n : ℕ) (f d h : Frame Section Trees) → n ≡ count_in s → 0 < n → f ≡ get_or (out-Section s).frames.items (n - 1) f
+    → d ≡ get_or (out-Section s).frames.items (n - 1) d → d.round ≡ Closed → row h ≡ with_slots (kept_of f.slots.items) (row f) → Empties s (put_at s n h)
+empties law s n f d h e some v w closed r =
     let over : f.round ≡ Closed = ap (λ (z : Frame Section Trees). z.round) (sym (one-newest s n f d e some v w)) ∙ closed in
-    subst (λ k. Empties s (put_at s k h)) (sym e) (empties-newest law s f h i (top-some s n f e some v) over r)
+    subst (λ k. Empties s (put_at s k h)) (sym e) (kept-newest law s f h (top-some s n f e some v) over r)

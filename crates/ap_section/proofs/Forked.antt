@@ -152,7 +152,7 @@ module _ (s : Section-F Section) (p : Paused) (v : Vec (Frame Section Trees) Glo
         let newest : IsAtNewest p (g ∷ q.older) (shape_of f) = (fails-there, h.at_fork.cells, rest, subst (λ rd. IsSlotOf (length f.slots.items) rd) (sym (ap (λ r. r.round) o)) tt) in (
           (
             is_for,
-            subst (AreMatched code p.older) (sym shapes) (subst (λ gs. AreMatched code gs (shape_of f ∷ fs)) (sym h.at_fork.older) (count-of, h.known, shut.0.1)),
+            subst (AreMatched code p.older) (sym shapes) (subst (λ gs. AreMatched code gs (shape_of f ∷ fs)) (sym h.at_fork.older) (inl count-of, h.known, shut.0.1)),
             subst (AreInOrder p) (sym shapes) (inr (subst (λ gs. IsAtNewest p gs (shape_of f)) (sym h.at_fork.older) newest), shut.0.2),
           ),
           subst (FramesReady code) (sym e) (frames-join code s.frames.items (f ∷ []) shut.1 (subst (λ r. SlotsReady code r.slots) (sym o) (fresh-ready code (length h.forked.goals)), tt)),

@@ -1,5 +1,5 @@
 -- What is read of the newest frame's slots, and of the one that is redone next.
-use Rattle.std.proofs.Common.{◌≡◌, ◌∙◌, ℕ, zero, suc, ◌-◌, ◌<◌, ◌≤◌, List, [], ◌∷◌, length, take, ap, ap₂, sym, refl, Some, None, Option, true, false, ◌||◌, ◌&&◌, get_or}
+use Rattle.std.proofs.Common.{◌≡◌, ◌∙◌, ℕ, zero, suc, ◌-◌, ◌<◌, ◌≤◌, inl, inr, List, [], ◌∷◌, length, take, ap, ap₂, sym, refl, Some, None, is_some, Option, true, false, ◌||◌, ◌&&◌, get_or}
 use Rattle.std.specs.List.{list_any, list_all}
 use Rattle.ap_term.specs.Tree.{Trees}
 use Rattle.ap_frames.specs.declared.frame.Frame.{Frame}
@@ -12,6 +12,7 @@ use Rattle.ap_frames.specs.declared.frame.Round.{Round}
 use Rattle.ap_frames.specs.declared.frame.Round.TheVariants.{First, Draining, Later, Closed}
 use Rattle.ap_frames.proofs.Failing.{rightmost-inside}
 use Rattle.ap_tied.specs.Settling.{IsRedoable}
+use Rattle.ap_tied.specs.Ties.{IsCount}
 use Rattle.ap_section.specs.declared.section.Section.{Section, out-Section}
 use Rattle.ap_section.specs.Views.{view_of}
 use Rattle.ap_section.specs.Lending.{count_in}
@@ -35,6 +36,12 @@ left-now : (k : ℕ) (xs : List (Slot Section Trees)) → list_all has_answer (t
 left-now zero xs = refl
 left-now (suc k) [] = refl
 left-now (suc k) (x ∷ xs) = ap₂ (λ a b. a && b) (answer-row x) (left-now k xs)
+
+-- where one can be redone no slot was given away
+pub redo-count : (rd : Round) (n : ℕ) (xs : List (Slot Section Trees)) → is_some (next_redo xs) ≡ true → IsCount rd (length xs) n → length xs ≡ n
+redo-count rd n [] e h = absurd (let z : false ≡ true = e in cc)
+redo-count rd n (x ∷ xs) e (inl d) = d
+redo-count rd n (x ∷ xs) e (inr d) = absurd (let z : suc (length xs) ≡ 0 = d.1 in cc)
 
 -- ---- the newest frame
 

@@ -14,6 +14,7 @@ use Rattle.ap_tie.specs.Sections.{section, bottom, parcall}
 use Rattle.ap_tie.specs.Settled.{AreClosed}
 use Rattle.ap_tie.specs.Tied.{IsRest}
 use Rattle.ap_tied.specs.Ties.{Goes, stack_in}
+use Rattle.ap_tied.proofs.Common.{open-count}
 use Rattle.ap_tied.specs.Reaching.{ReachingLaw}
 use Rattle.ap_section.specs.declared.section.Section.{Section, out-Section}
 use Rattle.ap_section.specs.declared.section.Section.TheOpen.{Section-F}
@@ -97,7 +98,7 @@ open-now : (code : Compiled) (p : Paused) (gs : List Segment) (f : Frame Section
 open-now code p [] f fs n h k = absurd h
 open-now code p (g ∷ gs) f fs n h (inl e) = absurd (n e)
 open-now code p (g ∷ gs) f fs n h (inr k) =
-    (k.0, k.1, length-rows f.slots.items ∙ h.0, is-rest f.round f.rest (p.budget - p.spent) k.2, subst (λ c. IsSlotOf c f.round) (sym (length-rows f.slots.items)) k.3)
+    (k.0, k.1, length-rows f.slots.items ∙ open-count f.round _ _ n h.0, is-rest f.round f.rest (p.budget - p.spent) k.2, subst (λ c. IsSlotOf c f.round) (sym (length-rows f.slots.items)) k.3)
 
 open-at : (code : Compiled) (s : Section) (f : Frame Section Trees) → Top s f → (f.round ≡ Closed → ⊥) → IsReady code s → IsAtFrame (view_of s)
 open-at code s f t n r =

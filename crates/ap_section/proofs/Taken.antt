@@ -1,5 +1,5 @@
 -- A section from whose newest frame a slot's section is taken.
-use Rattle.std.proofs.Common.{◌≡◌, ◌∙◌, ℕ, zero, suc, ◌+◌, ◌-◌, ◌<◌, ◌≤◌, List, [], ◌∷◌, length, reverse, slice_get, ap, ap₂, sym, subst, refl, Some, None, Option, Bool, true, false, ◌&&◌, is_some, get_or, arith}
+use Rattle.std.proofs.Common.{◌≡◌, ◌∙◌, ℕ, zero, suc, ◌+◌, ◌-◌, ◌<◌, ◌≤◌, inl, List, [], ◌∷◌, length, reverse, slice_get, ap, ap₂, sym, subst, refl, Some, None, Option, Bool, true, false, ◌&&◌, is_some, get_or, arith}
 use Rattle.std.specs.Cmp.{nat_cmp_is}
 use Rattle.std.specs.Ordering.{nat_cmp}
 use Rattle.std.specs.declared.cmp.Ordering.{Ordering}
@@ -37,7 +37,7 @@ use Rattle.ap_section.proofs.Levels.{held_own, held_now, slots_now, stack_now, s
 use Rattle.ap_section.proofs.Parts.{HeldReady, StandReady, SlotsReady, FramesReady}
 use Rattle.ap_section.proofs.Newest.{top-at, view-top, view-newest, put_at, slots-at, round-at, length-rows, frames-back, length-stack}
 use Rattle.ap_section.proofs.Closes.{nearly-out, nearly-ready, ready-nearly, nearly-newest}
-use Rattle.ap_section.proofs.Redoes.{next-at, next-place}
+use Rattle.ap_section.proofs.Redoes.{redo-count, next-at, next-place}
 use Rattle.ap_section.proofs.Stood.{one-less}
 
 -- ---- slots
@@ -244,7 +244,7 @@ taken-from s a n f h i r e at v c d l o u =
           let slots = (frames-back code t.before (f ∷ []) (subst (FramesReady code) t.items now.3)).0 in
           let items = ap (λ z. z.slots) (resumed-row i (p.budget - p.spent) f h closed row_is) in
           let nearly = subst (λ j. IsNearlyReady code (put_at s j h)) (sym e)
-          (nearly-newest code s f h t (ap length items ∙ length-taken i 1 (i - 1) f.slots.items) (λ xs. subst (SlotsReady code) (sym items) (taken-ready code i 1 (i - 1) f.slots.items xs)) (ready-nearly code s k)) in
+          (nearly-newest code s f h t (λ m c. inl (ap length items ∙ length-taken i 1 (i - 1) f.slots.items ∙ redo-count f.round m f.slots.items (ap is_some next) c)) (λ xs. subst (SlotsReady code) (sym items) (taken-ready code i 1 (i - 1) f.slots.items xs)) (ready-nearly code s k)) in
           (nearly-ready code (put_at s n h) nearly at_frame, ready-place code (i - 1) f.slots.items a o slots);
     }
 

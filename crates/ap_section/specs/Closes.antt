@@ -15,8 +15,11 @@ use Rattle.ap_machine.specs.View.{IsFor}
 use Rattle.ap_tie.specs.Sections as seen
 use Rattle.ap_tie.specs.Sections.{section, Stack, bottom, parcall, Slots, rows}
 use Rattle.ap_tie.specs.Settled.{HasFailed, stays}
+use Rattle.ap_tied.specs.Emptied.{emptied}
 use Rattle.ap_tied.specs.Settling.{HasMet, IsAnswerIn, IsRedoable}
+use Rattle.ap_frames.specs.Rounds.{numbered, behind}
 use Rattle.ap_frames.specs.Slots.{is_running}
+use Rattle.ap_frames.specs.Verdicts.{next_redo}
 use Rattle.ap_tied.specs.Ties.{Goes, stack_in}
 use Rattle.ap_section.specs.declared.section.Section.{Section}
 use Rattle.ap_section.specs.declared.settle.Settled.{Settled}
@@ -41,6 +44,16 @@ abbrev pub AreSlotAnswers : List (Slot Section Trees) → List Trees → Type 0
 AreSlotAnswers [] [] = Unit {0}
 AreSlotAnswers (x ∷ xs) (t ∷ ts) = IsStandAnswer x.stand t × AreSlotAnswers xs ts
 AreSlotAnswers _ _ = ⊥
+
+-- ---- slots of a frame whose round is over
+
+-- by the slot that is redone next: those behind it hold less. Where there is none all are given away.
+abbrev pub kept_by : Option ℕ → List (Slot Section Trees) → List (Slot Section Trees)
+kept_by (Some i) xs = numbered (behind emptied i) 1 xs
+kept_by None xs = []
+
+abbrev pub kept_of : List (Slot Section Trees) → List (Slot Section Trees)
+kept_of xs = kept_by (next_redo xs) xs
 
 -- ---- the frame that comes first
 

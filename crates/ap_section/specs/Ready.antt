@@ -11,7 +11,7 @@ use Rattle.ap_frames.specs.declared.slots.Stand.TheVariants.{Answered}
 use Rattle.ap_instr.specs.Code.{Compiled}
 use Rattle.ap_machine.specs.View.{Segment, Paused, IsFor}
 use Rattle.ap_tie.specs.Settled.{HasFailed}
-use Rattle.ap_tied.specs.Ties.{IsKnownGoal}
+use Rattle.ap_tied.specs.Ties.{IsCount, IsKnownGoal}
 use Rattle.ap_section.specs.declared.section.Section.{Section, fold-Section}
 use Rattle.ap_section.specs.Slots.{IsSlotOf}
 use Rattle.ap_section.specs.declared.section.Section.TheOpen.{Section-F}
@@ -55,12 +55,12 @@ parts_of = fold-Section (List Part) parts_level
 
 -- ---- ready
 
--- the k-th newest frame has a slot for each goal of the k-th newest fork, and the code knows the goals
+-- the k-th newest frame has a slot for each goal of the k-th newest fork, or is cleared, and the code knows the goals
 abbrev pub AreMatched : Compiled → List Segment → List Shape → Type 0
 AreMatched code [] [] = Unit {0}
 AreMatched code [] (a ∷ bs) = ⊥
 AreMatched code (g ∷ gs) [] = ⊥
-AreMatched code (g ∷ gs) (a ∷ bs) = (a.count ≡ length g.forked.goals) × AllByRecursion (IsKnownGoal code) g.forked.goals × AreMatched code gs bs
+AreMatched code (g ∷ gs) (a ∷ bs) = IsCount a.round a.count (length g.forked.goals) × AllByRecursion (IsKnownGoal code) g.forked.goals × AreMatched code gs bs
 
 abbrev pub AreShut : List Shape → Type 0
 AreShut fs = AllByRecursion (λ f. f.round ≡ Closed) fs

@@ -1,6 +1,6 @@
-//! Slots of a frame whose round is over drop the sections that nobody looks at again.
+//! A frame whose round is over drops the sections, and the slots, that nobody looks at again.
 
-ghost use Rattle.std.specs.Prelude.{◌≡◌};
+ghost use Rattle.std.specs.Prelude.{◌≡◌, []};
 ghost use Rattle.ap_instr.specs.Code.{Compiled};
 ghost use Rattle.ap_frames.specs.Rounds.{numbered, behind};
 ghost use Rattle.ap_frames.specs.Rows.{row, with_slots};
@@ -9,6 +9,7 @@ ghost use Rattle.ap_tied.specs.Ties.{Goes};
 ghost use Rattle.ap_section.specs.Views.{view_of};
 ghost use Rattle.ap_section.specs.Ready.{IsReady};
 ghost use Rattle.ap_section.specs.Owed.{OwesNoMore};
+ghost use Rattle.ap_section.specs.Closes.{kept_of};
 
 use crate::advance::is_over;
 use crate::pool::Pool;
@@ -54,15 +55,28 @@ fn empty_behind(i: usize, slots: &mut Vec<Slot<Section, Parcelled>>, pool: &mut 
     }
 }
 
-fn empty_frame(frame: &mut Frame<Section, Parcelled>, i: usize, pool: &mut Pool)
-    ensures { row frame.new ≡ with_slots (numbered (behind emptied i) 1 (row frame.old).slots) (row frame.old) }
+/// Gives slots to the pool, with what they hold.
+fn clear(slots: &mut Vec<Slot<Section, Parcelled>>, pool: &mut Pool)
+    ensures { slots.new.items ≡ [] }
 {
-    empty_behind(i, &mut frame.slots, pool);
+    empty_behind(0, slots, pool);
+    pool.clear_slots(slots);
+}
+
+/// Empties the slots behind the one that is redone next; where none is, gives all slots away.
+fn empty_frame(frame: &mut Frame<Section, Parcelled>, pool: &mut Pool)
+    ensures { row frame.new ≡ with_slots (kept_of (row frame.old).slots) (row frame.old) }
+{
+    match frame.next_redo() {
+        Some(i) => empty_behind(i, &mut frame.slots, pool),
+        None => clear(&mut frame.slots, pool),
+    }
 }
 
 impl Section {
     /// Gives sections of the newest frame's slots to the pool, if its round is over: those that have no other answer, and stand behind the slot
-    /// that is redone next. Slots there begin anew when that one has answered.
+    /// that is redone next. Slots there begin anew when that one has answered. Where none is redone all slots are given to the pool: the frame
+    /// stands without them until the search comes back to it.
     pub fn drop_sections(&mut self, pool: &mut Pool)
         ensures goes { (code : Compiled) → Goes code (view_of self.old) (view_of self.new) }
         ensures ready { (code : Compiled) → IsReady code self.old → IsReady code self.new }
@@ -76,7 +90,6 @@ impl Section {
         if !is_over(self.frames[newest].round) {
             return;
         }
-        let kept = self.frames[newest].next_redo().unwrap_or(0);
-        empty_frame(&mut self.frames[newest], kept, pool);
+        empty_frame(&mut self.frames[newest], pool);
     }
 }

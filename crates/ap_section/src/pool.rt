@@ -62,15 +62,27 @@ impl Pool {
         self.sections.pop()
     }
 
-    /// Drops the slots of a frame, if there is one, and keeps their list, if there is room for it.
-    pub(crate) fn put_frame(&mut self, frame: Option<Frame<Section, Parcelled>>) {
-        let Some(Frame { mut slots, .. }) = frame else {
-            return;
-        };
+    /// Drops slots, and keeps their list, if it takes memory and there is room for it.
+    fn put_slots(&mut self, mut slots: Vec<Slot<Section, Parcelled>>) {
         slots.clear();
-        if self.slots.len() < MOST_LISTS && slots.capacity() <= MOST_SLOTS {
+        let most = slots.capacity();
+        if 0 < most && most <= MOST_SLOTS && self.slots.len() < MOST_LISTS {
             let _kept = self.slots.push(slots);
         }
+    }
+
+    /// Drops the slots of a frame, if there is one, and keeps their list.
+    pub(crate) fn put_frame(&mut self, frame: Option<Frame<Section, Parcelled>>) {
+        if let Some(Frame { slots, .. }) = frame {
+            self.put_slots(slots);
+        }
+    }
+
+    /// Drops slots, and keeps their list; one without memory is left in its place.
+    pub(crate) fn clear_slots(&mut self, slots: &mut Vec<Slot<Section, Parcelled>>)
+        ensures { slots.new.items ≡ [] }
+    {
+        self.put_slots(mem::replace(slots, Vec::new(self.alloc)));
     }
 
     /// Hands over a list for slots.

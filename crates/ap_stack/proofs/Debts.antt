@@ -30,7 +30,8 @@ use Rattle.ap_tie.specs.Sections as seen
 use Rattle.ap_tie.specs.Sections.{Row, section, bottom, parcall, Slots, no_slot, slot, nothing, held, rows}
 use Rattle.ap_tie.specs.Redone.{keeping, closed_row, taken}
 use Rattle.ap_tie.specs.Settled.{AreClosed}
-use Rattle.ap_tie.specs.Tied.{IsRest, IsShutIn, HoldsSlots}
+use Rattle.ap_tie.specs.Tied.{IsRest, IsShutIn, UnlessCleared, HoldsSlots}
+use Rattle.ap_tie.proofs.Cleared.{slot-stands}
 use Rattle.ap_tied.specs.SlotCalls.{held_in, gone_on}
 use Rattle.ap_tied.specs.Ties.{IsSimple, AreSimple, SlotsAreSimple, IsSimpleProgress, IsQuietRound, HoldsAnswer, AreQuietSlots, IsTied, stack_in}
 use Rattle.ap_open.specs.Opened.{rest_in}
@@ -80,6 +81,11 @@ slots-spend code r q b (more g gs) no_slot v h k = absurd h
 slots-spend code r q b (more g gs) (slot x a w) v h k =
     let simple = subst SlotsAreSimple h.5 k in
     (row-spends q _ x.stand h.1 h.3.1 simple.1, slots-spend code r q b gs w h.2 h.4 simple.2)
+
+-- a frame that is cleared has none
+frame-spends : (code : Compiled) (r : Rules) (q b : ℕ) (gs : Trees) (rd : Round) (w : Slots) (v : core.Slots) → UnlessCleared rd w v (HoldsSlots code r q b gs w v) → SlotsAreSimple v → AllByRecursion (Spends q) (rows w)
+frame-spends code r q b gs rd no_slot v h k = tt
+frame-spends code r q b gs rd (slot x a w) v h k = slots-spend code r q b gs (slot x a w) v (slot-stands rd x a w v _ h) k
 
 simple-behind : (xs : List Alternative) (l : Alternatives) → AreSimple (before xs l) → AreSimple l
 simple-behind [] l h = h
@@ -154,7 +160,7 @@ spent-owes code r n (section m c b (parcall f q rd w qs st)) z tied (inr h) =
     let stack = holds.5 in
     let all : AreSimple (before holds.1 holds.2) = subst IsSimple holds.6 tied.simple in
     let first = subst AreSimple stack.13 (simple-behind holds.1 holds.2 all) in
-    let spends = slots-spend code r q _ _ w stack.2 stack.9 first.0 in
+    let spends = frame-spends code r q _ _ rd w stack.2 stack.9 first.0 in
     let most = spent-edge q (rows w) spends rd tied.quiet.2 h.1 in
     least rd stack.7 h.1 most
   where

@@ -22,10 +22,9 @@ use Rattle.ap_frames.specs.declared.frame.Round.TheVariants as round
 use Rattle.ap_frames.specs.declared.verdict.Verdict.{Verdict}
 use Rattle.ap_frames.specs.declared.verdict.Verdict.TheVariants.{Wait, Joined, Broken, Spent}
 use Rattle.ap_frames.specs.Slots.{is_running, stands_running}
-use Rattle.ap_frames.specs.Verdicts.{judged}
+use Rattle.ap_frames.specs.Verdicts.{judged, next_redo}
 use Rattle.ap_parcall_laws.specs.Alike.{busy_of, AreAlike, StandsAs, HasAnswer, verdict_of}
 use Rattle.ap_parcall_laws.proofs.Judged.{judgements}
-use Rattle.ap_parcall_laws.proofs.Rows.{more-alike}
 use Rattle.ap_tracked.specs.Tracked.{Tracked, untracked}
 use Rattle.ap_instr.specs.Code.{Compiled}
 use Rattle.ap_standing.specs.Machine.{Point, Machine}
@@ -39,6 +38,7 @@ use Rattle.ap_tie.specs.Settled.{HasFailed}
 use Rattle.ap_tie.specs.Tied.{round_of, IsRest, HoldsTask}
 use Rattle.ap_tie.specs.Judged.{StandsRound, Happens, VerdictLaw}
 use Rattle.ap_tie.proofs.Answered.{alike}
+use Rattle.ap_tie.proofs.Cleared.{judged-round, open-stands, more-left}
 
 -- ---- slots that run
 
@@ -80,7 +80,8 @@ record FrameFirst (p : Rules) (r c q : ℕ) (rd : Round) (xs : List Row) (t : Ta
   slots : core.Slots
   older : Alternatives
   same : t ≡ task r c (alternative (frame at (round_of rd) slots) older)
-  are_alike : AreAlike p.loud q xs slots
+  are_alike : (judged q rd xs ≡ Wait → ⊥) → AreAlike p.loud q xs slots
+  more_left : some_has_more slots ≡ is_some (next_redo xs)
   rest : IsRest rd q r
 
 find_first : (code : Compiled) (p : Rules) (o : Tracked) (m : Machine) (c b : ℕ) (f : Forked) (q : ℕ) (rd : Round) (w : Slots) (qs : List Point) (st : Stack) (t : Task)
@@ -94,7 +95,8 @@ find_first code p o m c b f q rd w qs st t fails (ss, xs, l, holds, shown, (s, i
       slots = v;
       older = before ys k;
       same = is ∙ ap (task (b - c) c) z;
-      are_alike = alike code p q s.next (instance_all i.own i.goals) w v slots;
+      are_alike = λ n. alike code p q s.next (instance_all i.own i.goals) w v (open-stands rd w v _ (judged-round q rd (rows w) n) slots);
+      more_left = more-left code p q s.next (instance_all i.own i.goals) rd w v slots;
       rest = rest;
     }
     go [] (y ∷ ys) n h is = absurd h
@@ -110,8 +112,9 @@ begun_with round.Closed q r xs n h = absurd (n refl)
 verdict_same : (p : Rules) (r c q : ℕ) (rd : Round) (xs : List Row) (t : Task) (x : Verdict) (f : FrameFirst p r c q rd xs t) → (x ≡ Wait → ⊥) → StandsRound rd xs t → judged q rd xs ≡ x
     → conditions.verdict p.loud (round_of rd) r f.slots ≡ verdict_of x
 verdict_same p r c q rd xs t x f n h e =
-    let same_rest : q ≡ r = begun_with rd q r xs (λ j. n (sym e ∙ j)) f.rest in
-    (judgements (Unit {0}) Trees).verdict p.loud r rd (round_of rd) xs f.slots (subst (λ j. AreAlike p.loud j xs f.slots) same_rest f.are_alike) (subst (StandsRound rd xs) f.same h)
+    let waits : judged q rd xs ≡ Wait → ⊥ = λ j. n (sym e ∙ j) in
+    let same_rest : q ≡ r = begun_with rd q r xs waits f.rest in
+    (judgements (Unit {0}) Trees).verdict p.loud r rd (round_of rd) xs f.slots (subst (λ j. AreAlike p.loud j xs f.slots) same_rest (f.are_alike waits)) (subst (StandsRound rd xs) f.same h)
     ∙ ap verdict_of (sym (ap (λ j. judged j rd xs) same_rest) ∙ e)
 
 joined_waits : (e : ℕ) → Joined e ≡ Wait → ⊥
@@ -147,7 +150,7 @@ judging = record {
   breaks = λ code p o m c b f q rd w qs st t e fails stands h j none.
       let a = find_first code p o m c b f q rd w qs st t fails h in
       let waits : judged q rd (rows w) ≡ Wait → ⊥ = λ k. broken_waits e (sym j ∙ k) in
-      let rests : not (some_runs a.slots) ≡ true = ap not (runs_alike p.loud q (rows w) a.slots a.are_alike ∙ none) in
+      let rests : not (some_runs a.slots) ≡ true = ap not (runs_alike p.loud q (rows w) a.slots (a.are_alike waits) ∙ none) in
       happens p Break t (b - c) c e _ (after_failure (round_of rd) a.at a.slots a.older) a.same
       (opened rd q (b - c) c p (rows w) a.at a.slots a.older waits
       ∙ ap (λ x. broken_by x (b - c) c (round_of rd) a.at a.slots a.older) (verdict_same p (b - c) c q rd (rows w) t (Broken e) a (broken_waits e) stands j)
@@ -157,7 +160,7 @@ judging = record {
       ap (has_spent p.loud) a.same ∙ over rd q (b - c) c p a.at a.slots a.older (verdict_same p (b - c) c q rd (rows w) t Spent a spent_waits stands j);
   drops = λ code p o m c b f q w qs st t fails h none.
       let a = find_first code p o m c b f q round.Closed w qs st t fails h in
-      let no_more : not (some_has_more a.slots) ≡ true = ap not (more-alike p.loud q (rows w) a.slots a.are_alike ∙ ap is_some none) in
+      let no_more : not (some_has_more a.slots) ≡ true = ap not (a.more_left ∙ ap is_some none) in
       let left : (b - c) - 0 ≡ b - c = omega arith in
       let spent : c + 0 ≡ c = omega arith in
       happens p Break t (b - c) c 0 _ a.older a.same (ap (λ x. only_if x (task (b - c) c a.older)) no_more ∙ sym (ap₂ (λ i j. Some (task i j a.older)) left spent));

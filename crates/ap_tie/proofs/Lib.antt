@@ -2,6 +2,7 @@ pub mod Calls
 pub mod Groups
 pub mod Slotted
 pub mod Answered
+pub mod Cleared
 pub mod Settled
 pub mod Redone
 pub mod Open

@@ -31,6 +31,7 @@ use Rattle.ap_tie.specs.Sections.{Row, Section, section, Stack, bottom, parcall,
 use Rattle.ap_tie.specs.Shows.{Shows, before}
 use Rattle.ap_tie.specs.Tied.{round_of, IsShutIn, HoldsTask, HoldsSlots, HoldsSource}
 use Rattle.ap_tie.specs.Open.{origin_in, origin_of, places_of, LiftLaw, OpenLaw}
+use Rattle.ap_tie.proofs.Cleared.{open-round, open-stands, stands-there}
 
 -- ---- a slot that runs
 
@@ -138,7 +139,7 @@ lift_frame code p o i t z y k path (section m c b bottom) (ss, xs, l, holds, sho
     none_runs (state a ∷ xs) ss h n = none-some _ n
     none_runs (frame a rd w ∷ xs) [] h n = absurd h
     none_runs (frame a rd w ∷ xs) (s ∷ ss) h n = absurd h.0
-lift_frame code p o i t z y k path (section m c b (parcall f q rd w qs st)) (ss, xs, l, holds, shown, (s, j, v, sv, ys, older, kept, rest, shut, slots, points, shows, stack, whole), is) n e = go ss xs holds shown is
+lift_frame code p o i t z y k path (section m c b (parcall f q rd w qs st)) (ss, xs, l, holds, shown, (s, j, v, sv, ys, older, kept, rest, shut, left, points, shows, stack, whole), is) n e = go ss xs holds shown is
   where
     Result : Type 0
     Result = (u : Task) × LiftedTask code p o (section m c b (parcall f q rd w qs st)) t u k path i y
@@ -150,6 +151,7 @@ lift_frame code p o i t z y k path (section m c b (parcall f q rd w qs st)) (ss,
     go [] [] h shown is =
         let here : t ≡ task r c (alternative (frame (untracked s) (round_of rd) v) (before ys older)) = is ∙ ap (task r c) whole in
         let is_open_now = open_slots code p o i z r c (untracked s) (round_of rd) v (before ys older) (sym (ap (running_task i) here) ∙ n) in
+        let slots = open-stands rd w v _ (open-round rd is_open_now.0) left in
         let f = lift_slots code p q r s.next s.next (instance_all j.own j.goals) w v k path i z y slots is_open_now.1 e in (
           task r c (alternative (frame (untracked s) (round_of rd) f.0) (before ys older)),
           record {
@@ -160,7 +162,7 @@ lift_frame code p o i t z y k path (section m c b (parcall f q rd w qs st)) (ss,
               alternative (frame (untracked s) (round_of rd) f.0) (before ys older),
               h,
               tt,
-              (s, j, f.0, sv, ys, older, kept, rest, shut_open rd (rows w) f.0 is_open_now.0, f.1.hold, points, shows, stack, refl),
+              (s, j, f.0, sv, ys, older, kept, rest, shut_open rd (rows w) f.0 is_open_now.0, stands-there code p q s.next (instance_all j.own j.goals) rd w f.0 f.1.hold, points, shows, stack, refl),
               refl,
             );
             runs = chosen (is_open (round_of rd)) (running_in i f.0) is_open_now.0 ∙ f.1.runs;

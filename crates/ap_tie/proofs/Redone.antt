@@ -94,9 +94,13 @@ redone_slots code p q r b (more g gs) (slot x n w) v xs i (k, y, u, l, rest, is)
     go xs None false f d a next = absurd (none-some _ (sym (ap₂ place_behind f d) ∙ e))
 
 pub redo_section : RedoLaw
-redo_section code p o m c b f q w qs st t i fails (ss, xs, l, holds, shown, (s, j, v, sv, ys, k, kept_so, rest, shut, slots, points, shows, older, z), is) e =
+redo_section code p o m c b f q no_slot qs st t i fails h e = absurd (none-some _ e)
+redo_section code p o m c b f q (slot y h w') qs st t i fails (ss, xs, l, holds, shown, (s, j, v, sv, ys, k, kept_so, rest, shut, slots, points, shows, older, z), is) e =
     go ss xs (subst (λ ps. HoldsPoints code m.roots ps ss) fails.points (failed-points code m fails.now ss holds)) holds shown is
   where
+    w : Slots
+    w = slot y h w'
+
     r : ℕ
     r = b - c
 

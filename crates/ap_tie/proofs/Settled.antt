@@ -24,7 +24,7 @@ use Rattle.ap_frames.specs.declared.frame.Round.{Round}
 use Rattle.ap_frames.specs.declared.frame.Round.TheVariants.{First, Draining, Later, Closed}
 use Rattle.ap_frames.specs.Slots.{has_answer}
 use Rattle.ap_frames.specs.Verdicts.{next_redo}
-use Rattle.ap_parcall_laws.proofs.Rows.{answered-alike, more-alike}
+use Rattle.ap_parcall_laws.proofs.Rows.{answered-alike}
 use Rattle.ap_tracked.specs.Tracked.{Tracked, untracked, untracked_goal, opened}
 use Rattle.ap_tracked.specs.Marks.{opening}
 use Rattle.ap_tracked.specs.Forks.{alone}
@@ -41,9 +41,10 @@ use Rattle.ap_tie.specs.Sections.{Section, section, Stack, bottom, parcall, Slot
 use Rattle.ap_tie.specs.Shows.{Shows, before}
 use Rattle.ap_tie.specs.Forked.{IsForked}
 use Rattle.ap_tie.specs.Slots.{rest_of}
-use Rattle.ap_tie.specs.Tied.{round_of, IsShutIn, HoldsTask, HoldsStack, HoldsSlots}
+use Rattle.ap_tie.specs.Tied.{round_of, IsShutIn, UnlessCleared, HoldsTask, HoldsStack, HoldsSlots}
 use Rattle.ap_tie.specs.Settled.{AllHeld, AreHeld, AreClosed, StoresBehind, MayShut, IsJoined, HasCounts, JoinLaw, stays, HasFailed, BreakLaw}
 use Rattle.ap_tie.proofs.Answered.{alike}
+use Rattle.ap_tie.proofs.Cleared.{staying-round, open-stands, stands-there, more-left}
 use Rattle.ap_tie.proofs.Calls.{no-goals}
 
 -- ---- the answer of a slot's section
@@ -159,7 +160,7 @@ with_counts : (d b r c : ℕ) (u : Task) (l : Alternatives) → HasCounts d b u 
 with_counts d b r c u l h e = e ∙ ap₂ (λ i j. task i j l) (sym (ap rest_of e) ∙ h.rest) (sym (ap spent_by e) ∙ h.spent)
 
 pub join : JoinLaw
-join code p o m c b f q rd w qs st t u good below all closed stores (ss, xs, l, holds, shown, (s, i, v, sv, ys, k, kept, rest, shut, slots, points, shows, older, z), is) event = go ss xs shown is
+join code p o m c b f q rd w qs st t u good below all closed stores (ss, xs, l, holds, shown, (s, i, v, sv, ys, k, kept, rest, shut, left, points, shows, older, z), is) event = go ss xs shown is
   where
     r : ℕ
     r = b - c
@@ -170,7 +171,10 @@ join code p o m c b f q rd w qs st t u good below all closed stores (ss, xs, l, 
     main : t ≡ task r c l → (j : Tracked) × IsJoined code p.program o m.roots f w j × ((n : Machine) (d : ℕ) → n.roots ≡ m.roots → Holds code n (j ∷ []) → HasCounts d b u → HoldsTask code p o (section n d b (parcall f q Closed w qs st)) u)
     main is =
         let whole : t ≡ task r c (alternative (frame (untracked s) (round_of rd) v) behind) = is ∙ ap (task r c) z in
-        let e = joined_by_verdict (verdict p.loud (round_of rd) r v) r c (untracked s) v behind u (sym (ap (own p Join) whole) ∙ event) in
+        let now = sym (ap (own p Join) whole) ∙ event in
+        let e = joined_by_verdict (verdict p.loud (round_of rd) r v) r c (untracked s) v behind u now in
+        let is_open_now : rd ≡ Closed → ⊥ = λ d. none-some _ (sym (ap (λ j. joined_by (verdict p.loud (round_of j) r v) r c (untracked s) v behind) d) ∙ now) in
+        let slots : HoldsSlots code p q s.next (instance_all i.own i.goals) w v = open-stands rd w v _ is_open_now left in
         let a = answers code p q s.next (instance_all i.own i.goals) w v slots all in
         let j = joining p.program o s i.checks i.goals i.own i.now i.behind a.0 good below kept i.first i.apart a.1.each in
         let state_same : with_answers v s.next (untracked s) ≡ untracked (tracked_grafts s.next s a.0) = a.1.put (untracked s) ∙ j.1 in
@@ -185,7 +189,7 @@ join code p o m c b f q rd w qs st t u good below all closed stores (ss, xs, l, 
             h,
             ((tracked_grafts s.next s a.0, j.0, state_same, inl refl), tt),
             subst (λ roots. HoldsStack code p o roots (b - d) (parcall f q Closed w qs st) (alternative (frame (untracked s) core_round.Closed v) behind)) (sym same_roots)
-                (s, i, v, sv, ys, k, kept, tt, (λ n g. (all_taken has_answer (n - 1) (rows w) answered, stored n g)), slots, points, shows, rest_left code p o m.roots r (b - d) st k closed older, refl),
+                (s, i, v, sv, ys, k, kept, tt, (λ n g. (all_taken has_answer (n - 1) (rows w) answered, stored n g)), stands-there code p q s.next (instance_all i.own i.goals) Closed w v slots, points, shows, rest_left code p o m.roots r (b - d) st k closed older, refl),
             with_counts d b (r - e.0) (c + e.0) u _ counts e.1,
           ),
         )
@@ -234,7 +238,7 @@ record Broken (code : Compiled) (p : Rules) (o : Tracked) (m : Machine) (b : ℕ
   shown : List Alternative
   older : Alternatives
   kept : IsKept p.program o forked
-  hold : HoldsSlots code p q forked.next (instance_all is_forked.own is_forked.goals) w slots
+  hold : UnlessCleared rd w slots (HoldsSlots code p q forked.next (instance_all is_forked.own is_forked.goals) w slots)
   points : HoldsPoints code m.roots qs states
   shows : AllZip (Shows p.program o) states shown
   rest : ℕ
@@ -249,7 +253,7 @@ find_broken code p o m c b f q rd w qs st t u (ss, xs, l, holds, shown, (s, i, v
     go : (ss : List Tracked) (xs : List Alternative) → AllZip (Shows p.program o) ss xs → t ≡ task (b - c) c (before xs l) → Broken code p o m b f q rd w qs st t u
     go [] [] h is =
         let whole : t ≡ task (b - c) c (alternative (frame (untracked s) (round_of rd) v) (before ys k)) = is ∙ ap (task (b - c) c) z in
-        let redo = more-alike p.loud q (rows w) v (alike code p q s.next (instance_all i.own i.goals) w v slots) in
+        let redo = more-left code p q s.next (instance_all i.own i.goals) rd w v slots in
         record {
           forked = s;
           is_forked = i;
@@ -292,6 +296,8 @@ closes : (code : Compiled) (p : Rules) (o : Tracked) (m n : Machine) (c b d : �
 closes code p o m n c b d f q rd w qs st t u closed shut h event e n_failed counts =
     let g = find_broken code p o m c b f q rd w qs st t u h event in
     let k = subst (λ x. Leaves x (untracked g.forked) g.slots (before g.shown g.older) u) e g.left in
+    let goals = instance_all g.is_forked.own g.is_forked.goals in
+    let hold = stands-there code p q g.forked.next goals Closed w g.slots (open-stands rd w g.slots _ (staying-round rd (rows w) e) g.hold) in
     let l : Alternatives = alternative (frame (untracked g.forked) core_round.Closed g.slots) (before g.shown g.older) in (
       [],
       [],
@@ -299,7 +305,7 @@ closes code p o m n c b d f q rd w qs st t u closed shut h event e n_failed coun
       nothing_due code m.roots [] n [] n_failed refl,
       tt,
       subst (λ roots. HoldsStack code p o roots (b - d) (parcall f q Closed w qs st) l) (sym n_failed.roots_stay)
-          (g.forked, g.is_forked, g.slots, g.states, g.shown, g.older, g.kept, tt, g.may_shut shut, g.hold, g.points, g.shows, rest_left code p o m.roots g.rest (b - d) st g.older closed g.stack, refl),
+          (g.forked, g.is_forked, g.slots, g.states, g.shown, g.older, g.kept, tt, g.may_shut shut, hold, g.points, g.shows, rest_left code p o m.roots g.rest (b - d) st g.older closed g.stack, refl),
       with_counts d b k.0 k.1 u l counts k.2,
     )
 

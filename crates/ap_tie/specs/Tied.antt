@@ -1,5 +1,5 @@
 -- Which tasks of the core a section stands for.
-use Rattle.std.specs.Prelude.{◌≡◌, ℕ, ◌-◌, ◌⊎◌, Bool, true, List, [], length, take, Some}
+use Rattle.std.specs.Prelude.{◌≡◌, ℕ, ◌-◌, ◌⊎◌, Bool, true, false, List, [], length, take, Some}
 use Rattle.std.specs.List.{AllZip, list_all}
 use Rattle.ap_term.specs.Tree.{Tree, Trees, none, more}
 use Rattle.ap_term.specs.Substitution.{instance_all}
@@ -8,6 +8,7 @@ use Rattle.ap_core.specs.declared.tasks.Round.{Round as CoreRound}
 use Rattle.ap_core.specs.declared.tasks.Round.TheVariants as core_round
 use Rattle.ap_core.specs.Tasks as core
 use Rattle.ap_core.specs.Tasks.{Answer, Task, task, Alternatives, exhausted, alternative, Alternative, frame, Progress, held, again}
+use Rattle.ap_core.specs.Conditions.{some_has_more}
 use Rattle.ap_core.specs.Relation.{Rules, answer, plain_answer}
 use Rattle.ap_frames.specs.declared.frame.Round.{Round}
 use Rattle.ap_frames.specs.declared.frame.Round.TheVariants as round
@@ -47,6 +48,15 @@ IsShutIn (round.Draining n) xs v = Unit {0}
 IsShutIn (round.Later i) xs v = Unit {0}
 IsShutIn round.Closed xs v = (i : ℕ) → next_redo xs ≡ Some i → (list_all has_answer (take (i - 1) xs) ≡ true) × AreStoredBehind i xs v
 
+-- What stands of a frame's slots, unless it is cleared: one whose round is closed may have given its slots away, where none of the core's has
+-- an alternative left.
+abbrev pub UnlessCleared : Round → Slots → core.Slots → Type 0 → Type 0
+UnlessCleared round.First w v Stands = Stands
+UnlessCleared (round.Draining n) w v Stands = Stands
+UnlessCleared (round.Later i) w v Stands = Stands
+UnlessCleared round.Closed no_slot v Stands = some_has_more v ≡ false
+UnlessCleared round.Closed (slot x h w) v Stands = Stands
+
 -- ---- answers
 
 -- all clauses have ended
@@ -74,7 +84,7 @@ abbrev mutual
   HoldsStack code p o roots r bottom l = l ≡ exhausted
   HoldsStack code p o roots r (parcall f q rd w qs st) l =
       (s : Tracked) × (i : IsForked code roots f s) × (v : core.Slots) × (ss : List Tracked) × (xs : List Alternative) × (k : Alternatives)
-      × IsKept p.program o s × IsRest rd q r × IsShutIn rd (rows w) v × HoldsSlots code p q s.next (instance_all i.own i.goals) w v
+      × IsKept p.program o s × IsRest rd q r × IsShutIn rd (rows w) v × UnlessCleared rd w v (HoldsSlots code p q s.next (instance_all i.own i.goals) w v)
       × HoldsPoints code roots qs ss × AllZip (Shows p.program o) ss xs × HoldsStack code p o roots r st k
       × (l ≡ alternative (frame (untracked s) (round_of rd) v) (before xs k))
 

@@ -1,9 +1,12 @@
 -- Slots that give their sections away, as they have no other answer, stand for the same.
-use Rattle.std.proofs.Common.{◌≡◌, ◌∙◌, ℕ, zero, suc, ◌-◌, Bool, true, false, ◌&&◌, List, [], length, take, refl, ap, ap₂, sym}
+use Rattle.std.proofs.Common.{◌≡◌, ◌∙◌, ℕ, zero, suc, ◌-◌, inr, Bool, true, false, ◌&&◌, is_some, List, [], length, take, None, refl, ap, ap₂, sym}
+use Rattle.std.proofs.lemmas.Option.{none-some}
 use Rattle.std.specs.List.{list_all}
 use Rattle.ap_term.specs.Tree.{Tree, Trees, none, more}
+use Rattle.ap_term.specs.Substitution.{instance_all}
 use Rattle.ap_core.specs.Tasks as core
 use Rattle.ap_core.specs.Tasks.{Task, Progress}
+use Rattle.ap_core.specs.Conditions.{some_has_more}
 use Rattle.ap_core.specs.Relation.{Rules}
 use Rattle.ap_frames.specs.declared.frame.Round.TheVariants.{Closed}
 use Rattle.ap_frames.specs.declared.slots.Answer.{Answer as Noted}
@@ -17,8 +20,10 @@ use Rattle.ap_instr.specs.Code.{Compiled}
 use Rattle.ap_group.specs.Groups.{Forked}
 use Rattle.ap_standing.specs.Machine.{Point, Machine}
 use Rattle.ap_tie.specs.Sections.{section, Stack, parcall, Slots, no_slot, slot, Held, nothing, held, rows}
-use Rattle.ap_tie.specs.Tied.{IsShutIn, HoldsTask, HoldsSlots, HoldsSource}
+use Rattle.ap_tie.specs.Tied.{IsShutIn, UnlessCleared, HoldsTask, HoldsSlots, HoldsSource}
+use Rattle.ap_tie.proofs.Cleared.{stands-there, more-left}
 use Rattle.ap_tied.specs.Ties.{HoldsAnswer, AreQuietSlots, Goes}
+use Rattle.ap_tied.proofs.Common.{same-count}
 use Rattle.ap_tied.specs.Emptied.{left_of, emptied_stand, hold_of, hold_by, emptied_behind}
 
 -- ---- one slot
@@ -130,10 +135,15 @@ quiet-emptied code (suc i) (slot x h w) t = (t.0, t.1, t.2, quiet-emptied code i
 
 -- ---- a frame whose round is over
 
+stands-emptied-all : (code : Compiled) (p : Rules) (q b : ℕ) (gs : Trees) (i : ℕ) (w : Slots) (v : core.Slots) → UnlessCleared Closed w v (HoldsSlots code p q b gs w v)
+    → UnlessCleared Closed (emptied_behind i w) v (HoldsSlots code p q b gs (emptied_behind i w) v)
+stands-emptied-all code p q b gs i no_slot v h = h
+stands-emptied-all code p q b gs i (slot x j w) v h = stands-there code p q b gs Closed (emptied_behind i (slot x j w)) v (hold-emptied code p q b gs i (slot x j w) v h)
+
 task-emptied : (code : Compiled) (p : Rules) (o : Tracked) (m : Machine) (c b : ℕ) (f : Forked) (q i : ℕ) (w : Slots) (qs : List Point) (st : Stack) (t : Task)
     → HoldsTask code p o (section m c b (parcall f q Closed w qs st)) t → HoldsTask code p o (section m c b (parcall f q Closed (emptied_behind i w) qs st)) t
 task-emptied code p o m c b f q i w qs st t (ss, xs, l, holds, shown, (s, is_forked, v, sv, ys, k, kept, rest, shut, slots, points, shows, older, z), is) =
-    (ss, xs, l, holds, shown, (s, is_forked, v, sv, ys, k, kept, rest, shut-emptied i w v shut, hold-emptied code p q s.next _ i w v slots, points, shows, older, z), is)
+    (ss, xs, l, holds, shown, (s, is_forked, v, sv, ys, k, kept, rest, shut-emptied i w v shut, stands-emptied-all code p q s.next _ i w v slots, points, shows, older, z), is)
 
 pub empties : (code : Compiled) (m : Machine) (c b : ℕ) (f : Forked) (q i : ℕ) (w : Slots) (qs : List Point) (st : Stack)
     → Goes code (section m c b (parcall f q Closed w qs st)) (section m c b (parcall f q Closed (emptied_behind i w) qs st))
@@ -144,7 +154,30 @@ empties code m c b f q i w qs st = λ p o t searched tied. (
   record {
     holds = task-emptied code p o m c b f q i w qs st t tied.holds;
     simple = tied.simple;
-    quiet = (tied.quiet.0, length-emptied i w ∙ tied.quiet.1, tied.quiet.2, quiet-emptied code i w tied.quiet.3, tied.quiet.4);
+    quiet = (tied.quiet.0, same-count Closed _ _ _ (length-emptied i w) tied.quiet.1, tied.quiet.2, quiet-emptied code i w tied.quiet.3, tied.quiet.4);
+    in_order = tied.in_order;
+    in_round = tied.in_round;
+  },
+)
+
+-- ---- one that can't be redone
+
+task-cleared : (code : Compiled) (p : Rules) (o : Tracked) (m : Machine) (c b : ℕ) (f : Forked) (q : ℕ) (w : Slots) (qs : List Point) (st : Stack) (t : Task) → next_redo (rows w) ≡ None
+    → HoldsTask code p o (section m c b (parcall f q Closed w qs st)) t → HoldsTask code p o (section m c b (parcall f q Closed no_slot qs st)) t
+task-cleared code p o m c b f q w qs st t none_left (ss, xs, l, holds, shown, (s, is_forked, v, sv, ys, k, kept, rest, shut, slots, points, shows, older, z), is) =
+    let no_more : some_has_more v ≡ false = more-left code p q s.next (instance_all is_forked.own is_forked.goals) Closed w v slots ∙ ap is_some none_left in
+    (ss, xs, l, holds, shown, (s, is_forked, v, sv, ys, k, kept, rest, λ i e. absurd (none-some _ e), no_more, points, shows, older, z), is)
+
+pub clears : (code : Compiled) (m : Machine) (c b : ℕ) (f : Forked) (q : ℕ) (w : Slots) (qs : List Point) (st : Stack) → next_redo (rows w) ≡ None
+    → Goes code (section m c b (parcall f q Closed w qs st)) (section m c b (parcall f q Closed no_slot qs st))
+clears code m c b f q w qs st none_left = λ p o t searched tied. (
+  [],
+  t,
+  refl,
+  record {
+    holds = task-cleared code p o m c b f q w qs st t none_left tied.holds;
+    simple = tied.simple;
+    quiet = (tied.quiet.0, inr (refl, refl), tied.quiet.2, tt, tied.quiet.4);
     in_order = tied.in_order;
     in_round = tied.in_round;
   },

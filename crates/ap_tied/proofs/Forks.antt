@@ -1,5 +1,5 @@
 -- A group whose checks hold is a fork of the core, in whose slots no answers are kept.
-use Rattle.std.proofs.Common.{◌≡◌, ℕ, ◌+◌, ◌-◌, inr, List, [], ◌∷◌, length, Some, refl, ap, sym, ◌∙◌, subst}
+use Rattle.std.proofs.Common.{◌≡◌, ℕ, ◌+◌, ◌-◌, inl, inr, List, [], ◌∷◌, length, Some, refl, ap, sym, ◌∙◌, subst}
 use Rattle.std.specs.Prelude.{option_and_then}
 use Rattle.ap_term.proofs.TreeLists.{count_trees-instance_all}
 use Rattle.ap_term.specs.Tree.{count_trees, Trees}
@@ -78,7 +78,7 @@ forks code m n c b st at to f x' y' w closed now is_group is_inside way returns 
           refl,
         );
         simple = (unkept-simple gs, simple);
-        quiet = subst (λ roots. IsQuietStack code roots (parcall f (b - c) First (ready_slots (length f.goals)) m.points st)) (sym fails.roots_stay) (placed, ready-many (length f.goals), tt, ready-quiet code (length f.goals), q);
+        quiet = subst (λ roots. IsQuietStack code roots (parcall f (b - c) First (ready_slots (length f.goals)) m.points st)) (sym fails.roots_stay) (placed, inl (ready-many (length f.goals)), tt, ready-quiet code (length f.goals), q);
         in_order = (inr (record { now = fails.now; returns = fails.returns; roots_stay = refl; points = fails.points }), closed);
         in_round = tt;
       },

@@ -1,5 +1,6 @@
 -- What is known of a section that a task is tied to, and in which a frame comes first.
 use Rattle.std.proofs.Common.{◌≡◌, ℕ, zero, suc, ◌+◌, ◌-◌, inl, Bool, false, List, [], ◌∷◌, ◌++◌, Some, refl, ap, sym, ◌∙◌, subst, arith}
+use Rattle.std.proofs.lemmas.Option.{none-some}
 use Rattle.std.specs.Prelude.{length, option_and_then}
 use Rattle.std.specs.List.{AllZip}
 use Rattle.ap_term.specs.Tree.{Trees, none, more}
@@ -14,6 +15,7 @@ use Rattle.ap_core.specs.Relation.{Rules, own, put_away, if_kept}
 use Rattle.ap_frames.specs.declared.frame.Round.{Round}
 use Rattle.ap_frames.specs.declared.frame.Round.TheVariants.{First, Draining, Later, Closed}
 use Rattle.ap_frames.specs.Slots.{listed}
+use Rattle.ap_frames.specs.Verdicts.{next_redo}
 use Rattle.ap_parcall_laws.specs.Alike.{IsUndrained, IsRound, AreStored, AreStoredBehind}
 use Rattle.ap_tracked.specs.Tracked.{Tracked, untracked}
 use Rattle.ap_instr.specs.Code.{Compiled}
@@ -22,7 +24,8 @@ use Rattle.ap_group.specs.Groups.{Forked}
 use Rattle.ap_tie.specs.Sections.{Row, section, Stack, parcall, Slots, no_slot, slot, rows}
 use Rattle.ap_tie.specs.Shows.{Shows, before}
 use Rattle.ap_tie.specs.Slots.{rest_of}
-use Rattle.ap_tie.specs.Tied.{round_of, HoldsTask, HoldsSlots}
+use Rattle.ap_tie.specs.Tied.{round_of, UnlessCleared, HoldsTask, HoldsSlots}
+use Rattle.ap_tie.proofs.Cleared.{slot-stands}
 use Rattle.ap_tie.specs.Settled.{StoresBehind, MayShut, HasCounts}
 use Rattle.ap_tie.specs.Judged.{StandsRound}
 use Rattle.ap_tied.specs.Happened.{happened}
@@ -89,12 +92,18 @@ module _ (code : Compiled) (p : Rules) (q n : ℕ) where
       let z : SlotsAreSimple (core.slot g k y u) = subst SlotsAreSimple whole s in
       subst (AreStoredBehind (suc i) (rows (slot x d w))) (sym whole) (stored-behind i gs w u rest a.3 z.2)
 
+  -- where one of them can be redone they are there
+  stored-redo : (rd : Round) (i : ℕ) (gs : Trees) (w : Slots) (v : core.Slots) → next_redo (rows w) ≡ Some i → UnlessCleared rd w v (HoldsSlots code p q n gs w v) → AreQuietSlots code w → SlotsAreSimple v
+      → AreStoredBehind i (rows w) v
+  stored-redo rd i gs no_slot v e h a s = absurd (none-some _ e)
+  stored-redo rd i gs (slot x d w) v e h a s = stored-behind i gs (slot x d w) v (slot-stands rd x d w v _ h) a s
+
 -- ---- a frame that comes first in the section
 
 module _ (code : Compiled) (p : Rules) (o : Tracked) (m : Machine) (c b : ℕ) (f : Forked) (q : ℕ) (rd : Round) (w : Slots) (qs : List Point) (st : Stack) (t : Task) (simple : IsSimple t) where
   -- the first alternative of the task is a state, or that frame
   pub by-first : (P : Task → Type 0) → HoldsTask code p o (section m c b (parcall f q rd w qs st)) t → ((r d : ℕ) (s : State) (l : Alternatives) → P (task r d (alternative (state s) l)))
-      → ((r d n : ℕ) (gs : Trees) (s : State) (v : core.Slots) (l : Alternatives) → HoldsSlots code p q n gs w v → SlotsAreSimple v → P (task r d (alternative (frame s (round_of rd) v) l)))
+      → ((r d n : ℕ) (gs : Trees) (s : State) (v : core.Slots) (l : Alternatives) → UnlessCleared rd w v (HoldsSlots code p q n gs w v) → SlotsAreSimple v → P (task r d (alternative (frame s (round_of rd) v) l)))
       → P t
   by-first P (ss, xs, l, holds, shown, (s, i, v, sv, ys, k, kept, rest, shut, slots, points, shows, older, z), is) at_state at_frame = go ss xs shown is
     where
@@ -113,7 +122,7 @@ module _ (code : Compiled) (p : Rules) (o : Tracked) (m : Machine) (c b : ℕ) (
     stands-round quiet = by-first (StandsRound rd (rows w)) h (λ r d s l. tt) (λ r d n gs s v l slots z. round-stands rd r (rows w) v quiet z)
 
     pub stores-behind : AreQuietSlots code w → StoresBehind (rows w) t
-    stores-behind quiet = by-first (StoresBehind (rows w)) h (λ r d s l. tt) (λ r d n gs s v l slots z. λ i e. stored-behind code p q n i gs w v slots quiet z)
+    stores-behind quiet = by-first (StoresBehind (rows w)) h (λ r d s l. tt) (λ r d n gs s v l slots z. λ i e. stored-redo code p q n rd i gs w v e slots quiet z)
 
     pub may-shut : AreQuietSlots code w → IsRedoable (rows w) → MayShut (rows w) t
-    may-shut quiet redoable = by-first (MayShut (rows w)) h (λ r d s l. tt) (λ r d n gs s v l slots z. λ i e. (redoable i e, stored-behind code p q n i gs w v slots quiet z))
+    may-shut quiet redoable = by-first (MayShut (rows w)) h (λ r d s l. tt) (λ r d n gs s v l slots z. λ i e. (redoable i e, stored-redo code p q n rd i gs w v e slots quiet z))

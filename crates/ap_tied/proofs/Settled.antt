@@ -19,7 +19,7 @@ use Rattle.ap_core.specs.Relation.{Rules, own, with_answers, joined_by, broken_b
 use Rattle.ap_core.proofs.Options.{Some-only_if}
 use Rattle.ap_frames.specs.declared.frame.Round.{Round}
 use Rattle.ap_frames.specs.declared.frame.Round.TheVariants.{Closed}
-use Rattle.ap_frames.specs.declared.verdict.Verdict.TheVariants.{Joined, Broken}
+use Rattle.ap_frames.specs.declared.verdict.Verdict.TheVariants.{Wait, Joined, Broken}
 use Rattle.ap_frames.specs.Slots.{is_running}
 use Rattle.ap_frames.specs.Verdicts.{judged}
 use Rattle.ap_tracked.specs.Tracked.{Tracked}
@@ -28,20 +28,21 @@ use Rattle.ap_match.specs.Fits.{Fits, Becomes}
 use Rattle.ap_standing.specs.Machine.{Point, Machine}
 use Rattle.ap_standing.specs.Holds.{Holds}
 use Rattle.ap_group.specs.Groups.{Pushed, Forked}
-use Rattle.ap_tie.specs.Sections.{Slots, no_slot, slot, nothing, held, section, Stack, parcall, machine_in, rows}
-use Rattle.ap_tie.specs.Tied.{IsAtAnswer, HoldsTask, HoldsSlots}
+use Rattle.ap_tie.specs.Sections.{Row, Slots, no_slot, slot, nothing, held, section, Stack, parcall, machine_in, rows}
+use Rattle.ap_tie.specs.Tied.{IsAtAnswer, UnlessCleared, HoldsTask, HoldsSlots}
 use Rattle.ap_tie.specs.Settled.{AllHeld, AreHeld, AreClosed, IsJoined, HasCounts, stays, HasFailed}
 use Rattle.ap_tie.specs.Slots.{rest_of}
 use Rattle.ap_tie.specs.Shows.{before}
 use Rattle.ap_tie.specs.Judged.{StandsRound, Happens}
+use Rattle.ap_tie.proofs.Cleared.{slot-stands}
 use Rattle.ap_tie.specs.Rejoined.{MeetAnswers, IsKnown, IsPushed, HasRejoined}
 use Rattle.ap_tie.proofs.Settled.{join, breaks_of}
 use Rattle.ap_tie.proofs.Judged.{judging}
 use Rattle.ap_tie.proofs.Rejoined.{rejoins}
 use Rattle.ap_tied.specs.Ties.{IsSimple, AreSimple, SlotsAreSimple, IsKnownGoal, IsQuietStack, IsSearched, IsTied}
 use Rattle.ap_tied.specs.Settling.{AreAnswersOf, IsRedoable, HasMet, SettlingLaw}
-use Rattle.ap_tied.proofs.Common.{closed_in_order, closed_in_round}
-use Rattle.ap_tied.proofs.Emptied.{empties}
+use Rattle.ap_tied.proofs.Common.{closed_in_order, closed_in_round, open-count, closed-count}
+use Rattle.ap_tied.proofs.Emptied.{empties, clears}
 use Rattle.ap_tied.proofs.Framed.{one-event, counted, stands-round, stores-behind, may-shut}
 
 -- ---- tuples and answers
@@ -58,6 +59,10 @@ all-at-answer code p q n none (slot x d w) v h = absurd h
 all-at-answer code p q n (more g gs) no_slot v h = absurd h
 all-at-answer code p q n (more g gs) (slot x nothing w) v (k, y, u, here, rest, whole) = all-at-answer code p q n gs w u rest
 all-at-answer code p q n (more g gs) (slot x (held a) w) v (k, y, u, (loud, stands, source), rest, whole) = (source.0, all-at-answer code p q n gs w u rest)
+
+all-standing : (code : Compiled) (p : Rules) (q n : ℕ) (gs : Trees) (rd : Round) (w : Slots) (v : core.Slots) → UnlessCleared rd w v (HoldsSlots code p q n gs w v) → AllAtAnswer w
+all-standing code p q n gs rd no_slot v h = tt
+all-standing code p q n gs rd (slot x d w) v h = all-at-answer code p q n gs (slot x d w) v (slot-stands rd x d w v _ h)
 
 all-held : (w : Slots) (ts : List Trees) → AreAnswersOf w ts → AllHeld w
 all-held no_slot ts h = tt
@@ -159,6 +164,10 @@ broken-simple p (task r c (alternative (frame s rd v) l)) u h e = go (is_open rd
 
 -- ---- a frame that comes first
 
+-- a round that is joined isn't closed
+joins-open : (q : ℕ) (rd : Round) (xs : List Row) (e : ℕ) → judged q rd xs ≡ Joined e → rd ≡ Closed → ⊥
+joins-open q rd xs e h d = absurd (let z : Wait ≡ Joined e = sym (ap (λ j. judged q j xs) d) ∙ h in cc)
+
 module _ (code : Compiled) (p : Rules) (o : Tracked) (m n : Machine) (c b : ℕ) (f : Forked) (q : ℕ) (rd : Round) (w : Slots) (qs : List Point) (st : Stack) (e : ℕ) (t : Task) (tied : IsTied code p o (section m c b (parcall f q rd w qs st)) t) (fails : HasFailed m.roots [] m) where
   quiet : IsQuietStack code m.roots (parcall f q rd w qs st)
   quiet = tied.quiet
@@ -174,7 +183,7 @@ module _ (code : Compiled) (p : Rules) (o : Tracked) (m n : Machine) (c b : ℕ)
 
   -- the frame stays, and its round is closed
   closed-quiet : n.roots ≡ m.roots → IsQuietStack code n.roots (parcall f q Closed w qs st)
-  closed-quiet same = subst (λ rs. IsQuietStack code rs (parcall f q Closed w qs st)) (sym same) (quiet.0, quiet.1, tt, quiet.3, quiet.4)
+  closed-quiet same = subst (λ rs. IsQuietStack code rs (parcall f q Closed w qs st)) (sym same) (quiet.0, closed-count rd _ _ quiet.1, tt, quiet.3, quiet.4)
 
   module _ (searched : IsSearched code p o) (judges : judged q rd (rows w) ≡ Joined e) (ts : List Trees) (answers : AreAnswersOf w ts) where
     joins_then : Happens p Join e t
@@ -186,12 +195,12 @@ module _ (code : Compiled) (p : Rules) (o : Tracked) (m n : Machine) (c b : ℕ)
         join code p o m c b f q rd w qs st t joins_then.0 searched.program searched.below (all-held w ts answers) closed (stores-behind code p o m c b f q rd w qs st t tied.simple tied.holds quiet.3) tied.holds joins_then.1
 
     tuples : AreTuplesOf ts joined.1.answers
-    tuples = tuples-of code w ts joined.1.answers (all-at-answer code p q _ _ w _ tied.holds.5.9) answers joined.1.held
+    tuples = tuples-of code w ts joined.1.answers (all-standing code p q _ _ rd w _ tied.holds.5.9) answers joined.1.held
 
     pushed : IsPushed code m.roots f joined.1.answers
     pushed = record {
       known = AllByRecursion-weaken (IsKnownGoal code) (IsKnown code) (λ g k. (k.0, k.1)) f.goals quiet.0.known;
-      many = sym quiet.1 ∙ held-length code w joined.1.answers joined.1.held;
+      many = sym (open-count rd _ _ (joins-open q rd (rows w) e judges) quiet.1) ∙ held-length code w joined.1.answers joined.1.held;
       within = quiet.0.returns;
       inside = quiet.0.roots_inside;
     }
@@ -257,6 +266,7 @@ settling = record {
       let h = breaks_then code p o m n c b f q rd w qs st e t tied fails judges rests in
       ((Break, []) ∷ [], h.0, one-event p Break t h.0 h.1, closed-tied code p o m n c b f q rd w qs st e t tied fails judges rests is_kept redoable at);
   empties = empties;
+  clears = clears;
   spends = λ code p o m c b f q rd w qs st t tied fails judges.
       judging.spends code p o m c b f q rd w qs st t fails (stands-round code p o m c b f q rd w qs st t tied.simple tied.holds tied.quiet.2) tied.holds judges;
 }

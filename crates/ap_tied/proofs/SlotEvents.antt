@@ -33,7 +33,7 @@ use Rattle.ap_standing.specs.Machine.{Point, Machine}
 use Rattle.ap_standing.specs.Holds.{Holds, HoldsPoints}
 use Rattle.ap_standing.proofs.Machines.{failed-points}
 use Rattle.ap_group.specs.Groups.{Forked}
-use Rattle.ap_tie.specs.Sections.{section, Stack, bottom, parcall, Slots, Held, rows}
+use Rattle.ap_tie.specs.Sections.{section, Stack, bottom, parcall, Slots, no_slot, Held, rows}
 use Rattle.ap_tie.specs.Shows.{Shows, before}
 use Rattle.ap_tie.specs.Forked.{IsForked}
 use Rattle.ap_tie.specs.Open.{origin_of}
@@ -41,8 +41,10 @@ use Rattle.ap_tie.specs.Settled.{HasFailed}
 use Rattle.ap_tie.specs.Slots.{place_in, FitsSlot}
 use Rattle.ap_tie.specs.Tied.{round_of, IsRest, IsShutIn, HoldsTask, HoldsStack, HoldsSlots, HoldsSource}
 use Rattle.ap_tie.proofs.Open.{shut_open}
+use Rattle.ap_tie.proofs.Cleared.{open-round, whole-stands, stands-there}
 use Rattle.ap_tied.specs.Ties.{IsSimple, AreSimple, SlotsAreSimple, IsSimpleProgress, HoldsAnswer, WasRedone, IsRedoneIn, IsInRound, IsTied}
 use Rattle.ap_tied.specs.SlotCalls.{stood, stood_in, since, since_of, RunsSlot}
+use Rattle.ap_tied.proofs.Common.{same-count}
 use Rattle.ap_tied.proofs.Places.{SlotAt, slot_at, running-place, origin-place, since-place, stood-put, length-stood, quiet-stood, set_in, place-set, event-set, simple-set, redone-set, set-twice, hold-set}
 
 -- ---- the frame
@@ -62,25 +64,25 @@ pub record FirstFrame (code : Compiled) (p : Rules) (o : Tracked) (m : Machine) 
       → HoldsTask code p o (section m c b (parcall f q rd w' qs st)) (task (b - c) c (alternative (frame (untracked forked) (round_of rd) v') behind))
 
 module _ (code : Compiled) (p : Rules) (o : Tracked) (m : Machine) (c b : ℕ) (f : Forked) (q : ℕ) (rd : Round) (w : Slots) (qs : List Point) (st : Stack) (t : Task) where
-  alone_first : (l : Alternatives) → Holds code m [] → HoldsStack code p o m.roots (b - c) (parcall f q rd w qs st) l → t ≡ task (b - c) c l → FirstFrame code p o m c b f q rd w qs st t
-  alone_first l holds (s, i, v, sv, ys, k, kept, rest, shut, slots, points, shows, older, z) is = record {
+  alone_first : (l : Alternatives) → Holds code m [] → HoldsStack code p o m.roots (b - c) (parcall f q rd w qs st) l → t ≡ task (b - c) c l → (rd ≡ round.Closed → w ≡ no_slot → ⊥) → FirstFrame code p o m c b f q rd w qs st t
+  alone_first l holds (s, i, v, sv, ys, k, kept, rest, shut, slots, points, shows, older, z) is whole = record {
     forked = s;
     is_forked = i;
     kept = kept;
     slots = v;
     behind = before ys k;
-    hold = slots;
+    hold = whole-stands rd w v _ whole slots;
     rest = rest;
     shut = shut;
     is = is ∙ ap (task (b - c) c) z;
-    others = λ w' v' h shut'. ([], [], alternative (frame (untracked s) (round_of rd) v') (before ys k), holds, tt, (s, i, v', sv, ys, k, kept, rest, shut', h, points, shows, older, refl), refl);
+    others = λ w' v' h shut'. ([], [], alternative (frame (untracked s) (round_of rd) v') (before ys k), holds, tt, (s, i, v', sv, ys, k, kept, rest, shut', stands-there code p q s.next (instance_all i.own i.goals) rd w' v' h, points, shows, older, refl), refl);
   }
 
-  pub first_failed : HoldsTask code p o (section m c b (parcall f q rd w qs st)) t → HasFailed m.roots [] m → FirstFrame code p o m c b f q rd w qs st t
-  first_failed (ss, xs, l, holds, shown, stack, is) fails = go ss xs (subst (λ ps. HoldsPoints code m.roots ps ss) fails.points (failed-points code m fails.now ss holds)) holds shown is
+  pub first_failed : HoldsTask code p o (section m c b (parcall f q rd w qs st)) t → HasFailed m.roots [] m → (rd ≡ round.Closed → w ≡ no_slot → ⊥) → FirstFrame code p o m c b f q rd w qs st t
+  first_failed (ss, xs, l, holds, shown, stack, is) fails whole = go ss xs (subst (λ ps. HoldsPoints code m.roots ps ss) fails.points (failed-points code m fails.now ss holds)) holds shown is
     where
       go : (ss : List Tracked) (xs : List Alternative) → ss ≡ [] → Holds code m ss → AllZip (Shows p.program o) ss xs → t ≡ task (b - c) c (before xs l) → FirstFrame code p o m c b f q rd w qs st t
-      go [] [] e n h is = alone_first l n stack is
+      go [] [] e n h is = alone_first l n stack is whole
       go [] (y ∷ ys) e n h is = absurd h
       go (s ∷ ss) xs e n h is = absurd (not_nil e)
 
@@ -88,7 +90,10 @@ module _ (code : Compiled) (p : Rules) (o : Tracked) (m : Machine) (c b : ℕ) (
   first_running z i (ss, xs, l, holds, shown, stack, is) runs = go ss xs holds shown is
     where
       go : (ss : List Tracked) (xs : List Alternative) → Holds code m ss → AllZip (Shows p.program o) ss xs → t ≡ task (b - c) c (before xs l) → FirstFrame code p o m c b f q rd w qs st t
-      go [] [] n h is = alone_first l n stack is
+      go [] [] n h is =
+          let here : t ≡ task (b - c) c (alternative (frame (untracked stack.0) (round_of rd) stack.2) (before stack.4 stack.5)) = is ∙ ap (task (b - c) c) stack.13 in
+          let opened = Some-if (is_open (round_of rd)) (running_in i stack.2) z (sym (ap (running_task i) here) ∙ runs) in
+          alone_first l n stack is (λ d e. open-round rd opened.0 d)
       go [] (y ∷ ys) n h is = absurd h
       go (a ∷ ss) [] n h is = absurd h
       go (a ∷ ss) (frame x d u ∷ xs) n h is = absurd h.0
@@ -165,7 +170,7 @@ module _ (code : Compiled) (p : Rules) (o : Tracked) (m : Machine) (c b : ℕ) (
       now_tied = record {
         holds = first.others (stood_in i e h w) (set_in i y first.slots) hold_now (shut_open rd (rows (stood_in i e h w)) (set_in i y first.slots) opened);
         simple = (simple-set i y first.slots simple_parts.0 simple, simple_parts.1);
-        quiet = (tied.quiet.0, length-stood i e h w ∙ tied.quiet.1, tied.quiet.2, quiet-stood code i e h w tied.quiet.3 answer, tied.quiet.4);
+        quiet = (tied.quiet.0, same-count rd _ _ _ (length-stood i e h w) tied.quiet.1, tied.quiet.2, quiet-stood code i e h w tied.quiet.3 answer, tied.quiet.4);
         in_order = tied.in_order;
         in_round = round_now rd tied.in_round;
       }

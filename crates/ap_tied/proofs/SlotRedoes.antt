@@ -47,7 +47,7 @@ use Rattle.ap_tie.specs.Tied.{IsAtAnswer, HoldsTask, HoldsSlots, HoldsSource}
 use Rattle.ap_tie.proofs.Answered.{alike}
 use Rattle.ap_tie.proofs.Redone.{redo_section}
 use Rattle.ap_tie.proofs.Settled.{rest_left}
-use Rattle.ap_tied.specs.Ties.{WasRedone, IsRedoneAt, IsRedoneIn, IsSimple, AreSimple, IsSimpleProgress, SlotsAreSimple, HoldsAnswer, AreQuietSlots, IsQuiet, stack_in, IsSearched, IsTied}
+use Rattle.ap_tied.specs.Ties.{IsCount, WasRedone, IsRedoneAt, IsRedoneIn, IsSimple, AreSimple, IsSimpleProgress, SlotsAreSimple, HoldsAnswer, AreQuietSlots, IsQuiet, stack_in, IsSearched, IsTied}
 use Rattle.ap_tied.specs.SlotCalls.{held_in, since, since_of, gone_on, RunsSlot}
 use Rattle.ap_tied.proofs.Common.{closed_in_order, closed_in_round}
 use Rattle.ap_tied.proofs.Places.{SlotAt, running-place, origin-place, since-place}
@@ -225,6 +225,11 @@ length_taken i n j no_slot = refl
 length_taken i n zero (slot x h w) = ap suc (length_right i (n + 1) w)
 length_taken i n (suc j) (slot x h w) = ap suc (length_taken i (n + 1) j w)
 
+redo-count : (i n : ℕ) (w : Slots) → next_redo (rows w) ≡ Some i → IsCount Closed (length (rows w)) n → length (rows w) ≡ n
+redo-count i n no_slot e h = absurd (none-some _ e)
+redo-count i n (slot x h w) e (inl d) = d
+redo-count i n (slot x h w) e (inr d) = absurd (let z : suc (length (rows w)) ≡ 0 = d.1 in cc)
+
 -- ---- the section that the slot holds
 
 record AtAnswer (code : Compiled) (p : Rules) (b : ℕ) (g : Tree) (h : Held) (x : Progress) : Type 0 where
@@ -320,7 +325,7 @@ redoes code p o m c b f q w qs st t i searched tied failed_now next = (
   record {
     holds = event.2;
     simple = subst IsSimple shape (simple_redone r first.slots simple.0, simple.1);
-    quiet = (tied.quiet.0, length_taken i 1 (i - 1) w ∙ tied.quiet.1, tt, quiet_taken code i 1 (i - 1) w from_one tied.quiet.3, tied.quiet.4);
+    quiet = (tied.quiet.0, inl (length_taken i 1 (i - 1) w ∙ redo-count i _ w next tied.quiet.1), tt, quiet_taken code i 1 (i - 1) w from_one tied.quiet.3, tied.quiet.4);
     in_order = (inr failed_now, tied.in_order.1);
     in_round = subst (IsRedoneIn i) shape (redone_now r i first.slots is_next);
   },
@@ -345,7 +350,7 @@ redoes code p o m c b f q w qs st t i searched tied failed_now next = (
     r = b - c
 
     first : FirstFrame code p o m c b f q Closed w qs st t
-    first = first_failed code p o m c b f q Closed w qs st t tied.holds failed_now
+    first = first_failed code p o m c b f q Closed w qs st t tied.holds failed_now (λ d e. none-some _ (sym (ap (λ z. next_redo (rows z)) e) ∙ next))
 
     simple : SlotsAreSimple first.slots × AreSimple first.behind
     simple = simple_parts code p o m c b f q Closed w qs st t tied first

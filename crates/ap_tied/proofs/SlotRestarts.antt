@@ -32,6 +32,7 @@ use Rattle.ap_tie.specs.Settled.{HasFailed}
 use Rattle.ap_tie.specs.Slots.{place_in, FitsSlot}
 use Rattle.ap_tie.specs.Tied.{HoldsSlots, HoldsSource}
 use Rattle.ap_tied.specs.Ties.{WasRedone, IsRedoneAt, IsRedoneIn, AreSimple, IsSimpleProgress, SlotsAreSimple, HoldsAnswer, AreQuietSlots, IsTied}
+use Rattle.ap_tied.proofs.Common.{same-count}
 use Rattle.ap_tied.specs.SlotCalls.{row_in, readied_behind}
 use Rattle.ap_tied.proofs.Places.{nth, get-nth, SlotAt, place-row}
 use Rattle.ap_tied.proofs.SlotEvents.{FirstFrame, first_failed, found, simple_parts}
@@ -185,7 +186,7 @@ restarts code p o m c b f q i w qs st t x tied place row answered = (
   record {
     holds = first.others (readied_behind i w) (each_slot relation.readied first.slots) (hold_behind code p q first.forked.next (instance_all first.is_forked.own first.is_forked.goals) w first.slots i first.hold simple.0 was_redone) tt;
     simple = (simple_each first.slots simple.0, simple.1);
-    quiet = (tied.quiet.0, length_behind i w ∙ tied.quiet.1, tied.quiet.2, quiet_behind code i w tied.quiet.3, tied.quiet.4);
+    quiet = (tied.quiet.0, same-count (Later i) _ _ _ (length_behind i w) tied.quiet.1, tied.quiet.2, quiet_behind code i w tied.quiet.3, tied.quiet.4);
     in_order = tied.in_order;
     in_round = redone_each i first.slots was_redone;
   },
@@ -196,7 +197,7 @@ restarts code p o m c b f q i w qs st t x tied place row answered = (
     failed_from (inr h) = h
 
     first : FirstFrame code p o m c b f q (Later i) w qs st t
-    first = first_failed code p o m c b f q (Later i) w qs st t tied.holds (failed_from tied.in_order.0)
+    first = first_failed code p o m c b f q (Later i) w qs st t tied.holds (failed_from tied.in_order.0) (λ d e. still_open i d)
 
     simple : SlotsAreSimple first.slots × AreSimple first.behind
     simple = simple_parts code p o m c b f q (Later i) w qs st t tied first

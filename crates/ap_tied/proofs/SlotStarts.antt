@@ -32,6 +32,7 @@ use Rattle.ap_tie.specs.Slots.{place_in}
 use Rattle.ap_tie.specs.Tied.{round_of}
 use Rattle.ap_tied.specs.Reaching.{whole}
 use Rattle.ap_tied.specs.Ties.{WasRedone, IsSearched, IsTied}
+use Rattle.ap_tied.proofs.Common.{open-count}
 use Rattle.ap_tied.specs.SlotCalls.{row_in, since_of, stood, RunsSlot, IsGoalAt}
 use Rattle.ap_tied.proofs.Places.{nth, get-nth, nth-long, SlotAt, place-row, running-place, origin-place, since-place, set_in, place-set}
 use Rattle.ap_tied.proofs.SlotEvents.{FirstFrame, first_failed, found, after, happens, now_tied}
@@ -76,7 +77,7 @@ starts code p o m c b f q rd w qs st t i x searched tied failed not_closed place
 )
   where
     first : FirstFrame code p o m c b f q rd w qs st t
-    first = first_failed code p o m c b f q rd w qs st t tied.holds failed
+    first = first_failed code p o m c b f q rd w qs st t tied.holds failed (λ d e. not_closed d)
 
     is_open_now : is_open (round_of rd) ≡ true
     is_open_now = open_round rd not_closed
@@ -97,4 +98,4 @@ starts code p o m c b f q rd w qs st t i x searched tied failed not_closed place
     placed = place-set i first.slots at.goal at.progress begun at.place_at
 
     pushed : (a : Pushed) × (nth i f.goals ≡ Some a)
-    pushed = nth-long i (rows w) f.goals x tied.quiet.1 row_at
+    pushed = nth-long i (rows w) f.goals x (open-count rd _ _ not_closed tied.quiet.1) row_at

@@ -1,5 +1,5 @@
 -- What it is in the core that a section's frame is settled, and where a section comes to rest.
-use Rattle.std.specs.Prelude.{◌≡◌, ℕ, ◌+◌, ◌-◌, ◌≤◌, true, false, List, [], ◌∷◌, take, Some}
+use Rattle.std.specs.Prelude.{◌≡◌, ℕ, ◌+◌, ◌-◌, ◌≤◌, true, false, List, [], ◌∷◌, take, Some, None}
 use Rattle.std.specs.List.{list_any, list_all}
 use Rattle.ap_group.specs.Meets.{MeetAll}
 use Rattle.ap_term.specs.Tree.{Tree, Trees}
@@ -65,6 +65,9 @@ pub record SettlingLaw : Type 0 where
   -- slots behind the i-th one give their sections away where they have no other answer, which is no event
   pub empties : (code : Compiled) (m : Machine) (c b : ℕ) (f : Forked) (q i : ℕ) (w : Slots) (qs : List Point) (st : Stack)
       → Goes code (section m c b (parcall f q Closed w qs st)) (section m c b (parcall f q Closed (emptied_behind i w) qs st))
+  -- a frame that can't be redone gives all its slots away, which is no event
+  pub clears : (code : Compiled) (m : Machine) (c b : ℕ) (f : Forked) (q : ℕ) (w : Slots) (qs : List Point) (st : Stack) → next_redo (rows w) ≡ None
+      → Goes code (section m c b (parcall f q Closed w qs st)) (section m c b (parcall f q Closed no_slot qs st))
   pub spends : (code : Compiled) (p : Rules) (o : Tracked) (m : Machine) (c b : ℕ) (f : Forked) (q : ℕ) (rd : Round) (w : Slots) (qs : List Point) (st : Stack) (t : Task)
       → IsTied code p o (section m c b (parcall f q rd w qs st)) t → HasFailed m.roots [] m → judged q rd (rows w) ≡ Spent → has_spent p.loud t ≡ true
 

@@ -79,6 +79,10 @@ abbrev pub IsQuietRound : Round → Type 0
 IsQuietRound (Draining n) = ⊥
 IsQuietRound _ = Unit {0}
 
+-- a slot for each of n goals, or none where the frame is cleared
+abbrev pub IsCount : Round → ℕ → ℕ → Type 0
+IsCount rd k n = (k ≡ n) ⊎ ((rd ≡ Closed) × (k ≡ 0))
+
 -- the stack of a section
 abbrev pub stack_in : Section → Stack
 stack_in (section m c b st) = st
@@ -92,7 +96,7 @@ abbrev mutual
   pub IsQuietStack : Compiled → List ℕ → Stack → Type 0
   IsQuietStack code roots bottom = Unit {0}
   IsQuietStack code roots (parcall f q rd w qs st) =
-      IsPlaced code roots f × (length (rows w) ≡ length f.goals) × IsQuietRound rd × AreQuietSlots code w × IsQuietStack code roots st
+      IsPlaced code roots f × IsCount rd (length (rows w)) (length f.goals) × IsQuietRound rd × AreQuietSlots code w × IsQuietStack code roots st
 
   pub AreQuietSlots : Compiled → Slots → Type 0
   AreQuietSlots code no_slot = Unit {0}

@@ -14,17 +14,20 @@ pub returns-in_default-clause-frames : goal.returns-in_default-clause-frames
 returns-in_default-clause-frames c = prefix-refl (frames_in c.args.self.now)
 
 pub returns-then-is_some-clause-moved : goal.returns-then-is_some-clause-moved
-returns-then-is_some-clause-moved c = λ code shut. (back-came c.reaching_law.ensures code c.args.self.now c.come_to_fork.new.self shut c.requires.end (c.come_to_fork.ensures.is_for code) c.in-Some.frame.now (top-last c.args.self.now c.in-Some.frame.now c.deref.result.now c.deref.ensures.value c.in-Some.ensures.value) c.come_to_fork.ensures.some).moved
+returns-then-is_some-clause-moved c = λ code shut. (back-came c.reaching_law.ensures code c.args.self.now c.come_to_fork.new.self shut c.requires.end (c.come_to_fork.ensures.is_for code) c.in-Some.frame.now (top-last c.args.self.now c.in-Some.frame.now c.deref.result.now c.deref.ensures.value c.in-Some.ensures.value)
+    (ap is_some (sym c.next_redo.ensures) ∙ sym c.is_some.ensures ∙ c.if-is_some.true) c.come_to_fork.ensures.some).moved
 
 pub returns-then-is_some-clause-spent : goal.returns-then-is_some-clause-spent
-returns-then-is_some-clause-spent c = λ code shut. (back-came c.reaching_law.ensures code c.args.self.now c.come_to_fork.new.self shut c.requires.end (c.come_to_fork.ensures.is_for code) c.in-Some.frame.now (top-last c.args.self.now c.in-Some.frame.now c.deref.result.now c.deref.ensures.value c.in-Some.ensures.value) c.come_to_fork.ensures.some).spent
+returns-then-is_some-clause-spent c = λ code shut. (back-came c.reaching_law.ensures code c.args.self.now c.come_to_fork.new.self shut c.requires.end (c.come_to_fork.ensures.is_for code) c.in-Some.frame.now (top-last c.args.self.now c.in-Some.frame.now c.deref.result.now c.deref.ensures.value c.in-Some.ensures.value)
+    (ap is_some (sym c.next_redo.ensures) ∙ sym c.is_some.ensures ∙ c.if-is_some.true) c.come_to_fork.ensures.some).spent
 
 pub returns-then-is_some-clause-ready : goal.returns-then-is_some-clause-ready
-returns-then-is_some-clause-ready c = λ code shut. (back-came c.reaching_law.ensures code c.args.self.now c.come_to_fork.new.self shut c.requires.end (c.come_to_fork.ensures.is_for code) c.in-Some.frame.now (top-last c.args.self.now c.in-Some.frame.now c.deref.result.now c.deref.ensures.value c.in-Some.ensures.value) c.come_to_fork.ensures.some).ready
+returns-then-is_some-clause-ready c = λ code shut. (back-came c.reaching_law.ensures code c.args.self.now c.come_to_fork.new.self shut c.requires.end (c.come_to_fork.ensures.is_for code) c.in-Some.frame.now (top-last c.args.self.now c.in-Some.frame.now c.deref.result.now c.deref.ensures.value c.in-Some.ensures.value)
+    (ap is_some (sym c.next_redo.ensures) ∙ sym c.is_some.ensures ∙ c.if-is_some.true) c.come_to_fork.ensures.some).ready
 
 pub returns-then-is_some-clause-end : goal.returns-then-is_some-clause-end
-returns-then-is_some-clause-end c = λ code shut n u. back-due c.reaching_law.ensures code c.args.self.now c.come_to_fork.new.self shut c.requires.end (c.come_to_fork.ensures.is_for code) c.in-Some.frame.now (top-last c.args.self.now c.in-Some.frame.now c.deref.result.now c.deref.ensures.value c.in-Some.ensures.value) c.come_to_fork.ensures.some
-    (ap is_some (sym c.next_redo.ensures) ∙ sym c.is_some.ensures ∙ c.if-is_some.true)
+returns-then-is_some-clause-end c = λ code shut n u. back-due c.reaching_law.ensures code c.args.self.now c.come_to_fork.new.self shut c.requires.end (c.come_to_fork.ensures.is_for code) c.in-Some.frame.now (top-last c.args.self.now c.in-Some.frame.now c.deref.result.now c.deref.ensures.value c.in-Some.ensures.value)
+    (ap is_some (sym c.next_redo.ensures) ∙ sym c.is_some.ensures ∙ c.if-is_some.true) c.come_to_fork.ensures.some
 
 pub returns-clause-moved : goal.returns-clause-moved
 returns-clause-moved c = λ code shut. (fewer-came c.reaching_law.ensures code c.args.self.now c.forget_fork.new.self shut c.requires.end (c.forget_fork.ensures.is_for code) c.in-Some.frame.now (top-last c.args.self.now c.in-Some.frame.now c.deref.result.now c.deref.ensures.value c.in-Some.ensures.value)

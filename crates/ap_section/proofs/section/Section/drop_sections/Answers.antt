@@ -15,7 +15,7 @@ returns-clause-goes c =
     let b = c.if-is_empty.false in
     let e = c.len-newest.ensures in
     let some : 0 < c.len-newest.result = search rules in
-    (empties c.settling_law.ensures c.args.self.now c.len-newest.result c.index_mut.result.now c.index.result.now c.empty_frame.new.frame c.unwrap_or-kept.result c.len-newest.ensures some c.index_mut.ensures.value c.index.ensures
+    (empties c.settling_law.ensures c.args.self.now c.len-newest.result c.index_mut.result.now c.index.result.now c.empty_frame.new.frame c.len-newest.ensures some c.index_mut.ensures.value c.index.ensures
     (c.is_over.ensures.over c.if-not-is_over.false) c.empty_frame.ensures).goes
 
 pub returns-clause-ready : goal.returns-clause-ready
@@ -24,7 +24,7 @@ returns-clause-ready c =
     let b = c.if-is_empty.false in
     let e = c.len-newest.ensures in
     let some : 0 < c.len-newest.result = search rules in
-    (empties c.settling_law.ensures c.args.self.now c.len-newest.result c.index_mut.result.now c.index.result.now c.empty_frame.new.frame c.unwrap_or-kept.result c.len-newest.ensures some c.index_mut.ensures.value c.index.ensures
+    (empties c.settling_law.ensures c.args.self.now c.len-newest.result c.index_mut.result.now c.index.result.now c.empty_frame.new.frame c.len-newest.ensures some c.index_mut.ensures.value c.index.ensures
     (c.is_over.ensures.over c.if-not-is_over.false) c.empty_frame.ensures).ready
 
 pub returns-clause-owes : goal.returns-clause-owes
@@ -33,5 +33,5 @@ returns-clause-owes c =
     let b = c.if-is_empty.false in
     let e = c.len-newest.ensures in
     let some : 0 < c.len-newest.result = search rules in
-    (empties c.settling_law.ensures c.args.self.now c.len-newest.result c.index_mut.result.now c.index.result.now c.empty_frame.new.frame c.unwrap_or-kept.result c.len-newest.ensures some c.index_mut.ensures.value c.index.ensures
+    (empties c.settling_law.ensures c.args.self.now c.len-newest.result c.index_mut.result.now c.index.result.now c.empty_frame.new.frame c.len-newest.ensures some c.index_mut.ensures.value c.index.ensures
     (c.is_over.ensures.over c.if-not-is_over.false) c.empty_frame.ensures).owes
