@@ -5,6 +5,7 @@ ghost use Rattle.ap_lexer.specs.Ahead.{IsSound};
 
 use crate::ahead::{Ahead, characters_len, comment_len, line_len, quoted_len};
 use crate::bytes::{Class, byte, ends, is_layout, is_symbol, past, solo};
+use crate::digits::are_few;
 use crate::{LexemeKind, TokenKind, number};
 
 /// A kind, and a length in bytes.
@@ -42,7 +43,7 @@ fn bad(text: &[u8]) -> Lexeme
 fn fits(digits: &[u8]) -> bool
     ensures { result ≡ nat_le (spec.number digits.now) (2 ^ 63) }
 {
-    number(digits).is_some()
+    are_few(digits) || number(digits).is_some()
 }
 
 #[inline(always)]

@@ -2,7 +2,7 @@ use Rattle.std.proofs.Common.{◌+◌, ◌-◌, ◌*◌, ◌<◌, ◌^◌, suc, 
 use Rattle.std.proofs.Math.Seq.{drop-cons}
 use Rattle.ap_lexer.specs.Lexeme.{number_from}
 use Rattle.ap_lexer.proofs.Numbers.{too_large}
-use Rattle.ap_lexer.proofs.digits.number.Goals as goal
+use Rattle.ap_lexer.proofs.digits.tested_number.Goals as goal
 
 pub returns-then-number-gt-GREATEST : goal.returns-then-number-gt-GREATEST
 returns-then-number-gt-GREATEST c =
