@@ -1,5 +1,5 @@
 -- One turn of the loop over the lexemes of one piece, and its end.
-use Rattle.std.proofs.Common.{◌≡◌, ℕ, ◌+◌, ◌<◌, ◌≤◌, Bool, true, false, List, [], ◌∷◌, ◌++◌, length, drop, Option, Some, None, refl, sym, ap, subst, ◌∙◌, arith}
+use Rattle.std.proofs.Common.{◌≡◌, ℕ, ◌+◌, ◌<◌, ◌≤◌, Bool, true, false, List, [], ◌∷◌, ◌++◌, length, drop, Option, Some, None, refl, sym, ap, subst, ◌∙◌, ◌^◌, length-drop, arith}
 use Rattle.std.specs.Prelude.{option_to_list, is_some, IfSome}
 use Rattle.std.proofs.lemmas.Bool.{false≢true}
 use Rattle.std.proofs.Math.ListN.{drop_of_length-le}
@@ -10,10 +10,11 @@ use Rattle.ap_lexer.specs.declared.kind.LexemeKind.TheVariants as kind
 use Rattle.ap_lexer.specs.declared.cut.Piece.{Piece}
 use Rattle.ap_lexer.specs.declared.cutter.Cutter.{Cutter}
 use Rattle.ap_lexer.specs.Lexeme.{Text, Lexeme, lexeme, lexemes}
-use Rattle.ap_lexer.specs.Piece.{Role, Gap, Part, Last, Fault, role, start, begun_after, ended_by, unended, piece, line_at, pieces_from}
+use Rattle.ap_lexer.specs.Piece.{Role, Gap, Part, Last, Fault, role, start, begun_after, ended_by, unended, piece, line_at, pieces_from, Begins}
 use Rattle.ap_lexer.specs.Token.{Placed, token_of, tokens_from, tokens}
 use Rattle.ap_lexer.specs.Ahead.{IsSound}
-use Rattle.ap_lexer.specs.Cutter.{Stands, IsNext, HasTokens, left}
+use Rattle.ap_lexer.specs.Cutter.{Stands, Cuts, IsNext, HasTokens, left, place}
+use Rattle.std.proofs.lemmas.List.{drop-drop}
 use Rattle.ap_lexer.proofs.Lexemes.{lexemes-nil}
 use Rattle.ap_lexer.proofs.Toks as toks
 use Rattle.ap_lexer.proofs.Turn as turn
@@ -131,38 +132,59 @@ open_next text b at x all h k is e before = turn.turned text at b [] [] all x h 
 
 -- ---- the same for what the code has
 
-left_by : (c : Cutter) (text : Text) → c.text.now ≡ text → left c ≡ pieces_from text c.at None (lexemes (drop c.at text))
-left_by c text same = ap (λ t. pieces_from t c.at None (lexemes (drop c.at t))) same
+-- what stands at a place of what is left of a text stands in the text behind what is let go
+pub seen : (text whole : Text) (before at : ℕ) → text ≡ drop before whole → drop at text ≡ drop (before + at) whole
+seen text whole before at e = ap (drop at) e ∙ drop-drop at before whole
 
-pub stands : (c : Cutter) (text : Text) → c.text.now ≡ text → c.at ≤ length text → IsSound text c.ahead → c.line ≡ line_at text c.at → Stands c
-stands c text same h s l = record {
+pub inside : (text whole : Text) (before at : ℕ) → text ≡ drop before whole → at < length text → before + at < length whole
+inside text whole before at e h = omega (arith, h, ap length e, length-drop before whole)
+
+pub outside : (text whole : Text) (before at : ℕ) → text ≡ drop before whole → length text ≤ at → length whole ≤ before + at
+outside text whole before at e h = omega (arith, h, ap length e, length-drop before whole)
+
+pub stands : (c : Cutter) (text : Text) (before : ℕ) → c.text.now ≡ text → c.before ≡ before → c.at ≤ length text → IsSound text c.ahead → c.line ≤ before + c.at + 1 → before + length text < 2 ^ 63 → Stands c
+stands c text before same there h s l f = record {
   within = subst (λ t. c.at ≤ length t) (sym same) h;
   sound = subst (λ t. IsSound t c.ahead) (sym same) s;
-  line_is = l ∙ ap (λ t. line_at t c.at) (sym same);
+  line_low = omega (arith, there, l);
+  fits = omega (arith, there, ap length same, f);
 }
+
+-- A piece of the whole text that goes on at a place in a line, with its tokens so far.
+pub record Goes (whole : Text) (old : Cutter) (at line : ℕ) (b : Option (ℕ × ℕ)) (ts : List Placed) : Type 0 where
+  pub line_is : line ≡ line_at whole at
+  pub begun : Option ℕ
+  pub begins : Begins whole b begun
+  pub left_is : pieces_from whole at begun (lexemes (drop at whole)) ≡ left whole old
+  pub held : Held whole begun at ts
 
 pub not_ended : (p : Option Piece) (ps : List Piece) → is_some p ≡ false → option_to_list p ≡ ps → [] ≡ ps
 not_ended None ps s e = e
 not_ended (Some p) ps s e = absurd (false≢true (sym s))
 
-pub next_closed : (p : Option Piece) (text : Text) (b : Option ℕ) (at : ℕ) (x : Lexeme) (old new : Cutter) → is_some p ≡ true → option_to_list p ≡ ended_by (role x.0) text (start b at) at (at + x.1) → new.text.now ≡ text → new.at ≡ at + x.1 → at < length text → 0 < x.1 → x ≡ lexeme (drop at text) → pieces_from text at b (lexemes (drop at text)) ≡ left old → IsNext p old new
-next_closed None text b at x old new some e same there h k is before = absurd (false≢true some)
-next_closed (Some p) text b at x old new some e same there h k is before =
-    closed_next text b at x p (left old) h k is e before ∙ ap (λ l. p ∷ l) (ap (λ n. pieces_from text n None (lexemes (drop n text))) (sym there) ∙ sym (left_by new text same))
+pub next_closed : (p : Option Piece) (whole : Text) (b : Option ℕ) (at : ℕ) (x : Lexeme) (old new : Cutter) → is_some p ≡ true → option_to_list p ≡ ended_by (role x.0) whole (start b at) at (at + x.1) → place new ≡ at + x.1 → at < length whole → 0 < x.1 → x ≡ lexeme (drop at whole) → pieces_from whole at b (lexemes (drop at whole)) ≡ left whole old → IsNext whole p old new
+next_closed None whole b at x old new some e there h k is before = absurd (false≢true some)
+next_closed (Some p) whole b at x old new some e there h k is before =
+    closed_next whole b at x p (left whole old) h k is e before ∙ ap (λ n. p ∷ pieces_from whole n None (lexemes (drop n whole))) (sym there)
 
 pub tokens_closed : (p : Option Piece) (text : Text) (b : Option ℕ) (at : ℕ) (x : Lexeme) (ts new : List Placed) → option_to_list p ≡ ended_by (role x.0) text (start b at) at (at + x.1) → Turn text b at x ts new → IfSome p (HasTokens text new)
 tokens_closed None text b at x ts new e t = tt
 tokens_closed (Some p) text b at x ts new e t = closed_tokens text b at x ts new p e t
+
+-- tokens that are a piece's in each text that is cut
+pub of_each : (c : Cutter) (ts : List Placed) (p : Option Piece) → ((whole : Text) → Cuts whole c → IfSome p (HasTokens whole ts)) → IfSome p (λ q. (whole : Text) → Cuts whole c → HasTokens whole ts q)
+of_each c ts None f = tt
+of_each c ts (Some q) f = f
 
 -- ---- at the end of the text
 
 none_left : (text : Text) (at : ℕ) → length text ≤ at → pieces_from text at None (lexemes (drop at text)) ≡ []
 none_left text at h = ap (pieces_from text at None) (ap lexemes (drop_of_length-le text h) ∙ lexemes-nil)
 
-pub last_next : (p : Option Piece) (text : Text) (b : Option ℕ) (old new : Cutter) → new.text.now ≡ text → length text ≤ new.at → option_to_list p ≡ unended text new.at b → pieces_from text new.at b (lexemes (drop new.at text)) ≡ left old → IsNext p old new
-last_next None text b old new same h e before = sym (turn.ended_at text new.at b [] [] (left old) h e before)
-last_next (Some p) text b old new same h e before =
-    sym (turn.ended_at text new.at b [] (p ∷ []) (left old) h e before) ∙ ap (λ l. p ∷ l) (sym (left_by new text same ∙ none_left text new.at h))
+pub last_next : (p : Option Piece) (whole : Text) (b : Option ℕ) (at : ℕ) (old new : Cutter) → place new ≡ at → length whole ≤ at → option_to_list p ≡ unended whole at b → pieces_from whole at b (lexemes (drop at whole)) ≡ left whole old → IsNext whole p old new
+last_next None whole b at old new there h e before = sym (turn.ended_at whole at b [] [] (left whole old) h e before)
+last_next (Some p) whole b at old new there h e before =
+    sym (turn.ended_at whole at b [] (p ∷ []) (left whole old) h e before) ∙ ap (λ l. p ∷ l) (sym (ap (λ n. pieces_from whole n None (lexemes (drop n whole))) there ∙ none_left whole at h))
 
 pub last_tokens : (text : Text) (p : Option Piece) (b : Option ℕ) (at : ℕ) (ts : List Placed) → option_to_list p ≡ unended text at b → Held text b at ts → IfSome p (HasTokens text ts)
 last_tokens text None b at ts e h = tt

@@ -1,5 +1,5 @@
 -- The pieces of a text, one for each clause.
-use Rattle.std.specs.Prelude.{◌≡◌, ℕ, ◌+◌, Bool, true, false, ◌==◌, List, [], ◌∷◌, ◌++◌, take, count_by, Option, Some, None}
+use Rattle.std.specs.Prelude.{◌≡◌, ℕ, ◌+◌, Bool, true, false, ◌==◌, List, [], ◌∷◌, ◌++◌, take, drop, count_by, Option, Some, None}
 use Rattle.ap_lexer.specs.declared.kind.TokenKind.TheVariants as token
 use Rattle.ap_lexer.specs.declared.kind.LexemeKind.{LexemeKind}
 use Rattle.ap_lexer.specs.declared.kind.LexemeKind.TheVariants as kind
@@ -55,6 +55,10 @@ unended text at (Some from) = piece text from at false None ∷ []
 abbrev pub pieces_from : Text → ℕ → Option ℕ → List Lexeme → List Piece
 pieces_from text at begun [] = unended text at begun
 pieces_from text at begun (x ∷ xs) = ended_by (role x.0) text (start begun at) at (at + x.1) ++ pieces_from text (at + x.1) (begun_after (role x.0) begun at) xs
+
+-- those that begin behind a place between two of them
+abbrev pub pieces_behind : Text → ℕ → List Piece
+pieces_behind text at = pieces_from text at None (lexemes (drop at text))
 
 abbrev pub pieces : Text → List Piece
 pieces text = pieces_from text 0 None (lexemes text)
