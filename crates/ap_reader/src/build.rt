@@ -5,19 +5,19 @@ ghost use Rattle.ap_lexer.specs.Lexeme.{Text};
 ghost use Rattle.ap_term.specs.declared.fixed.TheConstants.{COUNT};
 ghost use Rattle.ap_term.specs.AtomTable.{fixed_names, insert_names};
 ghost use Rattle.ap_term.specs.TermView.{tree_of, trees_of};
-ghost use Rattle.ap_term.specs.Tree.{node, more, none};
 ghost use Rattle.ap_reader.specs.Written.{Written, Node, Cons, Nil, cell, leaf_of, leaf_at, meaning};
 ghost use Rattle.ap_reader.specs.Evaluated.{Value, ATerm, Gathered, made, left, with_rest, cells};
 ghost use Rattle.ap_reader.specs.Held.{Held, Fits};
-ghost use Rattle.ap_reader.specs.Build.{place_of, term_in, leaf_names, step_names, names, Interned, tree_cells};
+ghost use Rattle.ap_reader.specs.Build.{place_of, term_in, leaf_names, step_names, names, Interned};
 ghost use Rattle.ap_reader.specs.Grammar.{Tree};
 ghost use Rattle.ap_reader.specs.Step.{postfix};
 
+use crate::compounds::{compound1, compound2};
 use crate::leaf::{Leaf, name_at};
 use crate::pass::Step;
 use crate::recent::Recent;
 use crate::terms::Stack;
-use ap_term::{Args, Atom, Atoms, InternErr, NoMemory, Term, fixed};
+use ap_term::{Args, Atom, Atoms, InternErr, Term, fixed};
 use std::alloc::Global;
 
 /// The number of a name that stands in most bodies: each table of names holds it from the start.
@@ -68,40 +68,11 @@ fn atom(
     }
 }
 
-fn compound1(alloc: Global, name: Atom, x: Term) -> Result<Term, NoMemory>
-    ensures { IfOk result (λ t. tree_of t ≡ node name (more (tree_of x) none)) }
-{
-    let mut args = Vec::with_capacity(alloc, 1)?;
-    args.push(x)?;
-    Ok(Term::Node(name, Args::from_vec(args)))
-}
-
-fn compound2(alloc: Global, name: Atom, x: Term, y: Term) -> Result<Term, NoMemory>
-    ensures { IfOk result (λ t. tree_of t ≡ node name (more (tree_of x) (more (tree_of y) none))) }
-{
-    let mut args = Vec::with_capacity(alloc, 2)?;
-    args.push(x)?;
-    args.push(y)?;
-    Ok(Term::Node(name, Args::from_vec(args)))
-}
-
 /// The arguments that items are.
 fn arguments(items: Vec<Term>) -> Args
     ensures { result ≡ trees_of items.items }
 {
     Args::from_vec(items)
-}
-
-/// The list of items in front of a tail.
-fn list(alloc: Global, dot: Atom, items: Vec<Term>, tail: Term) -> Result<Term, NoMemory>
-    ensures { IfOk result (λ t. tree_of t ≡ tree_cells dot (map tree_of items.items) (tree_of tail)) }
-{
-    let mut items = items;
-    let mut rest = tail;
-    while let Some(item) = items.pop() {
-        rest = compound2(alloc, dot, item, rest)?;
-    }
-    Ok(rest)
 }
 
 /// What a token is as an operand.
@@ -201,11 +172,8 @@ fn listed(
     ensures table { Interned (codes "." ∷ []) atoms.old atoms.new result }
 {
     match atom(alloc, recent, atoms, ".") {
-        Ok(dot) => match stack.take_items() {
-            Ok(items) => match list(alloc, dot, items, tail) {
-                Ok(term) => Ok(term),
-                Err(_) => Err(InternErr::NoMemory),
-            },
+        Ok(dot) => match stack.take_list(alloc, dot, tail) {
+            Ok(term) => Ok(term),
             Err(_) => Err(InternErr::NoMemory),
         },
         Err(e) => Err(e),

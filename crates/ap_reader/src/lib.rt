@@ -9,6 +9,7 @@
 
 mod bracket;
 mod build;
+mod compounds;
 mod depth;
 mod error;
 mod law;

@@ -407,7 +407,10 @@ impl Pass {
     {
         match token.kind {
             TokenKind::Variable => self.next(mode, Word::Operand(at)),
-            TokenKind::Integer => self.next(mode, number_word(token.text)),
+            TokenKind::Integer => match number_word(token.text) {
+                Word::Number(n) => self.next(mode, Word::Number(n)),
+                word => self.next(mode, word),
+            },
             TokenKind::Open => self.next(mode, Word::Open),
             TokenKind::Close => self.next(mode, Word::Close),
             TokenKind::OpenList => self.next(mode, Word::OpenList),
@@ -415,6 +418,7 @@ impl Pass {
             TokenKind::Bar => self.next(mode, Word::Bar),
             TokenKind::Comma => match comma_word(at, before, after) {
                 Word::Operand(at) => self.next(mode, Word::Operand(at)),
+                Word::Comma(at) => self.next(mode, Word::Comma(at)),
                 word => self.next(mode, word),
             },
             _ => self.next(mode, word_of(at, before, token, after)),
