@@ -421,7 +421,11 @@ impl Pass {
                 Word::Comma(at) => self.next(mode, Word::Comma(at)),
                 word => self.next(mode, word),
             },
-            _ => self.next(mode, word_of(at, before, token, after)),
+            _ => match word_of(at, before, token, after) {
+                Word::Operand(at) => self.next(mode, Word::Operand(at)),
+                Word::Functor(at, infix) => self.next(mode, Word::Functor(at, infix)),
+                word => self.next(mode, word),
+            },
         }
     }
 }

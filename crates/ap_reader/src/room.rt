@@ -35,6 +35,25 @@ impl<'a> Room<'a> {
         }
     }
 
+    /// The room for another text.
+    pub fn for_another<'b>(self, alloc: Global) -> Room<'b> {
+        let Room {
+            recent,
+            stack,
+            open,
+            steps,
+            ..
+        } = self;
+        Room {
+            recent,
+            stack,
+            open,
+            steps,
+            leaves: Vec::new(alloc),
+            names: Vec::new(alloc),
+        }
+    }
+
     /// The list of what is open, empty.
     pub(crate) fn open(&mut self, alloc: Global) -> Vec<Open>
         ensures { result.items ≡ [] }
