@@ -9,5 +9,6 @@ pub mod Fresh
 pub mod FreshCode
 pub mod Reads
 pub mod Verdict
+pub mod Parts
 pub mod Law
 pub mod TextMeaning
