@@ -126,7 +126,7 @@ fn add_by_head<'a>(alloc: Global, index: &mut Index<'a>, clause: &'a Clause) -> 
 fn index_of(alloc: Global, clauses: &[Clause]) -> Result<Index<'_>, NoMemory>
     ensures { IfOk result (λ index. Indexes index clauses.now) }
 {
-    let mut index = IndexMap::new(alloc);
+    let mut index = IndexMap::with_capacity(alloc, clauses.len())?;
     for clause in clauses {
         add_by_head(alloc, &mut index, clause)?;
     }
