@@ -114,7 +114,9 @@ impl Bar {
     }
 
     fn pay_copy(&self, cells: usize) {
-        let calls = i64::try_from(cells).unwrap_or(i64::MAX).saturating_mul(COPY);
+        let calls = i64::try_from(cells)
+            .unwrap_or(i64::MAX)
+            .saturating_mul(COPY);
         self.pay(calls.saturating_mul(self.price.get() / PRICE));
     }
 
