@@ -7,4 +7,3 @@ pub mod Assumed
 pub mod Built
 pub mod Leaves
 mod Settled
-pub mod Packed

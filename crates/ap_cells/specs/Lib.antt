@@ -1,7 +1,5 @@
 pub mod Trees
 pub mod Raws
-pub mod Packing
-pub mod Fits
 pub mod Store
 pub mod Kept
 pub mod Tops

@@ -6,8 +6,6 @@
 
 mod cells;
 mod pace;
-mod packed_cells;
-mod packing;
 mod pairs;
 mod terms;
 mod top;
