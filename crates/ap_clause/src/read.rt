@@ -84,6 +84,7 @@ fn take_until<'a>(
 {
     let mut cutter = Cutter::behind(text, spot.at, spot.line);
     let mut tokens = Vec::new(alloc);
+    // (a clause takes a byte at least, so no text has as many: the bound is only that the loop is seen to end)
     for _turn in 0..u64::MAX {
         let gone = cutter.gone();
         if until < gone {

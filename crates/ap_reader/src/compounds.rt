@@ -7,6 +7,7 @@ ghost use Rattle.ap_term.specs.TermView.{tree_of};
 use ap_term::{Args, Atom, NoMemory, Term};
 use std::alloc::Global;
 
+/// Makes a compound term of one argument.
 pub(crate) fn compound1(alloc: Global, name: Atom, x: Term) -> Result<Term, NoMemory>
     ensures { IfOk result (λ t. tree_of t ≡ node name (more (tree_of x) none)) }
 {
@@ -15,6 +16,7 @@ pub(crate) fn compound1(alloc: Global, name: Atom, x: Term) -> Result<Term, NoMe
     Ok(Term::Node(name, Args::from_vec(args)))
 }
 
+/// Makes a compound term of two arguments.
 #[inline(always)]
 pub(crate) fn compound2(alloc: Global, name: Atom, x: Term, y: Term) -> Result<Term, NoMemory>
     ensures { IfOk result (λ t. tree_of t ≡ node name (more (tree_of x) (more (tree_of y) none))) }

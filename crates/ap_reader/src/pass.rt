@@ -393,7 +393,8 @@ impl Pass {
         }
     }
 
-    /// The next token, by the kind of the one before it and the one behind it. The word of most is known by its kind.
+    /// The next token, by the kind of the one before it and the one behind it. The word of most is known by its kind; the arms name
+    /// the words that are met most, so that `next` is compiled for each of them.
     #[inline(always)]
     fn take(
         &mut self,

@@ -134,6 +134,7 @@ impl Stack {
             Err(_) => Err(InternErr::NoMemory),
         }
     }
+
     /// Takes the items that began last as a list in front of a tail.
     pub(crate) fn take_list(
         &mut self,
