@@ -10,7 +10,7 @@ ghost use Rattle.ap_environments.specs.declared.environments.Entry.TheVariants.{
 ghost use Rattle.ap_environments.specs.declared.environments.Fork.{Fork as ForkOf};
 ghost use Rattle.ap_environments.specs.declared.environments.Point.{Point as PointOf};
 
-use crate::frames::{above, cut, fill_x, fill_y, push_frame, registers_of};
+use crate::frames::{above, cut, fill_x, fill_y, make_room, push_frame, registers_of};
 use ap_term::NoMemory;
 use std::alloc::Global;
 use std::marker::Model;
@@ -84,6 +84,7 @@ impl Model for Environments {
 
 impl Entry {
     /// The choice, where it is a choice point's.
+    #[inline(always)]
     fn choice(self) -> Option<Choice>
         ensures none { result ≡ None → (f : ForkOf) × (self ≡ Forking f) }
         ensures some { IfSome result (λ c. self ≡ Call c) }
@@ -121,6 +122,7 @@ impl Entry {
 }
 
 /// The last entry, with what is kept for it.
+#[inline(always)]
 fn last_point(points: &[Point]) -> Option<Point>
     ensures none { result ≡ None → points.now ≡ [] }
     ensures some { IfSome result (λ q. (qs : List PointOf) × (points.now ≡ qs ++ q ∷ [])) }
@@ -129,6 +131,7 @@ fn last_point(points: &[Point]) -> Option<Point>
 }
 
 /// How many frames choice points and forks keep.
+#[inline(always)]
 fn kept_frames(points: &[Point]) -> u32
     ensures rising { (all : ℕ) → Rising 0 points.now all → Rising 0 points.now result }
     ensures few { (all : ℕ) → Rising 0 points.now all → result ≤ all }
@@ -219,15 +222,14 @@ impl Environments {
         ensures ok { OnOk result (self.new ≡ kept_of self.old.returns (put_entry entry (record { place = 0; y = registers.now } ∷ self.old.returns) (segments_in self.old))) }
         ensures err { OnErr result (self.new ≡ self.old) }
     {
+        make_room(&mut self.points)?;
         let frames = push_frame(&mut self.frames, &mut self.slots, 0, self.top, registers)?;
-        if self.points.push(Point { entry, frames }).is_err() {
-            self.trim();
-            return Err(NoMemory);
-        }
+        self.points.push_reserved(Point { entry, frames });
         Ok(())
     }
 
     /// The newest choice point, where it is newer than each fork.
+    #[inline(always)]
     pub fn newest(&self) -> Option<Choice>
         ensures none { result ≡ None → self.now.moments ≡ [] }
         ensures some { IfSome result (λ choice. (m : Moment) × (ms : List Moment) × (self.now.moments ≡ m ∷ ms) × (m.choice ≡ choice)) }

@@ -1,6 +1,6 @@
 //! Frames: registers that were saved, with a place and the frame above which they were put on.
 
-ghost use Rattle.std.specs.Prelude.{◌≡◌, ℕ, ◌+◌, ◌≤◌, List, ◌∷◌, [], ◌++◌, length, vec_len, take, drop, IfOk, OnOk, OnErr};
+ghost use Rattle.std.specs.Prelude.{◌≡◌, ℕ, ◌+◌, ◌<◌, ◌≤◌, List, ◌∷◌, [], ◌++◌, length, vec_len, vec_capacity, take, drop, IfOk, OnOk, OnErr};
 ghost use Rattle.ap_steps.specs.Moves.{held};
 ghost use Rattle.ap_environments.specs.Frames.{Laid, LeadUp, AreFrames, chain, chains};
 
@@ -45,6 +45,20 @@ fn write(slots: &mut Vec<u32>, first: usize, registers: &[u32])
     write_from(slots.as_mut_slice(), first, registers);
 }
 
+/// Makes room for one more. Where there is room already that is one comparison.
+#[inline(always)]
+pub fn make_room<T>(items: &mut Vec<T>) -> Result<(), NoMemory>
+    ensures items { items.new.items ≡ items.old.items }
+    ensures len { vec_len items.new ≡ vec_len items.old }
+    ensures room { OnOk result (vec_len items.new < vec_capacity items.new) }
+{
+    if items.len() < items.capacity() {
+        return Ok(());
+    }
+    items.reserve(1)?;
+    Ok(())
+}
+
 /// Puts a frame behind the others, and answers its number, counted from 1. Slots behind the last frame's are written over.
 #[inline(always)]
 pub fn push_frame(
@@ -74,7 +88,7 @@ pub fn push_frame(
         first: first as u32,
         count: registers.len() as u32,
     };
-    frames.reserve(1)?;
+    make_room(frames)?;
     let end = first + registers.len();
     if end > slots.len() {
         slots.resize(end + MORE, 0)?;

@@ -5,43 +5,21 @@ use Rattle.ap_environments.specs.Frames.{Rising, chain, put_entry, segments, kep
 use Rattle.ap_environments.proofs.Chains.{Rising-more, Rising-push, before-pushed, last-pushed, segments-alike, segments-push}
 use Rattle.ap_environments.proofs.environments.Environments.keep_entry.Goals as goal
 
-pub invariant_of-self-then-is_err : goal.invariant_of-self-then-is_err
-invariant_of-self-then-is_err c =
+abbrev point : goal.After-push_reserved → Point
+point c = record { entry = c.args.entry; frames = c.in_ok-frames.frames }
+
+more_points : (c : goal.After-push_reserved) → c.push_reserved.new.self.items ≡ c.self.inside.points.items ++ point c ∷ []
+more_points c = search rules
+
+pub invariant_of-self-2 : goal.invariant_of-self-2
+invariant_of-self-2 c =
     let a = c.self.inside in
     let e = c.in_ok-frames.ensures in
-    let kept : c.push.new.self.items ≡ a.points.items = search rules in
     record {
       frames = e.are_frames;
       top = omega (arith, e.len, c.self.invariant.top);
-      points = subst (λ qs. Rising 0 qs (length c.push_frame.new.frames.items)) (sym kept) (Rising-more 0 a.points.items (length a.frames.items) (length c.push_frame.new.frames.items) c.self.invariant.points (omega (arith, e.len)));
-    }
-
-pub returns-then-is_err-clause-err : goal.returns-then-is_err-clause-err
-returns-then-is_err-clause-err c =
-    let a = c.self.inside in
-    let e = c.in_ok-frames.ensures in
-    let ss = a.slots.items in
-    let fs = a.frames.items in
-    let us = c.push_frame.new.slots.items in
-    let gs = c.push_frame.new.frames.items in
-    let r : List Return = record { place = 0; y = c.args.registers.now } ∷ chain ss fs a.top in
-    let kept : c.push.new.self.items ≡ a.points.items = search rules in
-    c.trim.ensures
-    ∙ ap₂ kept_of (before-pushed ss us fs gs r e.chains a.top c.self.invariant.top)
-    (ap (segments us gs) kept ∙ segments-alike ss us fs gs a.points.items (length fs) c.self.invariant.points (before-pushed ss us fs gs r e.chains))
-    ∙ c.self.view_is
-
-pub invariant_of-self-else-is_err : goal.invariant_of-self-else-is_err
-invariant_of-self-else-is_err c =
-    let a = c.self.inside in
-    let e = c.in_ok-frames.ensures in
-    let q : Point = record { entry = c.args.entry; frames = c.in_ok-frames.frames } in
-    let more_points : c.push.new.self.items ≡ a.points.items ++ q ∷ [] = search rules in
-    record {
-      frames = e.are_frames;
-      top = omega (arith, e.len, c.self.invariant.top);
-      points = subst (λ qs. Rising 0 qs (length c.push_frame.new.frames.items)) (sym more_points)
-          (Rising-more 0 (a.points.items ++ q ∷ []) c.in_ok-frames.frames (length c.push_frame.new.frames.items) (Rising-push 0 a.points.items (length a.frames.items) q c.self.invariant.points (omega (arith, e.number)) (omega (arith, e.number))) (omega (arith, e.number, e.len)));
+      points = subst (λ qs. Rising 0 qs (length c.push_frame.new.frames.items)) (sym (more_points c))
+          (Rising-more 0 (a.points.items ++ point c ∷ []) c.in_ok-frames.frames (length c.push_frame.new.frames.items) (Rising-push 0 a.points.items (length a.frames.items) (point c) c.self.invariant.points (omega (arith, e.number)) (omega (arith, e.number))) (omega (arith, e.number, e.len)));
     }
 
 pub returns-clause-ok : goal.returns-clause-ok
@@ -54,9 +32,7 @@ returns-clause-ok c =
     let gs = c.push_frame.new.frames.items in
     let w : Return = record { place = 0; y = c.args.registers.now } in
     let r : List Return = w ∷ chain ss fs a.top in
-    let q : Point = record { entry = c.args.entry; frames = c.in_ok-frames.frames } in
-    let more_points : c.push.new.self.items ≡ a.points.items ++ q ∷ [] = search rules in
     ap₂ kept_of (before-pushed ss us fs gs r e.chains a.top c.self.invariant.top ∙ ap (λ v. v.returns) c.self.view_is)
-    (ap (segments us gs) more_points ∙ segments-push us gs a.points.items q
+    (ap (segments us gs) (more_points c) ∙ segments-push us gs a.points.items (point c)
     ∙ ap₂ (put_entry c.args.entry) (last-pushed ss us fs gs r e.chains c.in_ok-frames.frames e.number ∙ ap (λ k. w ∷ k.returns) c.self.view_is)
     (segments-alike ss us fs gs a.points.items (length fs) c.self.invariant.points (before-pushed ss us fs gs r e.chains) ∙ ap segments_in c.self.view_is))
