@@ -1,9 +1,9 @@
 -- Terms that no connective and no neck parts.
-use Rattle.std.proofs.Common.{◌≡◌, ℕ, false, cond, List, [], ◌∷◌, ◌++◌, Some, None, length, refl, ap, ◌∙◌, arith, length-append}
+use Rattle.std.proofs.Common.{◌≡◌, ℕ, false, cond, List, [], ◌∷◌, Some, None, length, refl, ap}
 use Rattle.std.proofs.lemmas.Bool.{ne_eqb}
 use Rattle.ap_term.specs.declared.fixed.TheConstants.{NECK}
 use Rattle.ap_term.specs.declared.terms.Term.{Term}
-use Rattle.ap_term.specs.Tree.{Trees, none, more, node}
+use Rattle.ap_term.specs.Tree.{Trees, none, more, node, count_trees}
 use Rattle.ap_term.specs.TermView.{tree_of, trees_of}
 use Rattle.ap_lifting.specs.Body.{goal}
 use Rattle.ap_clause.specs.declared.form.Connective.TheVariants.{Other}
@@ -46,10 +46,10 @@ pair_other (t ∷ []) h = refl
 pair_other (t ∷ (u ∷ [])) h = absurd (h refl)
 pair_other (t ∷ (u ∷ (v ∷ ts))) h = refl
 
--- two terms that were taken off one after another, and nothing is left
-pub two_popped : (ts us vs : List Term) (a b : Term) → length ts ≡ 2 → ts ≡ us ++ b ∷ [] → us ≡ vs ++ a ∷ [] → trees_of ts ≡ more (tree_of a) (more (tree_of b) none)
-two_popped ts us [] a b n e f = ap trees_of (e ∙ ap (λ l. l ++ b ∷ []) f)
-two_popped ts us (v ∷ vs) a b n e f =
-    absurd (omega (arith, n, ap length e, length-append us (b ∷ []), ap length f, length-append (v ∷ vs) (a ∷ [])))
+pub unpaired : (ts : Trees) → (count_trees ts ≡ 2 → ⊥) → is_pair ts ≡ false
+unpaired none h = refl
+unpaired (more a none) h = refl
+unpaired (more a (more b none)) h = absurd (h refl)
+unpaired (more a (more b (more c ts))) h = refl
 
-pub ruleset bodies = (body_in-other, body_in-unpaired, clause_halves-other, clause_halves-unpaired, pair_other)
+pub ruleset bodies = (body_in-other, body_in-unpaired, clause_halves-other, clause_halves-unpaired, pair_other, unpaired)

@@ -1,6 +1,6 @@
 //! The head and the body that a term is.
 
-ghost use Rattle.std.specs.Prelude.{◌≡◌, ◌+◌, ◌<◌, [], ◌∷◌, ◌++◌, vec_len, IfOk, OnOk, MatchOption, MatchResult, None, Some, true, false};
+ghost use Rattle.std.specs.Prelude.{◌≡◌, [], ◌∷◌, ◌++◌, IfOk, OnOk, MatchOption, MatchResult, None, Some, true, false};
 ghost use Rattle.ap_term.specs.Tree.{none, more};
 ghost use Rattle.ap_term.specs.TermView.{tree_of};
 ghost use Rattle.ap_lifting.specs.Body as body;
@@ -47,27 +47,15 @@ fn only(args: &Args) -> Option<&Term>
     Some(&terms[0])
 }
 
-/// Takes the last term off; there is one.
-fn pop(terms: &mut Vec<Term>) -> Term
-    requires { 0 < vec_len terms.old }
-    ensures items { terms.old.items ≡ terms.new.items ++ result ∷ [] }
-    ensures len { vec_len terms.new + 1 ≡ vec_len terms.old }
-{
-    terms.pop().unwrap()
-}
-
 /// The two arguments, where there are two; else the arguments again.
 #[tactic(auto, using(crate::proofs::Bodies::bodies))]
 fn pair(args: Args) -> Result<(Term, Term), Args>
     ensures { MatchResult result (λ p. args ≡ more (tree_of p.0) (more (tree_of p.1) none)) (λ again. (again ≡ args) × (is_pair args ≡ false)) }
 {
-    let mut terms = args.into_vec();
-    if terms.len() != 2 {
-        return Err(Args::from_vec(terms));
+    if args.len() != 2 {
+        return Err(args);
     }
-    let last = pop(&mut terms);
-    let first = pop(&mut terms);
-    Ok((first, last))
+    Ok(args.into_two())
 }
 
 /// Adds the conditions that stand before `=>`.

@@ -30,7 +30,7 @@ pub list-in : (ns : List Text) (ys : List Written) (x u : Written) (dot : ℕ) (
 list-in ns ys x u dot ts tail t d e h k =
     k ∙ ap (λ n. tree_cells n ts tail) d ∙ ap (λ l. tree_cells (place_of ns (codes ".")) l tail) e ∙ ap (tree_cells (place_of ns (codes ".")) (map (term_in ns) (ys ++ x ∷ []))) h ∙ cells-in ns (ys ++ x ∷ []) u ∙ ap (term_in ns) (cells-push [] ys x u)
 
-row-in : (ns : List Text) (ts : List Term) (ys : List Written) → map tree_of ts ≡ map (term_in ns) ys → trees_of ts ≡ terms_in ns (with_rest ys Nil)
+pub row-in : (ns : List Text) (ts : List Term) (ys : List Written) → map tree_of ts ≡ map (term_in ns) ys → trees_of ts ≡ terms_in ns (with_rest ys Nil)
 row-in ns [] [] e = refl
 row-in ns [] (y ∷ ys) e = absurd (cc)
 row-in ns (t ∷ ts) [] e = absurd (cc)
@@ -40,5 +40,5 @@ row-in ns (t ∷ ts) (y ∷ ys) e =
     let rest = row-in ns ts ys others in
     cc
 
-pub arguments-in : (ns : List Text) (ts : List Term) (ys : List Written) (x : Written) → map tree_of ts ≡ map (term_in ns) (ys ++ x ∷ []) → trees_of ts ≡ terms_in ns (with_rest ys (Cons x Nil))
-arguments-in ns ts ys x e = row-in ns ts (ys ++ x ∷ []) e ∙ ap (terms_in ns) (with_rest-push [] ys x Nil)
+pub arguments-in : (ns : List Text) (ts : Trees) (ys : List Written) (x : Written) → ts ≡ terms_in ns (with_rest (ys ++ x ∷ []) Nil) → ts ≡ terms_in ns (with_rest ys (Cons x Nil))
+arguments-in ns ts ys x e = e ∙ ap (terms_in ns) (with_rest-push [] ys x Nil)

@@ -4,7 +4,7 @@ ghost use Rattle.std.specs.Prelude.{◌≡◌, ◌<◌, List, [], ◌∷◌, IfO
 ghost use Rattle.ap_lexer.specs.Lexeme.{Text};
 ghost use Rattle.ap_term.specs.declared.fixed.TheConstants.{COUNT};
 ghost use Rattle.ap_term.specs.AtomTable.{fixed_names, insert_names};
-ghost use Rattle.ap_term.specs.TermView.{tree_of, trees_of};
+ghost use Rattle.ap_term.specs.TermView.{tree_of};
 ghost use Rattle.ap_reader.specs.Written.{Written, Node, Cons, Nil, cell, leaf_of, leaf_at, meaning};
 ghost use Rattle.ap_reader.specs.Evaluated.{Value, ATerm, Gathered, made, left, with_rest, cells};
 ghost use Rattle.ap_reader.specs.Held.{Held, Fits};
@@ -17,7 +17,7 @@ use crate::leaf::{Leaf, name_at};
 use crate::pass::Step;
 use crate::recent::Recent;
 use crate::terms::Stack;
-use ap_term::{Args, Atom, Atoms, InternErr, Term, fixed};
+use ap_term::{Atom, Atoms, InternErr, Term, fixed};
 use std::alloc::Global;
 
 /// The number of a name that stands in most bodies: each table of names holds it from the start.
@@ -66,13 +66,6 @@ fn atom(
         Err(InternErr::Full) => Err(InternErr::Full),
         Err(InternErr::NoMemory) => Err(InternErr::NoMemory),
     }
-}
-
-/// The arguments that items are.
-fn arguments(items: Vec<Term>) -> Args
-    ensures { result ≡ trees_of items.items }
-{
-    Args::from_vec(items)
 }
 
 /// What a token is as an operand.
@@ -139,8 +132,7 @@ fn infix(
     }
 }
 
-/// The compound of a name and the items on top, in no more room than they need: most of a program's memory are such
-/// lists.
+/// The compound of a name and the items on top.
 fn compound(
     alloc: Global,
     stack: &mut Stack,
@@ -152,8 +144,8 @@ fn compound(
     ensures table { Interned (name.now ∷ []) atoms.old atoms.new result }
 {
     match atom(alloc, recent, atoms, name) {
-        Ok(functor) => match stack.take_items() {
-            Ok(items) => Ok(Term::Node(functor, arguments(items))),
+        Ok(functor) => match stack.take_items(alloc) {
+            Ok(items) => Ok(Term::Node(functor, items)),
             Err(_) => Err(InternErr::NoMemory),
         },
         Err(e) => Err(e),
@@ -200,7 +192,7 @@ fn term_after(
         Step::Prefix(at) => prefix(alloc, stack, recent, atoms, name_at(leaves, at)),
         Step::Infix(at) => infix(alloc, stack, recent, atoms, name_at(leaves, at)),
         Step::Compound(at) => compound(alloc, stack, recent, atoms, name_at(leaves, at)),
-        Step::Empty => match stack.take_items() {
+        Step::Empty => match stack.take_items(alloc) {
             Ok(_none) => match atom(alloc, recent, atoms, "[]") {
                 Ok(name) => Ok(Term::Atom(name)),
                 Err(e) => Err(e),

@@ -1,4 +1,4 @@
-//! Compound terms of one and of two arguments, in no more room than they need.
+//! Compound terms of one and of two arguments.
 
 ghost use Rattle.std.specs.Prelude.{◌≡◌, IfOk};
 ghost use Rattle.ap_term.specs.Tree.{node, more, none};
@@ -11,9 +11,7 @@ use std::alloc::Global;
 pub(crate) fn compound1(alloc: Global, name: Atom, x: Term) -> Result<Term, NoMemory>
     ensures { IfOk result (λ t. tree_of t ≡ node name (more (tree_of x) none)) }
 {
-    let mut args = Vec::with_capacity(alloc, 1)?;
-    args.push_reserved(x);
-    Ok(Term::Node(name, Args::from_vec(args)))
+    Ok(Term::Node(name, Args::one(alloc, x)?))
 }
 
 /// Makes a compound term of two arguments.
@@ -21,8 +19,5 @@ pub(crate) fn compound1(alloc: Global, name: Atom, x: Term) -> Result<Term, NoMe
 pub(crate) fn compound2(alloc: Global, name: Atom, x: Term, y: Term) -> Result<Term, NoMemory>
     ensures { IfOk result (λ t. tree_of t ≡ node name (more (tree_of x) (more (tree_of y) none))) }
 {
-    let mut args = Vec::with_capacity(alloc, 2)?;
-    args.push_reserved(x);
-    args.push_reserved(y);
-    Ok(Term::Node(name, Args::from_vec(args)))
+    Ok(Term::Node(name, Args::two(alloc, x, y)?))
 }

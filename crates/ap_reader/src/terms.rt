@@ -4,14 +4,14 @@ ghost use Rattle.std.specs.Prelude.{◌≡◌, ◌+◌, ◌<◌, ◌≤◌, ◌�
 ghost use Rattle.ap_term.specs.declared.names.InternErr.TheVariants as err;
 ghost use Rattle.ap_lexer.specs.Lexeme.{Text};
 ghost use Rattle.ap_term.specs.TermView.{tree_of};
-ghost use Rattle.ap_reader.specs.Written.{Written};
-ghost use Rattle.ap_reader.specs.Evaluated.{Value, ATerm, Gathered};
-ghost use Rattle.ap_reader.specs.Build.{term_in, tree_cells};
+ghost use Rattle.ap_reader.specs.Written.{Written, Nil};
+ghost use Rattle.ap_reader.specs.Evaluated.{Value, ATerm, Gathered, with_rest};
+ghost use Rattle.ap_reader.specs.Build.{term_in, terms_in, tree_cells};
 ghost use Rattle.ap_reader.specs.Held.{Held, row, begins};
 
 use crate::compounds::compound2;
 use ap_lexer::push;
-use ap_term::{Atom, InternErr, NoMemory, Term};
+use ap_term::{Args, Atom, InternErr, NoMemory, Term};
 use std::alloc::Global;
 
 /// How many terms room is kept for.
@@ -124,12 +124,12 @@ impl Stack {
     }
 
     /// Takes the items that began last.
-    pub(crate) fn take_items(&mut self) -> Result<Vec<Term>, InternErr>
-        ensures value { IfOk result (λ v. (ns : List Text) (ys : List Written) (vs : List Value) → Held ns (Gathered ys ∷ vs) self.old → (map tree_of v.items ≡ map (term_in ns) ys) × Held ns vs self.new) }
+    pub(crate) fn take_items(&mut self, alloc: Global) -> Result<Args, InternErr>
+        ensures value { IfOk result (λ ts. (ns : List Text) (ys : List Written) (vs : List Value) → Held ns (Gathered ys ∷ vs) self.old → (ts ≡ terms_in ns (with_rest ys Nil)) × Held ns vs self.new) }
         ensures err { OnErr result (result ≡ Err err.NoMemory) }
     {
         let from = self.first_item();
-        match self.terms.split_off(from) {
+        match Args::take_from(alloc, &mut self.terms, from) {
             Ok(items) => Ok(items),
             Err(_) => Err(InternErr::NoMemory),
         }

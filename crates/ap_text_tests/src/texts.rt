@@ -30,8 +30,8 @@ fn push_step(
         Step::Atom(name) => Term::Atom(atoms.intern(alloc, name)?),
         Step::Node(name, arity) => {
             let front = terms.len().saturating_sub(arity);
-            let args = terms.split_off(front)?;
-            Term::Node(atoms.intern(alloc, name)?, Args::from_vec(args))
+            let args = Args::take_from(alloc, terms, front)?;
+            Term::Node(atoms.intern(alloc, name)?, args)
         }
     };
     terms.push(t)?;
@@ -219,7 +219,7 @@ fn list_of(alloc: Global, atoms: &mut Atoms, len: u64) -> Result<Term, Fail> {
     let dot = atoms.intern(alloc, ".")?;
     let mut list = nil;
     for x in 0..len {
-        list = Term::Node(dot, Args::from_vec(vec![in alloc; Term::Var(x), list]?));
+        list = Term::Node(dot, Args::two(alloc, Term::Var(x), list)?);
     }
     Ok(list)
 }
