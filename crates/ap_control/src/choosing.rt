@@ -410,7 +410,7 @@ pub(crate) struct Left {
 }
 
 /// The next clause from a choice on, of which nothing is known, with those behind it.
-#[inline(always)]
+#[inline(never)]
 fn left_unknown(sound: &Sound, from: Option<usize>) -> Option<Left>
     ensures passes { (cs : List Raw) (x : ℕ → ℕ) → PassesOver sound.now cs x (places_from sound.now from) (left_places sound.now result) }
     ensures rest { (cs : List Raw) (x : ℕ → ℕ) → IfSome result (IsLeft sound.now cs x) }
@@ -564,6 +564,26 @@ impl Chosen {
     }
 }
 
+/// The first clause behind a choice that isn't passed over. It stands apart, so that what looks at two clauses stays small.
+#[inline(never)]
+fn left_behind(
+    cells: &Cells,
+    x: &[u32],
+    arity: u8,
+    known: &Known,
+    sound: &Sound,
+    found: &Choice,
+) -> Option<Left>
+    requires holds { HoldPlaces (length cells.now.cells) x.now }
+    requires known { IsKnown cells.now.cells (held x.now) arity known.now }
+    requires found { IsChoiceOf sound.now found.now }
+    ensures passes { PassesOver sound.now cells.now.cells (held x.now) (places_from sound.now found.now.named.behind) (left_places sound.now result) }
+    ensures rest { IfSome result (IsLeft sound.now cells.now.cells (held x.now)) }
+{
+    let from = next_choice(sound, known.first.key, found);
+    left_from(cells, x, arity, known, sound, from)
+}
+
 /// The first clause from a choice on that isn't passed over, where the choice may be a `try`.
 #[inline(always)]
 fn left_with(
@@ -581,10 +601,7 @@ fn left_with(
     ensures rest { IfSome result (IsLeft sound.now cells.now.cells (held x.now)) }
 {
     match chance_of(cells, x, arity, known, found) {
-        Chance::Never => {
-            let from = next_choice(sound, known.first.key, found);
-            left_from(cells, x, arity, known, sound, from)
-        }
+        Chance::Never => left_behind(cells, x, arity, known, sound, found),
         _ => Some(left_at(sound, known.first.key, found, false)),
     }
 }

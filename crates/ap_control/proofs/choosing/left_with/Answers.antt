@@ -13,7 +13,5 @@ returns-in-Never-clause-passes c =
     let x = held c.args.x.now in
     let found = c.args.found.now.named in
     let behind = places_from code found.behind in
-    let from = places_from code c.next_choice-from.result in
     let shut : IsShut code cs x found.place = subst (IsChance code cs x c.args.arity found.place) c.in-Never.is (c.chance_of.ensures code c.requires.found) in
-    passes-then code cs x (found.place ∷ behind) behind (left_places code c.left_from.result) (passes-one code cs x (found.place ∷ behind) behind found.place refl shut)
-    (passes-then code cs x behind from (left_places code c.left_from.result) (c.next_choice-from.ensures cs x c.requires.known.0.1) c.left_from.ensures.passes)
+    passes-then code cs x (found.place ∷ behind) behind (left_places code c.left_behind.result) (passes-one code cs x (found.place ∷ behind) behind found.place refl shut) c.left_behind.ensures.passes
