@@ -17,12 +17,3 @@ IsDue code m (Direct to value) = IsDirectDue code m value to
 IsDue code m Answer = (m.now ≡ returning) × (m.returns ≡ [])
 IsDue code m Nothing = (m.now ≡ failed) × (m.points ≡ [])
 IsDue code m (Group at) = (m.now ≡ inside at) × IsGroupAt code at
-
--- a turn is due: a call or a built-in goal
-abbrev pub IsTurnDue : Due → Type 0
-IsTurnDue (Call number) = Unit {0}
-IsTurnDue (Goal builtin at) = Unit {0}
-IsTurnDue (Direct to value) = Unit {0}
-IsTurnDue Answer = ⊥
-IsTurnDue Nothing = ⊥
-IsTurnDue (Group at) = ⊥

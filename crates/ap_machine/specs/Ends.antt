@@ -5,8 +5,6 @@ use Rattle.ap_instr.specs.Code.{Compiled}
 use Rattle.ap_standing.specs.Machine.{Machine}
 use Rattle.ap_machine.specs.declared.advance.Turn.{Turn}
 use Rattle.ap_machine.specs.declared.advance.Turn.TheVariants.{Answer, Failed, Spent, More, Stopped, Group}
-use Rattle.ap_machine.specs.declared.due.Due.{Due}
-use Rattle.ap_machine.specs.declared.due.Due.TheVariants.{Call, Goal, Direct, Answer as AnswerDue, Nothing, Group as GroupDue}
 use Rattle.ap_machine.specs.View.{Paused}
 use Rattle.ap_machine.specs.Stands.{IsCallDue, IsAtAnswer, IsAtEnd, IsAtGroup, tuple_of, IsAnswer, HasGoals}
 
@@ -20,14 +18,14 @@ Ends code inferences old new More = IsCallDue code new.machine.now × (new.spent
 Ends code inferences old new Stopped = Unit {0}
 Ends code inferences old new Group = IsAtGroup code new.machine
 
--- why a turn ends where that is due
-abbrev pub IsEndOf : Paused → Due → Turn → Type 0
-IsEndOf s (Call number) end = (end ≡ Spent) × (s.budget ≤ s.spent)
-IsEndOf s (Goal builtin at) end = (end ≡ Spent) × (s.budget ≤ s.spent)
-IsEndOf s (Direct to value) end = (end ≡ Spent) × (s.budget ≤ s.spent)
-IsEndOf s AnswerDue end = end ≡ Answer
-IsEndOf s Nothing end = end ≡ Failed
-IsEndOf s (GroupDue at) end = end ≡ Group
+-- why no call is made where one is due, and so many may be made
+abbrev pub IsHeldUp : ℕ → Paused → Turn → Type 0
+IsHeldUp left s Spent = s.budget ≤ s.spent
+IsHeldUp left s More = (s.spent < s.budget) × (left ≡ 0)
+IsHeldUp left s Stopped = Unit {0}
+IsHeldUp left s Answer = ⊥
+IsHeldUp left s Failed = ⊥
+IsHeldUp left s Group = ⊥
 
 -- what the states are that a machine stands for which came back
 abbrev pub AreStates : Machine → List Tracked → Turn → Type 0

@@ -9,9 +9,9 @@ ghost use Rattle.ap_standing.specs.Machine.{calling, inside};
 ghost use Rattle.ap_standing.specs.Holds.{Holds};
 ghost use Rattle.ap_machine.specs.View.{IsFor};
 ghost use Rattle.ap_machine.specs.Direct.{IsDirectDue};
-ghost use Rattle.ap_machine.specs.Due.{IsDue, IsTurnDue};
+ghost use Rattle.ap_machine.specs.Due.{IsDue};
 ghost use Rattle.ap_machine.specs.Advanced.{Advanced};
-ghost use Rattle.ap_machine.specs.Ends.{IsEndOf, Ends, AreStates};
+ghost use Rattle.ap_machine.specs.Ends.{IsHeldUp, Ends, AreStates};
 
 use crate::direct::Value;
 use crate::due::Due;
@@ -104,48 +104,32 @@ impl Search {
         Ok(())
     }
 
-    /// Makes the call that is due.
+    /// Why no call is made where one is due, if none is: the budget is spent, or as many calls were made as were asked for, or the hook
+    /// asks for a stop.
     #[inline(always)]
-    fn make(&mut self, sound: &Sound, due: Due) -> Result<(), NoMemory>
-        requires is_for { IsFor sound.now self.old }
-        requires due { IsDue sound.now self.old.machine due }
-        requires turn { IsTurnDue due }
-        requires fits { self.old.spent < 2 ^ 64 - 1 }
-        ensures advanced { Advanced sound.now self.old self.new }
-        ensures counted { IfOk result (λ _. self.new.spent ≡ self.old.spent + 1) }
-        ensures err { OnErr result (self.new ≡ self.old) }
-    {
-        match due {
-            Due::Call(number) => self.make_call(sound, number),
-            Due::Goal(builtin, at) => self.make_goal(sound.code(), builtin, at),
-            Due::Direct(to, value) => self.make_direct(sound.code(), value, to),
-            Due::Answer => Ok(()),
-            Due::Nothing => Ok(()),
-            Due::Group(_) => Ok(()),
-        }
-    }
-
-    /// Why the search ends where that is due. None where a call is, and the budget allows it.
-    #[inline(always)]
-    fn end_at(&self, due: Due) -> Option<Turn>
-        ensures end { IfSome result (λ end. IsEndOf self.now due end) }
-        ensures turn { result ≡ None → IsTurnDue due }
-        ensures left { result ≡ None → self.now.spent < self.now.budget }
+    fn held_up<H: Hook>(&self, left: u64, hook: &mut H) -> Option<Turn>
+        ensures held { IfSome result (λ end. IsHeldUp left self.now end) }
+        ensures stopped { result ≡ Some Turn.Stopped → H.asked hook.new }
+        ensures within { result ≡ None → self.now.spent < self.now.budget }
+        ensures left { result ≡ None → 0 < left }
         ensures fits { self.now.budget < 2 ^ 64 }
+        ensures asked { H.asked hook.old → H.asked hook.new }
+        ensures wish { H.is_wanted hook.new ≡ H.is_wanted hook.old }
     {
-        let is_spent = self.is_spent();
-        match due {
-            Due::Answer => Some(Turn::Answer),
-            Due::Nothing => Some(Turn::Failed),
-            Due::Group(_) => Some(Turn::Group),
-            Due::Call(_) if is_spent => Some(Turn::Spent),
-            Due::Goal(_, _) if is_spent => Some(Turn::Spent),
-            Due::Direct(_, _) if is_spent => Some(Turn::Spent),
-            _ => None,
+        if self.is_spent() {
+            return Some(Turn::Spent);
         }
+        if left == 0 {
+            return Some(Turn::More);
+        }
+        if hook.poll() {
+            return Some(Turn::Stopped);
+        }
+        None
     }
 
-    /// Goes on to what is due, and makes the call, or tells why not. So many calls may be made.
+    /// Goes on to what is due, and makes the call, or tells why not. So many calls may be made. Each kind of call asks for itself whether it is
+    /// held up, so that what is due needn't be kept while that is asked.
     #[inline(always)]
     fn turn<H: Hook>(
         &mut self,
@@ -163,18 +147,32 @@ impl Search {
         ensures asked { H.asked hook.old → H.asked hook.new }
         ensures wish { H.is_wanted hook.new ≡ H.is_wanted hook.old }
     {
-        let due = self.find_due(sound)?;
-        if let Some(end) = self.end_at(due) {
-            return Ok(Some(end));
+        match self.find_due(sound)? {
+            Due::Call(number) => {
+                if let Some(end) = self.held_up(left, hook) {
+                    return Ok(Some(end));
+                }
+                self.make_call(sound, number)?;
+                Ok(None)
+            }
+            Due::Goal(builtin, at) => {
+                if let Some(end) = self.held_up(left, hook) {
+                    return Ok(Some(end));
+                }
+                self.make_goal(sound.code(), builtin, at)?;
+                Ok(None)
+            }
+            Due::Direct(to, value) => {
+                if let Some(end) = self.held_up(left, hook) {
+                    return Ok(Some(end));
+                }
+                self.make_direct(sound.code(), value, to)?;
+                Ok(None)
+            }
+            Due::Answer => Ok(Some(Turn::Answer)),
+            Due::Nothing => Ok(Some(Turn::Failed)),
+            Due::Group(_) => Ok(Some(Turn::Group)),
         }
-        if left == 0 {
-            return Ok(Some(Turn::More));
-        }
-        if hook.poll() {
-            return Ok(Some(Turn::Stopped));
-        }
-        self.make(sound, due)?;
-        Ok(None)
     }
 
     /// Searches on, without a share.

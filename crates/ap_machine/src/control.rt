@@ -118,7 +118,8 @@ pub(crate) fn behind(at: usize) -> Result<u32, NoMemory>
 }
 
 /// Where a jump leads that stands at a place, if one does: further on.
-fn jump_from(code: &Code, at: usize) -> Option<usize>
+#[inline(always)]
+pub(crate) fn jump_from(code: &Code, at: usize) -> Option<usize>
     ensures jump { IfSome result (λ to. JumpsTo code.now at to) }
     ensures none { result ≡ None → IsNoJumpAt code.now at }
 {
@@ -246,38 +247,6 @@ impl Search {
                 self.y.copy_from_slice(&self.before_y);
                 Err(error)
             }
-        }
-    }
-
-    /// Control is at a place in a clause, and goes on to the next instruction of control that is no jump, or to a place to stop
-    /// at, unless what stands between can't be taken. Without memory it is at a jump's end, or where it was.
-    #[inline(always)]
-    pub(crate) fn run_on(
-        &mut self,
-        code: &Code,
-        room: &Room,
-        at: usize,
-        stop: usize,
-    ) -> Result<Option<usize>, NoMemory>
-        requires here { self.old.machine.now ≡ inside at }
-        requires is_for { IsFor code.now self.old }
-        requires room { IsRoomOf code.now room.now }
-        ensures holds { KeepsStanding code.now self.old.machine self.new.machine }
-        ensures stays { Stays self.old self.new }
-        ensures rest { SameRest self.old.machine self.new.machine }
-        ensures at { IfOk result (λ found. MatchOption found (self.new.machine.now ≡ failed) (λ to. (self.new.machine.now ≡ inside to) × IsEndAt code.now stop to)) }
-        ensures no_jump { IfOk result (λ found. IfSome found (λ to. IsNoJumpAt code.now to)) }
-    {
-        let mut place = at;
-        'jumps: loop {
-            let Some(to) = self.run(code, room, place, stop)? else {
-                return Ok(None);
-            };
-            let Some(next) = jump_from(code, to) else {
-                return Ok(Some(to));
-            };
-            self.resume(next);
-            place = next;
         }
     }
 

@@ -10,7 +10,7 @@ ghost use Rattle.ap_machine.specs.Choices.{Stays};
 ghost use Rattle.ap_machine.specs.Lasting.{moves_left};
 ghost use Rattle.ap_machine.specs.Due.{IsDue};
 
-use crate::control::is_known;
+use crate::control::{is_known, jump_from};
 use crate::direct::Value;
 use crate::state::{Now, Search};
 use ap_codecheck::Sound;
@@ -90,13 +90,18 @@ impl Search {
                 }
             }
             let stop = stop_behind(sound, place, first);
-            let Some(to) = self.run_on(code, sound.room(), place, stop)? else {
+            let Some(to) = self.run(code, sound.room(), place, stop)? else {
                 return Ok(None);
             };
-            if to != stop {
-                return self.transfer(code, to);
+            if to == stop {
+                place = to;
+                continue;
             }
-            place = to;
+            let Some(next) = jump_from(code, to) else {
+                return self.transfer(code, to);
+            };
+            self.resume(next);
+            place = next;
         }
     }
 
