@@ -25,5 +25,5 @@ goals-behind base code t begins alone within h at d e =
     let parts = and_parts _ _ within in
     let few : length t.goals.items ≤ places = leb-true _ _ parts.0 in
     let here : at < length t.goals.items = slice_get_within t.goals.items at (Some d) e in
-    let to : d.to < places = ltb-true _ _ (all-got (ends_within places) t.goals.items at (Some d) parts.1 e) in
-    asks-same _ _ _ _ d.goal (same-from base code begins alone at (omega arith)) (same-from base code begins alone d.to to) (h at d e)
+    let to : d.value.to < places = ltb-true _ _ (all-got (ends_within places) t.goals.items at (Some d) parts.1 e) in
+    asks-same _ _ _ _ d.value.goal (same-from base code begins alone at (omega arith)) (same-from base code begins alone d.value.to to) (h at d e)

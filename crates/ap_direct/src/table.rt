@@ -17,10 +17,10 @@ use ap_term::NoMemory;
 use std::alloc::Global;
 use std::mem;
 
-/// By places, the goal that begins there, and the first place from it on, before the next transfer of control, at which one begins.
+/// By places, the goal that begins there, in a block of its own, since most places have none; and the first place from it on, before the next transfer of control, at which one begins.
 #[derive(Drop)]
 pub struct Directs {
-    pub goals: Vec<Option<Direct>>,
+    pub goals: Vec<Option<Box<Direct>>>,
     pub stops: Vec<usize>,
 }
 
@@ -105,22 +105,22 @@ fn is_on_structure(code: &Code, at: usize, direct: &Direct) -> bool {
 }
 
 /// Takes the goal at a place out.
-fn take(code: &Code, goals: &mut Vec<Option<Direct>>, at: usize) -> Option<Direct>
+fn take(code: &Code, goals: &mut Vec<Option<Box<Direct>>>, at: usize) -> Option<Box<Direct>>
     requires within { at < length goals.old.items }
     requires asked { AreAsked code.now goals.old.items }
     ensures asked { AreAsked code.now goals.new.items }
     ensures same { length goals.new.items ≡ length goals.old.items }
     ensures before { AreSameBefore at goals.old.items goals.new.items }
-    ensures found { IfSome result (λ d. AsksFirst code.now at d) }
+    ensures found { IfSome result (λ d. AsksFirst code.now at d.value) }
 {
     mem::replace(&mut goals[at], None)
 }
 
 /// Writes what was found at a place.
-fn write(code: &Code, goals: &mut Vec<Option<Direct>>, at: usize, found: Option<Direct>)
+fn write(code: &Code, goals: &mut Vec<Option<Box<Direct>>>, at: usize, found: Option<Box<Direct>>)
     requires within { at < length goals.old.items }
     requires asked { AreAsked code.now goals.old.items }
-    requires found { IfSome found (λ d. AsksFirst code.now at d) }
+    requires found { IfSome found (λ d. AsksFirst code.now at d.value) }
     ensures asked { AreAsked code.now goals.new.items }
     ensures same { length goals.new.items ≡ length goals.old.items }
     ensures before { AreSameBefore at goals.old.items goals.new.items }
@@ -129,7 +129,12 @@ fn write(code: &Code, goals: &mut Vec<Option<Direct>>, at: usize, found: Option<
 }
 
 /// Takes out the goal behind what is put at a place, if that can be taken into it.
-fn taken(code: &Code, at: usize, goals: &mut Vec<Option<Direct>>, placed: Placed) -> Option<Direct>
+fn taken(
+    code: &Code,
+    at: usize,
+    goals: &mut Vec<Option<Box<Direct>>>,
+    placed: Placed,
+) -> Option<Direct>
     requires { AreAsked code.now goals.old.items }
     ensures asked { AreAsked code.now goals.new.items }
     ensures same { length goals.new.items ≡ length goals.old.items }
@@ -141,7 +146,7 @@ fn taken(code: &Code, at: usize, goals: &mut Vec<Option<Direct>>, placed: Placed
     }
     let direct = take(code, goals, placed.to)?;
     if is_part_of(code, placed, &direct) {
-        return Some(direct);
+        return Some(Box::into_inner(direct));
     }
     write(code, goals, placed.to, Some(direct));
     None
@@ -153,7 +158,7 @@ fn goal_at(
     alloc: Global,
     code: &Code,
     at: usize,
-    goals: &mut Vec<Option<Direct>>,
+    goals: &mut Vec<Option<Box<Direct>>>,
 ) -> Result<Option<Direct>, NoMemory>
     requires { AreAsked code.now goals.old.items }
     ensures asked { OnOk result (AreAsked code.now goals.new.items) }
@@ -171,7 +176,7 @@ fn goal_at(
 }
 
 /// No goals at so many further places.
-fn add_none(goals: &mut Vec<Option<Direct>>, places: usize) -> Result<(), NoMemory>
+fn add_none(goals: &mut Vec<Option<Box<Direct>>>, places: usize) -> Result<(), NoMemory>
     ensures { OnOk result (goals.new.items ≡ goals.old.items ++ replicate places None) }
 {
     let mut made = 0;
@@ -183,7 +188,11 @@ fn add_none(goals: &mut Vec<Option<Direct>>, places: usize) -> Result<(), NoMemo
 }
 
 /// Finds the goals of code at its places behind those that are gone through.
-fn find_goals(alloc: Global, code: &Code, goals: &mut Vec<Option<Direct>>) -> Result<(), NoMemory>
+fn find_goals(
+    alloc: Global,
+    code: &Code,
+    goals: &mut Vec<Option<Box<Direct>>>,
+) -> Result<(), NoMemory>
     requires fits { length goals.old.items ≤ length code.now.instructions }
     requires asked { AreAsked code.now goals.old.items }
     ensures asked { OnOk result (AreAsked code.now goals.new.items) }
@@ -195,14 +204,16 @@ fn find_goals(alloc: Global, code: &Code, goals: &mut Vec<Option<Direct>>) -> Re
     add_none(goals, place - from)?;
     'places: while place > from {
         place -= 1;
-        let found = goal_at(alloc, code, place, goals)?;
-        write(code, goals, place, found);
+        if let Some(found) = goal_at(alloc, code, place, goals)? {
+            let found = Box::new(alloc, found)?;
+            write(code, goals, place, Some(found));
+        }
     }
     Ok(())
 }
 
 /// The goal at a place, unless an operand of it is a structure that was put just before.
-fn stands_at(code: &Code, goals: &[Option<Direct>], at: usize) -> bool {
+fn stands_at(code: &Code, goals: &[Option<Box<Direct>>], at: usize) -> bool {
     match goals.get(at) {
         Some(Some(direct)) => !is_on_structure(code, at, direct),
         _ => false,
@@ -210,7 +221,7 @@ fn stands_at(code: &Code, goals: &[Option<Direct>], at: usize) -> bool {
 }
 
 /// Notes for places behind so many the first place from each on at which a goal begins, and lets go goals on structures.
-fn note_stops(code: &Code, from: usize, goals: &mut Vec<Option<Direct>>, stops: &mut [usize])
+fn note_stops(code: &Code, from: usize, goals: &mut Vec<Option<Box<Direct>>>, stops: &mut [usize])
     requires fits { length goals.old.items ≡ length stops.old }
     requires asked { AreAsked code.now goals.old.items }
     ensures asked { AreAsked code.now goals.new.items }
@@ -236,7 +247,7 @@ fn note_stops(code: &Code, from: usize, goals: &mut Vec<Option<Direct>>, stops: 
 }
 
 /// Whether the code behind a goal begins before a place.
-fn ends_within(goal: &Option<Direct>, places: usize) -> bool
+fn ends_within(goal: &Option<Box<Direct>>, places: usize) -> bool
     ensures { result ≡ ends_within places goal.now }
 {
     match goal {
@@ -245,7 +256,7 @@ fn ends_within(goal: &Option<Direct>, places: usize) -> bool
     }
 }
 
-fn end_within(goals: &[Option<Direct>], places: usize) -> bool
+fn end_within(goals: &[Option<Box<Direct>>], places: usize) -> bool
     ensures { result ≡ list_all (ends_within places) goals.now }
 {
     goals.iter().all(|goal| ends_within(goal, places))
@@ -299,8 +310,8 @@ impl Directs {
         ensures { (code : Compiled) → AreGoalsOf code self.now → IfSome result (λ d. AsksFirst code at d.now) }
     {
         match self.goals.get(at) {
-            Some(goal) => goal.as_ref(),
-            None => None,
+            Some(Some(goal)) => Some(goal),
+            _ => None,
         }
     }
 

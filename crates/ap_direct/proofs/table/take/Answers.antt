@@ -7,7 +7,7 @@ use Rattle.ap_direct.proofs.table.take.Goals as goal
 pub returns-clause-asked : goal.returns-clause-asked
 returns-clause-asked c =
     set_asked c.args.code.now c.args.goals.now.items c.args.at c.replace.new.dest c.requires.within
-    (subst (λ o. IfSome o (λ d. AsksFirst c.args.code.now c.args.at d)) (sym c.replace.ensures.after) tt) c.requires.asked
+    (subst (λ o. IfSome o (λ d. AsksFirst c.args.code.now c.args.at d.value)) (sym c.replace.ensures.after) tt) c.requires.asked
 
 pub returns-clause-found : goal.returns-clause-found
 returns-clause-found c =
