@@ -18,6 +18,7 @@ pub mod Questions
 pub mod Begun
 pub mod Parting
 pub mod Rejoining
+pub mod Past
 pub mod Parted
 pub mod Counting
 pub mod Values

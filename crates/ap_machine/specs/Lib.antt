@@ -10,6 +10,7 @@ pub mod Stands
 pub mod Lent
 pub mod Due
 pub mod Advanced
+pub mod Past
 pub mod Ends
 pub mod Started
 pub mod Jumps

@@ -1,16 +1,17 @@
 //! The search, one call after another.
 
-ghost use Rattle.std.specs.Prelude.{◌≡◌, ◌+◌, ◌-◌, ◌^◌, ◌<◌, ◌≤◌, List, max, Bool, true, false, None, Some, Ok, IfOk, IfSome, IfNone, OnErr, slice_get};
+ghost use Rattle.std.specs.Prelude.{◌≡◌, ◌+◌, ◌-◌, ◌^◌, ◌<◌, ◌≤◌, List, [], max, Bool, true, false, None, Some, Ok, IfOk, IfSome, IfNone, OnErr, slice_get};
 ghost use Rattle.ap_tracked.specs.Tracked.{Tracked};
 ghost use Rattle.ap_ledger.specs.Counts.{capped};
 ghost use Rattle.ap_instr.specs.declared.instruction.Instr.TheVariants.{Builtin as builtin_instr};
 ghost use Rattle.ap_instr.specs.declared.compiled.Predicate.{Predicate};
 ghost use Rattle.ap_standing.specs.Machine.{calling, inside};
 ghost use Rattle.ap_standing.specs.Holds.{Holds};
-ghost use Rattle.ap_machine.specs.View.{IsFor};
+ghost use Rattle.ap_machine.specs.View.{Paused, IsFor};
 ghost use Rattle.ap_machine.specs.Direct.{IsDirectDue};
 ghost use Rattle.ap_machine.specs.Due.{IsDue};
 ghost use Rattle.ap_machine.specs.Advanced.{Advanced};
+ghost use Rattle.ap_machine.specs.Past.{AdvancedPast};
 ghost use Rattle.ap_machine.specs.Ends.{IsHeldUp, Ends, AreStates};
 
 use crate::direct::Value;
@@ -141,6 +142,7 @@ impl Search {
         ensures advanced { Advanced sound.now self.old self.new }
         ensures within { self.new.spent ≤ max self.old.budget self.old.spent }
         ensures made { IfOk result (λ found. IfNone found ((self.new.spent ≡ self.old.spent + 1) × (0 < left))) }
+        ensures none_made { IfOk result (λ found. IfSome found (λ _. self.new.spent ≡ self.old.spent)) }
         ensures few { self.new.spent ≤ self.old.spent + left }
         ensures end { IfOk result (λ found. IfSome found (λ end. Ends sound.now left self.old self.new end)) }
         ensures stopped { result ≡ Ok (Some Turn.Stopped) → H.asked hook.new }
@@ -175,7 +177,7 @@ impl Search {
         }
     }
 
-    /// Searches on, without a share.
+    /// Searches on, without a share. It goes past groups whose goals aren't wanted.
     fn advance_by<H: Hook>(
         &mut self,
         sound: &Sound,
@@ -183,25 +185,35 @@ impl Search {
         hook: &mut H,
     ) -> Result<Turn, NoMemory>
         requires { IsFor sound.now self.old }
-        ensures advanced { Advanced sound.now self.old self.new }
+        ensures advanced { (past : List Paused) × (H.is_wanted hook.old ≡ true → past ≡ []) × AdvancedPast sound.now self.old past self.new }
+        ensures is_for { IsFor sound.now self.new }
         ensures within { self.new.spent ≤ max self.old.budget self.old.spent }
         ensures few { self.new.spent ≤ self.old.spent + inferences }
+        ensures more { self.old.spent ≤ self.new.spent }
         ensures end { IfOk result (λ turn. Ends sound.now inferences self.old self.new turn) }
+        ensures wanted { result ≡ Ok Turn.Group → H.is_wanted hook.old ≡ true }
         ensures stopped { result ≡ Ok Turn.Stopped → H.asked hook.new }
         ensures asked { H.asked hook.old → H.asked hook.new }
         ensures wish { H.is_wanted hook.new ≡ H.is_wanted hook.old }
     {
         let mut left = inferences;
-        'turns: loop {
-            if let Some(end) = self.turn(sound, left, hook)? {
-                return Ok(end);
+        // More groups than that are never passed.
+        'groups: for _ in 0..u64::MAX {
+            'turns: loop {
+                match self.turn(sound, left, hook)? {
+                    None => left -= 1,
+                    Some(Turn::Group) if !hook.wants() => break,
+                    Some(end) => return Ok(end),
+                }
             }
-            left -= 1;
+            self.go_past(sound)?;
         }
+        Err(NoMemory)
     }
 
-    /// Searches on. It makes at most so many calls, before each of which it asks the hook, and adds their number to the share.
-    /// Without memory the search stands where its last call was made.
+    /// Searches on. It makes at most so many calls, before each of which it asks the hook, and adds their number to the share. Where goals
+    /// of groups are wanted it stops at each group; else it goes past it, and calls its goals one after another. Without memory the search
+    /// stands where its last call was made.
     pub fn advance<H: Hook>(
         &mut self,
         sound: &Sound,
@@ -211,13 +223,14 @@ impl Search {
     ) -> Result<Turn, NoMemory>
         requires { IsFor sound.now self.old }
         // Whatever comes out, as many turns of the model were made as calls were counted.
-        ensures advanced { Advanced sound.now self.old self.new }
+        ensures advanced { (past : List Paused) × (H.is_wanted hook.old ≡ true → past ≡ []) × AdvancedPast sound.now self.old past self.new }
         ensures is_for { IsFor sound.now self.new }
         ensures within { self.new.spent ≤ max self.old.budget self.old.spent }
         ensures few { self.new.spent ≤ self.old.spent + inferences }
         ensures share { share.new ≡ capped (share.old + (self.new.spent - self.old.spent)) }
         ensures end { IfOk result (λ turn. Ends sound.now inferences self.old self.new turn) }
         ensures states { IfOk result (λ turn. (ss : List Tracked) → Holds sound.now self.new.machine ss → AreStates self.new.machine ss turn) }
+        ensures wanted { result ≡ Ok Turn.Group → H.is_wanted hook.old ≡ true }
         ensures stopped { result ≡ Ok Turn.Stopped → H.asked hook.new }
         ensures asked { H.asked hook.old → H.asked hook.new }
         ensures wish { H.is_wanted hook.new ≡ H.is_wanted hook.old }

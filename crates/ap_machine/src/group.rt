@@ -13,7 +13,7 @@ ghost use Rattle.ap_standing.specs.Machine.{inside};
 ghost use Rattle.ap_machine.specs.View.{IsFor, Paused};
 ghost use Rattle.ap_machine.specs.Stands.{IsAtGroup};
 ghost use Rattle.ap_machine.specs.Ahead.{goals_ahead, goals_said};
-ghost use Rattle.ap_machine.specs.Forking.{frame_of, frames_on, with_fork, HasKept, ForksTo, HasForked, HasPlainWay, HasGoneOn};
+ghost use Rattle.ap_machine.specs.Forking.{frame_of, frames_on, with_fork, HasKept, ForksTo, HasForked, HasPlainWay, HasGonePlain, HasGoneOn};
 
 use crate::control::{behind, save_x, save_y};
 use crate::state::{Now, Search};
@@ -198,8 +198,22 @@ impl Search {
         goals_from(sound.code(), at)
     }
 
+    /// Goes past the group at which the search stands: its goals are called one after another. Without memory nothing changes.
+    #[inline(always)]
+    pub(crate) fn go_past(&mut self, sound: &Sound) -> Result<(), NoMemory>
+        requires here { IsAtGroup sound.now self.old.machine }
+        ensures gone { OnOk result (HasGonePlain sound.now self.old self.new) }
+        ensures err { OnErr result (self.new ≡ self.old) }
+        ensures is_for { IsFor sound.now self.old → IsFor sound.now self.new }
+    {
+        let to = self.plain_way(sound)?;
+        self.go_plain(to);
+        Ok(())
+    }
+
     /// Finds the place where the goals of the group at which the search stands are called one after another.
-    pub fn plain_way(&self, sound: &Sound) -> Result<usize, NoMemory>
+    #[inline(always)]
+    fn plain_way(&self, sound: &Sound) -> Result<usize, NoMemory>
         requires here { IsAtGroup sound.now self.now.machine }
         ensures { IfOk result (HasPlainWay sound.now self.now.machine) }
     {
@@ -210,7 +224,8 @@ impl Search {
     }
 
     /// Goes on at a place, where the goals of the group at which the search stands are called one after another.
-    pub fn go_plain(&mut self, to: usize)
+    #[inline(always)]
+    fn go_plain(&mut self, to: usize)
         ensures goes { self.new ≡ record self.old { machine = record self.old.machine { now = inside to } } }
         ensures is_for { (code : Compiled) → HasPlainWay code self.old.machine to → IsFor code self.old → IsFor code self.new }
     {

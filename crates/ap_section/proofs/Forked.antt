@@ -14,7 +14,7 @@ use Rattle.ap_group.specs.Turns.{IsInside}
 use Rattle.ap_standing.specs.Machine.{Machine, inside, failed}
 use Rattle.ap_machine.specs.View.{Segment, Paused, IsFor}
 use Rattle.ap_machine.specs.Stands.{IsAtGroup}
-use Rattle.ap_machine.specs.Forking.{HasForked, HasPlainWay, HasGonePlain, IsCut, HasGoneOn}
+use Rattle.ap_machine.specs.Forking.{HasForked, HasGonePlain, IsCut, HasGoneOn}
 use Rattle.ap_tie.specs.Sections as seen
 use Rattle.ap_tie.specs.Sections.{section, Slots, Stack, parcall, machine_in}
 use Rattle.ap_tie.specs.Settled.{AreClosed, HasFailed}
@@ -231,16 +231,6 @@ module _ (code : Compiled) (s : Section-F Section) (p : Paused) (v : Vec (Frame 
     pub past-leads : HasGoneOn code s.search p → Leads code s gone
     past-leads (inl h) = plain-leads h.gone
     past-leads (inr h) = cut-leads h
-
--- a section whose search goes on where the goals stand one after another
-pub plain-came : ReachingLaw → (code : Compiled) (s : Section) (p : Paused) (to : ℕ) → IsShut code s → IsAtGroup code (machine_in (view_of s)) → HasPlainWay code (out-Section s).search.machine to
-    → p ≡ record (out-Section s).search { machine = record (out-Section s).search.machine { now = inside to } } → (IsFor code (out-Section s).search → IsFor code p)
-    → Came code s (roll-Section (record (out-Section s) { search = p }))
-plain-came law code s p to shut here way goes stays =
-    let x = out-Section s in
-    let now = shut-out code s shut in
-    came code s (record x { search = p })
-    (plain-leads code x p x.frames refl law now (subst (λ v. IsAtGroup code (machine_in v)) (view_of-out s) here) (stays now.0.0) (record { to = to; leads = way; goes_on = goes }))
 
 -- ---- one change behind another
 

@@ -117,28 +117,6 @@ impl Section {
         Ok(forked)
     }
 
-    /// Takes the group at which the search stands: forks it, as its checks say, where its goals are wanted, and else calls them one
-    /// after another.
-    fn take_group(&mut self, sound: &Sound, pool: &mut Pool, wanted: bool) -> Result<bool, NoMemory>
-        requires shut { IsShut sound.now self.old }
-        requires here { IsAtGroup sound.now (machine_in (view_of self.old)) }
-        ensures moved { HasMoved sound.now (view_of self.old) (view_of self.new) }
-        ensures spent { spent_in (view_of self.new) ≡ spent_in (view_of self.old) }
-        ensures ready { IsReady sound.now self.new }
-        ensures forked { result ≡ Ok true → IsAtDueFrame (view_of self.new) }
-        ensures unwanted { wanted ≡ false → result ≡ Ok true → ⊥ }
-        ensures wanted { wanted ≡ true → result ≡ Ok false → HasGoneOn sound.now (out-Section self.old).search (out-Section self.new).search }
-        ensures frames { result ≡ Ok false → frames_in self.new ≡ frames_in self.old }
-    {
-        if wanted {
-            return self.fork(sound, pool);
-        }
-        reaching_law();
-        let to = self.search.plain_way(sound)?;
-        self.search.go_plain(to);
-        Ok(false)
-    }
-
     /// Comes back to the newest frame, where nothing newer is left to do. One that has no slot to redo is dropped.
     fn come_back(&mut self, pool: &mut Pool) -> Option<Turn>
         requires end { IsAtEnd (machine_in (view_of self.old)) }
@@ -163,7 +141,7 @@ impl Section {
         None
     }
 
-    /// Searches on up to where the search comes to rest.
+    /// Searches on up to where the search comes to rest, past groups whose goals aren't wanted.
     fn search_on<H: Hook>(
         &mut self,
         sound: &Sound,
@@ -177,6 +155,7 @@ impl Section {
         ensures few { spent_in (view_of self.new) ≤ spent_in (view_of self.old) + left }
         ensures end { IfOk result (λ turn. IsEndedBy sound.now left (view_of self.old) (view_of self.new) turn) }
         ensures frames { frames_in self.new ≡ frames_in self.old }
+        ensures group { result ≡ Ok SearchTurn.Group → H.is_wanted hook.old ≡ true }
         ensures stopped { result ≡ Ok SearchTurn.Stopped → H.asked hook.new }
         ensures asked { H.asked hook.old → H.asked hook.new }
         ensures wish { H.is_wanted hook.new ≡ H.is_wanted hook.old }
@@ -218,7 +197,7 @@ impl Section {
             SearchTurn::More => Ok(Some(Turn::More)),
             SearchTurn::Stopped => Ok(Some(Turn::Stopped)),
             SearchTurn::Group => {
-                if self.take_group(sound, pool, hook.wants())? {
+                if self.fork(sound, pool)? {
                     return Ok(Some(Turn::Fork));
                 }
                 Ok(None)

@@ -5,7 +5,7 @@ ghost use Rattle.ap_term.specs.UpToNames.{SameUpToNames};
 ghost use Rattle.ap_term.specs.Tree.{count_trees};
 ghost use Rattle.ap_tracked.specs.Tracked.{Tracked};
 ghost use Rattle.ap_instr.specs.Code.{Compiled};
-ghost use Rattle.ap_standing.specs.Machine.{failed, inside};
+ghost use Rattle.ap_standing.specs.Machine.{failed};
 ghost use Rattle.ap_standing.specs.Holds.{Holds};
 ghost use Rattle.ap_machine.specs.View.{IsFor, Segment, Paused};
 ghost use Rattle.ap_machine.specs.Stands.{IsAtAnswer, tuple_of, IsAtGroup};
@@ -14,9 +14,9 @@ ghost use Rattle.ap_cells.specs.Trees.{tree_at, trees};
 ghost use Rattle.ap_group.specs.Groups.{Pushed};
 ghost use Rattle.ap_term.specs.Tuples.{tuple_under};
 ghost use Rattle.ap_machine.specs.Forks.{newest_goals, IsAtFork, IsBehindFork, Rejoined};
-ghost use Rattle.ap_machine.specs.Forking.{HasForked, HasPlainWay, HasGoneOn};
+ghost use Rattle.ap_machine.specs.Forking.{HasForked, HasGoneOn};
 ghost use Rattle.ap_ledger.specs.Counts.{capped};
-ghost use Rattle.ap_machine.specs.Advanced.{Advanced};
+ghost use Rattle.ap_machine.specs.Past.{AdvancedPast};
 ghost use Rattle.ap_machine.specs.Ends.{Ends, AreStates};
 ghost use Rattle.ap_instr.specs.declared.compiled.Predicate.{Predicate as PredicateOf};
 ghost use Rattle.ap_machine.specs.Started.{Started};
@@ -214,22 +214,6 @@ impl Held {
         self.search.group_goals(sound)
     }
 
-    /// Finds the place where the goals of the group at which the search stands are called one after another.
-    pub fn plain_way(&self, sound: &Sound) -> Result<usize, NoMemory>
-        requires here { IsAtGroup sound.now self.now.machine }
-        ensures { IfOk result (HasPlainWay sound.now self.now.machine) }
-    {
-        self.search.plain_way(sound)
-    }
-
-    /// Goes on at a place, where the goals of the group at which the search stands are called one after another.
-    pub fn go_plain(&mut self, to: usize)
-        ensures goes { self.new ≡ record self.old { machine = record self.old.machine { now = inside to } } }
-        ensures is_for { (code : Compiled) → HasPlainWay code self.old.machine to → IsFor code self.old → IsFor code self.new }
-    {
-        self.search.go_plain(to);
-    }
-
     /// Runs the group at which the search stands: pushes its goals where its checks hold, and forks; else goes on to its
     /// goals one after another, or fails. Without memory nothing changes.
     pub fn fork(&mut self, sound: &Sound) -> Result<bool, NoMemory>
@@ -243,8 +227,9 @@ impl Held {
         self.search.fork(sound)
     }
 
-    /// Searches on. It makes at most so many calls, before each of which it asks the hook, and adds their number to the share.
-    /// Without memory the search stands where its last call was made.
+    /// Searches on. It makes at most so many calls, before each of which it asks the hook, and adds their number to the share. Where goals
+    /// of groups are wanted it stops at each group; else it goes past it, and calls its goals one after another. Without memory the search
+    /// stands where its last call was made.
     pub fn advance<H: Hook>(
         &mut self,
         sound: &Sound,
@@ -254,13 +239,14 @@ impl Held {
     ) -> Result<Turn, NoMemory>
         requires { IsFor sound.now self.old }
         // Whatever comes out, as many turns of the model were made as calls were counted.
-        ensures advanced { Advanced sound.now self.old self.new }
+        ensures advanced { (past : List Paused) × (H.is_wanted hook.old ≡ true → past ≡ []) × AdvancedPast sound.now self.old past self.new }
         ensures is_for { IsFor sound.now self.new }
         ensures within { self.new.spent ≤ max self.old.budget self.old.spent }
         ensures few { self.new.spent ≤ self.old.spent + inferences }
         ensures share { share.new ≡ capped (share.old + (self.new.spent - self.old.spent)) }
         ensures end { IfOk result (λ turn. Ends sound.now inferences self.old self.new turn) }
         ensures states { IfOk result (λ turn. (ss : List Tracked) → Holds sound.now self.new.machine ss → AreStates self.new.machine ss turn) }
+        ensures wanted { result ≡ Ok Turn.Group → H.is_wanted hook.old ≡ true }
         ensures stopped { result ≡ Ok Turn.Stopped → H.asked hook.new }
         ensures asked { H.asked hook.old → H.asked hook.new }
         ensures wish { H.is_wanted hook.new ≡ H.is_wanted hook.old }

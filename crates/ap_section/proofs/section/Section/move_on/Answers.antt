@@ -1,4 +1,4 @@
-use Rattle.std.proofs.Common.{◌≡◌, ◌∙◌, ◌+◌, ◌≤◌, max, ap, sym, subst, inl, inr, Ok, None, arith}
+use Rattle.std.proofs.Common.{◌≡◌, true, false, ◌∙◌, ◌+◌, ◌≤◌, max, ap, sym, subst, inl, inr, Ok, None, arith}
 use Rattle.ap_term.specs.Blocks.{IsPrefix}
 use Rattle.ap_term.proofs.Lists.{prefix-refl}
 use Rattle.ap_section.specs.Views.{view_of, spent_in, budget_in}
@@ -15,14 +15,14 @@ returns-then-is_open-clause-end g c = c.is_open.ensures.open c.if-is_open.true c
 pub search_on-requires : goal.search_on-requires
 search_on-requires g c = c.is_open.ensures.shut c.if-is_open.false c.args.sound.now c.requires
 
-pub returns-in_err-take_group-in-Group-clause-moved : goal.returns-in_err-take_group-in-Group-clause-moved
-returns-in_err-take_group-in-Group-clause-moved g c = moved-on c.reaching_law.ensures c.args.sound.now (view_of c.args.self.now) (view_of c.search_on.new.self) (view_of c.take_group.new.self) c.search_on.ensures.moved c.take_group.ensures.moved
+pub returns-in_err-fork-in-Group-clause-moved : goal.returns-in_err-fork-in-Group-clause-moved
+returns-in_err-fork-in-Group-clause-moved g c = moved-on c.reaching_law.ensures c.args.sound.now (view_of c.args.self.now) (view_of c.search_on.new.self) (view_of c.fork.new.self) c.search_on.ensures.moved c.fork.ensures.moved
 
 pub returns-then-branch-clause-moved : goal.returns-then-branch-clause-moved
-returns-then-branch-clause-moved g c = moved-on c.reaching_law.ensures c.args.sound.now (view_of c.args.self.now) (view_of c.search_on.new.self) (view_of c.take_group.new.self) c.search_on.ensures.moved c.take_group.ensures.moved
+returns-then-branch-clause-moved g c = moved-on c.reaching_law.ensures c.args.sound.now (view_of c.args.self.now) (view_of c.search_on.new.self) (view_of c.fork.new.self) c.search_on.ensures.moved c.fork.ensures.moved
 
 pub returns-else-branch-clause-moved : goal.returns-else-branch-clause-moved
-returns-else-branch-clause-moved g c = moved-on c.reaching_law.ensures c.args.sound.now (view_of c.args.self.now) (view_of c.search_on.new.self) (view_of c.take_group.new.self) c.search_on.ensures.moved c.take_group.ensures.moved
+returns-else-branch-clause-moved g c = moved-on c.reaching_law.ensures c.args.sound.now (view_of c.args.self.now) (view_of c.search_on.new.self) (view_of c.fork.new.self) c.search_on.ensures.moved c.fork.ensures.moved
 
 pub returns-in-Answer-clause-end : goal.returns-in-Answer-clause-end
 returns-in-Answer-clause-end g c =
@@ -73,18 +73,18 @@ pub returns-in-Stopped-clause-unwanted : goal.returns-in-Stopped-clause-unwanted
 returns-in-Stopped-clause-unwanted g c = λ w. frames-same c.args.self.now c.search_on.new.self c.search_on.ensures.frames
 
 pub returns-then-branch-clause-unwanted : goal.returns-then-branch-clause-unwanted
-returns-then-branch-clause-unwanted g c = λ w. absurd (c.in_ok-take_group-in-Group.ensures.unwanted (c.wants.ensures ∙ c.search_on.ensures.wish ∙ w) (ap Ok c.if-branch.true))
+returns-then-branch-clause-unwanted g c = λ w. absurd (let e : true ≡ false = sym (c.in_ok-search_on.ensures.group (ap Ok c.in-Group.is)) ∙ w in cc)
 
 pub returns-else-branch-clause-unwanted : goal.returns-else-branch-clause-unwanted
-returns-else-branch-clause-unwanted g c = λ w. frames-same c.args.self.now c.take_group.new.self (c.in_ok-take_group-in-Group.ensures.frames (ap Ok c.if-branch.false) ∙ c.search_on.ensures.frames)
+returns-else-branch-clause-unwanted g c = λ w. frames-same c.args.self.now c.fork.new.self (c.in_ok-fork-in-Group.ensures.frames (ap Ok c.if-branch.false) ∙ c.search_on.ensures.frames)
 
 pub returns-else-branch-clause-wanted : goal.returns-else-branch-clause-wanted
 returns-else-branch-clause-wanted g c = λ e w. inr (record {
   from = c.search_on.new.self;
   moved = c.search_on.ensures.moved;
-  frames = c.in_ok-take_group-in-Group.ensures.frames (ap Ok c.if-branch.false) ∙ c.search_on.ensures.frames;
-  gone_on = c.in_ok-take_group-in-Group.ensures.wanted (c.wants.ensures ∙ c.search_on.ensures.wish ∙ w) (ap Ok c.if-branch.false);
+  frames = c.in_ok-fork-in-Group.ensures.frames (ap Ok c.if-branch.false) ∙ c.search_on.ensures.frames;
+  gone_on = c.in_ok-fork-in-Group.ensures.gone_on (ap Ok c.if-branch.false);
 })
 
 pub returns-else-branch-clause-frames : goal.returns-else-branch-clause-frames
-returns-else-branch-clause-frames g c = λ e. frames-same c.args.self.now c.take_group.new.self (c.in_ok-take_group-in-Group.ensures.frames (ap Ok c.if-branch.false) ∙ c.search_on.ensures.frames)
+returns-else-branch-clause-frames g c = λ e. frames-same c.args.self.now c.fork.new.self (c.in_ok-fork-in-Group.ensures.frames (ap Ok c.if-branch.false) ∙ c.search_on.ensures.frames)

@@ -7,22 +7,28 @@ use Rattle.ap_section.specs.Views.{view_of}
 use Rattle.ap_section.specs.Moving.{IsEndedBy}
 use Rattle.ap_section.proofs.Levels.{stack_now, view_of-roll, view_of-out}
 use Rattle.ap_section.proofs.Parts.{shut-out, shut-roll}
-use Rattle.ap_section.proofs.Shut.{seen_now, moved-same, turned-now, turned-shut}
+use Rattle.ap_section.proofs.Shut.{seen_now, moved-same}
+use Rattle.ap_section.proofs.Past.{past-came}
 use Rattle.ap_section.proofs.Ended.{search-ends, both-ok, ended-same}
 use Rattle.ap_section.proofs.Counted.{frames-searching}
 use Rattle.ap_section.proofs.section.Section.search_on.Goals as goal
 
 pub returns-clause-moved : goal.returns-clause-moved
 returns-clause-moved g c =
+    let code = c.args.sound.now in
     let s = out-Section c.args.self.now in
     let x = record s { search = c.advance.new.self } in
-    moved-same c.args.sound.now (seen_now s) (seen_now x) (view_of c.args.self.now) (view_of (roll-Section x)) (view_of-out c.args.self.now) (view_of-roll x)
-    (turned-now c.reaching_law.ensures c.args.sound.now s c.advance.new.self c.advance.ensures.advanced c.advance.ensures.within (shut-out c.args.sound.now c.args.self.now c.requires))
+    let (past, none, leads) = c.advance.ensures.advanced in
+    moved-same code (seen_now s) (seen_now x) (view_of c.args.self.now) (view_of (roll-Section x)) (view_of-out c.args.self.now) (view_of-roll x)
+    (past-came c.reaching_law.ensures code s past c.advance.new.self leads c.advance.ensures.is_for c.advance.ensures.within (shut-out code c.args.self.now c.requires)).0
 
 pub returns-clause-shut : goal.returns-clause-shut
 returns-clause-shut g c =
+    let code = c.args.sound.now in
     let s = out-Section c.args.self.now in
-    shut-roll c.args.sound.now (record s { search = c.advance.new.self }) (turned-shut c.args.sound.now s c.advance.new.self c.advance.ensures.advanced c.advance.ensures.is_for (shut-out c.args.sound.now c.args.self.now c.requires))
+    let (past, none, leads) = c.advance.ensures.advanced in
+    shut-roll code (record s { search = c.advance.new.self })
+    (past-came c.reaching_law.ensures code s past c.advance.new.self leads c.advance.ensures.is_for c.advance.ensures.within (shut-out code c.args.self.now c.requires)).1
 
 pub returns-clause-end : goal.returns-clause-end
 returns-clause-end g c =
