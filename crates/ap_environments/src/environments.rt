@@ -19,18 +19,18 @@ use std::marker::Model;
 /// clause begins, and where the choice stands that names the others, if there are others.
 #[derive(Clone, Copy)]
 pub struct Choice {
-    pub cells: usize,
-    pub trail: usize,
+    pub cells: u32,
+    pub trail: u32,
     pub predicate: u32,
     pub place: u32,
-    pub behind: Option<usize>,
+    pub behind: Option<u32>,
 }
 
 /// What a fork is told by: how many cells and bindings there were, and how many goals it parts into.
 #[derive(Clone, Copy)]
 pub struct Fork {
-    pub cells: usize,
-    pub trail: usize,
+    pub cells: u32,
+    pub trail: u32,
     pub goals: u8,
 }
 
@@ -107,7 +107,7 @@ impl Entry {
     }
 
     /// The same entry, and a choice point's names these clauses.
-    fn with_place(self, place: u32, behind: Option<usize>) -> Entry
+    fn with_place(self, place: u32, behind: Option<u32>) -> Entry
         ensures { result ≡ with_place place behind self }
     {
         match self {
@@ -339,7 +339,7 @@ impl Environments {
     }
 
     /// The newest choice point names these clauses. Without one it changes nothing.
-    pub fn set_place(&mut self, place: u32, behind: Option<usize>)
+    pub fn set_place(&mut self, place: u32, behind: Option<u32>)
         ensures none { self.old.moments ≡ [] → self.new ≡ self.old }
         ensures newest { (m : Moment) (ms : List Moment) → self.old.moments ≡ m ∷ ms → self.new ≡ record self.old { moments = record { choice = record m.choice { place = place; behind = behind }; returns = m.returns; arguments = m.arguments } ∷ ms } }
     {

@@ -22,6 +22,7 @@ ghost use Rattle.ap_machine.specs.Lasting.{moves_left};
 ghost use Rattle.ap_machine.specs.Back.{CanGoBack, WentBack};
 
 use crate::state::{Now, Search};
+use crate::words::{narrow, narrow_some, widen_some};
 use ap_cells::{CellMark, Cells};
 use ap_codecheck::Sound;
 use ap_control::{Alternative, Chosen, Possible, Told, can_take, choose, next_possible, only};
@@ -48,8 +49,8 @@ fn back_to_newest(cells: &mut Cells, environments: &mut Environments, x: &mut [u
 {
     if let Some(choice) = environments.newest() {
         cells.undo_to(CellMark {
-            cells: choice.cells,
-            trail: choice.trail,
+            cells: choice.cells as usize,
+            trail: choice.trail as usize,
         });
         environments.go_back(x);
         clear_y(y);
@@ -110,11 +111,11 @@ impl Search {
         self.cells.is_store();
         let mark = self.cells.mark();
         let choice = Choice {
-            cells: mark.cells,
-            trail: mark.trail,
+            cells: narrow(mark.cells)?,
+            trail: narrow(mark.trail)?,
             predicate: number,
             place: left.place,
-            behind: left.behind,
+            behind: narrow_some(left.behind)?,
         };
         let arguments = &self.x[..arity as usize + 1];
         self.environments.keep(choice, arguments)?;
@@ -263,12 +264,15 @@ impl Search {
         Ok(None)
     }
 
-    /// The newest choice point names these clauses.
-    fn set_place(&mut self, place: u32, behind: Option<usize>)
+    /// The newest choice point names these clauses. Without memory nothing changes.
+    fn set_place(&mut self, place: u32, behind: Option<usize>) -> Result<(), NoMemory>
         requires { (q : Point) × (qs : List Point) × (self.old.machine.points ≡ q ∷ qs) }
-        ensures { (q : Point) (qs : List Point) → self.old.machine.points ≡ q ∷ qs → self.new ≡ record self.old { machine = record self.old.machine { points = record q { place = place; behind = behind } ∷ qs } } }
+        ensures ok { OnOk result ((q : Point) (qs : List Point) → self.old.machine.points ≡ q ∷ qs → self.new ≡ record self.old { machine = record self.old.machine { points = record q { place = place; behind = behind } ∷ qs } }) }
+        ensures err { OnErr result (self.new ≡ self.old) }
     {
+        let behind = narrow_some(behind)?;
         self.environments.set_place(place, behind);
+        Ok(())
     }
 
     /// Forgets the newest choice point.
@@ -279,14 +283,18 @@ impl Search {
         self.environments.forget();
     }
 
-    /// Leaves an alternative of the newest choice point, with those behind it.
-    fn leave(&mut self, found: Option<Alternative>)
+    /// Leaves an alternative of the newest choice point, with those behind it. Without memory nothing changes.
+    fn leave(&mut self, found: Option<Alternative>) -> Result<(), NoMemory>
         requires { (q : Point) × (qs : List Point) × (self.old.machine.points ≡ q ∷ qs) }
-        ensures { (q : Point) (qs : List Point) → self.old.machine.points ≡ q ∷ qs → self.new ≡ record self.old { machine = record self.old.machine { points = points_left found q qs } } }
+        ensures ok { OnOk result ((q : Point) (qs : List Point) → self.old.machine.points ≡ q ∷ qs → self.new ≡ record self.old { machine = record self.old.machine { points = points_left found q qs } }) }
+        ensures err { OnErr result (self.new ≡ self.old) }
     {
         match found {
             Some(alternative) => self.set_place(alternative.place, alternative.behind),
-            None => self.forget(),
+            None => {
+                self.forget();
+                Ok(())
+            }
         }
     }
 
@@ -314,8 +322,8 @@ impl Search {
             return Ok(false);
         };
         self.go_back();
-        let found = self.next_match(sound, choice.behind)?;
-        self.leave(found);
+        let found = self.next_match(sound, widen_some(choice.behind))?;
+        self.leave(found)?;
         self.resume(choice.place as usize);
         Ok(true)
     }

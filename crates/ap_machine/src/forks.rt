@@ -43,8 +43,8 @@ impl Search {
             return;
         };
         self.cells.undo_to(CellMark {
-            cells: fork.cells,
-            trail: fork.trail,
+            cells: fork.cells as usize,
+            trail: fork.trail as usize,
         });
         self.environments.leave();
         self.x.fill(0);

@@ -17,6 +17,7 @@ ghost use Rattle.ap_machine.specs.Forking.{frame_of, frames_on, with_fork, HasKe
 
 use crate::control::{behind, save_x, save_y};
 use crate::state::{Now, Search};
+use crate::words::narrow;
 use ap_cells::{Cells, Walk};
 use ap_codecheck::Sound;
 use ap_control::{instruction_at, used};
@@ -99,8 +100,8 @@ fn keep_goals(
     cells.is_store();
     let mark = cells.mark();
     let fork = Fork {
-        cells: mark.cells,
-        trail: mark.trail,
+        cells: narrow(mark.cells)?,
+        trail: narrow(mark.trail)?,
         goals: count,
     };
     put_fork(environments, place, used(y), goals, fork)

@@ -18,6 +18,7 @@ mod rejoin;
 mod start;
 mod state;
 mod tuple;
+mod words;
 
 pub use advance::{Hook, Turn};
 pub use state::Search;
