@@ -1,5 +1,5 @@
 -- How the arguments of a call stand to what a head asks of them.
-use Rattle.std.proofs.Common.{◌≡◌, ℕ, zero, suc, ◌+◌, List, [], ◌∷◌, ◌++◌, take, slice_get, Option, Some, None, Bool, true, false, refl, ap, sym, ◌∙◌, subst, arith}
+use Rattle.std.proofs.Common.{◌≡◌, ℕ, zero, suc, ◌+◌, ◌≤◌, List, [], ◌∷◌, ◌++◌, length, take, slice_get, Option, Some, None, Bool, true, false, refl, ap, sym, ◌∙◌, subst, arith}
 use Rattle.std.specs.Prelude.{IfSome, if◌then◌else◌}
 use Rattle.std.specs.List.{AllByRecursion}
 use Rattle.ap_term.specs.Tree.{Tree, var, atom, int, node}
@@ -84,6 +84,11 @@ take-next zero [] a e = absurd (let z : ⊥ = cc in z)
 take-next zero (e ∷ es) a q = let same : e ≡ a = cc in ap (λ x. x ∷ []) same
 take-next (suc n) [] a e = absurd (let z : ⊥ = cc in z)
 take-next (suc n) (e ∷ es) a q = ap (λ m. take m (e ∷ es)) (let z : suc n + 1 ≡ suc (n + 1) = omega arith in z) ∙ ap (λ xs. e ∷ xs) (take-next n es a q)
+
+-- where nothing is asked
+pub fit-empty : (cs : List Raw) (x : ℕ → ℕ) (arity : ℕ) (asks : List Ask) → length asks ≤ 0 → AreFit cs x arity asks Has
+fit-empty cs x arity [] few = λ z alike k fits. tt
+fit-empty cs x arity (a ∷ asks) few = absurd (let z : ⊥ = omega (arith, few) in z)
 
 module _ (cs : List Raw) (x : ℕ → ℕ) (arity : ℕ) (asks : List Ask) where
   -- of none nothing is asked

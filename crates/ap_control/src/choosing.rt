@@ -9,7 +9,7 @@ ghost use Rattle.ap_instr.specs.StandsFor.{clause_places};
 ghost use Rattle.ap_index.specs.Keys.{same_key, IsKeyOf};
 ghost use Rattle.ap_instr.specs.Code.{Compiled};
 ghost use Rattle.ap_index.specs.declared.key.Key.TheVariants.{Structure};
-ghost use Rattle.ap_index.specs.Index.{named_from, IsChoiceOf};
+ghost use Rattle.ap_index.specs.Index.{IsChoiceOf};
 ghost use Rattle.ap_match.specs.Fits.{Fits};
 ghost use Rattle.ap_steps.specs.Moves.{held, HoldPlaces};
 ghost use Rattle.ap_standing.specs.Machine.{places_from};
@@ -18,6 +18,7 @@ ghost use Rattle.ap_control.specs.Taking.{CanTake};
 ghost use Rattle.ap_control.specs.Choosing.{both, chance_by, fit_known, IsFit, IsAskFit, AreFit, IsChance, HasKey, Alike, IsWordAt, IsArgument, IsFirst, IsKnown, IsWordFit, IsOtherFit, AreWordsFit, IsSure, AreLeftFrom, IsChosen, IsLeft, possible_places, left_places};
 
 use crate::alternatives::{Alternative, first, following};
+use crate::unasked::{alternative_of, chosen_unasked, free_at, is_unasked};
 use ap_cells::{Cells, Top};
 use ap_codecheck::Sound;
 use ap_index::{Ask, Choice, Hashed, Head, Key, NOTHING, Next, Short, UNBOUND, Word};
@@ -152,6 +153,14 @@ fn chance_by(fit: Fit, head: &Head) -> Chance
     }
 }
 
+/// Whether a clause can surely be entered.
+#[inline(always)]
+fn is_sure(chance: Chance) -> bool
+    ensures { (code : Compiled) (cs : List Raw) (x : ℕ → ℕ) (n at : ℕ) → IsChance code cs x n at chance → result ≡ true → (z : ℕ → ℕ) → Alike n x z → CanTake code cs z at }
+{
+    matches!(chance, Chance::Sure)
+}
+
 /// What is at a place, as a word.
 #[inline(always)]
 fn word_at(cells: &Cells, place: usize) -> Word
@@ -267,6 +276,21 @@ pub(crate) struct Known {
     pub(crate) first: First,
     pub(crate) argument: u32,
     pub(crate) second: Word,
+}
+
+impl Known {
+    /// Of a call with so many arguments, where keys are asked from a choice on.
+    #[inline(always)]
+    fn for_choice(cells: &Cells, x: &[u32], arity: u8, choice: &Choice) -> Known
+        requires { HoldPlaces (length cells.now.cells) x.now }
+        ensures { IsKnown cells.now.cells (held x.now) arity result }
+    {
+        Known {
+            first: First::for_choice(cells, x, arity, choice),
+            argument: choice.other,
+            second: other_for(cells, x, arity, choice),
+        }
+    }
 }
 
 /// How what there is stands to what is asked, by words.
@@ -434,10 +458,7 @@ fn left_at(sound: &Sound, key: Option<Hashed>, choice: &Choice, sure: bool) -> L
     ensures sure { result.possible.sure ≡ sure }
     ensures rest { (cs : List Raw) (x : ℕ → ℕ) → HasKey cs x key → IsLeft sound.now cs x result }
 {
-    let alternative = Alternative {
-        place: choice.named.place,
-        behind: choice.named.behind,
-    };
+    let alternative = alternative_of(&choice.named);
     Left {
         possible: Possible { alternative, sure },
         rest: next_choice(sound, key, choice),
@@ -470,8 +491,7 @@ fn left_from(
         }
         match chance_of(cells, x, arity, known, choice) {
             Chance::Never => rest = next_choice(sound, known.first.key, choice),
-            Chance::Sure => return Some(left_at(sound, known.first.key, choice, true)),
-            Chance::Open => return Some(left_at(sound, known.first.key, choice, false)),
+            chance => return Some(left_at(sound, known.first.key, choice, is_sure(chance))),
         }
     }
     None
@@ -533,11 +553,12 @@ pub fn next_possible(
     let Some(choice) = choice_before(sound, at) else {
         return next_unknown(sound, behind);
     };
-    let known = Known {
-        first: First::for_choice(cells, x, arity, choice),
-        argument: choice.other,
-        second: other_for(cells, x, arity, choice),
-    };
+    if is_unasked(choice) {
+        if let Some(next) = free_at(sound, at) {
+            return Some(next);
+        }
+    }
+    let known = Known::for_choice(cells, x, arity, choice);
     let from = next_choice(sound, known.first.key, choice);
     possible_from(cells, x, arity, &known, sound, from)
 }
@@ -564,8 +585,8 @@ impl Chosen {
     }
 }
 
-/// The first clause behind a choice that isn't passed over. It stands apart, so that what looks at two clauses stays small.
-#[inline(never)]
+/// The first clause behind a choice that isn't passed over.
+#[inline(always)]
 fn left_behind(
     cells: &Cells,
     x: &[u32],
@@ -606,31 +627,46 @@ fn left_with(
     }
 }
 
-/// The clauses that are left from a choice on.
+/// The clauses that are left from a choice on, by what their heads ask.
 #[inline(always)]
-fn chosen_from(
+fn chosen_asked(
     cells: &Cells,
     x: &[u32],
     arity: u8,
-    known: &Known,
     sound: &Sound,
     found: &Choice,
 ) -> Option<Chosen>
     requires holds { HoldPlaces (length cells.now.cells) x.now }
-    requires known { IsKnown cells.now.cells (held x.now) arity known.now }
     requires found { IsChoiceOf sound.now found.now }
     ensures none { result ≡ None → PassesOver sound.now cells.now.cells (held x.now) (found.now.named.place ∷ places_from sound.now found.now.named.behind) [] }
     ensures some { IfSome result (IsChosen sound.now cells.now.cells (held x.now) arity (found.now.named.place ∷ places_from sound.now found.now.named.behind)) }
 {
-    let Some(one) = left_with(cells, x, arity, known, sound, found) else {
+    let known = Known::for_choice(cells, x, arity, found);
+    let Some(one) = left_with(cells, x, arity, &known, sound, found) else {
         return None;
     };
-    let next = possible_from(cells, x, arity, known, sound, one.rest);
+    let next = possible_from(cells, x, arity, &known, sound, one.rest);
     Some(Chosen::of(one.possible.alternative, next))
 }
 
-/// A predicate's first clause, with the next one, of neither of which anything is known.
+/// The clauses that are left from a choice on.
 #[inline(always)]
+fn chosen_from(cells: &Cells, x: &[u32], arity: u8, sound: &Sound, found: &Choice) -> Option<Chosen>
+    requires holds { HoldPlaces (length cells.now.cells) x.now }
+    requires found { IsChoiceOf sound.now found.now }
+    ensures none { result ≡ None → PassesOver sound.now cells.now.cells (held x.now) (found.now.named.place ∷ places_from sound.now found.now.named.behind) [] }
+    ensures some { IfSome result (IsChosen sound.now cells.now.cells (held x.now) arity (found.now.named.place ∷ places_from sound.now found.now.named.behind)) }
+{
+    if is_unasked(found) {
+        if let Some(chosen) = chosen_unasked(sound, found) {
+            return Some(chosen);
+        }
+    }
+    chosen_asked(cells, x, arity, sound, found)
+}
+
+/// A predicate's first clause, with the next one, of neither of which anything is known.
+#[inline(never)]
 fn chosen_plainly(sound: &Sound, predicate: &Predicate) -> Option<Chosen>
     ensures none { result ≡ None → (cs : List Raw) (x : ℕ → ℕ) → PassesOver sound.now cs x (clause_places sound.now predicate.now) [] }
     ensures some { (n : ℕ) (cs : List Raw) (x : ℕ → ℕ) → IfSome result (IsChosen sound.now cs x n (clause_places sound.now predicate.now)) }
@@ -641,55 +677,16 @@ fn chosen_plainly(sound: &Sound, predicate: &Predicate) -> Option<Chosen>
     }
 }
 
-/// A predicate's clauses from a choice on, where those before it can't be entered.
+/// Whether a choice at a place names a predicate's clauses from there on: at the predicate's start it has to be a `try`.
 #[inline(always)]
-fn chosen_behind(
-    cells: &Cells,
-    x: &[u32],
-    sound: &Sound,
-    predicate: &Predicate,
-    from: usize,
-    first: First,
-) -> Option<Chosen>
-    requires holds { HoldPlaces (length cells.now.cells) x.now }
-    requires from { PassesOver sound.now cells.now.cells (held x.now) (clause_places sound.now predicate.now) (named_from sound.now (Some from)) }
-    requires first { IsFirst cells.now.cells (held x.now) predicate.now.arity first }
-    ensures none { result ≡ None → PassesOver sound.now cells.now.cells (held x.now) (clause_places sound.now predicate.now) [] }
-    ensures some { IfSome result (IsChosen sound.now cells.now.cells (held x.now) predicate.now.arity (clause_places sound.now predicate.now)) }
+fn names_clauses(predicate: &Predicate, from: usize, found: &Choice) -> bool
+    ensures { result ≡ true → from ≡ predicate.now.start → found.now.named.is_first ≡ true }
 {
-    let Some(found) = sound.choice(from) else {
-        return chosen_plainly(sound, predicate);
-    };
-    let known = Known {
-        first,
-        argument: found.other,
-        second: other_for(cells, x, predicate.arity, found),
-    };
-    chosen_from(cells, x, predicate.arity, &known, sound, found)
-}
-
-/// A predicate's clauses where no row is asked.
-#[inline(always)]
-fn chosen_in_turn(cells: &Cells, x: &[u32], sound: &Sound, predicate: &Predicate) -> Option<Chosen>
-    requires { HoldPlaces (length cells.now.cells) x.now }
-    ensures none { result ≡ None → PassesOver sound.now cells.now.cells (held x.now) (clause_places sound.now predicate.now) [] }
-    ensures some { IfSome result (IsChosen sound.now cells.now.cells (held x.now) predicate.now.arity (clause_places sound.now predicate.now)) }
-{
-    let Some(begin) = sound.choice(predicate.start as usize) else {
-        return chosen_plainly(sound, predicate);
-    };
-    if !begin.named.is_first {
-        return chosen_plainly(sound, predicate);
-    }
-    let known = Known {
-        first: First::for_choice(cells, x, predicate.arity, begin),
-        argument: begin.other,
-        second: other_for(cells, x, predicate.arity, begin),
-    };
-    chosen_from(cells, x, predicate.arity, &known, sound, begin)
+    from != predicate.start as usize || found.named.is_first
 }
 
 /// The clauses of a predicate that a call on its argument registers may enter, where those from a choice on are left.
+#[inline(always)]
 pub fn choose(
     cells: &Cells,
     x: &[u32],
@@ -702,11 +699,11 @@ pub fn choose(
     ensures none { result ≡ None → PassesOver sound.now cells.now.cells (held x.now) (clause_places sound.now predicate.now) [] }
     ensures some { IfSome result (IsChosen sound.now cells.now.cells (held x.now) predicate.now.arity (clause_places sound.now predicate.now)) }
 {
-    if from != predicate.start as usize {
-        let first = First::of(cells, x, predicate.arity);
-        if first.key.is_some() {
-            return chosen_behind(cells, x, sound, predicate, from, first);
+    match sound.choice(from) {
+        Some(found) if names_clauses(predicate, from, found) => {
+            chosen_from(cells, x, predicate.arity, sound, found)
         }
+        // what comes by way of memory is a value of its own here, so that what is told above stays in registers
+        _ => Some(chosen_plainly(sound, predicate)?),
     }
-    chosen_in_turn(cells, x, sound, predicate)
 }

@@ -14,6 +14,7 @@ mod relations;
 mod runs;
 mod taking;
 mod telling;
+mod unasked;
 
 pub use alternatives::{Alternative, first, following, instruction_at};
 pub use ap_codecheck::Sound;

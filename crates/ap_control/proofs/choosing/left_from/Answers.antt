@@ -36,26 +36,22 @@ loop-rest-smaller c =
 pub loop-rest-init : goal.loop-rest-init
 loop-rest-init c = passes-none c.args.sound.now c.args.cells.now.cells (held c.args.x.now) (places_from c.args.sound.now c.args.from) (places_from c.args.sound.now c.args.from) refl
 
-pub returns-in-Sure-clause-passes : goal.returns-in-Sure-clause-passes
-returns-in-Sure-clause-passes c =
-    let code = c.args.sound.now in
-    let choice = c.in-Some-choice.choice.now in
-    passes-left code c.args.cells.now.cells (held c.args.x.now) (places_from code c.args.from) c.left_at.result choice.named.place choice.named.behind c.left_at.ensures.place c.left_at.ensures.behind
-    (subst (PassesOver code c.args.cells.now.cells (held c.args.x.now) (places_from code c.args.from)) (places_from-choice code c.in-Some.at choice c.in-Some-choice.ensures c.loop-rest.rest c.in-Some.is c.if-choice.false) c.loop-rest.invariant)
-
-pub returns-in-Sure-clause-sure : goal.returns-in-Sure-clause-sure
-returns-in-Sure-clause-sure c = λ e z alike.
+pub returns-in_default-chance_of : goal.returns-in_default-chance_of
+returns-in_default-chance_of c =
     let code = c.args.sound.now in
     let cs = c.args.cells.now.cells in
+    let x = held c.args.x.now in
+    let n = c.args.arity in
     let choice = c.in-Some-choice.choice.now in
-    subst (CanTake code cs z) (sym c.left_at.ensures.place) (subst (IsChance code cs (held c.args.x.now) c.args.arity choice.named.place) c.in-Sure.is (c.chance_of.ensures code c.in-Some-choice.ensures.is) z alike)
-
-pub returns-in-Open-clause-passes : goal.returns-in-Open-clause-passes
-returns-in-Open-clause-passes c =
-    let code = c.args.sound.now in
-    let choice = c.in-Some-choice.choice.now in
-    passes-left code c.args.cells.now.cells (held c.args.x.now) (places_from code c.args.from) c.left_at-in-Open.result choice.named.place choice.named.behind c.left_at-in-Open.ensures.place c.left_at-in-Open.ensures.behind
-    (subst (PassesOver code c.args.cells.now.cells (held c.args.x.now) (places_from code c.args.from)) (places_from-choice code c.in-Some.at choice c.in-Some-choice.ensures c.loop-rest.rest c.in-Some.is c.if-choice.false) c.loop-rest.invariant)
+    let place = choice.named.place in
+    record {
+      passes =
+          passes-left code cs x (places_from code c.args.from) c.left_at.result place choice.named.behind c.left_at.ensures.place c.left_at.ensures.behind
+          (subst (PassesOver code cs x (places_from code c.args.from)) (places_from-choice code c.in-Some.at choice c.in-Some-choice.ensures c.loop-rest.rest c.in-Some.is c.if-choice.false) c.loop-rest.invariant);
+      rest = c.left_at.ensures.rest cs x c.requires.known.0.1;
+      sure = λ e z alike. subst (CanTake code cs z) (sym c.left_at.ensures.place)
+          (c.is_sure.ensures code cs x n place (c.chance_of.ensures code c.in-Some-choice.ensures.is) (sym c.left_at.ensures.sure ∙ e) z alike);
+    }
 
 pub returns-in_default-choice-clause-passes : goal.returns-in_default-choice-clause-passes
 returns-in_default-choice-clause-passes c =

@@ -3,7 +3,7 @@ use Rattle.ap_steps.specs.Moves.{held}
 use Rattle.ap_standing.specs.Machine.{places_from}
 use Rattle.ap_control.specs.Choosing.{possible_places}
 use Rattle.ap_control.proofs.Passed.{passes-then}
-use Rattle.ap_control.proofs.choosing.chosen_from.Goals as goal
+use Rattle.ap_control.proofs.choosing.chosen_asked.Goals as goal
 
 pub returns-clause-some : goal.returns-clause-some
 returns-clause-some c =
