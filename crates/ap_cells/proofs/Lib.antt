@@ -7,3 +7,4 @@ pub mod Assumed
 pub mod Built
 pub mod Leaves
 mod Settled
+pub mod Packed

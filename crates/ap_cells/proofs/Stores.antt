@@ -1,5 +1,5 @@
 -- What a push, a binding and an undoing leave of a store.
-use Rattle.std.proofs.Common.{◌≡◌, ℕ, zero, suc, ◌+◌, ◌<◌, ◌≤◌, true, false, List, [], ◌∷◌, ◌++◌, length, map, take, drop, get_or, set, refl, sym, ap, ◌∙◌, subst, arith, inl, inr, length-set, length-drop, eqb}
+use Rattle.std.proofs.Common.{◌≡◌, ℕ, zero, suc, ◌+◌, ◌<◌, ◌≤◌, ◌⊎◌, true, false, List, [], ◌∷◌, ◌++◌, length, map, take, drop, get_or, set, refl, sym, ap, ◌∙◌, subst, arith, inl, inr, length-set, length-drop, eqb}
 use Rattle.std.proofs.lemmas.List.{append-nil, take_all, drop_more, get_or-drop, get_or_append_left, get_or_push, get_or-take, get_or-set_same, get_or-set_other, get_or_default, length_push, length-take-le, set-set, set-get_or, set_comm, set-append_left, drop_all, drop-append-le, take-append-le, take-take, take-append-drop}
 use Rattle.std.proofs.lemmas.Bool.{cases_lt, cases_eq, ne_eqb}
 use Rattle.std.specs.List.{list_any}
@@ -266,6 +266,18 @@ links ts n place end (Node a p m) e w i d = (sym e, w, λ p. cc)
 pub links-new : (cs : List Raw) (trail : List ℕ) (end : ℕ) (r : Raw) → IsStore cs trail → end < length cs → tree_at (trees cs) end ≡ step (trees cs) end r → Within (length cs) end r → IsEnd r → Links (trees cs) (length cs) (length cs) end (link end r)
 links-new cs trail end r s h e w i =
     links (trees cs) (length cs) (length cs) end r e w i (λ x v. let d = Stand-down cs (trees cs) (IsStore-stand cs trail s) (end + 1) end x Free (omega arith) h v in omega arith)
+
+-- a cell by which a new place has the term of one at the end of a chain
+pub linked-new : (cs : List Raw) (trail : List ℕ) (end : ℕ) (c : Raw) → IsStore cs trail → end < length cs → ((d : Raw) → IsEnd (get_or cs end d)) → ((d : Raw) → (c ≡ Same end) ⊎ (c ≡ link end (get_or cs end d)))
+    → Links (trees cs) (length cs) (length cs) end c
+linked-new cs trail end c s h ends k =
+    let stand = IsStore-stand cs trail s in
+    elim (k Free) [
+      | inl e ↦ subst (Links (trees cs) (length cs) (length cs) end) (sym e) (refl, h, λ p. cc)
+      | inr e ↦
+          subst (Links (trees cs) (length cs) (length cs) end) (sym e)
+          (links-new cs trail end (get_or cs end Free) s h (stand.each end Free h) (stand.within end Free h) (ends Free))
+    ]
 
 -- a place bound
 pub record Bound (cs : List Raw) (trail : List ℕ) (place : ℕ) (c : Raw) : Type 0 where

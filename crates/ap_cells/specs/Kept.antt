@@ -7,7 +7,7 @@ use Rattle.ap_cells.specs.Store.{IsStore, Closed}
 pub record Kept (a : Inside) : Type 0 where
   pub store : IsStore a.cells.items a.trail.items
   pub used : length a.cells.items ≤ a.limit
-  pub room : a.limit ≤ vec_capacity a.cells
+  pub room : a.limit ≤ a.cells.room
   pub trail_room : a.limit ≤ vec_capacity a.trail
   pub few : a.limit ≤ 4294967295
   pub settled : Closed a.settled a.cells.items

@@ -1,5 +1,7 @@
 pub mod Trees
 pub mod Raws
+pub mod Packing
+pub mod Fits
 pub mod Store
 pub mod Kept
 pub mod Tops

@@ -1,6 +1,6 @@
 //! The store: cells, and the trail of the places that were bound.
 
-ghost use Rattle.std.specs.Prelude.{◌≡◌, ℕ, ◌+◌, ◌-◌, ◌<◌, ◌≤◌, [], ◌∷◌, ◌++◌, map, length, take, drop, slice_index_or, Bool, true, false, is_ok, if◌then◌else◌, IfOk, OnOk, OnErr};
+ghost use Rattle.std.specs.Prelude.{◌≡◌, ℕ, ◌+◌, ◌-◌, ◌<◌, ◌≤◌, [], ◌∷◌, ◌++◌, map, length, take, drop, slice_index_or, Bool, true, false, is_ok, if◌then◌else◌, IfOk, IfSome, MatchOption, OnOk, OnErr};
 ghost use Rattle.ap_term.specs.Tree.{Tree, var};
 ghost use Rattle.ap_term.specs.Substitution.{instance, value, one};
 ghost use Rattle.ap_term.specs.Vars.{occurs, occurs_all};
@@ -11,6 +11,7 @@ ghost use Rattle.ap_cells.specs.declared.cells.Raw.TheVariants.{Free};
 ghost use Rattle.ap_cells.specs.Store.{freed, undone, IsMark, IsStore, Keeps};
 ghost use Rattle.std.specs.Vec.{vec_capacity};
 
+use crate::packed_cells::PackedCells;
 use ap_term::{Atom, NoMemory};
 use std::alloc::Global;
 use std::marker::Model;
@@ -29,7 +30,7 @@ pub enum Cell {
     Node(Atom, usize, u32),
 }
 
-/// A cell as it is kept, in 16 bytes.
+/// A cell with places of 32 bits.
 #[derive(Clone, Copy)]
 pub enum Raw {
     Free,
@@ -52,7 +53,7 @@ pub struct CellMark {
 /// check its walks. `is_stale` tells that the number is worth raising; neither changes what the cells stand for.
 #[derive(Drop)]
 pub struct Cells {
-    cells: Vec<Raw>,
+    cells: PackedCells,
     trail: Vec<u32>,
     limit: usize,
     settled: usize,
@@ -74,7 +75,7 @@ impl Model for Cells {
 }
 
 /// A cell as it is kept. Its places fit.
-#[inline]
+#[inline(always)]
 fn packed(cell: Cell, place: usize, places: usize) -> Raw
     requires few { (place ≤ places) × (places ≤ 4294967295) }
     requires within { Within places place (raw_of cell) }
@@ -146,26 +147,16 @@ fn least(a: usize, b: usize, c: usize) -> usize
     a.min(b).min(c)
 }
 
-/// Makes places unbound.
-fn free_all(cells: &mut [Raw], places: &[u32])
-    requires { (k : ℕ) → k < length places.now → slice_index_or places.now k 0 < length cells.old }
-    ensures { cells.new ≡ freed places.now cells.old }
-{
-    for place in places {
-        cells[*place as usize] = Raw::Free;
-    }
-}
-
 /// Makes the places from `from` on in a trail unbound, and takes them off.
-fn unwind(cells: &mut Vec<Raw>, trail: &mut Vec<u32>, from: usize)
+fn unwind(cells: &mut PackedCells, trail: &mut Vec<u32>, from: usize)
     requires from { from ≤ length trail.old.items }
     requires below { (k : ℕ) → k < length trail.old.items → slice_index_or trail.old.items k 0 < length cells.old.items }
     ensures cells { cells.new.items ≡ freed (drop from trail.old.items) cells.old.items }
     ensures trail { trail.new.items ≡ take from trail.old.items }
-    ensures room { vec_capacity cells.new ≡ vec_capacity cells.old }
+    ensures room { cells.new.room ≡ cells.old.room }
     ensures trail_room { vec_capacity trail.new ≡ vec_capacity trail.old }
 {
-    free_all(cells.as_mut_slice(), &trail[from..]);
+    cells.free_all(&trail[from..]);
     trail.truncate(from);
 }
 
@@ -175,7 +166,7 @@ impl Cells {
         ensures { result ≡ record { cells = []; trail = []; spare = 0 } }
     {
         Cells {
-            cells: Vec::new(alloc),
+            cells: PackedCells::new(alloc),
             trail: Vec::new(alloc),
             limit: 0,
             settled: 0,
@@ -247,7 +238,7 @@ impl Cells {
     }
 
     /// Puts a cell at a new place, as it is kept.
-    #[inline]
+    #[inline(always)]
     fn push_raw(&mut self, cell: Raw) -> usize
         requires room { 0 < self.old.spare }
         requires within { Within (length self.old.cells) (length self.old.cells) cell }
@@ -264,7 +255,7 @@ impl Cells {
     }
 
     /// Puts a cell at a new place. It takes no memory.
-    #[inline]
+    #[inline(always)]
     pub fn push(&mut self, cell: Cell) -> usize
         requires room { 0 < self.old.spare }
         requires within { Within (length self.old.cells) (length self.old.cells) (raw_of cell) }
@@ -344,12 +335,13 @@ impl Cells {
     {
         self.is_store();
         let end = self.deref(to);
-        let cell = linked(end, self.raw_at(end));
-        self.push_raw(cell)
+        let place = self.cells.len();
+        self.cells.push_linked(end);
+        place
     }
 
     /// The cell at a place, as it is kept.
-    #[inline]
+    #[inline(always)]
     pub fn raw_at(&self, place: usize) -> Raw
         requires { place < length self.now.cells }
         ensures cell { (d : Raw) → result ≡ slice_index_or self.now.cells place d }
@@ -357,7 +349,7 @@ impl Cells {
         ensures within { Within (length self.now.cells) place result }
         ensures few { length self.now.cells ≤ 4294967295 }
     {
-        self.cells[place]
+        self.cells.at(place)
     }
 
     /// The cell at a place.
@@ -371,6 +363,16 @@ impl Cells {
         unpacked(self.raw_at(place))
     }
 
+    /// The place to which a cell leads, if it leads to another.
+    #[inline(always)]
+    fn link_at(&self, place: usize) -> Option<u32>
+        requires { place < length self.now.cells }
+        ensures next { IfSome result (λ next. (next < place) × (tree_at (trees self.now.cells) next ≡ tree_at (trees self.now.cells) place)) }
+        ensures end { MatchOption result ((d : Raw) → IsEnd (slice_index_or self.now.cells place d)) (λ next. Unit {0}) }
+    {
+        self.cells.link_at(place)
+    }
+
     /// The place at the end of the chain from a place.
     #[inline]
     pub fn deref(&self, place: usize) -> usize
@@ -380,16 +382,14 @@ impl Cells {
         ensures end { (d : Raw) → IsEnd (slice_index_or self.now.cells result d) }
     {
         let mut at = place;
-        loop {
-            match self.raw_at(at) {
-                Raw::Same(j) => at = j as usize,
-                Raw::Free | Raw::Int(_) | Raw::Atom(_) | Raw::Node(_, _, _) => return at,
-            }
+        while let Some(next) = self.link_at(at) {
+            at = next as usize;
         }
+        at
     }
 
     /// Makes a cell of an unbound place, in whose term the place doesn't stand.
-    #[inline]
+    #[inline(always)]
     fn bind_raw(&mut self, place: usize, cell: Raw)
         requires inside { place < length self.old.cells }
         requires within { Within (length self.old.cells) place cell }
@@ -405,12 +405,12 @@ impl Cells {
         let settled = settled_with(self.settled, place, &cell);
         self.is_stale = self.is_stale || settled < self.settled;
         self.settled = settled;
-        self.cells[place] = cell;
+        self.cells.set(place, cell);
         self.trail.push_reserved(place as u32);
     }
 
     /// Binds an unbound place to the term of a cell, in which it doesn't stand. It takes no new cell.
-    #[inline]
+    #[inline(always)]
     pub fn bind_to(&mut self, place: usize, cell: Cell)
         requires inside { place < length self.old.cells }
         requires within { Within (length self.old.cells) place (raw_of cell) }

@@ -6,6 +6,8 @@
 
 mod cells;
 mod pace;
+mod packed_cells;
+mod packing;
 mod pairs;
 mod terms;
 mod top;

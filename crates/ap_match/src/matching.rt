@@ -16,7 +16,7 @@ use ap_term::{Atom, NoMemory};
 use ap_unify::{Work, unify};
 
 /// A new place with this cell. It takes no memory.
-#[inline]
+#[inline(always)]
 pub fn push_new(cells: &mut Cells, cell: Cell) -> usize
     requires room { 0 < cells.old.spare }
     requires within { Within (length cells.old.cells) (length cells.old.cells) (raw_of cell) }
@@ -65,7 +65,7 @@ pub fn push_value(cells: &mut Cells, to: usize) -> usize
 }
 
 /// Binds an unbound place to the term of a cell, in which it doesn't stand.
-#[inline]
+#[inline(always)]
 fn bind_term(cells: &mut Cells, x: usize, cell: Cell)
     requires inside { x < length cells.old.cells }
     requires within { Within (length cells.old.cells) x (raw_of cell) }
@@ -95,6 +95,7 @@ fn same_integer(a: i64, b: i64) -> bool
 }
 
 /// Makes a place's term an atom, if it can be. It takes no memory.
+#[inline]
 pub fn match_atom(cells: &mut Cells, place: usize, name: Atom) -> bool
     requires inside { place < length cells.old.cells }
     ensures answered { Answered cells.old.cells cells.new.cells (λ k. k place ≡ atom name) result }
@@ -114,6 +115,7 @@ pub fn match_atom(cells: &mut Cells, place: usize, name: Atom) -> bool
 }
 
 /// Makes a place's term an integer, if it can be. It takes no memory.
+#[inline]
 pub fn match_integer(cells: &mut Cells, place: usize, value: i64) -> bool
     requires inside { place < length cells.old.cells }
     ensures answered { Answered cells.old.cells cells.new.cells (λ k. k place ≡ int value) result }
@@ -146,6 +148,7 @@ fn is_apart(cells: &Cells, x: usize, place: usize) -> bool
 }
 
 /// Whether each of these places' terms is a constant, a variable other than x, or was settled before x came.
+#[inline]
 fn are_apart(cells: &Cells, x: usize, first: usize, count: u32) -> bool
     requires { first + count ≤ length cells.now.cells }
     ensures { result ≡ true → occurs_all x (span (trees cells.now.cells) first count) ≡ false }

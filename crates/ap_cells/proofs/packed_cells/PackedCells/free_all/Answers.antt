@@ -1,0 +1,10 @@
+use Rattle.std.proofs.Common.{length, ap, arith}
+use Rattle.ap_cells.specs.Packing.{Packed}
+use Rattle.ap_cells.proofs.Packed.{raws-length}
+use Rattle.ap_cells.proofs.packed_cells.PackedCells.free_all.Goals as goal
+
+pub free_words-requires : goal.free_words-requires
+free_words-requires c k h =
+    let below = c.requires k h in
+    let v = ap (λ (v : Packed). length v.items) c.self.view_is in
+    omega (arith, raws-length c.self.inside.words.items c.self.inside.apart.items)
