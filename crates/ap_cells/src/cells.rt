@@ -1,13 +1,13 @@
 //! The store: cells, and the trail of the places that were bound.
 
 ghost use Rattle.std.specs.Prelude.{◌≡◌, ℕ, ◌+◌, ◌-◌, ◌<◌, ◌≤◌, [], ◌∷◌, ◌++◌, map, length, take, drop, slice_index_or, Bool, true, false, is_ok, if◌then◌else◌, IfOk, IfSome, MatchOption, OnOk, OnErr};
-ghost use Rattle.ap_term.specs.Tree.{Tree, var};
+ghost use Rattle.ap_term.specs.Tree.{Tree, var, atom};
 ghost use Rattle.ap_term.specs.Substitution.{instance, value, one};
 ghost use Rattle.ap_term.specs.Vars.{occurs, occurs_all};
 ghost use Rattle.ap_cells.specs.Trees.{tree_at, trees, span, step, Within, IsEnd, link, frees};
 ghost use Rattle.ap_cells.specs.Raws.{raw_of};
 ghost use Rattle.ap_cells.specs.declared.cells.Raw.{Raw};
-ghost use Rattle.ap_cells.specs.declared.cells.Raw.TheVariants.{Free};
+ghost use Rattle.ap_cells.specs.declared.cells.Raw.TheVariants.{Free, Atom as AtomRaw};
 ghost use Rattle.ap_cells.specs.Store.{freed, undone, IsMark, IsStore, Keeps};
 ghost use Rattle.std.specs.Vec.{vec_capacity};
 
@@ -251,6 +251,38 @@ impl Cells {
     {
         let place = self.cells.len();
         self.cells.push_reserved(cell);
+        place
+    }
+
+    /// Puts an unbound cell at a new place. It takes no memory.
+    #[inline(always)]
+    pub fn push_free(&mut self) -> usize
+        requires room { 0 < self.old.spare }
+        ensures place { result ≡ length self.old.cells }
+        ensures cells { self.new.cells ≡ self.old.cells ++ Free ∷ [] }
+        ensures trees { trees self.new.cells ≡ trees self.old.cells ++ var (length self.old.cells) ∷ [] }
+        ensures trail { self.new.trail ≡ self.old.trail }
+        ensures spare { self.new.spare + 1 ≡ self.old.spare }
+        ensures keeps { Keeps self.old self.new }
+    {
+        let place = self.cells.len();
+        self.cells.push_free();
+        place
+    }
+
+    /// Puts an atom at a new place. It takes no memory.
+    #[inline(always)]
+    pub fn push_atom(&mut self, name: Atom) -> usize
+        requires room { 0 < self.old.spare }
+        ensures place { result ≡ length self.old.cells }
+        ensures cells { self.new.cells ≡ self.old.cells ++ AtomRaw name ∷ [] }
+        ensures trees { trees self.new.cells ≡ trees self.old.cells ++ atom name ∷ [] }
+        ensures trail { self.new.trail ≡ self.old.trail }
+        ensures spare { self.new.spare + 1 ≡ self.old.spare }
+        ensures keeps { Keeps self.old self.new }
+    {
+        let place = self.cells.len();
+        self.cells.push_atom(name);
         place
     }
 

@@ -6,11 +6,11 @@ ghost use Rattle.ap_cells.specs.Packing.{raw_in, raws_in};
 ghost use Rattle.ap_cells.specs.Store.{freed};
 ghost use Rattle.ap_cells.specs.Trees.{IsEnd, link};
 ghost use Rattle.ap_cells.specs.declared.cells.Raw.{Raw};
-ghost use Rattle.ap_cells.specs.declared.cells.Raw.TheVariants.{Same as SameRaw};
+ghost use Rattle.ap_cells.specs.declared.cells.Raw.TheVariants.{Free, Same as SameRaw, Atom as AtomRaw};
 
 use crate::cells::Raw;
-use crate::packing::{link_in, link_word, parted_words, raw_by, whole_word};
-use ap_term::NoMemory;
+use crate::packing::{atom_word, link_in, link_word, parted_words, raw_by, whole_word};
+use ap_term::{Atom, NoMemory};
 use std::alloc::Global;
 use std::marker::Model;
 
@@ -111,6 +111,26 @@ impl PackedCells {
                 self.push_parted(word, part);
             }
         }
+    }
+
+    /// Puts an unbound cell behind the others. It takes no memory.
+    #[inline(always)]
+    pub fn push_free(&mut self)
+        requires { length self.old.items < self.old.room }
+        ensures items { self.new.items ≡ self.old.items ++ Free ∷ [] }
+        ensures room { self.new.room ≡ self.old.room }
+    {
+        self.words.push_reserved(0);
+    }
+
+    /// Puts an atom behind the others. It takes no memory.
+    #[inline(always)]
+    pub fn push_atom(&mut self, name: Atom)
+        requires { length self.old.items < self.old.room }
+        ensures items { self.new.items ≡ self.old.items ++ AtomRaw name ∷ [] }
+        ensures room { self.new.room ≡ self.old.room }
+    {
+        self.words.push_reserved(atom_word(name));
     }
 
     /// The same for a cell of two words.

@@ -14,7 +14,7 @@
 ghost use Rattle.std.specs.Prelude.{◌≡◌, ℕ, ◌⊎◌, MatchOption, slice_index_or};
 ghost use Rattle.ap_cells.specs.Packing.{raw_in};
 ghost use Rattle.ap_cells.specs.Trees.{IsEnd, link};
-ghost use Rattle.ap_cells.specs.declared.cells.Raw.TheVariants.{Same as SameRaw, Int as IntRaw, Node as NodeRaw};
+ghost use Rattle.ap_cells.specs.declared.cells.Raw.TheVariants.{Same as SameRaw, Int as IntRaw, Atom as AtomRaw, Node as NodeRaw};
 
 use crate::cells::Raw;
 use ap_term::Atom;
@@ -45,7 +45,7 @@ pub fn whole_word(raw: &Raw) -> Option<u64>
     match raw {
         Raw::Free => Some(0),
         Raw::Same(place) => Some(link_to(*place)),
-        Raw::Atom(name) => Some(name.number() as u64 * KINDS + 2),
+        Raw::Atom(name) => Some(atom_word(*name)),
         Raw::Node(name, first, count) => node_word(*name, *first, *count),
         Raw::Int(integer) => integer_word(*integer),
     }
@@ -57,6 +57,14 @@ fn link_to(place: u32) -> u64
     ensures { (apart : ℕ) → raw_in result apart ≡ SameRaw place }
 {
     place as u64 * KINDS + 1
+}
+
+/// Packs an atom.
+#[inline(always)]
+pub fn atom_word(name: Atom) -> u64
+    ensures { (apart : ℕ) → raw_in result apart ≡ AtomRaw name }
+{
+    name.number() as u64 * KINDS + 2
 }
 
 /// Packs a compound term.
@@ -102,7 +110,7 @@ pub fn parted_words(raw: &Raw) -> (u64, u64)
         }
         Raw::Free => (0, 0),
         Raw::Same(place) => (link_to(*place), 0),
-        Raw::Atom(name) => (name.number() as u64 * KINDS + 2, 0),
+        Raw::Atom(name) => (atom_word(*name), 0),
     }
 }
 

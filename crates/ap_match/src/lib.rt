@@ -7,8 +7,8 @@
 mod matching;
 
 pub use matching::{
-    bind_structure, equate, match_atom, match_built, match_integer, push_new, push_value,
-    push_variable,
+    bind_structure, equate, match_atom, match_built, match_integer, push_atom, push_free, push_new,
+    push_value, push_variable,
 };
 
 #[cfg(test)]

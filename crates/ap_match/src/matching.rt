@@ -32,6 +32,38 @@ pub fn push_new(cells: &mut Cells, cell: Cell) -> usize
     cells.push(cell)
 }
 
+/// A new unbound place. It takes no memory.
+#[inline(always)]
+pub fn push_free(cells: &mut Cells) -> usize
+    requires room { 0 < cells.old.spare }
+    ensures place { result ≡ length cells.old.cells }
+    ensures becomes { Becomes cells.old.cells cells.new.cells (λ k. Unit {0}) (λ k. k result ≡ cell_tree k result Free) }
+    ensures fits { (k : ℕ → Tree) → Fits cells.old.cells k → k result ≡ cell_tree k result Free → Fits cells.new.cells k }
+    ensures trees { trees cells.new.cells ≡ trees cells.old.cells ++ var (length cells.old.cells) ∷ [] }
+    ensures len { length cells.new.cells ≡ length cells.old.cells + 1 }
+    ensures spare { cells.new.spare + 1 ≡ cells.old.spare }
+    ensures keeps { Keeps cells.old cells.new }
+{
+    cells.is_store();
+    cells.push_free()
+}
+
+/// A new place with an atom. It takes no memory.
+#[inline(always)]
+pub fn push_atom(cells: &mut Cells, name: Atom) -> usize
+    requires room { 0 < cells.old.spare }
+    ensures place { result ≡ length cells.old.cells }
+    ensures becomes { Becomes cells.old.cells cells.new.cells (λ k. Unit {0}) (λ k. k result ≡ atom name) }
+    ensures fits { (k : ℕ → Tree) → Fits cells.old.cells k → k result ≡ atom name → Fits cells.new.cells k }
+    ensures trees { trees cells.new.cells ≡ trees cells.old.cells ++ atom name ∷ [] }
+    ensures len { length cells.new.cells ≡ length cells.old.cells + 1 }
+    ensures spare { cells.new.spare + 1 ≡ cells.old.spare }
+    ensures keeps { Keeps cells.old cells.new }
+{
+    cells.is_store();
+    cells.push_atom(name)
+}
+
 /// A new unbound place, for a goal's variable. It takes no memory.
 #[inline]
 pub fn push_variable(cells: &mut Cells) -> usize
@@ -95,7 +127,6 @@ fn same_integer(a: i64, b: i64) -> bool
 }
 
 /// Makes a place's term an atom, if it can be. It takes no memory.
-#[inline]
 pub fn match_atom(cells: &mut Cells, place: usize, name: Atom) -> bool
     requires inside { place < length cells.old.cells }
     ensures answered { Answered cells.old.cells cells.new.cells (λ k. k place ≡ atom name) result }
@@ -115,7 +146,6 @@ pub fn match_atom(cells: &mut Cells, place: usize, name: Atom) -> bool
 }
 
 /// Makes a place's term an integer, if it can be. It takes no memory.
-#[inline]
 pub fn match_integer(cells: &mut Cells, place: usize, value: i64) -> bool
     requires inside { place < length cells.old.cells }
     ensures answered { Answered cells.old.cells cells.new.cells (λ k. k place ≡ int value) result }
@@ -148,7 +178,6 @@ fn is_apart(cells: &Cells, x: usize, place: usize) -> bool
 }
 
 /// Whether each of these places' terms is a constant, a variable other than x, or was settled before x came.
-#[inline]
 fn are_apart(cells: &Cells, x: usize, first: usize, count: u32) -> bool
     requires { first + count ≤ length cells.now.cells }
     ensures { result ≡ true → occurs_all x (span (trees cells.now.cells) first count) ≡ false }

@@ -19,7 +19,7 @@ use crate::registers::{read, write};
 use crate::tables::{instruction_in, integer_at};
 use ap_cells::{Cell, Cells, Raw};
 use ap_instr::{Code, Instr, Slot};
-use ap_match::{push_new, push_value};
+use ap_match::{push_atom, push_free, push_new, push_value};
 use ap_term::Atom;
 
 /// What arguments of a structure are built from.
@@ -50,13 +50,13 @@ pub fn build_variable(cells: &mut Cells, x: &mut [u32], y: &mut [u32], v: Slot)
     ensures keeps { Keeps cells.old cells.new }
 {
     let places = cells.len();
-    let place = push_new(cells, Cell::Free);
+    let place = push_free(cells);
     prove!(place == places);
     write(x, y, v, place as u32);
 }
 
 /// Whether a place has the cell of a constant.
-#[inline(always)]
+#[inline]
 fn is_constant(cells: &Cells, place: usize) -> bool
     requires { place < length cells.now.cells }
     ensures apart { result ≡ true → (x : ℕ) → occurs x (tree_at (trees cells.now.cells) place) ≡ false }
@@ -121,7 +121,7 @@ pub fn build_atom(cells: &mut Cells, name: Atom)
     ensures spare { cells.new.spare + 1 ≡ cells.old.spare }
     ensures keeps { Keeps cells.old cells.new }
 {
-    build_cell(cells, Cell::Atom(name));
+    push_atom(cells, name);
 }
 
 /// `unify_integer I`: the argument is an integer.

@@ -94,7 +94,7 @@ pub fn put_value(x: &mut [u32], y: &[u32], v: Slot, a: u32)
 }
 
 /// `put_constant C, A` or `put_integer I, A`: the argument gets a new cell with the constant.
-#[inline(always)]
+#[inline]
 fn put_cell(cells: &mut Cells, x: &mut [u32], a: u32, cell: Cell)
     requires room { 0 < cells.old.spare }
     requires constant { (k : ℕ → Tree) → cell_tree k (length cells.old.cells) (raw_of cell) ≡ constant_of cell }
@@ -114,7 +114,7 @@ fn put_cell(cells: &mut Cells, x: &mut [u32], a: u32, cell: Cell)
 }
 
 /// `put_constant C, A`: the argument gets a new cell with an atom.
-#[inline(always)]
+#[inline]
 pub fn put_constant(cells: &mut Cells, x: &mut [u32], name: Atom, a: u32)
     requires room { 0 < cells.old.spare }
     requires has { a < length x.old }

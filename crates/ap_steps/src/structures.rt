@@ -19,7 +19,7 @@ use ap_term::{Atom, NoMemory};
 use ap_unify::Work;
 
 /// `put_structure F, A`: the argument gets a new structure. False where one of the structure's arguments can't be built.
-#[inline(always)]
+#[inline]
 pub fn put_structure(
     cells: &mut Cells,
     x: &mut [u32],
