@@ -4,7 +4,7 @@ use Rattle.std.proofs.lemmas.Bool.{ne_eqb}
 use Rattle.ap_term.specs.declared.fixed.TheConstants.{NECK}
 use Rattle.ap_term.specs.declared.terms.Term.{Term}
 use Rattle.ap_term.specs.Tree.{Trees, none, more, node, count_trees}
-use Rattle.ap_term.specs.TermView.{tree_of, trees_of}
+use Rattle.ap_term.specs.TermView.{trees_of}
 use Rattle.ap_lifting.specs.Body.{goal}
 use Rattle.ap_clause.specs.declared.form.Connective.TheVariants.{Other}
 use Rattle.ap_clause.specs.Arity.{is_pair}

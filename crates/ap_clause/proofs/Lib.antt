@@ -17,3 +17,4 @@ pub mod TermNames
 pub mod RulesRead
 pub mod TextMeanings
 mod Rows
+pub mod Longs

@@ -56,7 +56,7 @@ module _ (source : Source) (before : Counts) (old : List Text) (front : List Pla
   abbrev by_term : Verdict
   by_term = judged_term source before table (variables [] front) line (term_in table x)
 
-  abbrev by_depth : Verdict
+  abbrev pub by_depth : Verdict
   by_depth = refused_if (nat_lt MAX_DEPTH (depth x)) (refusal.TooDeep line) by_term
 
   fitting : fits source x ≡ true → by_depth ≡ judged_sentence source (position old before) line s

@@ -1,10 +1,17 @@
 -- What judging a clause answers.
-use Rattle.std.specs.Prelude.{◌≡◌, ℕ, ◌+◌, ◌≤◌, true, List, [], ◌∷◌, length, ◌⊎◌, Option, Some, None, Result, Ok, Err}
+use Rattle.std.specs.Prelude.{◌≡◌, ℕ, ◌+◌, ◌≤◌, nat_lt, true, false, List, [], ◌∷◌, length, ◌⊎◌, Option, Some, None, Result, Ok, Err}
 use Rattle.std.specs.declared.alloc.Global.{Global}
 use Rattle.std.specs.declared.vec.Vec.{Vec}
 use Rattle.ap_lexer.specs.Lexeme.{Text}
 use Rattle.ap_reader.specs.Leaves.{texts}
 use Rattle.ap_lexer.specs.declared.cut.Piece.{Piece}
+use Rattle.ap_lexer.specs.Token.{Placed}
+use Rattle.ap_reader.specs.declared.written.TheConstants.{MAX_OPEN}
+use Rattle.ap_reader.specs.declared.depth.TheConstants.{MAX_DEPTH}
+use Rattle.ap_reader.specs.Bracket.{most_open}
+use Rattle.ap_reader.specs.Depth.{depth}
+use Rattle.ap_reader.specs.Grammar as grammar
+use Rattle.ap_reader.specs.Reading.{Spells, term_of}
 use Rattle.ap_term.specs.Tree.{Tree}
 use Rattle.ap_term.specs.AtomTable.{capacity}
 use Rattle.ap_lifting.specs.Rule.{Rule, IsRule}
@@ -20,7 +27,7 @@ use Rattle.ap_clause.specs.declared.limit.TheConstants.{MAX_VARIABLES}
 use Rattle.ap_clause.specs.Clause.{halves, rule_of}
 use Rattle.ap_clause.specs.Outside.{first_outside}
 use Rattle.ap_clause.specs.Limit.{is_narrow, passed, clauses_after}
-use Rattle.ap_clause.specs.Reads.{Position, Taken, Verdict, Refused, Took, Judges, Outcome, Stopped, Whole}
+use Rattle.ap_clause.specs.Reads.{Position, Taken, Verdict, Refused, Took, Judges, Outcome, Stopped, Whole, fits}
 
 -- a term whose head and goals can be called, once it isn't too large and has no name from outside
 abbrev pub CanBeRule : Source → Tree → ℕ → ℕ → Type 0
@@ -61,3 +68,12 @@ ReadsOn text ps others before old new (Err e) =
 abbrev pub GivesAll : (Outcome → Type 0) → List Text → Result (Vec Rule Global × Counts) Refusal → Type 0
 GivesAll J table (Ok p) = J (Whole p.0.items (position table p.1))
 GivesAll J table (Err e) = (e ≡ refusal.NoMemory) ⊎ J (Stopped e)
+
+-- the tokens spell a term that fits and isn't too deep, and not too many of their brackets are open
+pub record IsSound (source : Source) (ts : List Placed) : Type 0 where
+  pub closed : nat_lt MAX_OPEN (most_open 0 ts) ≡ false
+  pub front : List Placed
+  pub tree : grammar.Tree
+  pub spells : Spells ts front tree
+  pub fitting : fits source (term_of front tree) ≡ true
+  pub shallow : nat_lt MAX_DEPTH (depth (term_of front tree)) ≡ false

@@ -231,7 +231,7 @@ fn items_shape(top: Shape) -> Shape
 }
 
 /// Takes a term off the stack.
-fn pop_term(stack: &mut Vec<Shape>) -> Form
+pub(crate) fn pop_term(stack: &mut Vec<Shape>) -> Form
     ensures { (vs : List Value) → stack.old.items ≡ stacked shape_of vs → (result ≡ form_of (top_term vs)) × (stack.new.items ≡ stacked shape_of (below vs)) }
 {
     match stack.pop() {
@@ -261,7 +261,8 @@ fn with_item(items: Shape, last: Form) -> Shape
 }
 
 /// Takes off the stack what a step takes: the shape of what it makes.
-fn shape_after(stack: &mut Vec<Shape>, leaves: &[Leaf], step: Step) -> Shape
+#[inline(always)]
+pub(crate) fn shape_after(stack: &mut Vec<Shape>, leaves: &[Leaf], step: Step) -> Shape
     ensures { (vs : List Value) → stack.old.items ≡ stacked shape_of vs → (result ≡ shape_of (made (map leaf_of leaves.now) step vs)) × (stack.new.items ≡ stacked shape_of (left (map leaf_of leaves.now) step vs)) }
 {
     match step {

@@ -14,6 +14,7 @@ mod fresh;
 mod judge;
 mod law;
 mod limit;
+mod long;
 mod outside;
 mod read;
 mod refusal;

@@ -16,10 +16,11 @@ ghost use Rattle.ap_clause.specs.Parts.{ReadsFurther, IsFurther};
 
 use crate::fresh::fresh_names;
 use crate::judge::{Counts, Read, variables_of};
+use crate::long::take_long;
 use crate::refusal::Refusal;
 use crate::source::Source;
 use crate::take::{take_piece, take_tokens};
-use ap_lexer::{Cutter, Piece, Token};
+use ap_lexer::{Cutter, MAX_KEPT, Piece, Token};
 use ap_lifting::{Lifted, Rule, lift_program, lift_question};
 use ap_reader::Room;
 use ap_term::{Atom, Atoms, Name, NoMemory, Program, Query};
@@ -56,6 +57,13 @@ fn take_next<'a>(
         Ok(None) => return Ok(None),
         Err(_) => return Err(Refusal::NoMemory),
     };
+    if tokens.len() > MAX_KEPT {
+        let all = cutter.tokens_of(&piece);
+        return match take_long(alloc, Source::Program, &piece, all, room, before, atoms) {
+            Ok(read) => Ok(Some(read)),
+            Err(refusal) => Err(refusal),
+        };
+    }
     match take_tokens(alloc, Source::Program, &piece, room, tokens, before, atoms) {
         Ok(read) => Ok(Some(read)),
         Err(refusal) => Err(refusal),

@@ -28,7 +28,7 @@ use std::alloc::Global;
 /// How many tokens room is kept for from one clause to the next.
 const COMMON_ROOM: usize = 1024;
 
-fn fits(source: Source, form: Form) -> bool
+pub(crate) fn fits(source: Source, form: Form) -> bool
     ensures { (x : Written) → form ≡ form_of x → result ≡ spec.fits source x }
 {
     match source {

@@ -4,6 +4,7 @@ pub mod Turn
 pub mod Feeds
 pub mod Classes
 pub mod Toks
+pub mod Streaming
 pub mod NextPiece
 pub mod Valid
 pub mod Ends

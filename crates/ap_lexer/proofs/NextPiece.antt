@@ -10,7 +10,8 @@ use Rattle.ap_lexer.specs.declared.kind.LexemeKind.TheVariants as kind
 use Rattle.ap_lexer.specs.declared.cut.Piece.{Piece}
 use Rattle.ap_lexer.specs.declared.cutter.Cutter.{Cutter}
 use Rattle.ap_lexer.specs.Lexeme.{Text, Lexeme, lexeme, lexemes}
-use Rattle.ap_lexer.specs.Piece.{Role, Gap, Part, Last, Fault, role, start, begun_after, ended_by, unended, piece, line_at, pieces_from, Begins}
+use Rattle.ap_lexer.specs.Piece.{Role, Gap, Part, Last, Fault, role, start, begun_after, ended_by, unended, piece, line_at, pieces_from, Begins, BeganIn}
+use Rattle.ap_lexer.specs.Stream.{IsIn}
 use Rattle.ap_lexer.specs.Token.{Placed, token_of, tokens_from, tokens}
 use Rattle.ap_lexer.specs.Ahead.{IsSound}
 use Rattle.ap_lexer.specs.Cutter.{Stands, Cuts, IsNext, HasTokens, left, place}
@@ -150,13 +151,13 @@ stands c text before same there h s l f = record {
   fits = omega (arith, there, ap length same, f);
 }
 
--- A piece of the whole text that goes on at a place in a line, with its tokens so far.
-pub record Goes (whole : Text) (old : Cutter) (at line : ℕ) (b : Option (ℕ × ℕ)) (ts : List Placed) : Type 0 where
+-- A piece of the whole text that goes on at a place in a line, with its tokens so far where they are few.
+pub record Goes (whole : Text) (old : Cutter) (at line : ℕ) (b : Option (ℕ × ℕ)) (few : Type 0) (ts : List Placed) : Type 0 where
   pub line_is : line ≡ line_at whole at
   pub begun : Option ℕ
   pub begins : Begins whole b begun
   pub left_is : pieces_from whole at begun (lexemes (drop at whole)) ≡ left whole old
-  pub held : Held whole begun at ts
+  pub held : few → Held whole begun at ts
 
 pub not_ended : (p : Option Piece) (ps : List Piece) → is_some p ≡ false → option_to_list p ≡ ps → [] ≡ ps
 not_ended None ps s e = e
@@ -171,10 +172,54 @@ pub tokens_closed : (p : Option Piece) (text : Text) (b : Option ℕ) (at : ℕ)
 tokens_closed None text b at x ts new e t = tt
 tokens_closed (Some p) text b at x ts new e t = closed_tokens text b at x ts new p e t
 
--- tokens that are a piece's in each text that is cut
-pub of_each : (c : Cutter) (ts : List Placed) (p : Option Piece) → ((whole : Text) → Cuts whole c → IfSome p (HasTokens whole ts)) → IfSome p (λ q. (whole : Text) → Cuts whole c → HasTokens whole ts q)
-of_each c ts None f = tt
-of_each c ts (Some q) f = f
+-- tokens that are a piece's in each text that is cut, where they are few
+pub of_each : (few : Type 0) (c : Cutter) (ts : List Placed) (p : Option Piece) → ((whole : Text) → Cuts whole c → few → IfSome p (HasTokens whole ts)) → IfSome p (λ q. (whole : Text) → Cuts whole c → few → HasTokens whole ts q)
+of_each few c ts None f = tt
+of_each few c ts (Some q) f = f
+
+-- the line of a piece's first byte, in each text that is cut
+pub lines_of : (c : Cutter) (p : Option Piece) → ((whole : Text) → Cuts whole c → IfSome p (λ q. q.line ≡ line_at whole q.from)) → IfSome p (λ q. (whole : Text) → Cuts whole c → q.line ≡ line_at whole q.from)
+lines_of c None f = tt
+lines_of c (Some q) f = f
+
+line_by : (r : Role) (text : Text) (from at to : ℕ) (p : Piece) → p ∷ [] ≡ ended_by r text from at to → p.line ≡ line_at text p.from
+line_by Gap text from at to p e = absurd (no_item Piece p [] (sym e))
+line_by Part text from at to p e = absurd (no_item Piece p [] (sym e))
+line_by Last text from at to p e =
+    let same = same_first p (piece text from to true None) e in
+    ap (λ q. q.line) same ∙ ap (λ q. line_at text q.from) (sym same)
+line_by (Fault ended) text from at to p e =
+    let same = same_first p (piece text from to ended (Some (line_at text at))) e in
+    ap (λ q. q.line) same ∙ ap (λ q. line_at text q.from) (sym same)
+
+pub line_closed : (p : Option Piece) (r : Role) (text : Text) (from at to : ℕ) → option_to_list p ≡ ended_by r text from at to → IfSome p (λ q. q.line ≡ line_at text q.from)
+line_closed None r text from at to e = tt
+line_closed (Some p) r text from at to e = line_by r text from at to p e
+
+pub line_last : (p : Option Piece) (text : Text) (b : Option ℕ) (at : ℕ) → option_to_list p ≡ unended text at b → IfSome p (λ q. q.line ≡ line_at text q.from)
+line_last None text b at e = tt
+line_last (Some p) text None at e = absurd (no_item Piece p [] (sym e))
+line_last (Some p) text (Some from) at e =
+    let same = same_first p (piece text from at false None) e in
+    ap (λ q. q.line) same ∙ ap (λ q. line_at text q.from) (sym same)
+
+-- a piece lies in the text that is cut
+pub begun_later : (lo at to : ℕ) (b : Option (ℕ × ℕ)) → at ≤ to → BeganIn lo at b → BeganIn lo to b
+begun_later lo at to None h k = tt
+begun_later lo at to (Some p) h k = (k.0, omega (arith, k.1, h), k.2)
+
+pub ended_within : (text : Text) (before from line to : ℕ) (p : Option Piece) → before ≤ from → from ≤ to → to ≤ before + length text → line ≤ from + 1 → IfSome p (λ q. (q.from ≡ from) × (q.to ≡ to) × (q.line ≡ line)) → IfSome p (IsIn text before)
+ended_within text before from line to None lo some hi low h = tt
+ended_within text before from line to (Some p) lo some hi low h = record {
+  low = omega (arith, lo, h.0);
+  some = omega (arith, some, h.0, h.1);
+  high = omega (arith, hi, h.1);
+  line_low = omega (arith, low, h.0, h.2);
+}
+
+pub unended_within : (text : Text) (before to : ℕ) (p : Option Piece) → to ≤ before + length text → IfSome p (λ q. (before ≤ q.from) × (q.from ≤ q.to) × (q.to ≡ to) × (q.line ≤ q.from + 1)) → IfSome p (IsIn text before)
+unended_within text before to None hi h = tt
+unended_within text before to (Some p) hi h = record { low = h.0; some = h.1; high = omega (arith, hi, h.2); line_low = h.3 }
 
 -- ---- at the end of the text
 

@@ -2,10 +2,13 @@
 use Rattle.std.specs.Prelude.{◌≡◌, ◌≤◌, ◌<◌, ◌+◌, ◌^◌, ℕ, List, [], ◌∷◌, length, drop, Option, Some, None}
 use Rattle.ap_lexer.specs.declared.cut.Piece.{Piece}
 use Rattle.ap_lexer.specs.declared.cutter.Cutter.{Cutter}
+use Rattle.ap_lexer.specs.declared.cutter.TheConstants.{MAX_KEPT}
+use Rattle.ap_lexer.specs.declared.split.Token.{Token}
 use Rattle.ap_lexer.specs.Ahead.{IsSound}
 use Rattle.ap_lexer.specs.Lexeme.{Text}
 use Rattle.ap_lexer.specs.Piece.{line_at, pieces_behind}
 use Rattle.ap_lexer.specs.Token.{Placed, tokens}
+use Rattle.ap_lexer.specs.Stream.{IsIn}
 
 abbrev pub text_of : Cutter → Text
 text_of c = c.text.now
@@ -38,3 +41,11 @@ IsNext whole (Some p) old new = left whole old ≡ p ∷ left whole new
 -- the tokens of a piece, up to a bad one
 abbrev pub HasTokens : Text → List Placed → Piece → Type 0
 HasTokens text ts p = ts ≡ tokens text p
+
+-- a list of a piece's tokens that has them all
+abbrev pub IsKept : List Token → Type 0
+IsKept ts = length ts ≤ MAX_KEPT
+
+-- a piece lies in the text that the cutter has
+abbrev pub LiesIn : Piece → Cutter → Type 0
+LiesIn p c = IsIn (text_of c) c.before p

@@ -6,3 +6,4 @@ pub mod Ahead
 pub mod Law
 pub mod Row
 pub mod Cutter
+pub mod Stream

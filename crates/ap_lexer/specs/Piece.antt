@@ -1,5 +1,5 @@
 -- The pieces of a text, one for each clause.
-use Rattle.std.specs.Prelude.{◌≡◌, ℕ, ◌+◌, Bool, true, false, ◌==◌, List, [], ◌∷◌, ◌++◌, take, drop, count_by, Option, Some, None}
+use Rattle.std.specs.Prelude.{◌≡◌, ◌≤◌, ℕ, ◌+◌, Bool, true, false, ◌==◌, List, [], ◌∷◌, ◌++◌, take, drop, count_by, Option, Some, None}
 use Rattle.ap_lexer.specs.declared.kind.TokenKind.TheVariants as token
 use Rattle.ap_lexer.specs.declared.kind.LexemeKind.{LexemeKind}
 use Rattle.ap_lexer.specs.declared.kind.LexemeKind.TheVariants as kind
@@ -62,6 +62,11 @@ pieces_behind text at = pieces_from text at None (lexemes (drop at text))
 
 abbrev pub pieces : Text → List Piece
 pieces text = pieces_from text 0 None (lexemes text)
+
+-- a piece that has begun began there, on a line that the place can have
+abbrev pub BeganIn : ℕ → ℕ → Option (ℕ × ℕ) → Type 0
+BeganIn lo hi None = Unit {0}
+BeganIn lo hi (Some p) = (lo ≤ p.0) × (p.0 ≤ hi) × (p.1 ≤ p.0 + 1)
 
 -- where a piece began, and its line
 abbrev pub Begins : Text → Option (ℕ × ℕ) → Option ℕ → Type 0

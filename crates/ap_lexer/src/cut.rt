@@ -1,4 +1,4 @@
-ghost use Rattle.std.specs.Prelude.{◌≡◌, ◌==◌, ◌≤◌, ◌+◌, ℕ, Option, List, All, count_by, take, drop, length, option_to_list, IfOk, OnOk, ◌++◌};
+ghost use Rattle.std.specs.Prelude.{◌≡◌, ◌==◌, ◌≤◌, ◌+◌, ℕ, Option, List, All, count_by, take, drop, length, option_to_list, IfOk, IfSome, OnOk, ◌++◌};
 ghost use Rattle.ap_lexer.specs.Lexeme.{Text, lexeme};
 ghost use Rattle.ap_lexer.specs.Piece as spec;
 ghost use Rattle.ap_lexer.specs.Law.{LieInOrder, IsPieceOf};
@@ -64,7 +64,8 @@ pub(crate) fn ended(
     to: usize,
     line: u64,
 ) -> Option<Piece>
-    ensures { (text : Text) (at : ℕ) → first ≡ spec.line_at text from → line ≡ spec.line_at text at → option_to_list result ≡ spec.ended_by (spec.role kind) text from at to }
+    ensures lies { IfSome result (λ p. (p.from ≡ from) × (p.to ≡ to) × (p.line ≡ first)) }
+    ensures piece { (text : Text) (at : ℕ) → first ≡ spec.line_at text from → line ≡ spec.line_at text at → option_to_list result ≡ spec.ended_by (spec.role kind) text from at to }
 {
     match kind {
         LexemeKind::Token(TokenKind::End) => Some(Piece {
@@ -87,7 +88,8 @@ pub(crate) fn ended(
 
 #[inline(always)]
 pub(crate) fn start(begun: Begun, at: usize, line: u64) -> (usize, u64)
-    ensures { (text : Text) (b : Option ℕ) → spec.Begins text begun b → line ≡ spec.line_at text at → (result.0 ≡ spec.start b at) × (result.1 ≡ spec.line_at text result.0) }
+    ensures within { (lo : ℕ) → spec.BeganIn lo at begun → lo ≤ at → line ≤ at + 1 → (lo ≤ result.0) × (result.0 ≤ at) × (result.1 ≤ result.0 + 1) }
+    ensures start { (text : Text) (b : Option ℕ) → spec.Begins text begun b → line ≡ spec.line_at text at → (result.0 ≡ spec.start b at) × (result.1 ≡ spec.line_at text result.0) }
 {
     match begun {
         Some(start) => start,
@@ -98,7 +100,8 @@ pub(crate) fn start(begun: Begun, at: usize, line: u64) -> (usize, u64)
 /// Where the piece began that goes on behind a lexeme.
 #[inline(always)]
 pub(crate) fn begun_after(kind: LexemeKind, begun: Begun, from: usize, first: u64) -> Begun
-    ensures { (text : Text) (b : Option ℕ) (at : ℕ) → spec.Begins text begun b → from ≡ spec.start b at → first ≡ spec.line_at text from → spec.Begins text result (spec.begun_after (spec.role kind) b at) }
+    ensures within { (lo hi : ℕ) → spec.BeganIn lo hi begun → lo ≤ from → from ≤ hi → first ≤ from + 1 → spec.BeganIn lo hi result }
+    ensures begun { (text : Text) (b : Option ℕ) (at : ℕ) → spec.Begins text begun b → from ≡ spec.start b at → first ≡ spec.line_at text from → spec.Begins text result (spec.begun_after (spec.role kind) b at) }
 {
     match kind {
         LexemeKind::Layout | LexemeKind::Comment => begun,
@@ -118,7 +121,8 @@ fn put(out: &mut Vec<Piece>, piece: Option<Piece>) -> Result<(), NoMemory>
 
 /// A last piece without an end.
 pub(crate) fn unended(begun: Begun, to: usize) -> Option<Piece>
-    ensures { (text : Text) (b : Option ℕ) → spec.Begins text begun b → option_to_list result ≡ spec.unended text to b }
+    ensures lies { (lo : ℕ) → spec.BeganIn lo to begun → IfSome result (λ p. (lo ≤ p.from) × (p.from ≤ p.to) × (p.to ≡ to) × (p.line ≤ p.from + 1)) }
+    ensures piece { (text : Text) (b : Option ℕ) → spec.Begins text begun b → option_to_list result ≡ spec.unended text to b }
 {
     match begun {
         Some((from, first)) => Some(Piece {

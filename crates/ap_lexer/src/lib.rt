@@ -5,7 +5,8 @@
 // What it stands on: nothing but std.
 // The contract that is used above it: `pieces` and `tokens` answer exactly what `pieces` and `tokens`
 // of specs/Piece.antt and specs/Token.antt make of the text; `tokens` refuses a piece that has a
-// bad token and no other. `Cutter` gives the same pieces one after another, each with its tokens.
+// bad token and no other. `Cutter` gives the same pieces one after another, each with its tokens; of a piece that has
+// more than `MAX_KEPT` it gives them one after another, as `Tokens`.
 #![tactic(auto)]
 
 mod ahead;
@@ -18,11 +19,13 @@ mod kind;
 mod law;
 mod recognize;
 mod split;
+mod stream;
 
 pub use cut::{Piece, pieces};
-pub use cutter::Cutter;
+pub use cutter::{Cutter, MAX_KEPT};
 pub use digits::number;
 pub use error::{LexErr, NoMemory};
 pub use kind::{LexemeKind, TokenKind};
 pub use law::{lexemes_are_rows, one_cutting, tokens_without_places};
 pub use split::{Token, push, tokens};
+pub use stream::Tokens;

@@ -72,7 +72,7 @@ mutual
 pub levels_few : (ls : List Leaf) (t : Tree) → depth (meaning (map leaf_of ls) t) ≤ length (postfix t)
 levels_few = depth_le
 
-open_le : (k : TokenKind) (n : ℕ) → open_after k n ≤ n + 1
+pub open_le : (k : TokenKind) (n : ℕ) → open_after k n ≤ n + 1
 open_le token.Open n = omega arith
 open_le token.OpenList n = omega arith
 open_le token.Close n = omega arith
@@ -91,3 +91,7 @@ open_le token.End n = omega arith
 pub brackets_few : (n : ℕ) (ts : List Placed) → most_open n ts ≤ n + length ts
 brackets_few n [] = omega arith
 brackets_few n (t ∷ ts) = omega (arith, open_le t.kind n, brackets_few (open_after t.kind n) ts)
+
+pub open_within : (n : ℕ) (ts : List Placed) → n ≤ most_open n ts
+open_within n [] = omega arith
+open_within n (t ∷ ts) = omega arith

@@ -13,3 +13,4 @@ pub mod Build
 pub mod Held
 pub mod Reading
 pub mod Examples
+pub mod Long

@@ -6,7 +6,7 @@ ghost use Rattle.ap_reader.specs.Bracket as spec;
 
 use ap_lexer::{Token, TokenKind};
 
-fn open_after(kind: TokenKind, count: usize) -> usize
+pub(crate) fn open_after(kind: TokenKind, count: usize) -> usize
     requires { count + 1 < 2 ^ 64 }
     ensures { result ≡ spec.open_after kind count }
 {

@@ -213,7 +213,7 @@ fn term_after(
 
 /// Does a step, whose names go into the table. Most make a leaf.
 #[inline(always)]
-fn add(
+pub(crate) fn add(
     alloc: Global,
     stack: &mut Stack,
     leaves: &[Leaf],

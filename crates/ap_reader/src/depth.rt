@@ -1,6 +1,6 @@
 //! The depth of a term, by its steps.
 
-ghost use Rattle.std.specs.Prelude.{◌≡◌, ℕ, ◌+◌, [], ◌∷◌, ◌++◌, List, IfOk, map, bytes_eq, codes, nat_lt};
+ghost use Rattle.std.specs.Prelude.{◌≡◌, ℕ, ◌+◌, [], ◌∷◌, ◌++◌, List, IfOk, OnOk, map, bytes_eq, codes, nat_lt};
 ghost use Rattle.ap_lexer.specs.Lexeme.{Text};
 ghost use Rattle.ap_reader.specs.Written.{Written, Node, Cons, Nil, cell, leaf_of, meaning};
 ghost use Rattle.ap_reader.specs.Evaluated.{Value, Gathered, top_term, top_items, below, made, left, with_rest, cells, stacked};
@@ -125,6 +125,7 @@ fn pop_items(stack: &mut Vec<Height>) -> Height
 }
 
 /// Takes off the stack what a step takes: the height of what it makes.
+#[inline(always)]
 fn height_after(stack: &mut Vec<Height>, leaves: &[Leaf], step: Step) -> Height
     ensures { (vs : List Value) → stack.old.items ≡ stacked height_of vs → (result ≡ height_of (made (map leaf_of leaves.now) step vs)) × (stack.new.items ≡ stacked height_of (left (map leaf_of leaves.now) step vs)) }
 {
@@ -179,4 +180,37 @@ pub(crate) fn is_too_deep(alloc: Global, leaves: &[Leaf], steps: &[Step]) -> Res
         rest = after;
     }
     Ok(pop_term(&mut stack) > MAX_DEPTH)
+}
+
+/// The heights of what steps have made and that no later step has taken.
+#[derive(Drop)]
+pub(crate) struct Heights {
+    stack: Vec<Height>,
+}
+
+impl Heights {
+    pub(crate) fn new(alloc: Global) -> Heights
+        ensures { result.stack.items ≡ [] }
+    {
+        Heights {
+            stack: Vec::new(alloc),
+        }
+    }
+
+    /// Does a step.
+    pub(crate) fn add(&mut self, leaves: &[Leaf], step: Step) -> Result<(), NoMemory>
+        ensures { OnOk result ((vs : List Value) → self.old.stack.items ≡ stacked height_of vs → self.new.stack.items ≡ stacked height_of (made (map leaf_of leaves.now) step vs ∷ left (map leaf_of leaves.now) step vs)) }
+    {
+        let height = height_after(&mut self.stack, leaves, step);
+        self.stack.push(height)?;
+        Ok(())
+    }
+
+    /// Whether the one term that is left is deeper than `MAX_DEPTH`.
+    pub(crate) fn is_too_deep(self) -> bool
+        ensures { (vs : List Value) → self.stack.items ≡ stacked height_of vs → result ≡ nat_lt MAX_DEPTH (depth (top_term vs)) }
+    {
+        let mut stack = self.stack;
+        pop_term(&mut stack) > MAX_DEPTH
+    }
 }

@@ -1,6 +1,6 @@
 //! What each token is as an operand or a functor: a variable's number or a name.
 
-ghost use Rattle.std.specs.Prelude.{◌≡◌, ℕ, ◌+◌, ◌<◌, ◌^◌, List, IfOk, IfSome, OnOk, Some, MatchOption, map, drop, length, bytes_eq};
+ghost use Rattle.std.specs.Prelude.{◌≡◌, ℕ, ◌+◌, ◌<◌, ◌^◌, List, [], IfOk, IfSome, OnOk, Some, MatchOption, map, drop, length, bytes_eq};
 ghost use Rattle.std.specs.Borrow.{Bor};
 ghost use Rattle.std.specs.Str.{IsUtf8};
 ghost use Rattle.ap_lexer.specs.Lexeme.{Text};
@@ -151,6 +151,20 @@ fn are_same(left: &[u8], right: &[u8]) -> bool
 }
 
 impl<'a> Variables<'a> {
+    /// None so far, with a list for their names.
+    pub(crate) fn new(alloc: Global, names: Vec<&'a str>) -> Variables<'a>
+        requires { names.items ≡ [] }
+        ensures names { result.names ≡ names.entry }
+        ensures numbers { Numbers result.numbers (texts result.names.items) }
+        ensures once { AreOnce result.names.items }
+    {
+        Variables {
+            numbers: HashMap::new(alloc),
+            names,
+            lately: [0; SLOTS],
+        }
+    }
+
     /// The number of a variable that stood before, if its name is the last one with this first byte.
     #[inline(always)]
     fn guessed(&self, name: &[u8]) -> Option<u64>
@@ -220,7 +234,8 @@ impl<'a> Variables<'a> {
     }
 
     /// What the next token is.
-    fn leaf(&mut self, alloc: Global, token: &Token<'a>) -> Result<Leaf<'a>, LeafErr>
+    #[inline(always)]
+    pub(crate) fn leaf(&mut self, alloc: Global, token: &Token<'a>) -> Result<Leaf<'a>, LeafErr>
         requires numbers { Numbers self.old.numbers (texts self.old.names.items) }
         requires once { AreOnce self.old.names.items }
         ensures leaf { LeafFor (view token.now) (texts self.old.names.items) (texts self.new.names.items) result }
@@ -297,11 +312,7 @@ pub(crate) fn leaves<'a>(
 ) -> Result<(Vec<Leaf<'a>>, Vec<&'a str>), LeafErr>
     ensures { LeavesFor (map view tokens.now) (both_items result) }
 {
-    let mut variables = Variables {
-        numbers: HashMap::new(alloc),
-        names: room.names(alloc),
-        lately: [0; SLOTS],
-    };
+    let mut variables = Variables::new(alloc, room.names(alloc));
     let Ok(mut out) = room.leaves(alloc, tokens.len()) else {
         return Err(LeafErr::NoMemory);
     };

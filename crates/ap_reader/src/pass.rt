@@ -1,6 +1,7 @@
 // The pass that finds a term: one word after another, over what is open.
 ghost use Rattle.std.specs.Prelude.{◌≡◌, ℕ, ◌+◌, ◌^◌, ◌≤◌, pos, neg_ℤ, List, [], ◌∷◌, ◌++◌, true, None, Some, map, vec_len, OnOk, OnErr, MatchOption};
 ghost use Rattle.ap_reader.specs.declared.pass.Open.{Open};
+ghost use Rattle.ap_reader.specs.declared.pass.Step.{Step};
 ghost use Rattle.ap_reader.specs.Grammar.{Tree, spelled, IsWhole, infix_rank, prefix_rank};
 ghost use Rattle.ap_reader.specs.Machine.{Frame, State, Has, room, reduced, prefixed, shifted, closed, list_closed, parted, barred, on_want, on_has, next, parsed};
 
@@ -103,7 +104,7 @@ ghost use Rattle.ap_lexer.specs.Token.{view};
 ghost use Rattle.ap_reader.specs.Word.{words, word_by, seen};
 ghost use Rattle.ap_reader.specs.Step.{place, innermost, opens, Holds, Awaits, Shows, Follows, Finds, items_of, due, Takes};
 
-fn place(word: Word) -> usize
+pub(crate) fn place(word: Word) -> usize
     ensures { result ≡ place word }
 {
     match word {
@@ -172,12 +173,21 @@ fn due_last(stack: &[Open], most: u16) -> Option<Step>
 
 /// What is open, and the steps that were given.
 #[derive(Drop)]
-struct Pass {
-    stack: Vec<Open>,
-    out: Vec<Step>,
+pub(crate) struct Pass {
+    pub(crate) stack: Vec<Open>,
+    pub(crate) out: Vec<Step>,
 }
 
 impl Pass {
+    pub(crate) fn new(alloc: Global) -> Pass
+        ensures { Awaits [] result.stack.items result.out.items }
+    {
+        Pass {
+            stack: Vec::new(alloc),
+            out: Vec::new(alloc),
+        }
+    }
+
     /// Lets the operator that is open last take its operand, where its priority is at most `most`.
     #[inline(always)]
     fn take_top(&mut self, most: u16) -> Result<bool, ParseErr>
@@ -194,8 +204,8 @@ impl Pass {
 
     /// Lets each open operator of priority at most `most` take its operand.
     #[inline(always)]
-    fn reduce(&mut self, most: u16) -> Result<(), ParseErr>
-        ensures done { OnOk result ((t : Tree) (s : List Frame) → Holds t s self.old.stack.items self.old.out.items → Shows (reduced most t s) Mode.Has self.new.stack.items self.new.out.items) }
+    pub(crate) fn reduce(&mut self, most: u16) -> Result<(), ParseErr>
+        ensures done { OnOk result ((gone : List Step) (t : Tree) (s : List Frame) → Holds t s self.old.stack.items (gone ++ self.old.out.items) → Shows (reduced most t s) Mode.Has self.new.stack.items (gone ++ self.new.out.items)) }
         ensures fault { OnErr result (result ≡ Err NoMemory) }
     {
         while self.take_top(most)? {}
@@ -204,7 +214,7 @@ impl Pass {
 
     /// The operator behind the term.
     fn shift(&mut self, word: Word) -> Result<Mode, ParseErr>
-        ensures { (t : Tree) (s : List Frame) → Holds t s self.old.stack.items self.old.out.items → Follows (shifted word (Has t s)) result self.new.stack.items self.new.out.items }
+        ensures { (gone : List Step) (t : Tree) (s : List Frame) → Holds t s self.old.stack.items (gone ++ self.old.out.items) → Follows (shifted word (Has t s)) result self.new.stack.items (gone ++ self.new.out.items) }
     {
         let rank = infix_rank(word);
         if 0 < rank && rank <= room(&self.stack) {
@@ -216,7 +226,7 @@ impl Pass {
     }
 
     fn prefix(&mut self, word: Word) -> Result<Mode, ParseErr>
-        ensures { (s : List Frame) → Awaits s self.old.stack.items self.old.out.items → Follows (prefixed word s) result self.new.stack.items self.new.out.items }
+        ensures { (gone : List Step) (s : List Frame) → Awaits s self.old.stack.items (gone ++ self.old.out.items) → Follows (prefixed word s) result self.new.stack.items (gone ++ self.new.out.items) }
     {
         let rank = prefix_rank(word);
         if 0 < rank && rank <= room(&self.stack) {
@@ -230,7 +240,7 @@ impl Pass {
     /// A closing parenthesis behind the term.
     #[inline(always)]
     fn close(&mut self) -> Result<Mode, ParseErr>
-        ensures { (t : Tree) (s : List Frame) → Holds t s self.old.stack.items self.old.out.items → Follows (closed (Has t s)) result self.new.stack.items self.new.out.items }
+        ensures { (gone : List Step) (t : Tree) (s : List Frame) → Holds t s self.old.stack.items (gone ++ self.old.out.items) → Follows (closed (Has t s)) result self.new.stack.items (gone ++ self.new.out.items) }
     {
         match self.stack.pop() {
             Some(Open::Group) => {
@@ -247,7 +257,7 @@ impl Pass {
 
     #[inline(always)]
     fn close_list(&mut self) -> Result<Mode, ParseErr>
-        ensures { (t : Tree) (s : List Frame) → Holds t s self.old.stack.items self.old.out.items → Follows (list_closed (Has t s)) result self.new.stack.items self.new.out.items }
+        ensures { (gone : List Step) (t : Tree) (s : List Frame) → Holds t s self.old.stack.items (gone ++ self.old.out.items) → Follows (list_closed (Has t s)) result self.new.stack.items (gone ++ self.new.out.items) }
     {
         match self.stack.pop() {
             Some(Open::List(_)) => {
@@ -263,7 +273,7 @@ impl Pass {
     }
 
     fn bar(&mut self) -> Result<Mode, ParseErr>
-        ensures { (t : Tree) (s : List Frame) → Holds t s self.old.stack.items self.old.out.items → Follows (barred (Has t s)) result self.new.stack.items self.new.out.items }
+        ensures { (gone : List Step) (t : Tree) (s : List Frame) → Holds t s self.old.stack.items (gone ++ self.old.out.items) → Follows (barred (Has t s)) result self.new.stack.items (gone ++ self.new.out.items) }
     {
         match self.stack.pop() {
             Some(Open::List(_)) => {
@@ -276,7 +286,7 @@ impl Pass {
 
     #[inline(always)]
     fn comma(&mut self, at: usize) -> Result<Mode, ParseErr>
-        ensures { (t : Tree) (s : List Frame) → Holds t s self.old.stack.items self.old.out.items → Follows (parted at (Has t s)) result self.new.stack.items self.new.out.items }
+        ensures { (gone : List Step) (t : Tree) (s : List Frame) → Holds t s self.old.stack.items (gone ++ self.old.out.items) → Follows (parted at (Has t s)) result self.new.stack.items (gone ++ self.new.out.items) }
     {
         match innermost(&self.stack) {
             Around::Call => {
@@ -294,7 +304,7 @@ impl Pass {
     }
 
     fn close_empty(&mut self) -> Result<Mode, ParseErr>
-        ensures { (s : List Frame) → Awaits s self.old.stack.items self.old.out.items → Follows (on_want s Word.CloseList) result self.new.stack.items self.new.out.items }
+        ensures { (gone : List Step) (s : List Frame) → Awaits s self.old.stack.items (gone ++ self.old.out.items) → Follows (on_want s Word.CloseList) result self.new.stack.items (gone ++ self.new.out.items) }
     {
         match self.stack.pop() {
             Some(Open::List(false)) => {
@@ -307,7 +317,7 @@ impl Pass {
 
     #[inline(always)]
     fn on_want(&mut self, word: Word) -> Result<Mode, ParseErr>
-        ensures { (s : List Frame) → Awaits s self.old.stack.items self.old.out.items → Follows (on_want s word) result self.new.stack.items self.new.out.items }
+        ensures { (gone : List Step) (s : List Frame) → Awaits s self.old.stack.items (gone ++ self.old.out.items) → Follows (on_want s word) result self.new.stack.items (gone ++ self.new.out.items) }
     {
         match word {
             Word::Operand(at) => {
@@ -339,7 +349,7 @@ impl Pass {
 
     #[inline(always)]
     fn on_has(&mut self, word: Word) -> Result<Mode, ParseErr>
-        ensures { (t : Tree) (s : List Frame) → Holds t s self.old.stack.items self.old.out.items → Follows (on_has t s word) result self.new.stack.items self.new.out.items }
+        ensures { (gone : List Step) (t : Tree) (s : List Frame) → Holds t s self.old.stack.items (gone ++ self.old.out.items) → Follows (on_has t s word) result self.new.stack.items (gone ++ self.new.out.items) }
     {
         match word {
             Word::Operator(_, _, _) | Word::Functor(_, _) | Word::Sign(_, _) => {
@@ -370,7 +380,7 @@ impl Pass {
 
     #[inline(always)]
     fn next(&mut self, mode: Mode, word: Word) -> Result<Mode, ParseErr>
-        ensures { (x : State) → Shows x mode self.old.stack.items self.old.out.items → Follows (next x word) result self.new.stack.items self.new.out.items }
+        ensures { (gone : List Step) (x : State) → Shows x mode self.old.stack.items (gone ++ self.old.out.items) → Follows (next x word) result self.new.stack.items (gone ++ self.new.out.items) }
     {
         match mode {
             Mode::Wants => self.on_want(word),
@@ -396,7 +406,7 @@ impl Pass {
     /// The next token, by the kind of the one before it and the one behind it. The word of most is known by its kind; the arms name
     /// the words that are met most, so that `next` is compiled for each of them.
     #[inline(always)]
-    fn take(
+    pub(crate) fn take(
         &mut self,
         mode: Mode,
         at: usize,
@@ -404,7 +414,7 @@ impl Pass {
         token: &Token,
         after: Option<&Token>,
     ) -> Result<Mode, ParseErr>
-        ensures { (x : State) → Shows x mode self.old.stack.items self.old.out.items → Follows (next x (word_by token.now.kind at before (view token.now) (seen after.entry))) result self.new.stack.items self.new.out.items }
+        ensures { (gone : List Step) (x : State) → Shows x mode self.old.stack.items (gone ++ self.old.out.items) → Follows (next x (word_by token.now.kind at before (view token.now) (seen after.entry))) result self.new.stack.items (gone ++ self.new.out.items) }
     {
         match token.kind {
             TokenKind::Variable => self.next(mode, Word::Operand(at)),

@@ -2,7 +2,8 @@ use Rattle.std.proofs.Common.{◌≡◌, ◌+◌, ◌-◌, ◌≤◌, map, lengt
 use Rattle.ap_lexer.specs.Lexeme.{Text}
 use Rattle.ap_lexer.specs.Token.{view}
 use Rattle.ap_lexer.specs.Ahead.{IsSound}
-use Rattle.ap_lexer.specs.Cutter.{Cuts}
+use Rattle.ap_lexer.specs.Piece.{BeganIn}
+use Rattle.ap_lexer.specs.Cutter.{Cuts, IsKept}
 use Rattle.ap_lexer.proofs.NextPiece.{Goes}
 use Rattle.ap_lexer.proofs.cutter.Cutter.next.Given as goal
 
@@ -13,7 +14,8 @@ invariant-loop-self l = record {
   in_range : l.self.at ≤ length l.text;
   sound : IsSound l.text l.self.ahead;
   line_low : l.self.line ≤ l.before + l.self.at + 1;
-  goes : (whole : Text) → Cuts whole l.fn.self → Goes whole l.fn.self (l.before + l.self.at) l.self.line l.begun (map view l.out.items);
+  began : BeganIn l.before (l.before + l.self.at) l.begun;
+  goes : (whole : Text) → Cuts whole l.fn.self → Goes whole l.fn.self (l.before + l.self.at) l.self.line l.begun (IsKept l.out.items) (map view l.out.items);
 }
 
 abbrev pub decreases-loop-self : goal.decreases-loop-self
