@@ -40,7 +40,7 @@ fn shown(alloc: Global, refusal: &Refusal, atoms: &Atoms) -> Result<String, Fail
 }
 
 /// What a program's text is answered beside a table of names.
-fn answer_beside(alloc: Global, text: &str, atoms: &mut Atoms) -> Result<String, Fail> {
+pub(crate) fn answer_beside(alloc: Global, text: &str, atoms: &mut Atoms) -> Result<String, Fail> {
     let refused = program(alloc, text.as_bytes(), atoms).err();
     match &refused {
         None => Ok(String::from_str(alloc, "a program")?),
@@ -522,7 +522,7 @@ fn bodies_are_lifted(rt: HostRuntime) -> Result<(), Fail> {
 }
 
 /// A table with room for two names.
-fn nearly_full(alloc: Global) -> Result<Atoms, Fail> {
+pub(crate) fn nearly_full(alloc: Global) -> Result<Atoms, Fail> {
     let mut atoms = new_atoms(alloc)?;
     for i in 2..MAX_ATOMS {
         let name = format!(in alloc; "n{i}")?;

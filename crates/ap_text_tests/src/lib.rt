@@ -12,6 +12,8 @@ mod examples;
 #[cfg(test)]
 mod lines;
 #[cfg(test)]
+mod longs;
+#[cfg(test)]
 mod outside;
 #[cfg(test)]
 mod programs;
